@@ -1,0 +1,78 @@
+-- What a run does, by the status that it ends with.
+use Rattle.std.specs.Prelude.{◌≡◌, ◌⊎◌, ℕ, ◌≤◌, ◌^◌, List, length, codes, Option, Some, None}
+use Rattle.std.specs.Io.KnownBytes.{Consumes, Appends, IsAtEnd}
+use Rattle.dtp_io.specs.Faults.{Rose, TookMore, AddsFront}
+use Rattle.dtp_session.specs.Transcripts.{IsTranscript}
+use Rattle.dtp_main.specs.declared.line.Line.{Line}
+use Rattle.dtp_main.specs.declared.line.Line.TheVariants.{Solve}
+use Rattle.dtp_main.specs.declared.status.Status.{Status}
+use Rattle.dtp_main.specs.declared.status.Status.TheVariants.{Done, Refused, Usage, ReadFault, WriteFault, OutOfMemory, TooLong}
+use Rattle.dtp_main.specs.Lines.{line_of}
+use Rattle.dtp_main.specs.Statuses.{code_of}
+
+-- what the program sees of the outside: the bytes that the source has left and those that the sink holds, where they
+-- are told, and how many faults each has had
+pub record Outside : Type 0 where
+  pub left : Option (List ℕ)
+  pub read_faults : ℕ
+  pub holds : Option (List ℕ)
+  pub write_faults : ℕ
+
+abbrev pub input_limit : ℕ
+input_limit = 2 ^ 30
+
+unfoldable pub usage_line : List ℕ
+usage_line = codes "usage: dtp solve|certify [--workers N] [--slice B], dtp check, dtp bench J M S D [--workers N]\n"
+
+-- nothing was read, and nothing went wrong in reading
+pub record IsUnread (old new : Outside) : Type 0 where
+  pub left : new.left ≡ old.left
+  pub read_faults : new.read_faults ≡ old.read_faults
+
+-- nothing was written, and nothing went wrong in writing
+pub record IsUnwritten (old new : Outside) : Type 0 where
+  pub holds : new.holds ≡ old.holds
+  pub write_faults : new.write_faults ≡ old.write_faults
+
+-- the source was read to its end, and gave this script within the limit
+pub record IsInput (old new : Outside) (script : List ℕ) : Type 0 where
+  pub consumed : Consumes old.left new.left script
+  pub ended : IsAtEnd new.left
+  pub within : length script ≤ input_limit
+
+abbrev pub WritesUsage : Option (List ℕ) → Option (List ℕ) → ℕ → ℕ → Type 0
+WritesUsage before now faults_before faults_now = Appends before now usage_line ⊎ (AddsFront before now usage_line × Rose faults_before faults_now)
+
+-- the usage line is written, or a front of it where the sink failed
+abbrev pub IsUsage : Outside → Outside → Type 0
+IsUsage old new = WritesUsage old.holds new.holds old.write_faults new.write_faults
+
+-- the script's whole transcript is written, and it is the one with this status
+abbrev pub Transcribes : Outside → Outside → ℕ → Type 0
+Transcribes old new status = (script : List ℕ) × (out : List ℕ) × IsInput old new script × Appends old.holds new.holds out × IsTranscript script out status
+
+abbrev pub IsSolved : Outside → Outside → Status → Type 0
+IsSolved old new Done = Transcribes old new 0
+IsSolved old new Refused = Transcribes old new 1
+IsSolved old new Usage = ⊥
+IsSolved old new ReadFault = Rose old.read_faults new.read_faults × IsUnwritten old new
+IsSolved old new WriteFault = Rose old.write_faults new.write_faults × (script : List ℕ) × IsInput old new script
+IsSolved old new OutOfMemory = Unit {0}
+IsSolved old new TooLong = TookMore old.left new.left input_limit × IsUnwritten old new
+
+-- each kind of line has its own outcomes
+abbrev pub IsOutcomeOf : Line → Outside → Outside → Status → Type 0
+IsOutcomeOf Solve old new status = IsSolved old new status
+
+-- The outcome of a run: where the words are no command line the usage line, else what the line does.
+abbrev pub IsOutcome : Option Line → Outside → Outside → Status → Type 0
+IsOutcome None old new status = (status ≡ Usage) × IsUnread old new × IsUsage old new
+IsOutcome (Some line) old new status = IsOutcomeOf line old new status
+
+pub record IsRun (words : List (List ℕ)) (old new : Outside) (code : ℕ) : Type 0 where
+  pub status : Status
+  pub code_is : code ≡ code_of status
+  pub outcome : IsOutcome (line_of words) old new status
+  -- the counts of faults never fall
+  pub read_later : old.read_faults ≤ new.read_faults
+  pub write_later : old.write_faults ≤ new.write_faults

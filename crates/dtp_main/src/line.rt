@@ -1,0 +1,20 @@
+//! The command line.
+ghost use Rattle.std.specs.Prelude.{◌≡◌};
+ghost use Rattle.dtp_main.specs.Lines.{line_of, texts};
+
+/// What the words ask for.
+#[derive(Clone, Copy, Debug, PartialEq, Eq)]
+pub enum Line {
+    /// The answers to a script.
+    Solve,
+}
+
+/// What the words ask for, or `None` where they are no command line. The program's name isn't among them.
+pub fn line_of(words: &[String]) -> Option<Line>
+    ensures { result ≡ line_of (texts words.now) }
+{
+    match words {
+        [word] if word.as_bytes() == b"solve".as_slice() => Some(Line::Solve),
+        _ => None,
+    }
+}

@@ -1,0 +1,105 @@
+//! The top call: from the words and the source to the sink and a status.
+ghost use Rattle.std.specs.Prelude.{◌≡◌, ◌≤◌};
+ghost use Rattle.dtp_main.specs.Lines.{line_of, texts};
+ghost use Rattle.dtp_main.specs.Outcomes.{IsRun, IsOutcome, IsSolved, WritesUsage};
+
+use crate::line::{Line, line_of};
+use crate::status::Status;
+use dtp_io::{ReadError, Sink, Source, read_all, write_all_of};
+use dtp_session::{Gate, SessionError, Solved, solve_script};
+use std::alloc::Global;
+use std::sync::Wait;
+use std::thread::Threads;
+
+/// How many workers search, where the words don't say it.
+const WORKERS: u32 = 4;
+
+/// How many literals a slice of search may add, where the words don't say it.
+const SLICE: u64 = 1_000;
+
+/// How many bytes a source may give.
+const INPUT_LIMIT: u64 = 1 << 30;
+
+const USAGE: &[u8] =
+    b"usage: dtp solve|certify [--workers N] [--slice B], dtp check, dtp bench J M S D [--workers N]\n";
+
+/// Does what the words ask for, and gives the status that the program ends with.
+pub fn run<R: Threads + Wait + Sync, S: Source, K: Sink, G: Gate>(
+    rt: &R,
+    alloc: Global,
+    words: &[String],
+    source: &mut S,
+    sink: &mut K,
+    gate: &G,
+) -> u8
+    ensures headline { IsRun (texts words.now)
+        (record { left = S.left source.old; read_faults = S.faults source.old; holds = K.holds sink.old; write_faults = K.faults sink.old })
+        (record { left = S.left source.new; read_faults = S.faults source.new; holds = K.holds sink.new; write_faults = K.faults sink.new })
+        result }
+{
+    perform(rt, alloc, words, source, sink, gate).code()
+}
+
+/// Does what the words ask for.
+fn perform<R: Wait, S: Source, K: Sink, G: Gate>(
+    rt: &R,
+    alloc: Global,
+    words: &[String],
+    source: &mut S,
+    sink: &mut K,
+    gate: &G,
+) -> Status
+    ensures outcome { IsOutcome (line_of (texts words.now))
+        (record { left = S.left source.old; read_faults = S.faults source.old; holds = K.holds sink.old; write_faults = K.faults sink.old })
+        (record { left = S.left source.new; read_faults = S.faults source.new; holds = K.holds sink.new; write_faults = K.faults sink.new })
+        result }
+    ensures read_later { S.faults source.old ≤ S.faults source.new }
+    ensures write_later { K.faults sink.old ≤ K.faults sink.new }
+{
+    match line_of(words) {
+        Some(Line::Solve) => solve(rt, alloc, source, sink, gate),
+        None => usage(sink),
+    }
+}
+
+/// Writes the usage line. A fault in writing it changes nothing of the status.
+#[tactic(auto, unfolding(crate::specs::Outcomes::usage_line))]
+fn usage<K: Sink>(sink: &mut K) -> Status
+    ensures status { result ≡ Status.Usage }
+    ensures written { WritesUsage (K.holds sink.old) (K.holds sink.new) (K.faults sink.old) (K.faults sink.new) }
+    ensures write_later { K.faults sink.old ≤ K.faults sink.new }
+{
+    match write_all_of(sink, USAGE) {
+        Ok(()) => Status::Usage,
+        Err(_) => Status::Usage,
+    }
+}
+
+/// Reads the script whole, and writes its transcript.
+fn solve<R: Wait, S: Source, K: Sink, G: Gate>(
+    rt: &R,
+    alloc: Global,
+    source: &mut S,
+    sink: &mut K,
+    gate: &G,
+) -> Status
+    ensures solved { IsSolved
+        (record { left = S.left source.old; read_faults = S.faults source.old; holds = K.holds sink.old; write_faults = K.faults sink.old })
+        (record { left = S.left source.new; read_faults = S.faults source.new; holds = K.holds sink.new; write_faults = K.faults sink.new })
+        result }
+    ensures read_later { S.faults source.old ≤ S.faults source.new }
+    ensures write_later { K.faults sink.old ≤ K.faults sink.new }
+{
+    let script = match read_all(alloc, source, INPUT_LIMIT) {
+        Ok(script) => script,
+        Err(ReadError::OutOfMemory) => return Status::OutOfMemory,
+        Err(ReadError::ReadFault) => return Status::ReadFault,
+        Err(ReadError::TooLong) => return Status::TooLong,
+    };
+    match solve_script(rt, alloc, &script, sink, WORKERS, SLICE, gate) {
+        Ok(Solved::Done) => Status::Done,
+        Ok(Solved::ScriptStopped) => Status::Refused,
+        Err(SessionError::WriteFault) => Status::WriteFault,
+        Err(SessionError::OutOfMemory) => Status::OutOfMemory,
+    }
+}

@@ -1,0 +1,198 @@
+//! Runs over sources and sinks in memory.
+use crate::run::run;
+use dtp_io::{MemSink, MemSource};
+use dtp_session::NoGate;
+use std::process::Abort;
+use std::sync::Wait;
+use std::test::Fail;
+use std::thread::Threads;
+
+const USAGE: &str =
+    "usage: dtp solve|certify [--workers N] [--slice B], dtp check, dtp bench J M S D [--workers N]\n";
+
+/// A run, and what it must write.
+#[derive(Clone, Copy)]
+struct Row {
+    words: &'static [&'static str],
+    script: &'static str,
+    failing_reads: &'static [u64],
+    failing_writes: &'static [u64],
+    output: &'static str,
+    status: u8,
+}
+
+const fn solves(script: &'static str, output: &'static str, status: u8) -> Row {
+    Row {
+        words: &["solve"],
+        script,
+        failing_reads: &[],
+        failing_writes: &[],
+        output,
+        status,
+    }
+}
+
+const fn usage(words: &'static [&'static str]) -> Row {
+    Row {
+        words,
+        script: "(check-sat)",
+        failing_reads: &[],
+        failing_writes: &[],
+        output: USAGE,
+        status: 2,
+    }
+}
+
+fn check<R: Threads + Wait + Sync + Abort + AllocGlobal>(rt: &R, row: &Row) -> Result<(), Fail> {
+    let mut words = Vec::new(rt.alloc());
+    for word in row.words {
+        words.push(word.to_string(rt.alloc())?)?;
+    }
+    let mut source = MemSource::new(row.script.as_bytes(), row.failing_reads);
+    let mut sink = MemSink::new(rt.alloc(), row.failing_writes);
+    let status = run(rt, rt.alloc(), &words, &mut source, &mut sink, &NoGate);
+    assert_eq!(rt; sink.held(), row.output.as_bytes());
+    assert_eq!(rt; status, row.status);
+    Ok(())
+}
+
+fn check_all<R: Threads + Wait + Sync + Abort + AllocGlobal>(
+    rt: &R,
+    rows: &[Row],
+) -> Result<(), Fail> {
+    for row in rows {
+        check(rt, row)?;
+    }
+    Ok(())
+}
+
+#[test]
+fn verdicts(rt: HostRuntime) -> Result<(), Fail> {
+    let rows = [
+        solves("", "", 0),
+        solves("(check-sat)", "sat\n", 0),
+        solves(
+            "(declare-const x Int) (declare-const y Int) (assert (< x y)) (assert (< y x)) (check-sat)",
+            "unsat\n",
+            0,
+        ),
+        // strictness comes after the limit
+        solves(
+            "(declare-const x Int) (assert (> x 1099511627776)) (check-sat)",
+            "sat\n",
+            0,
+        ),
+        // x less itself is nothing
+        solves(
+            "(declare-const x Int) (assert (< x x)) (check-sat)",
+            "unsat\n",
+            0,
+        ),
+        solves(
+            "(declare-const x Int) (assert (<= x x)) (check-sat)",
+            "sat\n",
+            0,
+        ),
+        solves(
+            "(declare-const |a| Int) (assert (< a 0)) (check-sat)",
+            "sat\n",
+            0,
+        ),
+        solves(
+            "(declare-const x Int) (declare-const y Int) (assert (>= (- x y) 3)) (check-sat) (assert (< (- x y) (- 2))) (check-sat)",
+            "sat\nunsat\n",
+            0,
+        ),
+        solves("(check-sat) (exit) (check-sat)", "sat\n", 0),
+        solves("(exit))))", "", 0),
+    ];
+    check_all(&rt, &rows)
+}
+
+#[test]
+fn refusals(rt: HostRuntime) -> Result<(), Fail> {
+    let rows = [
+        solves(
+            "(declare-const x Int) (assert (> x 1099511627777)) (check-sat)",
+            "(error \"command 2: not yet\")\n",
+            1,
+        ),
+        solves("(push 1)", "(error \"command 1: not yet\")\n", 1),
+        solves(
+            "(declare-const x Int) (check-sat) (check-sat",
+            "sat\n(error \"command 3: unclosed list\")\n",
+            1,
+        ),
+        solves(
+            "(declare-const x Int) (declare-const |x| Int)",
+            "(error \"command 2: not yet\")\n",
+            1,
+        ),
+        solves(
+            "(declare-const and Int)",
+            "(error \"command 1: not yet\")\n",
+            1,
+        ),
+        solves("(exit 1)", "(error \"command 1: not yet\")\n", 1),
+        solves(
+            "(check-sat) )",
+            "sat\n(error \"command 2: stray close\")\n",
+            1,
+        ),
+        solves("(assert 01)", "(error \"command 1: leading zero\")\n", 1),
+        solves("(a \"b", "(error \"command 1: unclosed string\")\n", 1),
+        solves(
+            "(a |b",
+            "(error \"command 1: unclosed quoted symbol\")\n",
+            1,
+        ),
+        solves("\\", "(error \"command 1: bad byte\")\n", 1),
+    ];
+    check_all(&rt, &rows)
+}
+
+#[test]
+fn outside(rt: HostRuntime) -> Result<(), Fail> {
+    let read_fails = Row {
+        failing_reads: &[0],
+        ..solves("(check-sat)", "", 3)
+    };
+    let write_fails = Row {
+        failing_writes: &[0],
+        ..solves("(check-sat)", "", 4)
+    };
+    let usage_fails = Row {
+        failing_writes: &[0],
+        output: "",
+        ..usage(&["frob"])
+    };
+    let rows = [
+        read_fails,
+        write_fails,
+        usage_fails,
+        usage(&[]),
+        usage(&["frob"]),
+        usage(&["certify"]),
+        usage(&["solve", "--workers", "0"]),
+    ];
+    check_all(&rt, &rows)
+}
+
+#[test]
+fn a_million_open_lists(rt: HostRuntime) -> Result<(), Fail> {
+    let mut script = Vec::new(rt.alloc());
+    for _ in 0..1_000_000 {
+        script.push(b'(')?;
+    }
+    let mut words = Vec::new(rt.alloc());
+    words.push("solve".to_string(rt.alloc())?)?;
+    let mut source = MemSource::new(&script, &[]);
+    let mut sink = MemSink::new(rt.alloc(), &[]);
+    let status = run(&rt, rt.alloc(), &words, &mut source, &mut sink, &NoGate);
+    assert_eq!(rt;
+        sink.held(),
+        b"(error \"command 1: unclosed list\")\n".as_slice()
+    );
+    assert_eq!(rt; status, 1);
+    Ok(())
+}

@@ -1,0 +1,107 @@
+-- A script has one transcript at most.
+use Rattle.std.proofs.Common.{sym, ap, subst, ◌∙◌, ◌≡◌, inl, inr, ◌+◌, ℕ, List, [], ◌∷◌, ◌++◌, Result, Ok, Err}
+use Rattle.smt_sexpr.specs.Tree.{Sexpr}
+use Rattle.smt_sexpr.specs.Reading.{Spells, Refusal, Outcome, expression, finished, refused, Outcomes}
+use Rattle.smt_sexpr.specs.Commands.{Commands, Ending, ended, stopped, unread, EndsAs}
+use Rattle.dtp_session.specs.declared.kind.Kind.{Kind}
+use Rattle.dtp_session.specs.declared.state.Effect.{Effect}
+use Rattle.dtp_session.specs.declared.state.Effect.TheVariants.{Silent, CheckSat, Exit}
+use Rattle.dtp_session.specs.Answers.{error_line, kind_of}
+use Rattle.dtp_session.specs.States.{State, Step, start_state, after}
+use Rattle.dtp_session.specs.Transcripts.{IsVerdict, Answers, Closes, Stops, GoesOn, Follows, IsTranscript}
+
+-- at each place there is one outcome at most
+abbrev pub OneOutcome : Type 0
+OneOutcome = (bytes : List ℕ) (place : ℕ) (o p : Outcome) (m n : ℕ) → Outcomes bytes place o m → Outcomes bytes place p n → (o ≡ p) × (m ≡ n)
+
+same_refusal : (e f : Refusal) → refused e ≡ refused f → e ≡ f
+same_refusal e f h = cc
+
+same_expression : (x y : Sexpr) → expression x ≡ expression y → x ≡ y
+same_expression x y h = cc
+
+end_no_refusal : (why : Refusal) → finished ≡ refused why → ⊥
+end_no_refusal why h = cc
+
+end_no_expression : (x : Sexpr) → finished ≡ expression x → ⊥
+end_no_expression x h = cc
+
+refusal_no_expression : (why : Refusal) (x : Sexpr) → refused why ≡ expression x → ⊥
+refusal_no_expression why x h = cc
+
+-- ---- the answers
+
+-- `sat` and `unsat` exclude each other
+verdict_one : (s : State) (a b : List ℕ) → IsVerdict s a → IsVerdict s b → a ≡ b
+verdict_one s a b (inl h) (inl k) = h.0 ∙ sym k.0
+verdict_one s a b (inl h) (inr k) = absurd (k.1 h.1)
+verdict_one s a b (inr h) (inl k) = absurd (h.1 k.1)
+verdict_one s a b (inr h) (inr k) = h.0 ∙ sym k.0
+
+answer_one : (s : State) (effect : Effect) (a b : List ℕ) → Answers s effect a → Answers s effect b → a ≡ b
+answer_one s Silent a b h k = h ∙ sym k
+answer_one s CheckSat a b h k = verdict_one s a b h k
+answer_one s Exit a b h k = h ∙ sym k
+
+joined_one : (a b p q rest others : List ℕ) → a ≡ p ++ rest → b ≡ q ++ others → p ≡ q → rest ≡ others → a ≡ b
+joined_one a b p q rest others e f g h = e ∙ ap (λ (piece : List ℕ). piece ++ rest) g ∙ ap (λ (more : List ℕ). q ++ more) h ∙ sym f
+
+goes_on_one : (effect : Effect) (st : State) (xs ys : List Sexpr) (e f : Ending) (a b : List ℕ) (s t : ℕ) (P Q : List ℕ → Type 0) → ((p q : List ℕ) → P p → Q q → (p ≡ q) × (s ≡ t))
+    → GoesOn effect st xs e a s P → GoesOn effect st ys f b t Q → (a ≡ b) × (s ≡ t)
+goes_on_one Silent st xs ys e f a b s t P Q one (p, rest, h, is, follows) (q, others, k, same, behind) =
+    let r = one rest others follows behind in
+    (joined_one a b p q rest others is same (answer_one st Silent p q h k) r.0, r.1)
+goes_on_one CheckSat st xs ys e f a b s t P Q one (p, rest, h, is, follows) (q, others, k, same, behind) =
+    let r = one rest others follows behind in
+    (joined_one a b p q rest others is same (answer_one st CheckSat p q h k) r.0, r.1)
+goes_on_one Exit st xs ys e f a b s t P Q one h k = (h.1 ∙ sym k.1, h.2 ∙ sym k.2)
+
+-- a command's answer and what is behind it, by what the command leads to
+abbrev Continues : Result Step Kind → ℕ → List Sexpr → Ending → List ℕ → ℕ → (Step → List ℕ → Type 0) → Type 0
+Continues found k xs ending out status Rest = elim found [
+  | Ok step ↦ GoesOn step.effect step.state xs ending out status (Rest step)
+  | Err kind ↦ Stops xs ending × (out ≡ error_line k kind) × (status ≡ 1)
+]
+
+continues_one : (found : Result Step Kind) (k : ℕ) (xs ys : List Sexpr) (e f : Ending) (a b : List ℕ) (s t : ℕ) (P Q : Step → List ℕ → Type 0) → ((step : Step) (p q : List ℕ) → P step p → Q step q → (p ≡ q) × (s ≡ t))
+    → Continues found k xs e a s P → Continues found k ys f b t Q → (a ≡ b) × (s ≡ t)
+continues_one (Ok step) k xs ys e f a b s t P Q one h j = goes_on_one step.effect step.state xs ys e f a b s t (P step) (Q step) (one step) h j
+continues_one (Err kind) k xs ys e f a b s t P Q one h j = (h.1 ∙ sym j.1, h.2 ∙ sym j.2)
+
+module _ (one : OneOutcome) (bytes : List ℕ) where
+  closes_one : (k place : ℕ) (e f : Ending) (a b : List ℕ) (s t : ℕ) → EndsAs bytes place e → EndsAs bytes place f → Closes k e a s → Closes k f b t → (a ≡ b) × (s ≡ t)
+  closes_one k place ended ended a b s t p q c d = (c.0 ∙ sym d.0, c.1 ∙ sym d.1)
+  closes_one k place ended (unread why) a b s t p q c d = absurd (end_no_refusal why (one bytes place finished (refused why) p.0 q.0 p.1 q.1).0)
+  closes_one k place ended stopped a b s t p q c d = absurd d
+  closes_one k place (unread why) ended a b s t p q c d = absurd (end_no_refusal why (one bytes place finished (refused why) q.0 p.0 q.1 p.1).0)
+  closes_one k place (unread why) (unread other) a b s t p q c d =
+      let same = same_refusal why other (one bytes place (refused why) (refused other) p.0 q.0 p.1 q.1).0 in
+      (c.0 ∙ ap (λ (w : Refusal). error_line k (kind_of w)) same ∙ sym d.0, c.1 ∙ sym d.1)
+  closes_one k place (unread why) stopped a b s t p q c d = absurd d
+  closes_one k place stopped f a b s t p q c d = absurd c
+
+  -- where the text ends no command is read
+  no_command : (k place : ℕ) (e : Ending) (a : List ℕ) (s : ℕ) (x : Sexpr) (m : ℕ) → EndsAs bytes place e → Closes k e a s → Spells bytes place x m → ⊥
+  no_command k place ended a s x m p c spells = end_no_expression x (one bytes place finished (expression x) p.0 m p.1 spells).0
+  no_command k place (unread why) a s x m p c spells = refusal_no_expression why x (one bytes place (refused why) (expression x) p.0 m p.1 spells).0
+  no_command k place stopped a s x m p c spells = absurd c
+
+  ends_here : (place here : ℕ) (e : Ending) → place ≡ here → EndsAs bytes here e → EndsAs bytes place e
+  ends_here place here e same h = subst (λ (p : ℕ). EndsAs bytes p e) (sym same) h
+
+  follows_one : (xs ys : List Sexpr) (st : State) (k place h j : ℕ) (e f : Ending) (a b : List ℕ) (s t : ℕ) → Commands bytes place xs h → EndsAs bytes h e → Follows st k xs e a s
+      → Commands bytes place ys j → EndsAs bytes j f → Follows st k ys f b t → (a ≡ b) × (s ≡ t)
+  unfolding Follows
+  follows_one [] [] st k place h j e f a b s t reads ends c others others_end d = closes_one k place e f a b s t (ends_here place h e reads ends) (ends_here place j f others others_end) c d
+  follows_one [] (y ∷ ys) st k place h j e f a b s t reads ends c others others_end d = absurd (no_command k place e a s y others.0 (ends_here place h e reads ends) c others.1)
+  follows_one (x ∷ xs) [] st k place h j e f a b s t reads ends c others others_end d = absurd (no_command k place f b t x reads.0 (ends_here place j f others others_end) d reads.1)
+  follows_one (x ∷ xs) (y ∷ ys) st k place h j e f a b s t reads ends c others others_end d =
+      let same = one bytes place (expression x) (expression y) reads.0 others.0 reads.1 others.1 in
+      let first : Follows st k (x ∷ ys) f b t = subst (λ (z : Sexpr). Follows st k (z ∷ ys) f b t) (sym (same_expression x y same.0)) d in
+      let behind : Commands bytes reads.0 ys j = subst (λ (p : ℕ). Commands bytes p ys j) (sym same.1) others.2 in
+      continues_one (after st x) k xs ys e f a b s t (λ step p. Follows step.state (k + 1) xs e p s) (λ step q. Follows step.state (k + 1) ys f q t)
+      (λ step p q u v. follows_one xs ys step.state (k + 1) reads.0 h j e f p q s t reads.2 ends u behind others_end v) c first
+
+pub transcript_one : OneOutcome → (script a b : List ℕ) (s t : ℕ) → IsTranscript script a s → IsTranscript script b t → (a ≡ b) × (s ≡ t)
+transcript_one one script a b s t h k =
+    follows_one one script h.commands k.commands start_state 1 0 h.here k.here h.ending k.ending a b s t h.reads h.ends h.answers k.reads k.ends k.answers

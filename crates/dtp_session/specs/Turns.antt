@@ -1,0 +1,38 @@
+-- One turn of the session: a command is read, carried out and answered.
+-- These are words of the code's inner contracts, and no part of the meaning.
+use Rattle.std.specs.Prelude.{◌≡◌, ◌≢◌, ℕ, ◌+◌, List, [], ◌++◌, Ok, Err}
+use Rattle.smt_sexpr.specs.Tree.{Sexpr}
+use Rattle.dtp_session.specs.declared.kind.Kind.{Kind}
+use Rattle.dtp_session.specs.declared.session.Turn.{Turn}
+use Rattle.dtp_session.specs.declared.session.Turn.TheVariants.{Going, Ended, Stopped}
+use Rattle.dtp_session.specs.declared.state.Effect.{Effect}
+use Rattle.dtp_session.specs.declared.state.Effect.TheVariants.{Exit}
+use Rattle.dtp_session.specs.Answers.{error_line}
+use Rattle.dtp_session.specs.States.{State, Kept, StandsFor, after}
+use Rattle.dtp_session.specs.Tables.{IsTabled}
+use Rattle.dtp_session.specs.Transcripts.{Answers, TranscribesFrom}
+
+-- what is kept stands for a state whose node table is that of its assertions
+pub record Stands (kept : Kept) (s : State) : Type 0 where
+  pub stands : StandsFor kept s
+  pub tabled : IsTabled s
+
+-- the command is answered, and the script goes on in this state
+pub record IsAnswered (s : State) (x : Sexpr) (added : List ℕ) (next : State) : Type 0 where
+  pub effect : Effect
+  pub leads : after s x ≡ Ok (record { state = next; effect = effect })
+  pub goes_on : effect ≢ Exit
+  pub answers : Answers next effect added
+
+-- what was done with command k
+abbrev pub IsCarriedOut : State → ℕ → Sexpr → List ℕ → Kept → Turn → Type 0
+IsCarriedOut s k x added kept Going = (next : State) × Stands kept next × IsAnswered s x added next
+IsCarriedOut s k x added kept Ended = (next : State) × (after s x ≡ Ok (record { state = next; effect = Exit })) × (added ≡ [])
+IsCarriedOut s k x added kept Stopped = (kind : Kind) × (after s x ≡ Err kind) × (added ≡ error_line k kind)
+
+-- what was written in a turn, in which the place went from one to the other
+abbrev pub IsTurn : List ℕ → ℕ → State → ℕ → List ℕ → ℕ → Kept → Turn → Type 0
+IsTurn bytes place s k added here kept Going =
+    (next : State) × Stands kept next × ((rest : List ℕ) (status : ℕ) → TranscribesFrom bytes here next (k + 1) rest status → TranscribesFrom bytes place s k (added ++ rest) status)
+IsTurn bytes place s k added here kept Ended = TranscribesFrom bytes place s k added 0
+IsTurn bytes place s k added here kept Stopped = TranscribesFrom bytes place s k added 1

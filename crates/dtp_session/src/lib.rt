@@ -1,0 +1,45 @@
+//! Decides scripts of difference logic: from their bytes to the answers, by the call [`solve_script`].
+//!
+//! Read are these commands of SMT-LIB 2.6: `(declare-const n Int)`, `(assert a)`, `(check-sat)` and `(exit)`. `n` is a
+//! symbol that is neither reserved nor declared. An assertion `a` is one comparison, `(op x y)`, `(op x k)` or
+//! `(op (- x y) k)`, where `op` is `<`, `<=`, `>` or `>=`, `x` and `y` are declared, and `k` is a numeral or
+//! `(- numeral)` of absolute value at most 2^40. A script has at most 65,536 names and 2^20 different literals.
+//!
+//! Not read yet are all other commands, among them `set-logic`, `push` and `pop`, and all other terms, among them `=`,
+//! `and`, `or`, `not`, `+` and a number on the left. They are refused as "not yet". Bytes that are no s-expression are
+//! refused by what is wrong with them. The first refusal ends the script.
+//!
+//! What a script is answered is the relation `IsTranscript` of `specs/Transcripts.antt`. A `check-sat` is decided by one
+//! call of `stn_core::greatest` over the literals of the assertions.
+#![tactic(auto)]
+
+mod answer;
+mod command;
+mod command_name;
+mod difference;
+mod examples;
+mod gate;
+mod kind;
+mod laws;
+mod names;
+mod nodes;
+mod relation;
+mod reserved;
+mod session;
+mod shape;
+mod solve;
+mod state;
+mod term;
+mod text;
+
+pub use answer::SessionError;
+pub use examples::{worked_commands, worked_literals, worked_values};
+pub use gate::{Gate, NoGate};
+pub use kind::Kind;
+pub use laws::{literal_of_a_term, one_transcript};
+pub use session::Solved;
+pub use solve::solve_script;
+pub use state::{Effect, ScriptError, State};
+
+#[cfg(test)]
+mod tests;

@@ -1,0 +1,170 @@
+//! A script from its bytes to its answers.
+ghost use Rattle.std.specs.Prelude.{◌≡◌, ◌≤◌, ◌<◌, ℕ, length, Some, None, OnOk, Ok, Err, IfOk};
+ghost use Rattle.std.specs.Io.KnownBytes.{Appends};
+ghost use Rattle.dtp_io.specs.Faults.{Rose};
+ghost use Rattle.smt_sexpr.specs.Tree.{Sexpr};
+ghost use Rattle.smt_sexpr.specs.Table.{Means, HasMeaning};
+ghost use Rattle.smt_sexpr.specs.Reading.{Explains};
+ghost use Rattle.dtp_session.specs.Answers.{kind_of_error, error_line};
+ghost use Rattle.dtp_session.specs.declared.kind.Kind.{Kind as Cause};
+ghost use Rattle.dtp_session.specs.States.{State as Meaning};
+ghost use Rattle.dtp_session.specs.Transcripts.{IsTranscript};
+ghost use Rattle.dtp_session.specs.Ends.{status_of};
+ghost use Rattle.dtp_session.specs.Turns.{Stands, IsCarriedOut, IsTurn};
+ghost use Rattle.dtp_session.specs.Written.{Writes};
+
+use crate::answer::{SessionError, write_error, write_verdict};
+use crate::kind::Kind;
+use crate::state::{Effect, ScriptError, State};
+use dtp_io::Sink;
+use smt_lex::{LexErrorKind, Lexer};
+use smt_sexpr::{SexprError, SexprId, Sexprs};
+use std::alloc::Global;
+
+/// How a turn ends.
+#[derive(Clone, Copy, Debug, PartialEq, Eq)]
+pub enum Turn {
+    /// The script goes on.
+    Going,
+    /// The script has ended without error.
+    Ended,
+    /// A command was refused, and the error is written.
+    Stopped,
+}
+
+/// Carries out a command, and answers it.
+fn carry_out<'a, K: Sink>(
+    alloc: Global,
+    sexprs: &Sexprs<'a>,
+    id: SexprId,
+    state: &mut State<'a>,
+    sink: &mut K,
+    command: u64,
+) -> Result<Turn, SessionError>
+    requires meaning { HasMeaning sexprs.now id }
+    requires stands { (s : Meaning) × Stands state.old s }
+    ensures ok { IfOk result (λ turn. (s : Meaning) (x : Sexpr) → Stands state.old s → Means sexprs.now id x
+        → Writes (K.holds sink.old) (K.holds sink.new) (λ added. IsCarriedOut s command x added state.new turn)) }
+    ensures fault { result ≡ Err SessionError.WriteFault → Rose (K.faults sink.old) (K.faults sink.new) }
+    ensures later { K.faults sink.old ≤ K.faults sink.new }
+{
+    match state.step(sexprs, id) {
+        Ok(Effect::Silent) => Ok(Turn::Going),
+        Ok(Effect::CheckSat) => {
+            write_verdict(alloc, sink, state)?;
+            Ok(Turn::Going)
+        }
+        Ok(Effect::Exit) => Ok(Turn::Ended),
+        Err(ScriptError::NotYet) => {
+            write_error(alloc, sink, command, Kind::NotYet)?;
+            Ok(Turn::Stopped)
+        }
+        Err(ScriptError::OutOfMemory) => Err(SessionError::OutOfMemory),
+    }
+}
+
+/// The kind of a reader's error, or `None` for want of memory.
+fn kind_of_error(error: SexprError) -> Option<Kind>
+    ensures { result ≡ kind_of_error error }
+{
+    match error {
+        SexprError::OutOfMemory => None,
+        SexprError::Lex(error) => Some(match error.kind {
+            LexErrorKind::BadByte => Kind::BadByte,
+            LexErrorKind::UnclosedText => Kind::UnclosedString,
+            LexErrorKind::UnclosedSymbol => Kind::UnclosedQuotedSymbol,
+            LexErrorKind::LeadingZero => Kind::LeadingZero,
+        }),
+        SexprError::UnclosedList(_) => Some(Kind::UnclosedList),
+        SexprError::StrayClose(_) => Some(Kind::StrayClose),
+    }
+}
+
+/// Refuses what can't be read.
+fn refuse<K: Sink>(
+    alloc: Global,
+    error: SexprError,
+    sink: &mut K,
+    command: u64,
+) -> Result<Turn, SessionError>
+    ensures turn { IfOk result (λ turn. turn ≡ Turn.Stopped) }
+    ensures ok { OnOk result ((kind : Cause) × (kind_of_error error ≡ Some kind) × Appends (K.holds sink.old) (K.holds sink.new) (error_line command kind)) }
+    ensures fault { result ≡ Err SessionError.WriteFault → Rose (K.faults sink.old) (K.faults sink.new) }
+    ensures later { K.faults sink.old ≤ K.faults sink.new }
+{
+    let Some(kind) = kind_of_error(error) else {
+        return Err(SessionError::OutOfMemory);
+    };
+    write_error(alloc, sink, command, kind)?;
+    Ok(Turn::Stopped)
+}
+
+/// Reads the next command, carries it out and answers it.
+fn take_turn<'a, K: Sink>(
+    alloc: Global,
+    lexer: &mut Lexer,
+    sexprs: &mut Sexprs<'a>,
+    state: &mut State<'a>,
+    sink: &mut K,
+    command: u64,
+) -> Result<Turn, SessionError>
+    requires fresh { lexer.old.failed ≡ None }
+    requires same { lexer.old.bytes ≡ sexprs.old.bytes }
+    requires stands { (s : Meaning) × Stands state.old s }
+    ensures ok { IfOk result (λ turn. (s : Meaning) → Stands state.old s
+        → Writes (K.holds sink.old) (K.holds sink.new) (λ added. IsTurn lexer.old.bytes lexer.old.place s command added lexer.new.place state.new turn)) }
+    ensures fresh { result ≡ Ok Turn.Going → lexer.new.failed ≡ None }
+    ensures forward { result ≡ Ok Turn.Going → lexer.old.place < lexer.new.place }
+    ensures within { result ≡ Ok Turn.Going → lexer.new.place ≤ length lexer.new.bytes }
+    ensures lexer_bytes { lexer.new.bytes ≡ lexer.old.bytes }
+    ensures table_bytes { sexprs.new.bytes ≡ sexprs.old.bytes }
+    ensures fault { result ≡ Err SessionError.WriteFault → Rose (K.faults sink.old) (K.faults sink.new) }
+    ensures later { K.faults sink.old ≤ K.faults sink.new }
+{
+    sexprs.clear();
+    match sexprs.read_one(lexer) {
+        Ok(Some(id)) => {
+            let turn = carry_out(alloc, sexprs, id, state, sink, command)?;
+            Ok(turn)
+        }
+        Ok(None) => Ok(Turn::Ended),
+        Err(error) => {
+            let turn = refuse(alloc, error, sink, command)?;
+            Ok(turn)
+        }
+    }
+}
+
+/// How a script ended whose answers were all written.
+#[derive(Clone, Copy, Debug, PartialEq, Eq)]
+pub enum Solved {
+    /// At its end or at `(exit)`.
+    Done,
+    /// At a command that is refused, whose error line is the last.
+    ScriptStopped,
+}
+
+/// Answers a script: each command in order, up to the end, to `(exit)` or to the first refusal.
+///
+/// Each line goes out by a write of its own.
+pub fn answer_script<K: Sink>(
+    alloc: Global,
+    bytes: &[u8],
+    sink: &mut K,
+) -> Result<Solved, SessionError>
+    ensures transcript { IfOk result (λ end. Writes (K.holds sink.old) (K.holds sink.new) (λ added. IsTranscript bytes.now added (status_of end))) }
+    ensures fault { result ≡ Err SessionError.WriteFault → Rose (K.faults sink.old) (K.faults sink.new) }
+    ensures later { K.faults sink.old ≤ K.faults sink.new }
+{
+    let mut lexer = Lexer::new(bytes);
+    let mut sexprs = Sexprs::new(alloc, bytes);
+    let mut state = State::new(alloc);
+    let mut command = 1u64;
+    'commands: loop {
+        match take_turn(alloc, &mut lexer, &mut sexprs, &mut state, sink, command)? {
+            Turn::Going => command += 1,
+            Turn::Ended => return Ok(Solved::Done),
+            Turn::Stopped => return Ok(Solved::ScriptStopped),
+        }
+    }
+}

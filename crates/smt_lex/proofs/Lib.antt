@@ -1,0 +1,12 @@
+pub mod ScanLaws
+pub mod Runs
+pub mod Starts
+pub mod Texts
+pub mod Numbers
+pub mod Fronts
+pub mod Gaps
+pub mod Complete
+pub mod OneReading
+pub mod Printed
+pub mod SymbolLaws
+pub mod Values

@@ -1,0 +1,104 @@
+//! The lexer.
+ghost use Rattle.std.specs.Prelude.{◌≡◌, List, ℕ, Option, Result, Some, None, Ok, Err, length, ◌≤◌, ◌<◌};
+ghost use Rattle.smt_lex.specs.declared.token.Token.{Token};
+ghost use Rattle.smt_lex.specs.declared.token.LexError.{LexError};
+ghost use Rattle.smt_lex.specs.Lexing.{err_of};
+ghost use Rattle.smt_lex.specs.Grammar.{Reads};
+
+use crate::front::front;
+use crate::scan::gap;
+use crate::token::{LexError, Token};
+use std::marker::Model;
+
+/// Reads the tokens of some bytes one after the other. It is seen as its bytes, the place up to which
+/// they were read, and the error that it gave.
+#[derive(Drop)]
+pub struct Lexer<'a> {
+    bytes: &'a [u8],
+    place: usize,
+    failed: Option<LexError>,
+}
+
+impl<'a> Model for Lexer<'a> {
+    ghost use Rattle.std.specs.Prelude.{◌≤◌, length};
+    ghost use Rattle.smt_lex.specs.Lexing.{Lexing};
+
+    ghost Value = { Lexing };
+
+    ghost view = { λ l. record { bytes = l.bytes.now; place = l.place; failed = l.failed } };
+
+    ghost invariant = { λ l. l.place ≤ length l.bytes.now };
+}
+
+impl<'a> Lexer<'a> {
+    /// A lexer before the first of the bytes.
+    pub fn new(bytes: &'a [u8]) -> Self
+        ensures { result ≡ record { bytes = bytes.now; place = 0; failed = None } }
+    {
+        Lexer {
+            bytes,
+            place: 0,
+            failed: None,
+        }
+    }
+
+    /// The bytes that it was made with.
+    pub fn bytes(&self) -> &'a [u8]
+        ensures { result.now ≡ self.now.bytes }
+    {
+        self.bytes
+    }
+
+    /// The error that it gave, and gives again, if it gave one.
+    pub fn error(&self) -> Option<LexError>
+        ensures { result ≡ self.now.failed }
+    {
+        self.failed
+    }
+
+    /// The next token, or `None` at the end, where it stays. After an error it gives that error again.
+    pub fn next(&mut self) -> Result<Option<Token>, LexError>
+        ensures bytes { self.new.bytes ≡ self.old.bytes }
+        ensures reads { self.old.failed ≡ None → Reads self.old.bytes self.old.place result self.new.place }
+        ensures failed { self.old.failed ≡ None → self.new.failed ≡ err_of result }
+        // Each token takes bytes, so there are no more of them than bytes.
+        ensures forward { (t : Token) → result ≡ Ok (Some t) → self.old.place < self.new.place }
+        ensures within { self.new.place ≤ length self.new.bytes }
+        ensures again { (e : LexError) → self.old.failed ≡ Some e → (result ≡ Err e) × (self.new ≡ self.old) }
+    {
+        if let Some(error) = self.failed {
+            return Err(error);
+        }
+        let (result, place) = read(self.bytes, self.place);
+        self.place = place;
+        if let Err(error) = result {
+            self.failed = Some(error);
+        }
+        result
+    }
+}
+
+/// What stands behind the place, and the place behind that.
+fn read(bytes: &[u8], place: usize) -> (Result<Option<Token>, LexError>, usize)
+    requires { place ≤ length bytes.now }
+    ensures reads { Reads bytes.now place result.0 result.1 }
+    ensures forward { (t : Token) → result.0 ≡ Ok (Some t) → place < result.1 }
+    ensures within { result.1 ≤ length bytes.now }
+{
+    let gap_len = gap(&bytes[place..]);
+    let start = place + gap_len;
+    let rest = &bytes[start..];
+    if rest.is_empty() {
+        return (Ok(None), start);
+    }
+    match front(rest) {
+        Ok((kind, length)) => {
+            let end = start + length;
+            (Ok(Some(Token { kind, start, end })), end)
+        }
+        Err((kind, offset)) => {
+            let place = start + offset;
+            (Err(LexError { place, kind }), start)
+        }
+    }
+}

@@ -1,0 +1,9 @@
+pub mod Leaves
+pub mod Growth
+pub mod Access
+pub mod OneValue
+pub mod OneOutcome
+pub mod Printed
+pub mod Stack
+pub mod Loop
+pub mod Writing

@@ -1,0 +1,5 @@
+use Rattle.smt_sexpr.proofs.Growth.{means_grows}
+use Rattle.smt_sexpr.proofs.laws.meaning_stays.Goals as goal
+
+pub returns : goal.returns
+returns c = λ old new id x g m. means_grows old new id x g m

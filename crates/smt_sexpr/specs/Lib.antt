@@ -1,0 +1,9 @@
+pub mod Tree
+pub mod Table
+pub mod Reading
+pub mod Printing
+pub mod Commands
+pub use Rattle.smt_lex.specs.Bytes
+pub use Rattle.smt_lex.specs.Grammar
+pub use Rattle.smt_lex.specs.Lexing
+pub use Rattle.smt_lex.specs.Symbols

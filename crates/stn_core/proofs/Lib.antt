@@ -1,0 +1,5 @@
+pub mod Ends
+pub mod Consequences
+pub mod Ranges
+pub mod Rounds
+pub mod Walks

@@ -1,0 +1,55 @@
+ghost use Rattle.std.specs.Prelude.{◌≡◌, List, ℤ, IfOk};
+
+use crate::literal::Literals;
+use std::alloc::AllocError;
+use std::marker::Model;
+
+/// One value for each time point, in the order of the points.
+#[derive(Drop)]
+pub struct Schedule {
+    values: Vec<i64>,
+}
+
+impl Model for Schedule {
+    ghost Value = { List ℤ };
+
+    ghost view = { λ s. s.values.items };
+}
+
+impl Schedule {
+    pub fn new(values: Vec<i64>) -> Self
+        ensures { result ≡ values.items }
+    {
+        Schedule { values }
+    }
+
+    pub fn as_slice(&self) -> &[i64]
+        ensures { result.now ≡ self.now }
+    {
+        self.values.as_slice()
+    }
+
+    /// The values in a `Vec`, without taking memory.
+    pub fn into_vec(self) -> Vec<i64>
+        ensures { result.items ≡ self }
+    {
+        self.values
+    }
+
+    /// An equal schedule in memory of its own.
+    pub fn copy(&self) -> Result<Self, AllocError>
+        ensures { IfOk result (λ schedule. schedule ≡ self.now) }
+    {
+        let alloc = *self.values.allocator();
+        Ok(Schedule::new(Vec::from_slice(alloc, &self.values)?))
+    }
+}
+
+/// What the literals of a Simple Temporal Network come to.
+#[derive(Drop)]
+pub enum Greatest {
+    /// Their greatest schedule.
+    Greatest(Schedule),
+    /// A negative cycle of them, so that no schedule is there.
+    Negative(Literals),
+}
