@@ -2,9 +2,11 @@
 use Rattle.std.specs.Prelude.{◌≡◌, ◌⊎◌, ℕ, ◌≤◌, ◌^◌, List, length, codes, Option, Some, None}
 use Rattle.std.specs.Io.KnownBytes.{Consumes, Appends, IsAtEnd}
 use Rattle.dtp_io.specs.Faults.{Rose, TookMore, AddsFront}
-use Rattle.dtp_session.specs.Transcripts.{IsTranscript}
+use Rattle.dtp_session.specs.Transcripts.{IsReport, IsReportPart}
+use Rattle.dtp_session.specs.declared.report.Report.{Report}
+use Rattle.dtp_session.specs.declared.report.Report.TheVariants.{Verdicts, Certificate}
 use Rattle.dtp_main.specs.declared.line.Line.{Line}
-use Rattle.dtp_main.specs.declared.line.Line.TheVariants.{Solve}
+use Rattle.dtp_main.specs.declared.line.Line.TheVariants.{Solve, Certify}
 use Rattle.dtp_main.specs.declared.status.Status.{Status}
 use Rattle.dtp_main.specs.declared.status.Status.TheVariants.{Done, Refused, Usage, ReadFault, WriteFault, OutOfMemory, TooLong}
 use Rattle.dtp_main.specs.Lines.{line_of}
@@ -47,22 +49,27 @@ WritesUsage before now faults_before faults_now = Appends before now usage_line 
 abbrev pub IsUsage : Outside → Outside → Type 0
 IsUsage old new = WritesUsage old.holds new.holds old.write_faults new.write_faults
 
--- the script's whole transcript is written, and it is the one with this status
-abbrev pub Transcribes : Outside → Outside → ℕ → Type 0
-Transcribes old new status = (script : List ℕ) × (out : List ℕ) × IsInput old new script × Appends old.holds new.holds out × IsTranscript script out status
+-- what is to be written of the script is written whole, and it is the one with this status
+abbrev pub Reports : Report → Outside → Outside → ℕ → Type 0
+Reports report old new status = (script : List ℕ) × (out : List ℕ) × IsInput old new script × Appends old.holds new.holds out × IsReport report script out status
 
-abbrev pub IsSolved : Outside → Outside → Status → Type 0
-IsSolved old new Done = Transcribes old new 0
-IsSolved old new Refused = Transcribes old new 1
-IsSolved old new Usage = ⊥
-IsSolved old new ReadFault = Rose old.read_faults new.read_faults × IsUnwritten old new
-IsSolved old new WriteFault = Rose old.write_faults new.write_faults × (script : List ℕ) × IsInput old new script
-IsSolved old new OutOfMemory = Unit {0}
-IsSolved old new TooLong = TookMore old.left new.left input_limit × IsUnwritten old new
+-- a legal front of it is written
+abbrev pub ReportsPart : Report → Outside → Outside → Type 0
+ReportsPart report old new = (script : List ℕ) × (out : List ℕ) × IsInput old new script × Appends old.holds new.holds out × IsReportPart report script out
+
+abbrev pub IsReported : Report → Outside → Outside → Status → Type 0
+IsReported report old new Done = Reports report old new 0
+IsReported report old new Refused = Reports report old new 1
+IsReported report old new Usage = ⊥
+IsReported report old new ReadFault = Rose old.read_faults new.read_faults × IsUnwritten old new
+IsReported report old new WriteFault = Rose old.write_faults new.write_faults × ReportsPart report old new
+IsReported report old new OutOfMemory = IsUnwritten old new ⊎ ReportsPart report old new
+IsReported report old new TooLong = TookMore old.left new.left input_limit × IsUnwritten old new
 
 -- each kind of line has its own outcomes
 abbrev pub IsOutcomeOf : Line → Outside → Outside → Status → Type 0
-IsOutcomeOf Solve old new status = IsSolved old new status
+IsOutcomeOf Solve old new status = IsReported Verdicts old new status
+IsOutcomeOf Certify old new status = IsReported Certificate old new status
 
 -- The outcome of a run: where the words are no command line the usage line, else what the line does.
 abbrev pub IsOutcome : Option Line → Outside → Outside → Status → Type 0

@@ -7,6 +7,8 @@ ghost use Rattle.dtp_main.specs.Lines.{line_of, texts};
 pub enum Line {
     /// The answers to a script.
     Solve,
+    /// The certificate of a script.
+    Certify,
 }
 
 /// What the words ask for, or `None` where they are no command line. The program's name isn't among them.
@@ -15,6 +17,7 @@ pub fn line_of(words: &[String]) -> Option<Line>
 {
     match words {
         [word] if word.as_bytes() == b"solve".as_slice() => Some(Line::Solve),
+        [word] if word.as_bytes() == b"certify".as_slice() => Some(Line::Certify),
         _ => None,
     }
 }

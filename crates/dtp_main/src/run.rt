@@ -1,12 +1,13 @@
 //! The top call: from the words and the source to the sink and a status.
 ghost use Rattle.std.specs.Prelude.{◌≡◌, ◌≤◌};
+ghost use Rattle.dtp_session.specs.declared.report.Report.TheVariants.{Verdicts, Certificate};
 ghost use Rattle.dtp_main.specs.Lines.{line_of, texts};
-ghost use Rattle.dtp_main.specs.Outcomes.{IsRun, IsOutcome, IsSolved, WritesUsage};
+ghost use Rattle.dtp_main.specs.Outcomes.{IsRun, IsOutcome, IsReported, WritesUsage};
 
 use crate::line::{Line, line_of};
 use crate::status::Status;
 use dtp_io::{ReadError, Sink, Source, read_all, write_all_of};
-use dtp_session::{Gate, SessionError, Solved, solve_script};
+use dtp_session::{Gate, SessionError, Solved, certify_script, solve_script};
 use std::alloc::Global;
 use std::sync::Wait;
 use std::thread::Threads;
@@ -58,6 +59,7 @@ fn perform<R: Wait, S: Source, K: Sink, G: Gate>(
 {
     match line_of(words) {
         Some(Line::Solve) => solve(rt, alloc, source, sink, gate),
+        Some(Line::Certify) => certify(rt, alloc, source, sink, gate),
         None => usage(sink),
     }
 }
@@ -83,7 +85,7 @@ fn solve<R: Wait, S: Source, K: Sink, G: Gate>(
     sink: &mut K,
     gate: &G,
 ) -> Status
-    ensures solved { IsSolved
+    ensures reported { IsReported Verdicts
         (record { left = S.left source.old; read_faults = S.faults source.old; holds = K.holds sink.old; write_faults = K.faults sink.old })
         (record { left = S.left source.new; read_faults = S.faults source.new; holds = K.holds sink.new; write_faults = K.faults sink.new })
         result }
@@ -97,6 +99,35 @@ fn solve<R: Wait, S: Source, K: Sink, G: Gate>(
         Err(ReadError::TooLong) => return Status::TooLong,
     };
     match solve_script(rt, alloc, &script, sink, WORKERS, SLICE, gate) {
+        Ok(Solved::Done) => Status::Done,
+        Ok(Solved::ScriptStopped) => Status::Refused,
+        Err(SessionError::WriteFault) => Status::WriteFault,
+        Err(SessionError::OutOfMemory) => Status::OutOfMemory,
+    }
+}
+
+/// Reads the script whole, and writes its certificate.
+fn certify<R: Wait, S: Source, K: Sink, G: Gate>(
+    rt: &R,
+    alloc: Global,
+    source: &mut S,
+    sink: &mut K,
+    gate: &G,
+) -> Status
+    ensures reported { IsReported Certificate
+        (record { left = S.left source.old; read_faults = S.faults source.old; holds = K.holds sink.old; write_faults = K.faults sink.old })
+        (record { left = S.left source.new; read_faults = S.faults source.new; holds = K.holds sink.new; write_faults = K.faults sink.new })
+        result }
+    ensures read_later { S.faults source.old ≤ S.faults source.new }
+    ensures write_later { K.faults sink.old ≤ K.faults sink.new }
+{
+    let script = match read_all(alloc, source, INPUT_LIMIT) {
+        Ok(script) => script,
+        Err(ReadError::OutOfMemory) => return Status::OutOfMemory,
+        Err(ReadError::ReadFault) => return Status::ReadFault,
+        Err(ReadError::TooLong) => return Status::TooLong,
+    };
+    match certify_script(rt, alloc, &script, sink, WORKERS, SLICE, gate) {
         Ok(Solved::Done) => Status::Done,
         Ok(Solved::ScriptStopped) => Status::Refused,
         Err(SessionError::WriteFault) => Status::WriteFault,

@@ -32,6 +32,13 @@ const fn solves(script: &'static str, output: &'static str, status: u8) -> Row {
     }
 }
 
+const fn certifies(script: &'static str, output: &'static str, status: u8) -> Row {
+    Row {
+        words: &["certify"],
+        ..solves(script, output, status)
+    }
+}
+
 const fn usage(words: &'static [&'static str]) -> Row {
     Row {
         words,
@@ -161,6 +168,11 @@ fn outside(rt: HostRuntime) -> Result<(), Fail> {
         failing_writes: &[0],
         ..solves("(check-sat)", "", 4)
     };
+    let second_write_fails = Row {
+        failing_writes: &[1],
+        output: "sat\n",
+        ..solves("(check-sat) (check-sat)", "", 4)
+    };
     let usage_fails = Row {
         failing_writes: &[0],
         output: "",
@@ -169,11 +181,43 @@ fn outside(rt: HostRuntime) -> Result<(), Fail> {
     let rows = [
         read_fails,
         write_fails,
+        second_write_fails,
         usage_fails,
         usage(&[]),
         usage(&["frob"]),
-        usage(&["certify"]),
+        usage(&["check"]),
         usage(&["solve", "--workers", "0"]),
+    ];
+    check_all(&rt, &rows)
+}
+
+#[test]
+fn certificates(rt: HostRuntime) -> Result<(), Fail> {
+    let rows = [
+        certifies("", "(dtp-certificate 1)\n(end)\n", 0),
+        certifies("(check-sat)", "(dtp-certificate 1)\n(sat)\n(end)\n", 0),
+        // x less itself is nothing, and the one cycle is the literal itself
+        certifies(
+            "(declare-const x Int) (assert (< x x)) (check-sat)",
+            "(dtp-certificate 1)\n(unsat (lemma () (input 0) (cycle (0 0 (- 1)))))\n(end)\n",
+            0,
+        ),
+        // the greatest schedule with x at most y - 1, y at most the zero point
+        certifies(
+            "(declare-const x Int) (declare-const y Int) (assert (<= y 0)) (assert (< x y)) (check-sat) (exit)",
+            "(dtp-certificate 1)\n(sat (- 1) 0)\n(end)\n",
+            0,
+        ),
+        certifies(
+            "(check-sat) (push 1)",
+            "(dtp-certificate 1)\n(sat)\n(error \"command 2: not yet\")\n",
+            1,
+        ),
+        certifies(
+            "(check-sat",
+            "(dtp-certificate 1)\n(error \"command 1: unclosed list\")\n",
+            1,
+        ),
     ];
     check_all(&rt, &rows)
 }

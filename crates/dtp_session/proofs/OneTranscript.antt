@@ -3,6 +3,7 @@ use Rattle.std.proofs.Common.{sym, ap, subst, ◌∙◌, ◌≡◌, inl, inr, �
 use Rattle.smt_sexpr.specs.Tree.{Sexpr}
 use Rattle.smt_sexpr.specs.Reading.{Spells, Refusal, Outcome, expression, finished, refused, Outcomes}
 use Rattle.smt_sexpr.specs.Commands.{Commands, Ending, ended, stopped, unread, EndsAs}
+use Rattle.dtp_session.specs.declared.report.Report.TheVariants.{Verdicts}
 use Rattle.dtp_session.specs.declared.kind.Kind.{Kind}
 use Rattle.dtp_session.specs.declared.state.Effect.{Effect}
 use Rattle.dtp_session.specs.declared.state.Effect.TheVariants.{Silent, CheckSat, Exit}
@@ -38,7 +39,7 @@ verdict_one s a b (inl h) (inr k) = absurd (k.1 h.1)
 verdict_one s a b (inr h) (inl k) = absurd (h.1 k.1)
 verdict_one s a b (inr h) (inr k) = h.0 ∙ sym k.0
 
-answer_one : (s : State) (effect : Effect) (a b : List ℕ) → Answers s effect a → Answers s effect b → a ≡ b
+answer_one : (s : State) (effect : Effect) (a b : List ℕ) → Answers Verdicts s effect a → Answers Verdicts s effect b → a ≡ b
 answer_one s Silent a b h k = h ∙ sym k
 answer_one s CheckSat a b h k = verdict_one s a b h k
 answer_one s Exit a b h k = h ∙ sym k
@@ -47,7 +48,7 @@ joined_one : (a b p q rest others : List ℕ) → a ≡ p ++ rest → b ≡ q ++
 joined_one a b p q rest others e f g h = e ∙ ap (λ (piece : List ℕ). piece ++ rest) g ∙ ap (λ (more : List ℕ). q ++ more) h ∙ sym f
 
 goes_on_one : (effect : Effect) (st : State) (xs ys : List Sexpr) (e f : Ending) (a b : List ℕ) (s t : ℕ) (P Q : List ℕ → Type 0) → ((p q : List ℕ) → P p → Q q → (p ≡ q) × (s ≡ t))
-    → GoesOn effect st xs e a s P → GoesOn effect st ys f b t Q → (a ≡ b) × (s ≡ t)
+    → GoesOn Verdicts effect st xs e a s P → GoesOn Verdicts effect st ys f b t Q → (a ≡ b) × (s ≡ t)
 goes_on_one Silent st xs ys e f a b s t P Q one (p, rest, h, is, follows) (q, others, k, same, behind) =
     let r = one rest others follows behind in
     (joined_one a b p q rest others is same (answer_one st Silent p q h k) r.0, r.1)
@@ -59,7 +60,7 @@ goes_on_one Exit st xs ys e f a b s t P Q one h k = (h.1 ∙ sym k.1, h.2 ∙ sy
 -- a command's answer and what is behind it, by what the command leads to
 abbrev Continues : Result Step Kind → ℕ → List Sexpr → Ending → List ℕ → ℕ → (Step → List ℕ → Type 0) → Type 0
 Continues found k xs ending out status Rest = elim found [
-  | Ok step ↦ GoesOn step.effect step.state xs ending out status (Rest step)
+  | Ok step ↦ GoesOn Verdicts step.effect step.state xs ending out status (Rest step)
   | Err kind ↦ Stops xs ending × (out ≡ error_line k kind) × (status ≡ 1)
 ]
 
@@ -69,7 +70,7 @@ continues_one (Ok step) k xs ys e f a b s t P Q one h j = goes_on_one step.effec
 continues_one (Err kind) k xs ys e f a b s t P Q one h j = (h.1 ∙ sym j.1, h.2 ∙ sym j.2)
 
 module _ (one : OneOutcome) (bytes : List ℕ) where
-  closes_one : (k place : ℕ) (e f : Ending) (a b : List ℕ) (s t : ℕ) → EndsAs bytes place e → EndsAs bytes place f → Closes k e a s → Closes k f b t → (a ≡ b) × (s ≡ t)
+  closes_one : (k place : ℕ) (e f : Ending) (a b : List ℕ) (s t : ℕ) → EndsAs bytes place e → EndsAs bytes place f → Closes Verdicts k e a s → Closes Verdicts k f b t → (a ≡ b) × (s ≡ t)
   closes_one k place ended ended a b s t p q c d = (c.0 ∙ sym d.0, c.1 ∙ sym d.1)
   closes_one k place ended (unread why) a b s t p q c d = absurd (end_no_refusal why (one bytes place finished (refused why) p.0 q.0 p.1 q.1).0)
   closes_one k place ended stopped a b s t p q c d = absurd d
@@ -81,7 +82,7 @@ module _ (one : OneOutcome) (bytes : List ℕ) where
   closes_one k place stopped f a b s t p q c d = absurd c
 
   -- where the text ends no command is read
-  no_command : (k place : ℕ) (e : Ending) (a : List ℕ) (s : ℕ) (x : Sexpr) (m : ℕ) → EndsAs bytes place e → Closes k e a s → Spells bytes place x m → ⊥
+  no_command : (k place : ℕ) (e : Ending) (a : List ℕ) (s : ℕ) (x : Sexpr) (m : ℕ) → EndsAs bytes place e → Closes Verdicts k e a s → Spells bytes place x m → ⊥
   no_command k place ended a s x m p c spells = end_no_expression x (one bytes place finished (expression x) p.0 m p.1 spells).0
   no_command k place (unread why) a s x m p c spells = refusal_no_expression why x (one bytes place (refused why) (expression x) p.0 m p.1 spells).0
   no_command k place stopped a s x m p c spells = absurd c
@@ -89,19 +90,20 @@ module _ (one : OneOutcome) (bytes : List ℕ) where
   ends_here : (place here : ℕ) (e : Ending) → place ≡ here → EndsAs bytes here e → EndsAs bytes place e
   ends_here place here e same h = subst (λ (p : ℕ). EndsAs bytes p e) (sym same) h
 
-  follows_one : (xs ys : List Sexpr) (st : State) (k place h j : ℕ) (e f : Ending) (a b : List ℕ) (s t : ℕ) → Commands bytes place xs h → EndsAs bytes h e → Follows st k xs e a s
-      → Commands bytes place ys j → EndsAs bytes j f → Follows st k ys f b t → (a ≡ b) × (s ≡ t)
+  follows_one : (xs ys : List Sexpr) (st : State) (k place h j : ℕ) (e f : Ending) (a b : List ℕ) (s t : ℕ) → Commands bytes place xs h → EndsAs bytes h e → Follows Verdicts st k xs e a s
+      → Commands bytes place ys j → EndsAs bytes j f → Follows Verdicts st k ys f b t → (a ≡ b) × (s ≡ t)
   unfolding Follows
   follows_one [] [] st k place h j e f a b s t reads ends c others others_end d = closes_one k place e f a b s t (ends_here place h e reads ends) (ends_here place j f others others_end) c d
   follows_one [] (y ∷ ys) st k place h j e f a b s t reads ends c others others_end d = absurd (no_command k place e a s y others.0 (ends_here place h e reads ends) c others.1)
   follows_one (x ∷ xs) [] st k place h j e f a b s t reads ends c others others_end d = absurd (no_command k place f b t x reads.0 (ends_here place j f others others_end) d reads.1)
   follows_one (x ∷ xs) (y ∷ ys) st k place h j e f a b s t reads ends c others others_end d =
       let same = one bytes place (expression x) (expression y) reads.0 others.0 reads.1 others.1 in
-      let first : Follows st k (x ∷ ys) f b t = subst (λ (z : Sexpr). Follows st k (z ∷ ys) f b t) (sym (same_expression x y same.0)) d in
+      let first : Follows Verdicts st k (x ∷ ys) f b t = subst (λ (z : Sexpr). Follows Verdicts st k (z ∷ ys) f b t) (sym (same_expression x y same.0)) d in
       let behind : Commands bytes reads.0 ys j = subst (λ (p : ℕ). Commands bytes p ys j) (sym same.1) others.2 in
-      continues_one (after st x) k xs ys e f a b s t (λ step p. Follows step.state (k + 1) xs e p s) (λ step q. Follows step.state (k + 1) ys f q t)
+      continues_one (after st x) k xs ys e f a b s t (λ step p. Follows Verdicts step.state (k + 1) xs e p s) (λ step q. Follows Verdicts step.state (k + 1) ys f q t)
       (λ step p q u v. follows_one xs ys step.state (k + 1) reads.0 h j e f p q s t reads.2 ends u behind others_end v) c first
 
 pub transcript_one : OneOutcome → (script a b : List ℕ) (s t : ℕ) → IsTranscript script a s → IsTranscript script b t → (a ≡ b) × (s ≡ t)
-transcript_one one script a b s t h k =
-    follows_one one script h.commands k.commands start_state 1 0 h.here k.here h.ending k.ending a b s t h.reads h.ends h.answers k.reads k.ends k.answers
+transcript_one one script a b s t (p, e, h) (q, f, k) =
+    let same = follows_one one script h.commands k.commands start_state 1 0 h.here k.here h.ending k.ending p q s t h.reads h.ends h.answers k.reads k.ends k.answers in
+    (e ∙ same.0 ∙ sym f, same.1)

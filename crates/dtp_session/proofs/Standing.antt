@@ -1,11 +1,13 @@
 -- The assertions are satisfiable exactly where their literals hold on some values of the time points.
-use Rattle.std.proofs.Common.{arith, refl, sym, ap, subst, ◌∙◌, ◌≡◌, inl, inr, ◌<◌, ◌+◌, ℕ, zero, suc, List, [], ◌∷◌, ◌++◌, length, Bool, true, false, ◌==◌, ◌&&◌, ◌||◌, Some, ℤ, pos, ◌-ℤ◌}
-use Rattle.std.specs.Prelude.{All, Contains, if◌then◌else◌}
-use Rattle.std.specs.List.{AllByRecursion}
+use Rattle.std.proofs.Common.{arith, refl, sym, ap, subst, ◌∙◌, ◌≡◌, inl, inr, ◌<◌, ◌+◌, ℕ, zero, suc, List, [], ◌∷◌, ◌++◌, length, Bool, true, false, ◌==◌, ◌&&◌, ◌||◌, Some, ℤ, pos, ◌-ℤ◌, get_or}
+use Rattle.std.specs.Prelude.{All, Contains, if◌then◌else◌, slice_get}
+use Rattle.std.specs.List.{AllByRecursion, position}
 use Rattle.std.specs.Ordering.{int_eq}
 use Rattle.std.proofs.lemmas.Bool.{eqb-true}
 use Rattle.std.proofs.lemmas.Bool.Decides.{Decides-int_eq}
 use Rattle.std.proofs.lemmas.Int.{ints}
+use Rattle.std.proofs.lemmas.List.Quantifiers.{position-Some}
+use Rattle.std.proofs.lemmas.Option.{slice_get-get_or}
 use Rattle.std.proofs.lemmas.List.Elements.{All-contains, All-from_recursion, recursion_from_All}
 use Rattle.smt_sexpr.specs.Tree.{Sexpr}
 use Rattle.stn_core.specs.declared.literal.Literal.{Literal}
@@ -17,7 +19,7 @@ use Rattle.dtp_session.specs.Satisfiable.{IsWhole, IsScheduleFor, IsTrueOn, IsSa
 use Rattle.dtp_session.specs.Lowered.{lowered}
 use Rattle.dtp_session.specs.Tables.{Among, IsGiven, IsUsed, IsTabled}
 use Rattle.dtp_session.specs.States.{State, start_state, same_literal, has_node, with_node}
-use Rattle.dtp_session.specs.Points.{numbers_of, point_values}
+use Rattle.dtp_session.specs.Points.{shifted, schedule_of, numbers_of, point_values}
 use Rattle.dtp_session.proofs.Lowering.{lowered_exact, and_both}
 use Rattle.dtp_session.proofs.Growing.{lowered_grows}
 
@@ -134,11 +136,6 @@ nodes_over s h = each (IsUsed s.names s.assertions) (IsOver (length s.names + 1)
 
 -- ---- the two verdicts
 
--- each name's value is its time point's less the zero point's
-abbrev pub shifted : ℤ → List ℤ → List Value
-shifted zero_value [] = []
-shifted zero_value (v ∷ vs) = whole (v -ℤ zero_value) ∷ shifted zero_value vs
-
 shifted_count : (zero_value : ℤ) (vs : List ℤ) → length (shifted zero_value vs) ≡ length vs
 shifted_count z [] = refl
 shifted_count z (v ∷ vs) = ap suc (shifted_count z vs)
@@ -177,17 +174,25 @@ cycle_holds : (values : List ℤ) (nodes cycle : List Literal) → AllByRecursio
 cycle_holds values nodes [] all given = tt
 cycle_holds values nodes (l ∷ ls) all given = (contains_holds values nodes l all given.0, cycle_holds values nodes ls all given.1)
 
-satisfied_by : (s : State) (values : List ℤ) → IsTabled s → length values ≡ length s.names + 1 → AllByRecursion (Holds values) s.nodes → IsSatisfiable s.names s.assertions
+-- the schedule that point values give satisfies the assertions, where all nodes hold on them
+pub record Satisfies (s : State) (schedule : List Value) : Type 0 where
+  pub fits : IsScheduleFor s.names schedule
+  pub true_all : AllByRecursion (IsTrueOn s.names schedule) s.assertions
+
+satisfied_by : (s : State) (values : List ℤ) → IsTabled s → length values ≡ length s.names + 1 → AllByRecursion (Holds values) s.nodes → Satisfies s (schedule_of values)
 satisfied_by s [] h count all = absurd (omega (arith, count))
 satisfied_by s (z ∷ vs) h count all =
     let schedule = shifted z vs in
     let same : length vs ≡ length s.names = omega (arith, count) in
     let fits : IsScheduleFor s.names schedule = record { count = shifted_count z vs ∙ same; sorts = shifted_whole z vs } in
-    (schedule, fits, assertions_true s schedule h fits (all_shifted z vs (length s.names + 1) s.nodes (omega (arith, same)) (nodes_over s h) all))
+    record { fits = fits; true_all = assertions_true s schedule h fits (all_shifted z vs (length s.names + 1) s.nodes (omega (arith, same)) (nodes_over s h) all) }
+
+pub satisfied_schedule : (s : State) (values : List ℤ) → IsTabled s → IsSchedule (length s.names + 1) s.nodes values → Satisfies s (schedule_of values)
+satisfied_schedule s values h v = satisfied_by s values h v.count (recursion_from_All (Holds values) s.nodes v.holds)
 
 -- point values on which all nodes hold show a schedule
 pub satisfied : (s : State) (values : List ℤ) → IsTabled s → IsSchedule (length s.names + 1) s.nodes values → IsSatisfiable s.names s.assertions
-satisfied s values h v = satisfied_by s values h v.count (recursion_from_All (Holds values) s.nodes v.holds)
+satisfied s values h v = let w = satisfied_schedule s values h v in (schedule_of values, w.fits, w.true_all)
 
 -- a negative cycle of nodes leaves no schedule
 pub unsatisfied : ((cycle : List Literal) (values : List ℤ) → IsNegativeCycle cycle → All (Holds values) cycle → ⊥) → (s : State) (cycle : List Literal) → IsTabled s → IsNegativeCycle cycle → All (Contains s.nodes) cycle
@@ -195,3 +200,9 @@ pub unsatisfied : ((cycle : List Literal) (values : List ℤ) → IsNegativeCycl
 unsatisfied law s cycle h negative given (schedule, fits, true_all) =
     let nodes = nodes_hold s schedule h fits true_all in
     law cycle (point_values schedule) negative (All-from_recursion (Holds (point_values schedule)) cycle (cycle_holds (point_values schedule) s.nodes cycle nodes (recursion_from_All (Contains s.nodes) cycle given)))
+
+-- a node that is found stands at its place
+pub place_is : (nodes : List Literal) (l : Literal) (k : ℕ) → position (same_literal l) nodes ≡ Some k → slice_get nodes k ≡ Some l
+place_is nodes l k e =
+    let found = position-Some (same_literal l) nodes k l e in
+    slice_get-get_or nodes k l found.0 ∙ ap (λ (m : Literal). Some m) (sym (same_is l (get_or nodes k l) found.1))

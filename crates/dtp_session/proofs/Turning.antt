@@ -1,6 +1,6 @@
 -- What a turn of the session does.
-use Rattle.std.proofs.Common.{refl, sym, ap, subst, ◌≡◌, ◌≢◌, ℕ, ◌+◌, List, [], ◌∷◌, ◌++◌, Bool, true, false, Option, Some, None, Ok, Err}
-use Rattle.std.specs.Prelude.{if◌then◌else◌}
+use Rattle.std.proofs.Common.{refl, sym, ap, subst, inl, inr, ◌⊎◌, ◌≡◌, ◌≢◌, ℕ, ◌+◌, List, [], ◌∷◌, ◌++◌, Bool, true, false, Option, Some, None, Result, Ok, Err}
+use Rattle.std.specs.Prelude.{if◌then◌else◌, OnErr}
 use Rattle.std.specs.Io.KnownBytes.{Appends}
 use Rattle.std.proofs.KnownBytes.{Appends-trans}
 use Rattle.std.proofs.lemmas.List.{append-nil, append_assoc}
@@ -13,6 +13,7 @@ use Rattle.smt_sexpr.specs.declared.error.SexprError.TheVariants.{OutOfMemory, L
 use Rattle.stn_core.specs.declared.literal.Literal.{Literal}
 use Rattle.dtp_session.specs.declared.kind.Kind.{Kind}
 use Rattle.dtp_session.specs.declared.kind.Kind.TheVariants.{NotYet}
+use Rattle.dtp_session.specs.declared.report.Report.{Report}
 use Rattle.dtp_session.specs.declared.session.Turn.{Turn}
 use Rattle.dtp_session.specs.declared.session.Turn.TheVariants.{Going, Ended, Stopped}
 use Rattle.dtp_session.specs.declared.state.Effect.{Effect}
@@ -22,14 +23,31 @@ use Rattle.dtp_session.specs.Commands.{Command, declaring, asserting, checking, 
 use Rattle.dtp_session.specs.Lowered.{lowered}
 use Rattle.dtp_session.specs.States.{State, start_state, Step, Kept, Steps, after, after_command, after_assertion, may_be_declared, may_be_asserted, with_literal}
 use Rattle.dtp_session.specs.Tables.{IsTabled}
-use Rattle.dtp_session.specs.Transcripts.{Answers, Closes, GoesOn, Follows, TranscribesFrom, IsTranscript}
-use Rattle.dtp_session.specs.Turns.{Stands, IsAnswered, IsCarriedOut, IsTurn}
+use Rattle.dtp_session.specs.Transcripts.{IsDecided, Answers, opening, closing, Closes, GoesOn, GoesOnPart, Follows, FollowsPart, IsFront, IsPartOf, TranscribesFrom, TranscribesPartFrom, IsReport, IsReportPart}
+use Rattle.dtp_session.specs.Turns.{Stands, IsAnswered, IsCarriedOut, IsCutShort, IsTurn}
 use Rattle.dtp_session.specs.Written.{Writes}
 use Rattle.dtp_session.proofs.Standing.{tabled_start, tabled_declares, tabled_asserts}
 
 pub is_false : (b : Bool) → b ≡ false → b ≡ true → ⊥
 is_false true e f = absurd cc
 is_false false e f = absurd cc
+
+pub on_err : {A E : Type 0} (r : Result A E) (P : Type 0) → P → OnErr r P
+on_err (Ok x) P h = tt
+on_err (Err e) P h = h
+
+-- what a failed call wrote, of a command and of a turn
+abbrev pub CutShort : Report → ℕ → Table → ℕ → Kept → Option (List ℕ) → Option (List ℕ) → Type 0
+CutShort report k t id kept before now = (s : State) (x : Sexpr) → Stands kept s → Means t id x → Writes before now (λ added. IsCutShort report s k x added)
+
+pub on_cut : {A E : Type 0} (r : Result A E) (report : Report) (k : ℕ) (t : Table) (id : ℕ) (kept : Kept) (before now : Option (List ℕ)) → CutShort report k t id kept before now → OnErr r (CutShort report k t id kept before now)
+on_cut r report k t id kept before now h = on_err r (CutShort report k t id kept before now) h
+
+abbrev pub CutTurn : Report → List ℕ → ℕ → ℕ → Kept → Option (List ℕ) → Option (List ℕ) → Type 0
+CutTurn report bytes place k kept before now = (s : State) → Stands kept s → Writes before now (λ added. TranscribesPartFrom report bytes place s k added)
+
+pub on_cut_turn : {A E : Type 0} (r : Result A E) (report : Report) (bytes : List ℕ) (place k : ℕ) (kept : Kept) (before now : Option (List ℕ)) → CutTurn report bytes place k kept before now → OnErr r (CutTurn report bytes place k kept before now)
+on_cut_turn r report bytes place k kept before now h = on_err r (CutTurn report bytes place k kept before now) h
 
 pub appends_nothing : (held : Option (List ℕ)) → Appends held held []
 appends_nothing None = tt
@@ -80,60 +98,106 @@ silent_apart e = absurd cc
 check_apart : CheckSat ≢ Exit
 check_apart e = absurd cc
 
-pub silent_done : (s : State) (k : ℕ) (x : Sexpr) (kept : Kept) → IsTabled s → Steps s x Silent kept → IsCarriedOut s k x [] kept Going
-silent_done s k x kept tabled h = (h.state, stands_after s x Silent kept h tabled, record { effect = Silent; leads = h.leads; goes_on = silent_apart; answers = refl })
+pub silent_done : (report : Report) (s : State) (k : ℕ) (x : Sexpr) (kept : Kept) → IsTabled s → Steps s x Silent kept → IsCarriedOut report s k x [] kept Going
+silent_done report s k x kept tabled h = (h.state, stands_after s x Silent kept h tabled, record { effect = Silent; leads = h.leads; goes_on = silent_apart; answers = refl })
 
-pub check_done : (s : State) (k : ℕ) (x : Sexpr) (added : List ℕ) (kept : Kept) → IsTabled s → (h : Steps s x CheckSat kept) → Answers h.state CheckSat added → IsCarriedOut s k x added kept Going
-check_done s k x added kept tabled h answers = (h.state, stands_after s x CheckSat kept h tabled, record { effect = CheckSat; leads = h.leads; goes_on = check_apart; answers = answers })
+pub check_done : (report : Report) (s : State) (k : ℕ) (x : Sexpr) (added : List ℕ) (kept : Kept) → IsTabled s → (h : Steps s x CheckSat kept) → IsDecided report h.state added → IsCarriedOut report s k x added kept Going
+check_done report s k x added kept tabled h answers = (h.state, stands_after s x CheckSat kept h tabled, record { effect = CheckSat; leads = h.leads; goes_on = check_apart; answers = answers })
 
-pub exit_done : (s : State) (k : ℕ) (x : Sexpr) (kept : Kept) → Steps s x Exit kept → IsCarriedOut s k x [] kept Ended
-exit_done s k x kept h = (h.state, h.leads, refl)
+pub exit_done : (report : Report) (s : State) (k : ℕ) (x : Sexpr) (added : List ℕ) (kept : Kept) → Steps s x Exit kept → added ≡ closing report → IsCarriedOut report s k x added kept Ended
+exit_done report s k x added kept h e = (h.state, h.leads, e)
+
+-- ---- one command whose answer is cut short
+
+pub part_of : (Legal : List ℕ → Type 0) (whole added : List ℕ) → Legal whole → IsFront added whole → IsPartOf Legal added
+part_of Legal whole added legal front = inr (whole, legal, front)
+
+pub check_cut : (report : Report) (s : State) (k : ℕ) (x : Sexpr) (added : List ℕ) (kept : Kept) (h : Steps s x CheckSat kept) → IsPartOf (IsDecided report h.state) added → IsCutShort report s k x added
+unfolding FollowsPart
+check_cut report s k x added kept h part = inl (rw (h.leads, FollowsPart) (inl ((refl, refl), part)))
+
+pub exit_cut : (report : Report) (s : State) (k : ℕ) (x : Sexpr) (added : List ℕ) (kept : Kept) → Steps s x Exit kept → IsFront added (closing report) → IsCutShort report s k x added
+unfolding FollowsPart
+exit_cut report s k x added kept h front = inl (rw (h.leads, FollowsPart) ((refl, refl), inr (closing report, refl, front)))
+
+pub refusal_cut : (report : Report) (s : State) (k : ℕ) (x : Sexpr) (kind : Kind) (added : List ℕ) → after s x ≡ Err kind → IsFront added (error_line k kind) → IsCutShort report s k x added
+unfolding FollowsPart
+refusal_cut report s k x kind added leads front = inl (rw (leads, FollowsPart) ((refl, refl), inr (error_line k kind, refl, front)))
 
 -- ---- a turn
 
-goes_on_with : (effect : Effect) (next : State) (k : ℕ) (xs : List Sexpr) (ending : Ending) (added rest : List ℕ) (status : ℕ) → effect ≢ Exit → Answers next effect added → Follows next (k + 1) xs ending rest status
-    → GoesOn effect next xs ending (added ++ rest) status (λ out. Follows next (k + 1) xs ending out status)
-goes_on_with Silent next k xs ending added rest status apart answers follows = (added, rest, answers, refl, follows)
-goes_on_with CheckSat next k xs ending added rest status apart answers follows = (added, rest, answers, refl, follows)
-goes_on_with Exit next k xs ending added rest status apart answers follows = absurd (apart refl)
+goes_on_with : (report : Report) (effect : Effect) (next : State) (k : ℕ) (xs : List Sexpr) (ending : Ending) (added rest : List ℕ) (status : ℕ) → effect ≢ Exit → Answers report next effect added → Follows report next (k + 1) xs ending rest status
+    → GoesOn report effect next xs ending (added ++ rest) status (λ out. Follows report next (k + 1) xs ending out status)
+goes_on_with report Silent next k xs ending added rest status apart answers follows = (added, rest, answers, refl, follows)
+goes_on_with report CheckSat next k xs ending added rest status apart answers follows = (added, rest, answers, refl, follows)
+goes_on_with report Exit next k xs ending added rest status apart answers follows = absurd (apart refl)
 
-follows_answer : (s next : State) (k : ℕ) (x : Sexpr) (xs : List Sexpr) (ending : Ending) (added rest : List ℕ) (status : ℕ) → IsAnswered s x added next → Follows next (k + 1) xs ending rest status
-    → Follows s k (x ∷ xs) ending (added ++ rest) status
+goes_on_part : (report : Report) (effect : Effect) (next : State) (k : ℕ) (xs : List Sexpr) (ending : Ending) (added rest : List ℕ) → effect ≢ Exit → Answers report next effect added → FollowsPart report next (k + 1) xs ending rest
+    → GoesOnPart report effect next xs ending (added ++ rest) (λ out. FollowsPart report next (k + 1) xs ending out)
+goes_on_part report Silent next k xs ending added rest apart answers follows = inr (added, rest, answers, refl, follows)
+goes_on_part report CheckSat next k xs ending added rest apart answers follows = inr (added, rest, answers, refl, follows)
+goes_on_part report Exit next k xs ending added rest apart answers follows = absurd (apart refl)
+
+follows_answer : (report : Report) (s next : State) (k : ℕ) (x : Sexpr) (xs : List Sexpr) (ending : Ending) (added rest : List ℕ) (status : ℕ) → IsAnswered report s x added next → Follows report next (k + 1) xs ending rest status
+    → Follows report s k (x ∷ xs) ending (added ++ rest) status
 unfolding Follows
-follows_answer s next k x xs ending added rest status a follows = rw (a.leads, Follows) (goes_on_with a.effect next k xs ending added rest status a.goes_on a.answers follows)
+follows_answer report s next k x xs ending added rest status a follows = rw (a.leads, Follows) (goes_on_with report a.effect next k xs ending added rest status a.goes_on a.answers follows)
 
-follows_exit : (s next : State) (k : ℕ) (x : Sexpr) (out : List ℕ) → after s x ≡ Ok (record { state = next; effect = Exit }) → out ≡ [] → Follows s k (x ∷ []) stopped out 0
+part_answer : (report : Report) (s next : State) (k : ℕ) (x : Sexpr) (xs : List Sexpr) (ending : Ending) (added rest : List ℕ) → IsAnswered report s x added next → FollowsPart report next (k + 1) xs ending rest
+    → FollowsPart report s k (x ∷ xs) ending (added ++ rest)
+unfolding FollowsPart
+part_answer report s next k x xs ending added rest a follows = rw (a.leads, FollowsPart) (goes_on_part report a.effect next k xs ending added rest a.goes_on a.answers follows)
+
+follows_exit : (report : Report) (s next : State) (k : ℕ) (x : Sexpr) (out : List ℕ) → after s x ≡ Ok (record { state = next; effect = Exit }) → out ≡ closing report → Follows report s k (x ∷ []) stopped out 0
 unfolding Follows
-follows_exit s next k x out leads e = rw (leads, Follows) ((refl, refl), e, refl)
+follows_exit report s next k x out leads e = rw (leads, Follows) ((refl, refl), e, refl)
 
-follows_refusal : (s : State) (k : ℕ) (x : Sexpr) (kind : Kind) (out : List ℕ) → after s x ≡ Err kind → out ≡ error_line k kind → Follows s k (x ∷ []) stopped out 1
+follows_refusal : (report : Report) (s : State) (k : ℕ) (x : Sexpr) (kind : Kind) (out : List ℕ) → after s x ≡ Err kind → out ≡ error_line k kind → Follows report s k (x ∷ []) stopped out 1
 unfolding Follows
-follows_refusal s k x kind out leads e = rw (leads, Follows) ((refl, refl), e, refl)
+follows_refusal report s k x kind out leads e = rw (leads, Follows) ((refl, refl), e, refl)
 
-follows_end : (s : State) (k : ℕ) (ending : Ending) (out : List ℕ) (status : ℕ) → Closes k ending out status → Follows s k [] ending out status
+follows_end : (report : Report) (s : State) (k : ℕ) (ending : Ending) (out : List ℕ) (status : ℕ) → Closes report k ending out status → Follows report s k [] ending out status
 unfolding Follows
-follows_end s k ending out status h = h
+follows_end report s k ending out status h = h
 
-module _ (bytes : List ℕ) (place mid : ℕ) (s : State) (k : ℕ) (x : Sexpr) (spells : Spells bytes place x mid) where
-  answered_turn : (next : State) (added rest : List ℕ) (status : ℕ) → IsAnswered s x added next → TranscribesFrom bytes mid next (k + 1) rest status → TranscribesFrom bytes place s k (added ++ rest) status
+part_end : (report : Report) (s : State) (k : ℕ) (ending : Ending) (out : List ℕ) → IsPartOf (λ text. (status : ℕ) × Closes report k ending text status) out → FollowsPart report s k [] ending out
+unfolding FollowsPart
+part_end report s k ending out h = h
+
+-- nothing is a front of whatever is written
+pub nothing_yet : (report : Report) (bytes : List ℕ) (place : ℕ) (s : State) (k : ℕ) (added : List ℕ) → added ≡ [] → TranscribesPartFrom report bytes place s k added
+nothing_yet report bytes place s k added e = record { commands = []; here = place; ending = stopped; reads = refl; ends = tt; answers = part_end report s k stopped added (inl e) }
+
+module _ (report : Report) (bytes : List ℕ) (place mid : ℕ) (s : State) (k : ℕ) (x : Sexpr) (spells : Spells bytes place x mid) where
+  answered_turn : (next : State) (added rest : List ℕ) (status : ℕ) → IsAnswered report s x added next → TranscribesFrom report bytes mid next (k + 1) rest status → TranscribesFrom report bytes place s k (added ++ rest) status
   answered_turn next added rest status a t = record {
     commands = x ∷ t.commands;
     here = t.here;
     ending = t.ending;
     reads = (mid, spells, t.reads);
     ends = t.ends;
-    answers = follows_answer s next k x t.commands t.ending added rest status a t.answers;
+    answers = follows_answer report s next k x t.commands t.ending added rest status a t.answers;
   }
 
-  pub turn_done : (added : List ℕ) (kept : Kept) (turn : Turn) → IsCarriedOut s k x added kept turn → IsTurn bytes place s k added mid kept turn
-  turn_done added kept Going (next, stands, a) = (next, stands, λ rest status t. answered_turn next added rest status a t)
+  answered_part : (next : State) (added rest : List ℕ) → IsAnswered report s x added next → TranscribesPartFrom report bytes mid next (k + 1) rest → TranscribesPartFrom report bytes place s k (added ++ rest)
+  answered_part next added rest a t = record {
+    commands = x ∷ t.commands;
+    here = t.here;
+    ending = t.ending;
+    reads = (mid, spells, t.reads);
+    ends = t.ends;
+    answers = part_answer report s next k x t.commands t.ending added rest a t.answers;
+  }
+
+  pub turn_done : (added : List ℕ) (kept : Kept) (turn : Turn) → IsCarriedOut report s k x added kept turn → IsTurn report bytes place s k added mid kept turn
+  turn_done added kept Going (next, stands, a) = (next, stands, λ rest status t. answered_turn next added rest status a t, λ rest t. answered_part next added rest a t)
   turn_done added kept Ended (next, leads, e) = record {
     commands = x ∷ [];
     here = mid;
     ending = stopped;
     reads = (mid, spells, refl);
     ends = tt;
-    answers = follows_exit s next k x added leads e;
+    answers = follows_exit report s next k x added leads e;
   }
   turn_done added kept Stopped (kind, leads, e) = record {
     commands = x ∷ [];
@@ -141,27 +205,62 @@ module _ (bytes : List ℕ) (place mid : ℕ) (s : State) (k : ℕ) (x : Sexpr) 
     ending = stopped;
     reads = (mid, spells, refl);
     ends = tt;
-    answers = follows_refusal s k x kind added leads e;
+    answers = follows_refusal report s k x kind added leads e;
   }
 
-pub turn_ends : (bytes : List ℕ) (place behind : ℕ) (s : State) (k : ℕ) → Outcomes bytes place finished behind → TranscribesFrom bytes place s k [] 0
-turn_ends bytes place behind s k h = record { commands = []; here = place; ending = ended; reads = refl; ends = (behind, h); answers = follows_end s k ended [] 0 (refl, refl) }
+  pub turn_cut : (added : List ℕ) → IsCutShort report s k x added → TranscribesPartFrom report bytes place s k added
+  turn_cut added (inl h) = record { commands = x ∷ []; here = mid; ending = stopped; reads = (mid, spells, refl); ends = tt; answers = h }
+  turn_cut added (inr e) = nothing_yet report bytes place s k added e
 
-refused_by : (bytes : List ℕ) (place behind : ℕ) (s : State) (k : ℕ) (why : Refusal) (kind : Kind) → Outcomes bytes place (refused why) behind → kind_of why ≡ kind → TranscribesFrom bytes place s k (error_line k kind) 1
-refused_by bytes place behind s k why kind h e = record {
+pub turn_ends : (report : Report) (bytes : List ℕ) (place behind : ℕ) (s : State) (k : ℕ) → Outcomes bytes place finished behind → TranscribesFrom report bytes place s k (closing report) 0
+turn_ends report bytes place behind s k h = record { commands = []; here = place; ending = ended; reads = refl; ends = (behind, h); answers = follows_end report s k ended (closing report) 0 (refl, refl) }
+
+pub end_cut : (report : Report) (bytes : List ℕ) (place behind : ℕ) (s : State) (k : ℕ) (added : List ℕ) → Outcomes bytes place finished behind → IsFront added (closing report) → TranscribesPartFrom report bytes place s k added
+end_cut report bytes place behind s k added h front = record {
+  commands = [];
+  here = place;
+  ending = ended;
+  reads = refl;
+  ends = (behind, h);
+  answers = part_end report s k ended added (inr (closing report, (0, (refl, refl)), front));
+}
+
+refused_by : (report : Report) (bytes : List ℕ) (place behind : ℕ) (s : State) (k : ℕ) (why : Refusal) (kind : Kind) → Outcomes bytes place (refused why) behind → kind_of why ≡ kind → TranscribesFrom report bytes place s k (error_line k kind) 1
+refused_by report bytes place behind s k why kind h e = record {
   commands = [];
   here = place;
   ending = unread why;
   reads = refl;
   ends = (behind, h);
-  answers = follows_end s k (unread why) (error_line k kind) 1 (ap (error_line k) (sym e), refl);
+  answers = follows_end report s k (unread why) (error_line k kind) 1 (ap (error_line k) (sym e), refl);
 }
 
-pub turn_refused : (bytes : List ℕ) (place behind : ℕ) (s : State) (k : ℕ) (error : SexprError) (kind : Kind) → Explains bytes place error behind → kind_of_error error ≡ Some kind → TranscribesFrom bytes place s k (error_line k kind) 1
-turn_refused bytes place behind s k OutOfMemory kind h e = absurd cc
-turn_refused bytes place behind s k (Lex error) kind h e = let same : kind_of (lexical error) ≡ kind = cc in refused_by bytes place behind s k (lexical error) kind h same
-turn_refused bytes place behind s k (OpenList outer) kind h e = let same : kind_of (unclosed outer) ≡ kind = cc in refused_by bytes place behind s k (unclosed outer) kind h same
-turn_refused bytes place behind s k (Stray start) kind h e = let same : kind_of (stray start) ≡ kind = cc in refused_by bytes place behind s k (stray start) kind h same
+cut_by : (report : Report) (bytes : List ℕ) (place behind : ℕ) (s : State) (k : ℕ) (why : Refusal) (kind : Kind) (added : List ℕ) → Outcomes bytes place (refused why) behind → kind_of why ≡ kind → IsFront added (error_line k kind)
+    → TranscribesPartFrom report bytes place s k added
+cut_by report bytes place behind s k why kind added h e front = record {
+  commands = [];
+  here = place;
+  ending = unread why;
+  reads = refl;
+  ends = (behind, h);
+  answers = part_end report s k (unread why) added (inr (error_line k kind, (1, (ap (error_line k) (sym e), refl)), front));
+}
+
+-- what the reader refuses, by the kind that its error line has
+explained : (bytes : List ℕ) (place behind : ℕ) (error : SexprError) (kind : Kind) → Explains bytes place error behind → kind_of_error error ≡ Some kind → (why : Refusal) × Outcomes bytes place (refused why) behind × (kind_of why ≡ kind)
+explained bytes place behind OutOfMemory kind h e = absurd cc
+explained bytes place behind (Lex error) kind h e = let same : kind_of (lexical error) ≡ kind = cc in (lexical error, h, same)
+explained bytes place behind (OpenList outer) kind h e = let same : kind_of (unclosed outer) ≡ kind = cc in (unclosed outer, h, same)
+explained bytes place behind (Stray start) kind h e = let same : kind_of (stray start) ≡ kind = cc in (stray start, h, same)
+
+pub turn_refused : (report : Report) (bytes : List ℕ) (place behind : ℕ) (s : State) (k : ℕ) (error : SexprError) (kind : Kind) → Explains bytes place error behind → kind_of_error error ≡ Some kind
+    → TranscribesFrom report bytes place s k (error_line k kind) 1
+turn_refused report bytes place behind s k error kind h e = let w = explained bytes place behind error kind h e in refused_by report bytes place behind s k w.0 kind w.1 w.2
+
+pub refused_cut : (report : Report) (bytes : List ℕ) (place behind : ℕ) (s : State) (k : ℕ) (error : SexprError) (added : List ℕ) → Explains bytes place error behind
+    → (added ≡ []) ⊎ ((kind : Kind) × (kind_of_error error ≡ Some kind) × IsFront added (error_line k kind)) → TranscribesPartFrom report bytes place s k added
+refused_cut report bytes place behind s k error added h (inl e) = nothing_yet report bytes place s k added e
+refused_cut report bytes place behind s k error added h (inr (kind, e, front)) = let w = explained bytes place behind error kind h e in cut_by report bytes place behind s k w.0 kind added w.1 w.2 front
 
 -- ---- what the reader found
 
@@ -185,49 +284,72 @@ found_error t bytes place behind error e h = subst (λ (b : List ℕ). Explains 
 
 -- ---- the loop
 
--- what was written up to the place goes on to a transcript of the whole script
-pub record IsSoFar (bytes : List ℕ) (place : ℕ) (kept : Kept) (k : ℕ) (before now : Option (List ℕ)) : Type 0 where
+-- what was written up to the place goes on to what is written of the whole script
+pub record IsSoFar (report : Report) (bytes : List ℕ) (place : ℕ) (kept : Kept) (k : ℕ) (before now : Option (List ℕ)) : Type 0 where
   pub s : State
   pub stands : Stands kept s
   pub written : List ℕ
   pub adds : Appends before now written
-  pub goes_on : (rest : List ℕ) (status : ℕ) → TranscribesFrom bytes place s k rest status → IsTranscript bytes (written ++ rest) status
+  pub goes_on : (rest : List ℕ) (status : ℕ) → TranscribesFrom report bytes place s k rest status → TranscribesFrom report bytes 0 start_state 1 (written ++ rest) status
+  pub part : (rest : List ℕ) → TranscribesPartFrom report bytes place s k rest → TranscribesPartFrom report bytes 0 start_state 1 (written ++ rest)
 
-pub so_far_starts : (bytes : List ℕ) (kept : Kept) (held : Option (List ℕ)) → kept ≡ record { names = []; nodes = [] } → IsSoFar bytes 0 kept 1 held held
-so_far_starts bytes kept held e = record {
+pub so_far_starts : (report : Report) (bytes : List ℕ) (kept : Kept) (held : Option (List ℕ)) → kept ≡ record { names = []; nodes = [] } → IsSoFar report bytes 0 kept 1 held held
+so_far_starts report bytes kept held e = record {
   s = start_state;
   stands = rw e (record { stands = record { names = refl; nodes = refl }; tabled = tabled_start });
   written = [];
   adds = appends_nothing held;
   goes_on = λ rest status t. t;
+  part = λ rest t. t;
 }
 
-so_far_goes_on : (bytes : List ℕ) (place here : ℕ) (kept next : Kept) (k : ℕ) (before now after_turn : Option (List ℕ)) (h : IsSoFar bytes place kept k before now)
-    → Writes now after_turn (λ added. IsTurn bytes place h.s k added here next Going) → IsSoFar bytes here next (k + 1) before after_turn
-so_far_goes_on bytes place here kept next k before now after_turn h w = record {
+so_far_goes_on : (report : Report) (bytes : List ℕ) (place here : ℕ) (kept next : Kept) (k : ℕ) (before now after_turn : Option (List ℕ)) (h : IsSoFar report bytes place kept k before now)
+    → Writes now after_turn (λ added. IsTurn report bytes place h.s k added here next Going) → IsSoFar report bytes here next (k + 1) before after_turn
+so_far_goes_on report bytes place here kept next k before now after_turn h w = record {
   s = w.2.0;
   stands = w.2.1;
   written = h.written ++ w.0;
   adds = Appends-trans before now after_turn h.written w.0 h.adds w.1;
-  goes_on = λ rest status t. subst (λ (out : List ℕ). IsTranscript bytes out status) (sym (append_assoc h.written w.0 rest)) (h.goes_on (w.0 ++ rest) status (w.2.2 rest status t));
+  goes_on = λ rest status t. subst (λ (out : List ℕ). TranscribesFrom report bytes 0 start_state 1 out status) (sym (append_assoc h.written w.0 rest)) (h.goes_on (w.0 ++ rest) status (w.2.2 rest status t));
+  part = λ rest t. subst (λ (out : List ℕ). TranscribesPartFrom report bytes 0 start_state 1 out) (sym (append_assoc h.written w.0 rest)) (h.part (w.0 ++ rest) (w.2.3 rest t));
 }
 
-so_far_ends : (bytes : List ℕ) (place : ℕ) (kept : Kept) (k : ℕ) (before now after_turn : Option (List ℕ)) (status : ℕ) (h : IsSoFar bytes place kept k before now)
-    → Writes now after_turn (λ added. TranscribesFrom bytes place h.s k added status) → Writes before after_turn (λ added. IsTranscript bytes added status)
-so_far_ends bytes place kept k before now after_turn status h w = (h.written ++ w.0, Appends-trans before now after_turn h.written w.0 h.adds w.1, h.goes_on w.0 status w.2)
+so_far_ends : (report : Report) (bytes : List ℕ) (place : ℕ) (kept : Kept) (k : ℕ) (before now after_turn : Option (List ℕ)) (status : ℕ) (h : IsSoFar report bytes place kept k before now)
+    → Writes now after_turn (λ added. TranscribesFrom report bytes place h.s k added status) → Writes before after_turn (λ added. TranscribesFrom report bytes 0 start_state 1 added status)
+so_far_ends report bytes place kept k before now after_turn status h w = (h.written ++ w.0, Appends-trans before now after_turn h.written w.0 h.adds w.1, h.goes_on w.0 status w.2)
 
-turned : (a bytes : List ℕ) (place : ℕ) (s : State) (k here : ℕ) (kept : Kept) (now after_turn : Option (List ℕ)) (t turn : Turn) → a ≡ bytes → t ≡ turn
-    → Writes now after_turn (λ added. IsTurn a place s k added here kept t) → Writes now after_turn (λ added. IsTurn bytes place s k added here kept turn)
-turned a bytes place s k here kept now after_turn t turn e f w =
-    (w.0, w.1, subst (λ (b : List ℕ). IsTurn b place s k w.0 here kept turn) e (subst (λ (u : Turn). IsTurn a place s k w.0 here kept u) f w.2))
+turned : (report : Report) (a bytes : List ℕ) (place : ℕ) (s : State) (k here : ℕ) (kept : Kept) (now after_turn : Option (List ℕ)) (t turn : Turn) → a ≡ bytes → t ≡ turn
+    → Writes now after_turn (λ added. IsTurn report a place s k added here kept t) → Writes now after_turn (λ added. IsTurn report bytes place s k added here kept turn)
+turned report a bytes place s k here kept now after_turn t turn e f w =
+    (w.0, w.1, subst (λ (b : List ℕ). IsTurn report b place s k w.0 here kept turn) e (subst (λ (u : Turn). IsTurn report a place s k w.0 here kept u) f w.2))
 
 -- the same of a turn over the lexer's bytes, which are the script's
-module _ (bytes lexed : List ℕ) (place here : ℕ) (kept next : Kept) (k : ℕ) (before now after_turn : Option (List ℕ)) (turn : Turn) (h : IsSoFar bytes place kept k before now) (same : lexed ≡ bytes) where
-  pub turn_goes_on : turn ≡ Going → Writes now after_turn (λ added. IsTurn lexed place h.s k added here next turn) → IsSoFar bytes here next (k + 1) before after_turn
-  turn_goes_on is w = so_far_goes_on bytes place here kept next k before now after_turn h (turned lexed bytes place h.s k here next now after_turn turn Going same is w)
+module _ (report : Report) (bytes lexed : List ℕ) (place here : ℕ) (kept next : Kept) (k : ℕ) (before now after_turn : Option (List ℕ)) (turn : Turn) (h : IsSoFar report bytes place kept k before now) (same : lexed ≡ bytes) where
+  pub turn_goes_on : turn ≡ Going → Writes now after_turn (λ added. IsTurn report lexed place h.s k added here next turn) → IsSoFar report bytes here next (k + 1) before after_turn
+  turn_goes_on is w = so_far_goes_on report bytes place here kept next k before now after_turn h (turned report lexed bytes place h.s k here next now after_turn turn Going same is w)
 
-  pub last_turn : turn ≡ Ended → Writes now after_turn (λ added. IsTurn lexed place h.s k added here next turn) → Writes before after_turn (λ added. IsTranscript bytes added 0)
-  last_turn is w = so_far_ends bytes place kept k before now after_turn 0 h (turned lexed bytes place h.s k here next now after_turn turn Ended same is w)
+  pub last_turn : turn ≡ Ended → Writes now after_turn (λ added. IsTurn report lexed place h.s k added here next turn) → Writes before after_turn (λ added. TranscribesFrom report bytes 0 start_state 1 added 0)
+  last_turn is w = so_far_ends report bytes place kept k before now after_turn 0 h (turned report lexed bytes place h.s k here next now after_turn turn Ended same is w)
 
-  pub stopping_turn : turn ≡ Stopped → Writes now after_turn (λ added. IsTurn lexed place h.s k added here next turn) → Writes before after_turn (λ added. IsTranscript bytes added 1)
-  stopping_turn is w = so_far_ends bytes place kept k before now after_turn 1 h (turned lexed bytes place h.s k here next now after_turn turn Stopped same is w)
+  pub stopping_turn : turn ≡ Stopped → Writes now after_turn (λ added. IsTurn report lexed place h.s k added here next turn) → Writes before after_turn (λ added. TranscribesFrom report bytes 0 start_state 1 added 1)
+  stopping_turn is w = so_far_ends report bytes place kept k before now after_turn 1 h (turned report lexed bytes place h.s k here next now after_turn turn Stopped same is w)
+
+-- a turn that is cut short
+pub cut_turn : (report : Report) (bytes lexed : List ℕ) (place : ℕ) (kept : Kept) (k : ℕ) (before now after_turn : Option (List ℕ)) (h : IsSoFar report bytes place kept k before now) → lexed ≡ bytes
+    → Writes now after_turn (λ added. TranscribesPartFrom report lexed place h.s k added) → Writes before after_turn (λ added. TranscribesPartFrom report bytes 0 start_state 1 added)
+cut_turn report bytes lexed place kept k before now after_turn h same w =
+    (h.written ++ w.0, Appends-trans before now after_turn h.written w.0 h.adds w.1, h.part w.0 (subst (λ (b : List ℕ). TranscribesPartFrom report b place h.s k w.0) same w.2))
+
+-- ---- the whole
+
+-- behind the opening
+pub opened : (report : Report) (bytes : List ℕ) (before middle now : Option (List ℕ)) (status : ℕ) → Appends before middle (opening report) → Writes middle now (λ added. TranscribesFrom report bytes 0 start_state 1 added status)
+    → Writes before now (λ added. IsReport report bytes added status)
+opened report bytes before middle now status a w = (opening report ++ w.0, Appends-trans before middle now (opening report) w.0 a w.1, (w.0, refl, w.2))
+
+pub opened_part : (report : Report) (bytes : List ℕ) (before middle now : Option (List ℕ)) → Appends before middle (opening report) → Writes middle now (λ added. TranscribesPartFrom report bytes 0 start_state 1 added)
+    → Writes before now (λ added. IsReportPart report bytes added)
+opened_part report bytes before middle now a w = (opening report ++ w.0, Appends-trans before middle now (opening report) w.0 a w.1, inr (w.0, refl, w.2))
+
+pub opening_cut : (report : Report) (bytes : List ℕ) (before now : Option (List ℕ)) → Writes before now (λ added. IsFront added (opening report)) → Writes before now (λ added. IsReportPart report bytes added)
+opening_cut report bytes before now w = (w.0, w.1, inl w.2)

@@ -1,6 +1,6 @@
 -- The two verdicts, on what is kept.
 use Rattle.std.proofs.Common.{refl, sym, ap, subst, ◌∙◌, ◌≡◌, ◌+◌, ℕ, List, length, true, false, ℤ}
-use Rattle.std.specs.Prelude.{All, Decides}
+use Rattle.std.specs.Prelude.{All, Contains, Decides}
 use Rattle.std.proofs.lemmas.List.Elements.{All-from_recursion}
 use Rattle.stn_core.specs.declared.literal.Literal.{Literal}
 use Rattle.stn_core.specs.declared.schedule.Greatest.{Greatest}
@@ -8,10 +8,17 @@ use Rattle.stn_core.specs.declared.schedule.Greatest.TheVariants.{Greatest as As
 use Rattle.stn_core.specs.Literal.{Holds, IsOver}
 use Rattle.stn_core.specs.Cycle.{IsNegativeCycle}
 use Rattle.stn_core.specs.Answer.{IsAnswer}
+use Rattle.stn_core.specs.declared.named.NamedValue.{NamedValue}
+use Rattle.refute_tree.specs.declared.lemma.Lemma.{Lemma}
+use Rattle.refute_tree.specs.Trees.{IsRefutation}
+use Rattle.refute_tree.specs.Conjunctions.{conjunction_of, ArePlaces}
+use Rattle.cert_text.specs.declared.entry.Entry.TheVariants.{Sat, Unsat}
+use Rattle.dtp_session.specs.Entries.{named_values, points_of, IsEntryOf}
+use Rattle.dtp_session.specs.Points.{schedule_of}
 use Rattle.dtp_session.specs.Satisfiable.{IsSatisfiable}
 use Rattle.dtp_session.specs.States.{State, Kept, StandsFor}
 use Rattle.dtp_session.specs.Tables.{IsTabled}
-use Rattle.dtp_session.proofs.Standing.{nodes_over, satisfied, unsatisfied}
+use Rattle.dtp_session.proofs.Standing.{nodes_over, satisfied_schedule, satisfied, unsatisfied}
 
 -- the fields of what is kept are asked for their count of names and for their nodes
 module _ (s : State) (kept fields : Kept) (view : fields ≡ kept) (count : ℕ) (nodes : List Literal) (counted : count ≡ length fields.names) (lent : nodes ≡ fields.nodes) (stands : StandsFor kept s) (h : IsTabled s) where
@@ -39,3 +46,17 @@ module _ (s : State) (kept fields : Kept) (view : fields ≡ kept) (count : ℕ)
     negative_refutes law cycle is =
         let a = answer_of (Negative cycle) is in
         (λ t. absurd cc, λ sat. absurd (unsatisfied law s cycle h a.negative a.given sat))
+
+    -- the entry of a greatest schedule is the schedule that it gives
+    pub greatest_entry : (values : List ℤ) (named : List NamedValue) → answer ≡ AsGreatest values → named ≡ named_values (schedule_of values) → IsEntryOf s (Sat named)
+    greatest_entry values named is e = let w = satisfied_schedule s values h (answer_of (AsGreatest values) is).greatest.schedule in (schedule_of values, w.fits, w.true_all, e)
+
+    -- the literals of a negative cycle are nodes, so they have places there
+    pub given_cycle : (cycle : List Literal) → answer ≡ Negative cycle → All (Contains nodes) cycle
+    given_cycle cycle is = subst (λ (ls : List Literal). All (Contains ls) cycle) (sym nodes_are) (answer_of (Negative cycle) is).given
+
+    -- and the entry of a negative cycle is the conjunction's refutation
+    pub negative_entry : (cycle : List Literal) (places : List ℕ) (lemmas : List Lemma) → answer ≡ Negative cycle → ArePlaces nodes places cycle
+        → ((points : ℕ) (literals : List Literal) → ArePlaces literals places cycle → IsNegativeCycle cycle → IsRefutation points (conjunction_of literals) lemmas) → IsEntryOf s (Unsat lemmas)
+    negative_entry cycle places lemmas is stand refutes =
+        refutes (points_of s) s.nodes (subst (λ (ls : List Literal). ArePlaces ls places cycle) nodes_are stand) (answer_of (Negative cycle) is).negative

@@ -7,6 +7,7 @@ pub mod Commands
 pub mod States
 pub mod Tables
 pub mod Answers
+pub mod Entries
 pub mod Transcripts
 pub mod Shapes
 pub mod Written

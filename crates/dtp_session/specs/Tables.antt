@@ -1,5 +1,4 @@
 -- The node table of a state is that of its assertions.
--- These are words of the code's inner contracts, and no part of the meaning.
 use Rattle.std.specs.Prelude.{◌≡◌, ℕ, List, [], ◌∷◌, ◌⊎◌, Some}
 use Rattle.std.specs.List.{AllByRecursion}
 use Rattle.smt_sexpr.specs.Tree.{Sexpr}

@@ -1,12 +1,16 @@
--- What a script is answered: a relation of its bytes, the bytes of the output and the status.
+-- What is written of a script: a relation of its bytes, the bytes of the output and the status.
 -- Source: SMT-LIB 2.6, section 4.1 (responses, and the error behavior `immediate-exit`), section 4.2.1 (`exit`) and section
 -- 4.2.5 (`check-sat`). A command that is carried out without an answer of its own prints nothing.
 use Rattle.std.specs.Prelude.{◌≡◌, ℕ, ◌+◌, List, [], ◌∷◌, ◌++◌, ◌⊎◌, Ok, Err}
 use Rattle.smt_sexpr.specs.Tree.{Sexpr}
 use Rattle.smt_sexpr.specs.Commands.{Commands, Ending, ended, stopped, unread, EndsAs}
+use Rattle.dtp_session.specs.declared.report.Report.{Report}
+use Rattle.dtp_session.specs.declared.report.Report.TheVariants.{Verdicts, Certificate}
 use Rattle.dtp_session.specs.declared.state.Effect.{Effect}
 use Rattle.dtp_session.specs.declared.state.Effect.TheVariants.{Silent, CheckSat, Exit}
 use Rattle.dtp_session.specs.Answers.{sat_line, unsat_line, error_line, kind_of}
+use Rattle.cert_text.specs.Form.{header_sexpr, end_sexpr, line_of}
+use Rattle.dtp_session.specs.Entries.{IsEntry}
 use Rattle.dtp_session.specs.Satisfiable.{IsSatisfiable}
 use Rattle.dtp_session.specs.States.{State, start_state, after}
 
@@ -14,45 +18,100 @@ use Rattle.dtp_session.specs.States.{State, start_state, after}
 abbrev pub IsVerdict : State → List ℕ → Type 0
 IsVerdict s line = ((line ≡ sat_line) × IsSatisfiable s.names s.assertions) ⊎ ((line ≡ unsat_line) × ¬ IsSatisfiable s.names s.assertions)
 
--- what is written for an effect
-abbrev pub Answers : State → Effect → List ℕ → Type 0
-Answers s Silent text = text ≡ []
-Answers s CheckSat text = IsVerdict s text
-Answers s Exit text = text ≡ []
+-- what is written for a check-sat
+abbrev pub IsDecided : Report → State → List ℕ → Type 0
+IsDecided Verdicts s line = IsVerdict s line
+IsDecided Certificate s line = IsEntry s line
 
--- behind the last command: nothing at the end of the text, the error line where an s-expression can't be read
-abbrev pub Closes : ℕ → Ending → List ℕ → ℕ → Type 0
-Closes k ended out status = (out ≡ []) × (status ≡ 0)
-Closes k (unread why) out status = (out ≡ error_line k (kind_of why)) × (status ≡ 1)
-Closes k stopped out status = ⊥
+-- what is written for an effect, but for the script's end
+abbrev pub Answers : Report → State → Effect → List ℕ → Type 0
+Answers report s CheckSat text = IsDecided report s text
+Answers report s _ text = text ≡ []
+
+-- what is written before the first command, and at the end without an error
+abbrev pub opening : Report → List ℕ
+opening Verdicts = []
+opening Certificate = line_of header_sexpr
+
+abbrev pub closing : Report → List ℕ
+closing Verdicts = []
+closing Certificate = line_of end_sexpr
+
+-- behind the last command: the closing line at the end of the text, the error line where an s-expression can't be read
+abbrev pub Closes : Report → ℕ → Ending → List ℕ → ℕ → Type 0
+Closes report k ended out status = (out ≡ closing report) × (status ≡ 0)
+Closes report k (unread why) out status = (out ≡ error_line k (kind_of why)) × (status ≡ 1)
+Closes report k stopped out status = ⊥
 
 -- what follows isn't looked at
 abbrev pub Stops : List Sexpr → Ending → Type 0
 Stops xs ending = (xs ≡ []) × (ending ≡ stopped)
 
 -- an effect's answer, and what the commands behind it are answered; `exit` ends the script
-abbrev pub GoesOn : Effect → State → List Sexpr → Ending → List ℕ → ℕ → (List ℕ → Type 0) → Type 0
-GoesOn Exit s xs ending out status Rest = Stops xs ending × (out ≡ []) × (status ≡ 0)
-GoesOn effect s xs ending out status Rest = (piece : List ℕ) × (rest : List ℕ) × Answers s effect piece × (out ≡ piece ++ rest) × Rest rest
+abbrev pub GoesOn : Report → Effect → State → List Sexpr → Ending → List ℕ → ℕ → (List ℕ → Type 0) → Type 0
+GoesOn report Exit s xs ending out status Rest = Stops xs ending × (out ≡ closing report) × (status ≡ 0)
+GoesOn report effect s xs ending out status Rest = (piece : List ℕ) × (rest : List ℕ) × Answers report s effect piece × (out ≡ piece ++ rest) × Rest rest
 
 -- Command k and those behind it, in this state: each answer in order, up to the end, to `exit` or to the first refusal,
 -- and the status. What follows `exit` or a refused command isn't looked at.
-unfoldable pub Follows : State → ℕ → List Sexpr → Ending → List ℕ → ℕ → Type 0
-Follows s k [] ending out status = Closes k ending out status
-Follows s k (x ∷ xs) ending out status = elim (after s x) [
-  | Ok step ↦ GoesOn step.effect step.state xs ending out status (λ rest. Follows step.state (k + 1) xs ending rest status)
+unfoldable pub Follows : Report → State → ℕ → List Sexpr → Ending → List ℕ → ℕ → Type 0
+Follows report s k [] ending out status = Closes report k ending out status
+Follows report s k (x ∷ xs) ending out status = elim (after s x) [
+  | Ok step ↦ GoesOn report step.effect step.state xs ending out status (λ rest. Follows report step.state (k + 1) xs ending rest status)
   | Err kind ↦ Stops xs ending × (out ≡ error_line k kind) × (status ≡ 1)
 ]
 
 -- the text from the place on, read in this state as command k and those behind it
-pub record TranscribesFrom (bytes : List ℕ) (place : ℕ) (s : State) (k : ℕ) (out : List ℕ) (status : ℕ) : Type 0 where
+pub record TranscribesFrom (report : Report) (bytes : List ℕ) (place : ℕ) (s : State) (k : ℕ) (out : List ℕ) (status : ℕ) : Type 0 where
   pub commands : List Sexpr
   pub here : ℕ
   pub ending : Ending
   pub reads : Commands bytes place commands here
   pub ends : EndsAs bytes here ending
-  pub answers : Follows s k commands ending out status
+  pub answers : Follows report s k commands ending out status
 
--- the transcript of a script: what is written, and the status
+-- what is written of a script, and the status
+abbrev pub IsReport : Report → List ℕ → List ℕ → ℕ → Type 0
+IsReport report script out status = (rest : List ℕ) × (out ≡ opening report ++ rest) × TranscribesFrom report script 0 start_state 1 rest status
+
+-- the transcript of a script: what it is answered
 abbrev pub IsTranscript : List ℕ → List ℕ → ℕ → Type 0
-IsTranscript script out status = TranscribesFrom script 0 start_state 1 out status
+IsTranscript script out status = IsReport Verdicts script out status
+
+-- the certificate of a script: a header, an entry for each check-sat, and the end or the error line
+abbrev pub IsCertificate : List ℕ → List ℕ → ℕ → Type 0
+IsCertificate script out status = IsReport Certificate script out status
+
+-- ---- what a run that is cut short has written
+
+abbrev pub IsFront : List ℕ → List ℕ → Type 0
+IsFront front whole = (rest : List ℕ) × (whole ≡ front ++ rest)
+
+-- nothing, or a front of a legal text
+abbrev pub IsPartOf : (List ℕ → Type 0) → List ℕ → Type 0
+IsPartOf IsLegal out = (out ≡ []) ⊎ ((whole : List ℕ) × IsLegal whole × IsFront out whole)
+
+abbrev pub GoesOnPart : Report → Effect → State → List Sexpr → Ending → List ℕ → (List ℕ → Type 0) → Type 0
+GoesOnPart report Exit s xs ending out Rest = Stops xs ending × IsPartOf (λ text. text ≡ closing report) out
+GoesOnPart report effect s xs ending out Rest =
+    (Stops xs ending × IsPartOf (Answers report s effect) out) ⊎ ((piece : List ℕ) × (rest : List ℕ) × Answers report s effect piece × (out ≡ piece ++ rest) × Rest rest)
+
+-- The same as `Follows`, but what is written may stop inside any piece; each piece is legal given those before it.
+unfoldable pub FollowsPart : Report → State → ℕ → List Sexpr → Ending → List ℕ → Type 0
+FollowsPart report s k [] ending out = IsPartOf (λ text. (status : ℕ) × Closes report k ending text status) out
+FollowsPart report s k (x ∷ xs) ending out = elim (after s x) [
+  | Ok step ↦ GoesOnPart report step.effect step.state xs ending out (λ rest. FollowsPart report step.state (k + 1) xs ending rest)
+  | Err kind ↦ Stops xs ending × IsPartOf (λ text. text ≡ error_line k kind) out
+]
+
+pub record TranscribesPartFrom (report : Report) (bytes : List ℕ) (place : ℕ) (s : State) (k : ℕ) (out : List ℕ) : Type 0 where
+  pub commands : List Sexpr
+  pub here : ℕ
+  pub ending : Ending
+  pub reads : Commands bytes place commands here
+  pub ends : EndsAs bytes here ending
+  pub answers : FollowsPart report s k commands ending out
+
+-- a legal front of what is written of a script
+abbrev pub IsReportPart : Report → List ℕ → List ℕ → Type 0
+IsReportPart report script out = IsFront out (opening report) ⊎ ((rest : List ℕ) × (out ≡ opening report ++ rest) × TranscribesPartFrom report script 0 start_state 1 rest)

@@ -1,8 +1,10 @@
 -- One turn of the session: a command is read, carried out and answered.
 -- These are words of the code's inner contracts, and no part of the meaning.
-use Rattle.std.specs.Prelude.{◌≡◌, ◌≢◌, ℕ, ◌+◌, List, [], ◌++◌, Ok, Err}
+use Rattle.std.specs.Prelude.{◌≡◌, ◌≢◌, ℕ, ◌+◌, List, [], ◌∷◌, ◌++◌, ◌⊎◌, Ok, Err}
 use Rattle.smt_sexpr.specs.Tree.{Sexpr}
+use Rattle.smt_sexpr.specs.Commands.{stopped}
 use Rattle.dtp_session.specs.declared.kind.Kind.{Kind}
+use Rattle.dtp_session.specs.declared.report.Report.{Report}
 use Rattle.dtp_session.specs.declared.session.Turn.{Turn}
 use Rattle.dtp_session.specs.declared.session.Turn.TheVariants.{Going, Ended, Stopped}
 use Rattle.dtp_session.specs.declared.state.Effect.{Effect}
@@ -10,7 +12,7 @@ use Rattle.dtp_session.specs.declared.state.Effect.TheVariants.{Exit}
 use Rattle.dtp_session.specs.Answers.{error_line}
 use Rattle.dtp_session.specs.States.{State, Kept, StandsFor, after}
 use Rattle.dtp_session.specs.Tables.{IsTabled}
-use Rattle.dtp_session.specs.Transcripts.{Answers, TranscribesFrom}
+use Rattle.dtp_session.specs.Transcripts.{Answers, closing, FollowsPart, TranscribesFrom, TranscribesPartFrom}
 
 -- what is kept stands for a state whose node table is that of its assertions
 pub record Stands (kept : Kept) (s : State) : Type 0 where
@@ -18,21 +20,27 @@ pub record Stands (kept : Kept) (s : State) : Type 0 where
   pub tabled : IsTabled s
 
 -- the command is answered, and the script goes on in this state
-pub record IsAnswered (s : State) (x : Sexpr) (added : List ℕ) (next : State) : Type 0 where
+pub record IsAnswered (report : Report) (s : State) (x : Sexpr) (added : List ℕ) (next : State) : Type 0 where
   pub effect : Effect
   pub leads : after s x ≡ Ok (record { state = next; effect = effect })
   pub goes_on : effect ≢ Exit
-  pub answers : Answers next effect added
+  pub answers : Answers report next effect added
 
 -- what was done with command k
-abbrev pub IsCarriedOut : State → ℕ → Sexpr → List ℕ → Kept → Turn → Type 0
-IsCarriedOut s k x added kept Going = (next : State) × Stands kept next × IsAnswered s x added next
-IsCarriedOut s k x added kept Ended = (next : State) × (after s x ≡ Ok (record { state = next; effect = Exit })) × (added ≡ [])
-IsCarriedOut s k x added kept Stopped = (kind : Kind) × (after s x ≡ Err kind) × (added ≡ error_line k kind)
+abbrev pub IsCarriedOut : Report → State → ℕ → Sexpr → List ℕ → Kept → Turn → Type 0
+IsCarriedOut report s k x added kept Going = (next : State) × Stands kept next × IsAnswered report s x added next
+IsCarriedOut report s k x added kept Ended = (next : State) × (after s x ≡ Ok (record { state = next; effect = Exit })) × (added ≡ closing report)
+IsCarriedOut report s k x added kept Stopped = (kind : Kind) × (after s x ≡ Err kind) × (added ≡ error_line k kind)
+
+-- what was written of command k where its answer was cut short
+abbrev pub IsCutShort : Report → State → ℕ → Sexpr → List ℕ → Type 0
+IsCutShort report s k x added = FollowsPart report s k (x ∷ []) stopped added ⊎ (added ≡ [])
 
 -- what was written in a turn, in which the place went from one to the other
-abbrev pub IsTurn : List ℕ → ℕ → State → ℕ → List ℕ → ℕ → Kept → Turn → Type 0
-IsTurn bytes place s k added here kept Going =
-    (next : State) × Stands kept next × ((rest : List ℕ) (status : ℕ) → TranscribesFrom bytes here next (k + 1) rest status → TranscribesFrom bytes place s k (added ++ rest) status)
-IsTurn bytes place s k added here kept Ended = TranscribesFrom bytes place s k added 0
-IsTurn bytes place s k added here kept Stopped = TranscribesFrom bytes place s k added 1
+abbrev pub IsTurn : Report → List ℕ → ℕ → State → ℕ → List ℕ → ℕ → Kept → Turn → Type 0
+IsTurn report bytes place s k added here kept Going =
+    (next : State) × Stands kept next
+    × ((rest : List ℕ) (status : ℕ) → TranscribesFrom report bytes here next (k + 1) rest status → TranscribesFrom report bytes place s k (added ++ rest) status)
+    × ((rest : List ℕ) → TranscribesPartFrom report bytes here next (k + 1) rest → TranscribesPartFrom report bytes place s k (added ++ rest))
+IsTurn report bytes place s k added here kept Ended = TranscribesFrom report bytes place s k added 0
+IsTurn report bytes place s k added here kept Stopped = TranscribesFrom report bytes place s k added 1

@@ -1,16 +1,18 @@
 //! The answers, each written as a line.
-ghost use Rattle.std.specs.Prelude.{◌≡◌, ◌≤◌, OnOk, Err, IfOk};
+ghost use Rattle.std.specs.Prelude.{◌≡◌, ◌≤◌, OnOk, OnErr, Err};
 ghost use Rattle.std.specs.Io.KnownBytes.{Appends};
 ghost use Rattle.dtp_io.specs.Faults.{Rose};
 ghost use Rattle.dtp_session.specs.Answers.{error_line};
 ghost use Rattle.dtp_session.specs.States.{State as Meaning};
-ghost use Rattle.dtp_session.specs.Transcripts.{IsVerdict};
+ghost use Rattle.dtp_session.specs.Transcripts.{opening, closing, IsDecided, IsFront, IsPartOf};
 ghost use Rattle.dtp_session.specs.Turns.{Stands};
 ghost use Rattle.dtp_session.specs.Written.{Writes};
 
+use crate::decision::decision_line;
 use crate::kind::Kind;
+use crate::report::Report;
 use crate::state::State;
-use crate::text::error_line;
+use crate::text::{closing, error_line, opening};
 use dtp_io::{Sink, WriteFault, write_all_of};
 use std::alloc::{AllocError, Global};
 
@@ -45,6 +47,49 @@ impl From<WriteFault> for SessionError {
     }
 }
 
+/// Writes a text. Where the sink fails, a front of the text is written.
+fn write_text<K: Sink>(sink: &mut K, text: &[u8]) -> Result<(), SessionError>
+    ensures ok { OnOk result (Appends (K.holds sink.old) (K.holds sink.new) text.now) }
+    ensures err { OnErr result (Writes (K.holds sink.old) (K.holds sink.new) (λ added. IsFront added text.now)) }
+    ensures fault { OnErr result (Rose (K.faults sink.old) (K.faults sink.new)) }
+    ensures later { K.faults sink.old ≤ K.faults sink.new }
+{
+    match write_all_of(sink, text) {
+        Ok(()) => Ok(()),
+        Err(fault) => Err(SessionError::from(fault)),
+    }
+}
+
+/// Writes what stands before the first command's answer.
+pub fn write_opening<K: Sink>(
+    alloc: Global,
+    sink: &mut K,
+    report: Report,
+) -> Result<(), SessionError>
+    ensures ok { OnOk result (Appends (K.holds sink.old) (K.holds sink.new) (opening report)) }
+    ensures err { OnErr result (Writes (K.holds sink.old) (K.holds sink.new) (λ added. IsFront added (opening report))) }
+    ensures fault { result ≡ Err SessionError.WriteFault → Rose (K.faults sink.old) (K.faults sink.new) }
+    ensures later { K.faults sink.old ≤ K.faults sink.new }
+{
+    let text = opening(alloc, report)?;
+    write_text(sink, &text)
+}
+
+/// Writes what stands behind the last answer of a script without an error.
+pub fn write_closing<K: Sink>(
+    alloc: Global,
+    sink: &mut K,
+    report: Report,
+) -> Result<(), SessionError>
+    ensures ok { OnOk result (Appends (K.holds sink.old) (K.holds sink.new) (closing report)) }
+    ensures err { OnErr result (Writes (K.holds sink.old) (K.holds sink.new) (λ added. IsFront added (closing report))) }
+    ensures fault { result ≡ Err SessionError.WriteFault → Rose (K.faults sink.old) (K.faults sink.new) }
+    ensures later { K.faults sink.old ≤ K.faults sink.new }
+{
+    let text = closing(alloc, report)?;
+    write_text(sink, &text)
+}
+
 /// Writes the line of an error.
 pub fn write_error<K: Sink>(
     alloc: Global,
@@ -53,29 +98,27 @@ pub fn write_error<K: Sink>(
     kind: Kind,
 ) -> Result<(), SessionError>
     ensures ok { OnOk result (Appends (K.holds sink.old) (K.holds sink.new) (error_line command kind)) }
+    ensures err { OnErr result (Writes (K.holds sink.old) (K.holds sink.new) (λ added. IsFront added (error_line command kind))) }
     ensures fault { result ≡ Err SessionError.WriteFault → Rose (K.faults sink.old) (K.faults sink.new) }
     ensures later { K.faults sink.old ≤ K.faults sink.new }
 {
     let line = error_line(alloc, command, kind)?;
-    write_all_of(sink, line.as_bytes())?;
-    Ok(())
+    write_text(sink, line.as_bytes())
 }
 
-/// Decides, and writes the verdict.
-pub fn write_verdict<K: Sink>(
+/// Decides, and writes the verdict or the entry.
+pub fn write_decision<K: Sink>(
     alloc: Global,
     sink: &mut K,
     state: &State,
+    report: Report,
 ) -> Result<(), SessionError>
     requires { (s : Meaning) × Stands state.now s }
-    ensures ok { OnOk result ((s : Meaning) → Stands state.now s → Writes (K.holds sink.old) (K.holds sink.new) (IsVerdict s)) }
+    ensures ok { OnOk result ((s : Meaning) → Stands state.now s → Writes (K.holds sink.old) (K.holds sink.new) (IsDecided report s)) }
+    ensures err { OnErr result ((s : Meaning) → Stands state.now s → Writes (K.holds sink.old) (K.holds sink.new) (IsPartOf (IsDecided report s))) }
     ensures fault { result ≡ Err SessionError.WriteFault → Rose (K.faults sink.old) (K.faults sink.new) }
     ensures later { K.faults sink.old ≤ K.faults sink.new }
 {
-    if state.is_satisfiable(alloc)? {
-        write_all_of(sink, b"sat\n")?;
-    } else {
-        write_all_of(sink, b"unsat\n")?;
-    }
-    Ok(())
+    let line = decision_line(alloc, state, report)?;
+    write_text(sink, &line)
 }

@@ -1,4 +1,5 @@
-//! Decides scripts of difference logic: from their bytes to the answers, by the call [`solve_script`].
+//! Decides scripts of difference logic, from their bytes to what is written of them: the answers by [`solve_script`], a
+//! certificate by [`certify_script`].
 //!
 //! Read are these commands of SMT-LIB 2.6: `(declare-const n Int)`, `(assert a)`, `(check-sat)` and `(exit)`. `n` is a
 //! symbol that is neither reserved nor declared. An assertion `a` is one comparison, `(op x y)`, `(op x k)` or
@@ -9,21 +10,25 @@
 //! `and`, `or`, `not`, `+` and a number on the left. They are refused as "not yet". Bytes that are no s-expression are
 //! refused by what is wrong with them. The first refusal ends the script.
 //!
-//! What a script is answered is the relation `IsTranscript` of `specs/Transcripts.antt`. A `check-sat` is decided by one
-//! call of `stn_core::greatest` over the literals of the assertions.
+//! What is written of a script is the relation `IsReport` of `specs/Transcripts.antt`, and what a call that fails has
+//! written is the relation `IsReportPart` there. A `check-sat` is decided by one call of `stn_core::greatest` over the
+//! literals of the assertions.
 #![tactic(auto)]
 
 mod answer;
 mod command;
 mod command_name;
+mod decision;
 mod difference;
 mod examples;
 mod gate;
 mod kind;
 mod laws;
+mod named;
 mod names;
 mod nodes;
 mod relation;
+mod report;
 mod reserved;
 mod session;
 mod shape;
@@ -38,7 +43,7 @@ pub use gate::{Gate, NoGate};
 pub use kind::Kind;
 pub use laws::{literal_of_a_term, one_transcript};
 pub use session::Solved;
-pub use solve::solve_script;
+pub use solve::{certify_script, solve_script};
 pub use state::{Effect, ScriptError, State};
 
 #[cfg(test)]

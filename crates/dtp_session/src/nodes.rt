@@ -1,9 +1,10 @@
 //! The node table: the different literals that are asserted.
-ghost use Rattle.std.specs.Prelude.{◌≡◌, ◌≤◌, [], length, OnOk, OnErr};
+ghost use Rattle.std.specs.Prelude.{◌≡◌, ◌≤◌, [], length, OnOk, OnErr, IfOk, All, Contains, Some, slice_get};
+ghost use Rattle.refute_tree.specs.Conjunctions.{ArePlaces};
 ghost use Rattle.dtp_session.specs.States.{has_node, with_node};
 
 use indexmap::IndexSet;
-use std::alloc::{AllocFailed, Global};
+use std::alloc::{AllocError, AllocFailed, Global};
 use std::marker::Model;
 use stn_core::Literal;
 
@@ -56,5 +57,25 @@ impl Nodes {
     {
         self.set.insert(literal)?;
         Ok(())
+    }
+
+    /// The place of a literal that is there.
+    fn place(&self, literal: Literal) -> usize
+        requires { Contains self.now literal }
+        ensures { slice_get self.now result ≡ Some literal }
+    {
+        self.set.get_index_of(&literal).unwrap()
+    }
+
+    /// The places of literals that are all there, in their order.
+    pub fn places(&self, alloc: Global, literals: &[Literal]) -> Result<Vec<usize>, AllocError>
+        requires { All (Contains self.now) literals.now }
+        ensures { IfOk result (λ places. ArePlaces self.now places.items literals.now) }
+    {
+        let mut places = Vec::with_capacity(alloc, literals.len())?;
+        for literal in literals {
+            places.push(self.place(*literal))?;
+        }
+        Ok(places)
     }
 }

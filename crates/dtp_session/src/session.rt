@@ -1,5 +1,5 @@
 //! A script from its bytes to its answers.
-ghost use Rattle.std.specs.Prelude.{◌≡◌, ◌≤◌, ◌<◌, ℕ, length, Some, None, OnOk, Ok, Err, IfOk};
+ghost use Rattle.std.specs.Prelude.{◌≡◌, ◌≤◌, ◌<◌, ℕ, length, [], ◌⊎◌, Some, None, OnOk, OnErr, Ok, Err, IfOk};
 ghost use Rattle.std.specs.Io.KnownBytes.{Appends};
 ghost use Rattle.dtp_io.specs.Faults.{Rose};
 ghost use Rattle.smt_sexpr.specs.Tree.{Sexpr};
@@ -7,14 +7,15 @@ ghost use Rattle.smt_sexpr.specs.Table.{Means, HasMeaning};
 ghost use Rattle.smt_sexpr.specs.Reading.{Explains};
 ghost use Rattle.dtp_session.specs.Answers.{kind_of_error, error_line};
 ghost use Rattle.dtp_session.specs.declared.kind.Kind.{Kind as Cause};
-ghost use Rattle.dtp_session.specs.States.{State as Meaning};
-ghost use Rattle.dtp_session.specs.Transcripts.{IsTranscript};
+ghost use Rattle.dtp_session.specs.States.{State as Meaning, start_state};
+ghost use Rattle.dtp_session.specs.Transcripts.{IsFront, IsReport, IsReportPart, TranscribesFrom, TranscribesPartFrom};
 ghost use Rattle.dtp_session.specs.Ends.{status_of};
-ghost use Rattle.dtp_session.specs.Turns.{Stands, IsCarriedOut, IsTurn};
+ghost use Rattle.dtp_session.specs.Turns.{Stands, IsCarriedOut, IsCutShort, IsTurn};
 ghost use Rattle.dtp_session.specs.Written.{Writes};
 
-use crate::answer::{SessionError, write_error, write_verdict};
+use crate::answer::{SessionError, write_closing, write_decision, write_error, write_opening};
 use crate::kind::Kind;
+use crate::report::Report;
 use crate::state::{Effect, ScriptError, State};
 use dtp_io::Sink;
 use smt_lex::{LexErrorKind, Lexer};
@@ -40,21 +41,27 @@ fn carry_out<'a, K: Sink>(
     state: &mut State<'a>,
     sink: &mut K,
     command: u64,
+    report: Report,
 ) -> Result<Turn, SessionError>
     requires meaning { HasMeaning sexprs.now id }
     requires stands { (s : Meaning) × Stands state.old s }
     ensures ok { IfOk result (λ turn. (s : Meaning) (x : Sexpr) → Stands state.old s → Means sexprs.now id x
-        → Writes (K.holds sink.old) (K.holds sink.new) (λ added. IsCarriedOut s command x added state.new turn)) }
+        → Writes (K.holds sink.old) (K.holds sink.new) (λ added. IsCarriedOut report s command x added state.new turn)) }
+    ensures err { OnErr result ((s : Meaning) (x : Sexpr) → Stands state.old s → Means sexprs.now id x
+        → Writes (K.holds sink.old) (K.holds sink.new) (λ added. IsCutShort report s command x added)) }
     ensures fault { result ≡ Err SessionError.WriteFault → Rose (K.faults sink.old) (K.faults sink.new) }
     ensures later { K.faults sink.old ≤ K.faults sink.new }
 {
     match state.step(sexprs, id) {
         Ok(Effect::Silent) => Ok(Turn::Going),
         Ok(Effect::CheckSat) => {
-            write_verdict(alloc, sink, state)?;
+            write_decision(alloc, sink, state, report)?;
             Ok(Turn::Going)
         }
-        Ok(Effect::Exit) => Ok(Turn::Ended),
+        Ok(Effect::Exit) => {
+            write_closing(alloc, sink, report)?;
+            Ok(Turn::Ended)
+        }
         Err(ScriptError::NotYet) => {
             write_error(alloc, sink, command, Kind::NotYet)?;
             Ok(Turn::Stopped)
@@ -89,6 +96,7 @@ fn refuse<K: Sink>(
 ) -> Result<Turn, SessionError>
     ensures turn { IfOk result (λ turn. turn ≡ Turn.Stopped) }
     ensures ok { OnOk result ((kind : Cause) × (kind_of_error error ≡ Some kind) × Appends (K.holds sink.old) (K.holds sink.new) (error_line command kind)) }
+    ensures err { OnErr result (Writes (K.holds sink.old) (K.holds sink.new) (λ added. (added ≡ []) ⊎ ((kind : Cause) × (kind_of_error error ≡ Some kind) × IsFront added (error_line command kind)))) }
     ensures fault { result ≡ Err SessionError.WriteFault → Rose (K.faults sink.old) (K.faults sink.new) }
     ensures later { K.faults sink.old ≤ K.faults sink.new }
 {
@@ -107,12 +115,15 @@ fn take_turn<'a, K: Sink>(
     state: &mut State<'a>,
     sink: &mut K,
     command: u64,
+    report: Report,
 ) -> Result<Turn, SessionError>
     requires fresh { lexer.old.failed ≡ None }
     requires same { lexer.old.bytes ≡ sexprs.old.bytes }
     requires stands { (s : Meaning) × Stands state.old s }
     ensures ok { IfOk result (λ turn. (s : Meaning) → Stands state.old s
-        → Writes (K.holds sink.old) (K.holds sink.new) (λ added. IsTurn lexer.old.bytes lexer.old.place s command added lexer.new.place state.new turn)) }
+        → Writes (K.holds sink.old) (K.holds sink.new) (λ added. IsTurn report lexer.old.bytes lexer.old.place s command added lexer.new.place state.new turn)) }
+    ensures err { OnErr result ((s : Meaning) → Stands state.old s
+        → Writes (K.holds sink.old) (K.holds sink.new) (λ added. TranscribesPartFrom report lexer.old.bytes lexer.old.place s command added)) }
     ensures fresh { result ≡ Ok Turn.Going → lexer.new.failed ≡ None }
     ensures forward { result ≡ Ok Turn.Going → lexer.old.place < lexer.new.place }
     ensures within { result ≡ Ok Turn.Going → lexer.new.place ≤ length lexer.new.bytes }
@@ -124,10 +135,13 @@ fn take_turn<'a, K: Sink>(
     sexprs.clear();
     match sexprs.read_one(lexer) {
         Ok(Some(id)) => {
-            let turn = carry_out(alloc, sexprs, id, state, sink, command)?;
+            let turn = carry_out(alloc, sexprs, id, state, sink, command, report)?;
             Ok(turn)
         }
-        Ok(None) => Ok(Turn::Ended),
+        Ok(None) => {
+            write_closing(alloc, sink, report)?;
+            Ok(Turn::Ended)
+        }
         Err(error) => {
             let turn = refuse(alloc, error, sink, command)?;
             Ok(turn)
@@ -135,24 +149,26 @@ fn take_turn<'a, K: Sink>(
     }
 }
 
-/// How a script ended whose answers were all written.
+/// How a script ended that was answered to its end.
 #[derive(Clone, Copy, Debug, PartialEq, Eq)]
 pub enum Solved {
-    /// At its end or at `(exit)`.
+    /// Without an error.
     Done,
-    /// At a command that is refused, whose error line is the last.
+    /// At a command that is refused.
     ScriptStopped,
 }
 
-/// Answers a script: each command in order, up to the end, to `(exit)` or to the first refusal.
+/// Writes the commands' answers in order, up to the end, to `(exit)` or to the first refusal.
 ///
 /// Each line goes out by a write of its own.
-pub fn answer_script<K: Sink>(
+fn answer_commands<K: Sink>(
     alloc: Global,
     bytes: &[u8],
     sink: &mut K,
+    report: Report,
 ) -> Result<Solved, SessionError>
-    ensures transcript { IfOk result (λ end. Writes (K.holds sink.old) (K.holds sink.new) (λ added. IsTranscript bytes.now added (status_of end))) }
+    ensures ok { IfOk result (λ end. Writes (K.holds sink.old) (K.holds sink.new) (λ added. TranscribesFrom report bytes.now 0 start_state 1 added (status_of end))) }
+    ensures err { OnErr result (Writes (K.holds sink.old) (K.holds sink.new) (λ added. TranscribesPartFrom report bytes.now 0 start_state 1 added)) }
     ensures fault { result ≡ Err SessionError.WriteFault → Rose (K.faults sink.old) (K.faults sink.new) }
     ensures later { K.faults sink.old ≤ K.faults sink.new }
 {
@@ -161,10 +177,35 @@ pub fn answer_script<K: Sink>(
     let mut state = State::new(alloc);
     let mut command = 1u64;
     'commands: loop {
-        match take_turn(alloc, &mut lexer, &mut sexprs, &mut state, sink, command)? {
+        match take_turn(
+            alloc,
+            &mut lexer,
+            &mut sexprs,
+            &mut state,
+            sink,
+            command,
+            report,
+        )? {
             Turn::Going => command += 1,
             Turn::Ended => return Ok(Solved::Done),
             Turn::Stopped => return Ok(Solved::ScriptStopped),
         }
     }
+}
+
+/// Writes the report of a script: what opens it, the commands' answers, and what closes it or the error's line.
+pub fn answer_script<K: Sink>(
+    alloc: Global,
+    bytes: &[u8],
+    sink: &mut K,
+    report: Report,
+) -> Result<Solved, SessionError>
+    ensures whole { IfOk result (λ end. Writes (K.holds sink.old) (K.holds sink.new) (λ added. IsReport report bytes.now added (status_of end))) }
+    ensures part { OnErr result (Writes (K.holds sink.old) (K.holds sink.new) (λ added. IsReportPart report bytes.now added)) }
+    ensures fault { result ≡ Err SessionError.WriteFault → Rose (K.faults sink.old) (K.faults sink.new) }
+    ensures later { K.faults sink.old ≤ K.faults sink.new }
+{
+    write_opening(alloc, sink, report)?;
+    let end = answer_commands(alloc, bytes, sink, report)?;
+    Ok(end)
 }

@@ -1,24 +1,24 @@
 //! The call that decides a script.
-ghost use Rattle.std.specs.Prelude.{◌≡◌, ◌≤◌, Err, IfOk};
+ghost use Rattle.std.specs.Prelude.{◌≡◌, ◌≤◌, Err, IfOk, OnErr};
 ghost use Rattle.dtp_io.specs.Faults.{Rose};
+ghost use Rattle.dtp_session.specs.declared.report.Report.TheVariants.{Verdicts, Certificate};
 ghost use Rattle.dtp_session.specs.Ends.{status_of};
-ghost use Rattle.dtp_session.specs.Transcripts.{IsTranscript};
+ghost use Rattle.dtp_session.specs.Transcripts.{IsReport, IsReportPart};
 ghost use Rattle.dtp_session.specs.Written.{Writes};
 
 use crate::answer::SessionError;
 use crate::gate::Gate;
+use crate::report::Report;
 use crate::session::{Solved, answer_script};
 use dtp_io::Sink;
 use std::alloc::Global;
 use std::sync::Wait;
 
 /// Writes the transcript of a script: the answers to its commands in order, each a line, up to the end, to `(exit)` or
-/// to the first refusal, whose error line it ends with. By the law [`crate::one_transcript`] there is no other.
+/// to the first refusal, whose error line it ends with.
 ///
-/// Each line goes out by a `write_all_of` of its own. After an error the lines before it stay written.
-///
-/// The workers, the budget of a slice and the gate have no effect yet: one thread decides, and the call returns without
-/// waiting.
+/// `workers` is 1 to 64 and `budget` 1 to 1,000,000. They and the gate have no effect yet: one thread decides, and the
+/// call returns without waiting.
 pub fn solve_script<R: Wait, K: Sink, G: Gate>(
     _rt: &R,
     alloc: Global,
@@ -30,9 +30,33 @@ pub fn solve_script<R: Wait, K: Sink, G: Gate>(
 ) -> Result<Solved, SessionError>
     requires workers { (1 ≤ workers) × (workers ≤ 64) }
     requires budget { (1 ≤ budget) × (budget ≤ 1000000) }
-    ensures transcript { IfOk result (λ end. Writes (K.holds sink.old) (K.holds sink.new) (λ added. IsTranscript bytes.now added (status_of end))) }
+    ensures whole { IfOk result (λ end. Writes (K.holds sink.old) (K.holds sink.new) (λ added. IsReport Verdicts bytes.now added (status_of end))) }
+    ensures part { OnErr result (Writes (K.holds sink.old) (K.holds sink.new) (λ added. IsReportPart Verdicts bytes.now added)) }
     ensures fault { result ≡ Err SessionError.WriteFault → Rose (K.faults sink.old) (K.faults sink.new) }
     ensures later { K.faults sink.old ≤ K.faults sink.new }
 {
-    answer_script(alloc, bytes, sink)
+    answer_script(alloc, bytes, sink, Report::Verdicts)
+}
+
+/// Writes the certificate of a script: a header, for each check-sat a schedule or a refutation, and the end, or the
+/// first refusal's error line in its place.
+///
+/// The arguments are those of [`solve_script`].
+pub fn certify_script<R: Wait, K: Sink, G: Gate>(
+    _rt: &R,
+    alloc: Global,
+    bytes: &[u8],
+    sink: &mut K,
+    workers: u32,
+    budget: u64,
+    _gate: &G,
+) -> Result<Solved, SessionError>
+    requires workers { (1 ≤ workers) × (workers ≤ 64) }
+    requires budget { (1 ≤ budget) × (budget ≤ 1000000) }
+    ensures whole { IfOk result (λ end. Writes (K.holds sink.old) (K.holds sink.new) (λ added. IsReport Certificate bytes.now added (status_of end))) }
+    ensures part { OnErr result (Writes (K.holds sink.old) (K.holds sink.new) (λ added. IsReportPart Certificate bytes.now added)) }
+    ensures fault { result ≡ Err SessionError.WriteFault → Rose (K.faults sink.old) (K.faults sink.new) }
+    ensures later { K.faults sink.old ≤ K.faults sink.new }
+{
+    answer_script(alloc, bytes, sink, Report::Certificate)
 }

@@ -4,15 +4,19 @@ ghost use Rattle.smt_sexpr.specs.Tree.{Sexpr};
 ghost use Rattle.smt_sexpr.specs.Table.{Means, HasMeaning};
 ghost use Rattle.dtp_session.specs.declared.kind.Kind.TheVariants.{NotYet as Refused};
 ghost use Rattle.dtp_session.specs.Lowered.{lowered};
+ghost use Rattle.dtp_session.specs.Entries.{IsEntryOf};
 ghost use Rattle.dtp_session.specs.Satisfiable.{IsSatisfiable};
 ghost use Rattle.dtp_session.specs.Tables.{IsTabled};
 ghost use Rattle.dtp_session.specs.States.{State as Meaning, StandsFor, Steps, Kept, after, may_be_declared, may_be_asserted, with_literal};
 
 use crate::command::{Request, request_of};
+use crate::named::named_values;
 use crate::names::Names;
 use crate::nodes::Nodes;
 use crate::reserved::is_reserved;
 use crate::term::lower;
+use cert_text::Entry;
+use refute_tree::conjunction_refutation;
 use smt_sexpr::{SexprId, Sexprs};
 use std::alloc::{AllocError, AllocFailed, Global};
 use std::marker::Model;
@@ -148,6 +152,25 @@ impl<'a> State<'a> {
         match greatest(alloc, points, self.nodes.as_slice())? {
             Greatest::Greatest(_) => Ok(true),
             Greatest::Negative(_) => Ok(false),
+        }
+    }
+
+    /// A schedule that satisfies all the assertions, or a refutation of their problem.
+    pub fn entry(&self, alloc: Global) -> Result<Entry, AllocError>
+        requires { (s : Meaning) × StandsFor self.now s × IsTabled s }
+        ensures { IfOk result (λ entry. (s : Meaning) → StandsFor self.now s → IsTabled s → IsEntryOf s entry) }
+    {
+        let points = self.names.len() as u32 + 1;
+        match greatest(alloc, points, self.nodes.as_slice())? {
+            Greatest::Greatest(schedule) => {
+                let values = named_values(alloc, schedule.as_slice())?;
+                Ok(Entry::Sat(values))
+            }
+            Greatest::Negative(cycle) => {
+                let places = self.nodes.places(alloc, cycle.as_slice())?;
+                let refutation = conjunction_refutation(alloc, &places, cycle)?;
+                Ok(Entry::Unsat(refutation))
+            }
         }
     }
 }

@@ -28,3 +28,17 @@ fn answers_scripts(rt: HostRuntime) {
         assert_eq!(rt; sink.held(), held);
     }
 }
+
+#[test]
+fn certifies_a_script(rt: HostRuntime) {
+    let mut sink = MemSink::new(rt.alloc(), &[]);
+    let script = b"(declare-const x Int) (check-sat) (assert (< x x)) (check-sat)";
+    assert_eq!(rt;
+        certify_script(&rt, rt.alloc(), script, &mut sink, 1, 1, &NoGate),
+        Ok(Solved::Done)
+    );
+    assert_eq!(rt;
+        sink.held(),
+        b"(dtp-certificate 1)\n(sat 0)\n(unsat (lemma () (input 0) (cycle (0 0 (- 1)))))\n(end)\n".as_slice()
+    );
+}

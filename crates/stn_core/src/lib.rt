@@ -7,6 +7,7 @@ mod cycle;
 mod label;
 mod laws;
 mod literal;
+mod named;
 mod problem;
 mod schedule;
 mod solve;
@@ -15,6 +16,7 @@ mod tests;
 
 pub use laws::{cycle_law, greatest_range_law, negation_kept, negation_law, one_greatest_law};
 pub use literal::{Literal, Literals, holds, negate};
+pub use named::{NamedValue, NamedValues};
 pub use problem::{Clause, Clauses, Problem};
 pub use schedule::{Greatest, Schedule};
 pub use solve::greatest;

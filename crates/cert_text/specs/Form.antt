@@ -1,0 +1,96 @@
+-- The s-expressions of a certificate, which answers the checks of a script one by one, each with values or with a
+-- refutation. The format is this project's own:
+--
+--     (dtp-certificate 1)                     the header
+--     (sat v ..)                              an entry: the values of the active declared names, in order
+--     (unsat lemma ..)                        or a refutation
+--     (end)                                   behind the last entry
+--
+--     lemma    (lemma (literal ..) step ..)   its clause and its tree in preorder
+--     step     (cycle literal ..), (input i), (lemma j), (either x y c)
+--     literal  (x y c)                        x - y <= c
+--     v        a number, true or false
+--
+-- A number is a numeral, or (- n) where it is below 0. Each line holds one s-expression.
+use Rattle.std.specs.Prelude.{ℕ, suc, ◌+◌, ◌==◌, ℤ, pos, negsuc, true, false, if◌then◌else◌, List, [], ◌∷◌, ◌++◌, map, codes}
+use Rattle.std.specs.Int.Digits.{digits_of}
+use Rattle.smt_lex.specs.declared.token.TokenKind.TheVariants.{Numeral, Symbol}
+use Rattle.smt_sexpr.specs.Tree.{Sexpr, Items, leaf, list, none, more}
+use Rattle.smt_sexpr.specs.Printing.{text_of}
+use Rattle.stn_core.specs.declared.literal.Literal.{Literal}
+use Rattle.stn_core.specs.declared.named.NamedValue.{NamedValue}
+use Rattle.stn_core.specs.declared.named.NamedValue.TheVariants.{Int, Truth}
+use Rattle.refute_tree.specs.declared.step.Step.{Step}
+use Rattle.refute_tree.specs.declared.step.Step.TheVariants.{Cycle, Input, Lemma as Earlier, Either}
+use Rattle.refute_tree.specs.declared.lemma.Lemma.{Lemma}
+use Rattle.cert_text.specs.declared.entry.Entry.{Entry}
+use Rattle.cert_text.specs.declared.entry.Entry.TheVariants.{Sat, Unsat}
+
+-- ---- s-expressions
+
+-- the decimal digits of a number, with no leading zero; 48 is the digit 0
+unfoldable pub numeral_text : ℕ → List ℕ
+numeral_text n = if n == 0 then 48 ∷ [] else map (λ d. 48 + d) (digits_of 10 n)
+
+abbrev pub numeral : ℕ → Sexpr
+numeral n = leaf Numeral (numeral_text n)
+
+abbrev pub symbol : List ℕ → Sexpr
+symbol text = leaf Symbol text
+
+abbrev pub items_of : List Sexpr → Items
+items_of [] = none
+items_of (x ∷ xs) = more x (items_of xs)
+
+abbrev pub list_of : List Sexpr → Sexpr
+list_of xs = list (items_of xs)
+
+-- the list of a symbol and what follows it
+abbrev pub form : List ℕ → List Sexpr → Sexpr
+form head xs = list_of (symbol head ∷ xs)
+
+-- ---- the parts of an entry
+
+abbrev pub number_of_value : ℤ → Sexpr
+number_of_value (pos n) = numeral n
+number_of_value (negsuc n) = form (codes "-") (numeral (suc n) ∷ [])
+
+-- x, y and c
+abbrev pub bound_sexprs : Literal → List Sexpr
+bound_sexprs l = numeral l.x ∷ numeral l.y ∷ number_of_value l.c ∷ []
+
+abbrev pub literal_sexpr : Literal → Sexpr
+literal_sexpr l = list_of (bound_sexprs l)
+
+abbrev pub clause_sexpr : List Literal → Sexpr
+clause_sexpr literals = list_of (map literal_sexpr literals)
+
+abbrev pub step_sexpr : Step → Sexpr
+step_sexpr (Cycle literals) = form (codes "cycle") (map literal_sexpr literals)
+step_sexpr (Input i) = form (codes "input") (numeral i ∷ [])
+step_sexpr (Earlier j) = form (codes "lemma") (numeral j ∷ [])
+step_sexpr (Either l) = form (codes "either") (bound_sexprs l)
+
+abbrev pub lemma_sexpr : Lemma → Sexpr
+lemma_sexpr lemma = form (codes "lemma") (clause_sexpr lemma.clause ∷ map step_sexpr lemma.steps)
+
+abbrev pub value_sexpr : NamedValue → Sexpr
+value_sexpr (Int n) = number_of_value n
+value_sexpr (Truth true) = symbol (codes "true")
+value_sexpr (Truth false) = symbol (codes "false")
+
+-- ---- the lines
+
+abbrev pub header_sexpr : Sexpr
+header_sexpr = form (codes "dtp-certificate") (numeral 1 ∷ [])
+
+abbrev pub entry_sexpr : Entry → Sexpr
+entry_sexpr (Sat values) = form (codes "sat") (map value_sexpr values)
+entry_sexpr (Unsat lemmas) = form (codes "unsat") (map lemma_sexpr lemmas)
+
+abbrev pub end_sexpr : Sexpr
+end_sexpr = form (codes "end") []
+
+-- the s-expression and a line feed
+abbrev pub line_of : Sexpr → List ℕ
+line_of x = text_of x ++ 10 ∷ []

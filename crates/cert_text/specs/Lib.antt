@@ -1,0 +1,4 @@
+pub mod Form
+pub use Rattle.smt_sexpr.specs.Tree
+pub use Rattle.smt_sexpr.specs.Reading
+pub use Rattle.smt_sexpr.specs.Printing

@@ -1,0 +1,16 @@
+//! The text of certificates: one line for each check of a script, with its values or its refutation.
+//!
+//! `specs/Form.antt` has the format as s-expressions, and a line is such an s-expression as `smt_sexpr` prints it.
+//! The laws: each can be written and is read again ([`entry_is_writable`], [`reads_back_entry`]), and its text tells
+//! an entry from all others ([`one_entry`]).
+#![tactic(auto)]
+
+mod entry;
+mod laws;
+mod number;
+#[cfg(test)]
+mod tests;
+mod writer;
+
+pub use entry::{Entry, write_end, write_entry, write_header};
+pub use laws::{entry_is_writable, one_entry, reads_back_entry};

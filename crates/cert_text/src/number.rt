@@ -1,0 +1,31 @@
+//! Numbers in decimal.
+ghost use Rattle.std.specs.Prelude.{◌≡◌, ◌++◌, take, OnOk};
+ghost use Rattle.std.specs.Vec.{vec_len};
+ghost use Rattle.smt_sexpr.specs.Printing.{text_of};
+ghost use Rattle.cert_text.specs.Form.{numeral_text, number_of_value};
+
+use bstr::ByteVec;
+use itoa::Buffer;
+use std::alloc::AllocError;
+
+/// Appends a numeral.
+pub(crate) fn write_numeral(n: u64, out: &mut Vec<u8>) -> Result<(), AllocError>
+    ensures ok { OnOk result (out.new.items ≡ out.old.items ++ numeral_text n) }
+    ensures front { take (vec_len out.old) out.new.items ≡ out.old.items }
+{
+    let mut buffer = Buffer::new();
+    out.push_str(buffer.format(n).as_bytes())
+}
+
+/// Appends a number: a numeral, or `(- n)` below 0.
+pub(crate) fn write_number(n: i64, out: &mut Vec<u8>) -> Result<(), AllocError>
+    ensures ok { OnOk result (out.new.items ≡ out.old.items ++ text_of (number_of_value n)) }
+    ensures front { take (vec_len out.old) out.new.items ≡ out.old.items }
+{
+    if n >= 0 {
+        return write_numeral(n.unsigned_abs(), out);
+    }
+    out.push_str(b"(- ")?;
+    write_numeral(n.unsigned_abs(), out)?;
+    out.push_str(b")")
+}

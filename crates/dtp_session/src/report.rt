@@ -1,0 +1,8 @@
+/// What is written of a script.
+#[derive(Clone, Copy, Debug, PartialEq, Eq)]
+pub enum Report {
+    /// The transcript: each command's answer.
+    Verdicts,
+    /// The certificate: for each check-sat a schedule or a refutation.
+    Certificate,
+}

@@ -1,0 +1,31 @@
+-- What the builders build.
+use Rattle.std.proofs.Common.{arith, ◌≡◌, List, [], ◌∷◌, ◌++◌, Some, flat_map, length, append-nil, subst, sym, ◌∙◌}
+use Rattle.stn_core.specs.declared.literal.Literal.{Literal}
+use Rattle.stn_core.specs.Literal.{negation_of}
+use Rattle.stn_core.specs.Answer.{IsCycleAmong}
+use Rattle.refute_tree.specs.declared.step.Step.{Step}
+use Rattle.refute_tree.specs.declared.step.Step.TheVariants.{Cycle}
+use Rattle.refute_tree.specs.Trees.{clause_of, Tree, Forest, AreTrees, leaf, cases, none, more}
+use Rattle.refute_tree.proofs.Kept.{tree_followed}
+
+-- the steps of the children, one child after another
+abbrev pub joined : List (List Step) → List Step
+joined children = flat_map (λ (child : List Step). child) children
+
+forest_of_trees : (inputs lemmas : List (List Literal)) (assumed clause : List Literal) (children : List (List Step)) → AreTrees inputs lemmas assumed clause children → Forest inputs lemmas assumed clause (joined children) []
+forest_of_trees inputs lemmas assumed [] [] h = none
+forest_of_trees inputs lemmas assumed [] (child ∷ children) h = absurd h
+forest_of_trees inputs lemmas assumed (l ∷ clause) [] h = absurd h
+forest_of_trees inputs lemmas assumed (l ∷ clause) (child ∷ children) h =
+    more (tree_followed inputs lemmas (assumed ++ l ∷ []) child [] (joined children) h.0) (forest_of_trees inputs lemmas (assumed ++ negation_of l ∷ []) clause children h.1)
+
+pub built_leaf : (inputs lemmas : List (List Literal)) (assumed cycle : List Literal) (steps : List Step) → steps ≡ Cycle cycle ∷ [] → IsCycleAmong assumed cycle → Tree inputs lemmas assumed steps []
+built_leaf inputs lemmas assumed cycle steps e h = subst (λ (s : List Step). Tree inputs lemmas assumed s []) (sym e) (leaf h)
+
+pub built_cases : (inputs lemmas : List (List Literal)) (assumed clause : List Literal) (step : Step) (children : List (List Step)) (steps : List Step) → steps ≡ step ∷ joined children → clause_of inputs lemmas step ≡ Some clause → AreTrees inputs lemmas assumed clause children → Tree inputs lemmas assumed steps []
+built_cases inputs lemmas assumed clause step children steps e is h = subst (λ (s : List Step). Tree inputs lemmas assumed s []) (sym e) (cases is (forest_of_trees inputs lemmas assumed clause children h))
+
+-- where no child is left, the steps are all
+pub joined_end : (steps whole : List Step) (children : List (List Step)) → length children ≡ 0 → steps ++ joined children ≡ whole → steps ≡ whole
+joined_end steps whole [] h e = sym (append-nil steps) ∙ e
+joined_end steps whole (child ∷ children) h e = absurd (omega arith)

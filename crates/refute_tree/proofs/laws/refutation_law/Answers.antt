@@ -1,0 +1,6 @@
+use Rattle.refute_tree.proofs.Sound.{refutation_sound}
+use Rattle.refute_tree.proofs.laws.refutation_law.Goals as goal
+
+pub returns : goal.returns
+returns c points clauses lemmas refutes values =
+    refutation_sound values (λ cycle. c.cycle_law.ensures cycle values) (c.negation_law.ensures.either values) points clauses lemmas refutes

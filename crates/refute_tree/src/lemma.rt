@@ -1,0 +1,85 @@
+ghost use Rattle.std.specs.Prelude.{◌≡◌};
+
+use crate::step::Steps;
+use std::marker::Model;
+use stn_core::Clause;
+
+/// A clause that follows from a problem and the lemmas before it, with the tree that refutes its denial, in preorder.
+#[derive(Drop)]
+pub struct Lemma {
+    pub clause: Clause,
+    pub steps: Steps,
+}
+
+/// A list of lemmas.
+#[derive(Drop)]
+pub struct Lemmas {
+    lemmas: Vec<Lemma>,
+}
+
+impl Model for Lemmas {
+    ghost use Rattle.std.specs.Prelude.{List};
+    ghost use Rattle.refute_tree.specs.declared.lemma.Lemma.{Lemma as Shown};
+
+    ghost Value = { List Shown };
+
+    ghost view = { λ l. l.lemmas.items };
+}
+
+impl Lemmas {
+    pub fn new(lemmas: Vec<Lemma>) -> Self
+        ensures { result ≡ lemmas.items }
+    {
+        Lemmas { lemmas }
+    }
+
+    pub fn as_slice(&self) -> &[Lemma]
+        ensures { result.now ≡ self.now }
+    {
+        self.lemmas.as_slice()
+    }
+
+    /// The lemmas in a `Vec`, without taking memory.
+    pub fn into_vec(self) -> Vec<Lemma>
+        ensures { result.items ≡ self }
+    {
+        self.lemmas
+    }
+}
+
+/// A list of lemmas that is to end with one without literals, and so to show that a problem has no solution. What it
+/// refutes, if anything, the contracts say that make it.
+#[derive(Drop)]
+pub struct Refutation {
+    lemmas: Vec<Lemma>,
+}
+
+impl Model for Refutation {
+    ghost use Rattle.std.specs.Prelude.{List};
+    ghost use Rattle.refute_tree.specs.declared.lemma.Lemma.{Lemma as Shown};
+
+    ghost Value = { List Shown };
+
+    ghost view = { λ r. r.lemmas.items };
+}
+
+impl Refutation {
+    pub fn new(lemmas: Vec<Lemma>) -> Self
+        ensures { result ≡ lemmas.items }
+    {
+        Refutation { lemmas }
+    }
+
+    pub fn as_slice(&self) -> &[Lemma]
+        ensures { result.now ≡ self.now }
+    {
+        self.lemmas.as_slice()
+    }
+
+    /// The lemmas in a `Vec`, without taking memory.
+    pub fn into_vec(self) -> Vec<Lemma>
+        ensures { result.items ≡ self }
+    {
+        self.lemmas
+    }
+}
