@@ -196,6 +196,18 @@ fn certificates(rt: HostRuntime) -> Result<(), Fail> {
     let rows = [
         certifies("", "(dtp-certificate 1)\n(end)\n", 0),
         certifies("(check-sat)", "(dtp-certificate 1)\n(sat)\n(end)\n", 0),
+        certifies("(exit))))", "(dtp-certificate 1)\n(end)\n", 0),
+        // the values are those of the greatest schedule: x stays at 0, and the zero point goes below it
+        certifies(
+            "(declare-const x Int) (assert (> x 1099511627776)) (check-sat)",
+            "(dtp-certificate 1)\n(sat 1099511627777)\n(end)\n",
+            0,
+        ),
+        certifies(
+            "(declare-const |a| Int) (assert (< a 0)) (check-sat)",
+            "(dtp-certificate 1)\n(sat (- 1))\n(end)\n",
+            0,
+        ),
         // x less itself is nothing, and the one cycle is the literal itself
         certifies(
             "(declare-const x Int) (assert (< x x)) (check-sat)",
@@ -208,18 +220,54 @@ fn certificates(rt: HostRuntime) -> Result<(), Fail> {
             "(dtp-certificate 1)\n(sat (- 1) 0)\n(end)\n",
             0,
         ),
+    ];
+    check_all(&rt, &rows)
+}
+
+#[test]
+fn certificates_of_refused_scripts(rt: HostRuntime) -> Result<(), Fail> {
+    let second_write_fails = Row {
+        failing_writes: &[1],
+        ..certifies("(check-sat) (check-sat)", "(dtp-certificate 1)\n", 4)
+    };
+    let rows = [
         certifies(
             "(check-sat) (push 1)",
             "(dtp-certificate 1)\n(sat)\n(error \"command 2: not yet\")\n",
             1,
         ),
         certifies(
-            "(check-sat",
-            "(dtp-certificate 1)\n(error \"command 1: unclosed list\")\n",
+            "(declare-const x Int) (assert (> x 1099511627777)) (check-sat)",
+            "(dtp-certificate 1)\n(error \"command 2: not yet\")\n",
             1,
         ),
+        certifies(
+            "(declare-const x Int) (check-sat) (check-sat",
+            "(dtp-certificate 1)\n(sat 0)\n(error \"command 3: unclosed list\")\n",
+            1,
+        ),
+        second_write_fails,
     ];
     check_all(&rt, &rows)
+}
+
+// Where the cycle begins is free.
+#[test]
+fn a_cycle_of_two(rt: HostRuntime) -> Result<(), Fail> {
+    let script =
+        b"(declare-const x Int) (declare-const y Int) (assert (< x y)) (assert (< y x)) (check-sat)";
+    let mut words = Vec::new(rt.alloc());
+    words.push("certify".to_string(rt.alloc())?)?;
+    let mut source = MemSource::new(script, &[]);
+    let mut sink = MemSink::new(rt.alloc(), &[]);
+    let status = run(&rt, rt.alloc(), &words, &mut source, &mut sink, &NoGate);
+    let first =
+        b"(dtp-certificate 1)\n(unsat (lemma () (input 0) (input 1) (cycle (1 2 (- 1)) (2 1 (- 1)))))\n(end)\n";
+    let second =
+        b"(dtp-certificate 1)\n(unsat (lemma () (input 1) (input 0) (cycle (2 1 (- 1)) (1 2 (- 1)))))\n(end)\n";
+    assert!(rt; sink.held() == first.as_slice() || sink.held() == second.as_slice());
+    assert_eq!(rt; status, 0);
+    Ok(())
 }
 
 #[test]
