@@ -3,3 +3,4 @@ pub mod Consequences
 pub mod Ranges
 pub mod Rounds
 pub mod Walks
+pub mod Nets

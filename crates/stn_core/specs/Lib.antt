@@ -4,4 +4,6 @@ pub mod Problem
 pub mod Cycle
 pub mod Schedule
 pub mod Answer
+pub mod Net
 pub mod Rounds
+pub mod RoundsNet

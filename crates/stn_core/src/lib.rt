@@ -8,7 +8,11 @@ mod label;
 mod laws;
 mod literal;
 mod named;
+mod net;
+#[cfg(test)]
+mod net_tests;
 mod problem;
+mod rounds_net;
 mod schedule;
 mod solve;
 #[cfg(test)]
@@ -17,6 +21,8 @@ mod tests;
 pub use laws::{cycle_law, greatest_range_law, negation_kept, negation_law, one_greatest_law};
 pub use literal::{Literal, Literals, holds, negate};
 pub use named::{NamedValue, NamedValues};
+pub use net::{Added, Mark, Net};
 pub use problem::{Clause, Clauses, Problem};
+pub use rounds_net::RoundsNet;
 pub use schedule::{Greatest, Schedule};
 pub use solve::greatest;

@@ -1,0 +1,2 @@
+pub mod Simple
+pub use Rattle.stn_core.specs.Cycle
