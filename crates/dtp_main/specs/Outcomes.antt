@@ -5,10 +5,13 @@ use Rattle.dtp_io.specs.Faults.{Rose, TookMore, AddsFront}
 use Rattle.dtp_session.specs.Transcripts.{IsReport, IsReportPart}
 use Rattle.dtp_session.specs.declared.report.Report.{Report}
 use Rattle.dtp_session.specs.declared.report.Report.TheVariants.{Verdicts, Certificate}
+use Rattle.dtp_check.specs.Answered.{IsAnswer, IsAnswerPart}
+use Rattle.dtp_check.specs.declared.check.Checked.{Checked}
+use Rattle.dtp_check.specs.declared.check.Checked.TheVariants.{Accepted, NotAccepted as Unaccepted}
 use Rattle.dtp_main.specs.declared.line.Line.{Line}
-use Rattle.dtp_main.specs.declared.line.Line.TheVariants.{Solve, Certify}
+use Rattle.dtp_main.specs.declared.line.Line.TheVariants.{Solve, Certify, Check}
 use Rattle.dtp_main.specs.declared.status.Status.{Status}
-use Rattle.dtp_main.specs.declared.status.Status.TheVariants.{Done, Refused, Usage, ReadFault, WriteFault, OutOfMemory, TooLong}
+use Rattle.dtp_main.specs.declared.status.Status.TheVariants.{Done, Refused, Usage, ReadFault, WriteFault, OutOfMemory, NotAccepted, TooLong}
 use Rattle.dtp_main.specs.Lines.{line_of}
 use Rattle.dtp_main.specs.Statuses.{code_of}
 
@@ -64,12 +67,32 @@ IsReported report old new Usage = ⊥
 IsReported report old new ReadFault = Rose old.read_faults new.read_faults × IsUnwritten old new
 IsReported report old new WriteFault = Rose old.write_faults new.write_faults × ReportsPart report old new
 IsReported report old new OutOfMemory = IsUnwritten old new ⊎ ReportsPart report old new
+IsReported report old new NotAccepted = ⊥
 IsReported report old new TooLong = TookMore old.left new.left input_limit × IsUnwritten old new
+
+-- the line that accepts or refuses the source is written whole, and it is the one with this end
+abbrev pub Checks : Checked → Outside → Outside → Type 0
+Checks checked old new = (source : List ℕ) × (line : List ℕ) × IsInput old new source × Appends old.holds new.holds line × IsAnswer source line checked
+
+-- a front of it is written
+abbrev pub ChecksPart : Outside → Outside → Type 0
+ChecksPart old new = (source : List ℕ) × (written : List ℕ) × IsInput old new source × Appends old.holds new.holds written × IsAnswerPart source written
+
+abbrev pub IsChecked : Outside → Outside → Status → Type 0
+IsChecked old new Done = Checks Accepted old new
+IsChecked old new Refused = ⊥
+IsChecked old new Usage = ⊥
+IsChecked old new ReadFault = Rose old.read_faults new.read_faults × IsUnwritten old new
+IsChecked old new WriteFault = Rose old.write_faults new.write_faults × ChecksPart old new
+IsChecked old new OutOfMemory = IsUnwritten old new ⊎ ChecksPart old new
+IsChecked old new NotAccepted = Checks Unaccepted old new
+IsChecked old new TooLong = TookMore old.left new.left input_limit × IsUnwritten old new
 
 -- each kind of line has its own outcomes
 abbrev pub IsOutcomeOf : Line → Outside → Outside → Status → Type 0
 IsOutcomeOf Solve old new status = IsReported Verdicts old new status
 IsOutcomeOf Certify old new status = IsReported Certificate old new status
+IsOutcomeOf Check old new status = IsChecked old new status
 
 -- The outcome of a run: where the words are no command line the usage line, else what the line does.
 abbrev pub IsOutcome : Option Line → Outside → Outside → Status → Type 0

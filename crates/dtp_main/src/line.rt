@@ -9,6 +9,8 @@ pub enum Line {
     Solve,
     /// The certificate of a script.
     Certify,
+    /// Whether a script's certificate is right.
+    Check,
 }
 
 /// What the words ask for, or `None` where they are no command line. The program's name isn't among them.
@@ -18,6 +20,7 @@ pub fn line_of(words: &[String]) -> Option<Line>
     match words {
         [word] if word.as_bytes() == b"solve".as_slice() => Some(Line::Solve),
         [word] if word.as_bytes() == b"certify".as_slice() => Some(Line::Certify),
+        [word] if word.as_bytes() == b"check".as_slice() => Some(Line::Check),
         _ => None,
     }
 }

@@ -1,6 +1,8 @@
 //! `dtp`: decides Disjunctive Temporal Problems, read as SMT-LIB 2.6 scripts from standard input.
 #![tactic(auto)]
 
+#[cfg(test)]
+mod check_tests;
 mod line;
 mod run;
 mod status;

@@ -2,10 +2,11 @@
 ghost use Rattle.std.specs.Prelude.{◌≡◌, ◌≤◌};
 ghost use Rattle.dtp_session.specs.declared.report.Report.TheVariants.{Verdicts, Certificate};
 ghost use Rattle.dtp_main.specs.Lines.{line_of, texts};
-ghost use Rattle.dtp_main.specs.Outcomes.{IsRun, IsOutcome, IsReported, WritesUsage};
+ghost use Rattle.dtp_main.specs.Outcomes.{IsRun, IsOutcome, IsReported, IsChecked, WritesUsage};
 
 use crate::line::{Line, line_of};
 use crate::status::Status;
+use dtp_check::{Checked, check_pair};
 use dtp_io::{ReadError, Sink, Source, read_all, write_all_of};
 use dtp_session::{Gate, SessionError, Solved, certify_script, solve_script};
 use std::alloc::Global;
@@ -60,6 +61,7 @@ fn perform<R: Wait, S: Source, K: Sink, G: Gate>(
     match line_of(words) {
         Some(Line::Solve) => solve(rt, alloc, source, sink, gate),
         Some(Line::Certify) => certify(rt, alloc, source, sink, gate),
+        Some(Line::Check) => check(alloc, source, sink),
         None => usage(sink),
     }
 }
@@ -130,6 +132,29 @@ fn certify<R: Wait, S: Source, K: Sink, G: Gate>(
     match certify_script(rt, alloc, &script, sink, WORKERS, SLICE, gate) {
         Ok(Solved::Done) => Status::Done,
         Ok(Solved::ScriptStopped) => Status::Refused,
+        Err(SessionError::WriteFault) => Status::WriteFault,
+        Err(SessionError::OutOfMemory) => Status::OutOfMemory,
+    }
+}
+
+/// Reads a script and its certificate whole, and writes whether the certificate is right.
+fn check<S: Source, K: Sink>(alloc: Global, source: &mut S, sink: &mut K) -> Status
+    ensures checked { IsChecked
+        (record { left = S.left source.old; read_faults = S.faults source.old; holds = K.holds sink.old; write_faults = K.faults sink.old })
+        (record { left = S.left source.new; read_faults = S.faults source.new; holds = K.holds sink.new; write_faults = K.faults sink.new })
+        result }
+    ensures read_later { S.faults source.old ≤ S.faults source.new }
+    ensures write_later { K.faults sink.old ≤ K.faults sink.new }
+{
+    let bytes = match read_all(alloc, source, INPUT_LIMIT) {
+        Ok(bytes) => bytes,
+        Err(ReadError::OutOfMemory) => return Status::OutOfMemory,
+        Err(ReadError::ReadFault) => return Status::ReadFault,
+        Err(ReadError::TooLong) => return Status::TooLong,
+    };
+    match check_pair(alloc, &bytes, sink) {
+        Ok(Checked::Accepted) => Status::Done,
+        Ok(Checked::NotAccepted) => Status::NotAccepted,
         Err(SessionError::WriteFault) => Status::WriteFault,
         Err(SessionError::OutOfMemory) => Status::OutOfMemory,
     }

@@ -14,6 +14,8 @@ pub enum Status {
     ReadFault,
     WriteFault,
     OutOfMemory,
+    /// The certificate isn't accepted.
+    NotAccepted,
     /// More than 2^30 bytes came.
     TooLong,
 }
@@ -30,6 +32,7 @@ impl Status {
             Status::ReadFault => 3,
             Status::WriteFault => 4,
             Status::OutOfMemory => 5,
+            Status::NotAccepted => 6,
             Status::TooLong => 7,
         }
     }

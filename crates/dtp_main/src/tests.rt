@@ -10,6 +10,11 @@ use std::thread::Threads;
 const USAGE: &str =
     "usage: dtp solve|certify [--workers N] [--slice B], dtp check, dtp bench J M S D [--workers N]\n";
 
+/// x, y and z within 0 and 1, and pairwise different.
+pub const THREE_IN_TWO: &str = "(declare-const x Int) (declare-const y Int) (declare-const z Int) \
+     (assert (>= x 0)) (assert (<= x 1)) (assert (>= y 0)) (assert (<= y 1)) (assert (>= z 0)) (assert (<= z 1)) \
+     (assert (or (< x y) (< y x))) (assert (or (< y z) (< z y))) (assert (or (< x z) (< z x))) (check-sat)";
+
 /// A run, and what it must write.
 #[derive(Clone, Copy)]
 struct Row {
@@ -185,7 +190,7 @@ fn outside(rt: HostRuntime) -> Result<(), Fail> {
         usage_fails,
         usage(&[]),
         usage(&["frob"]),
-        usage(&["check"]),
+        usage(&["check", "--workers", "2"]),
         usage(&["solve", "--workers", "0"]),
     ];
     check_all(&rt, &rows)
@@ -247,6 +252,56 @@ fn certificates_of_refused_scripts(rt: HostRuntime) -> Result<(), Fail> {
             1,
         ),
         second_write_fails,
+    ];
+    check_all(&rt, &rows)
+}
+
+#[test]
+fn disjunctions(rt: HostRuntime) -> Result<(), Fail> {
+    let rows = [
+        solves(
+            "(declare-const a1 Int) (declare-const b1 Int) (declare-const a2 Int) (declare-const b2 Int) \
+             (declare-const a3 Int) (declare-const b3 Int) (declare-const a4 Int) (declare-const b4 Int) \
+             (assert (or (< a1 b1) (< b1 a1))) (assert (or (< a2 b2) (< b2 a2))) \
+             (assert (or (< a3 b3) (< b3 a3))) (assert (or (< a4 b4) (< b4 a4))) (check-sat)",
+            "sat\n",
+            0,
+        ),
+        // three values for three names that differ pairwise, of which there are two
+        solves(THREE_IN_TWO, "unsat\n", 0),
+        solves(
+            "(declare-const x Int) (assert (or (< x x))) (check-sat)",
+            "unsat\n",
+            0,
+        ),
+        solves(
+            "(declare-const x Int) (assert (or)) (check-sat)",
+            "(error \"command 2: not yet\")\n",
+            1,
+        ),
+        solves(
+            "(declare-const x Int) (assert (or (< x 0) (or (< x 0)))) (check-sat)",
+            "(error \"command 2: not yet\")\n",
+            1,
+        ),
+        // a name that is called `or` by nobody: it is reserved
+        solves(
+            "(declare-const or Int)",
+            "(error \"command 1: not yet\")\n",
+            1,
+        ),
+        // an `or` of one is its comparison, and an atom that is asserted twice is one clause
+        certifies(
+            "(declare-const x Int) (assert (or (< x x))) (assert (< x x)) (check-sat)",
+            "(dtp-certificate 1)\n(unsat (lemma () (input 0) (cycle (0 0 (- 1)))))\n(end)\n",
+            0,
+        ),
+        // the greatest schedule makes the second true
+        certifies(
+            "(declare-const x Int) (assert (or (> x 5) (<= x 0))) (check-sat)",
+            "(dtp-certificate 1)\n(sat 0)\n(end)\n",
+            0,
+        ),
     ];
     check_all(&rt, &rows)
 }

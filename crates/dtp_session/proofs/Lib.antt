@@ -1,9 +1,3 @@
-pub mod Lowering
-pub mod Growing
-pub mod Standing
-pub mod Maps
-pub mod Shapes
-pub mod Limits
 pub mod Stepping
 pub mod Verdicts
 pub mod Turning

@@ -3,15 +3,15 @@ use Rattle.std.proofs.Common.{refl, sym, ap, subst, ◌∙◌, ◌≡◌, ℕ, L
 use Rattle.std.specs.Prelude.{if◌then◌else◌}
 use Rattle.smt_sexpr.specs.Tree.{Sexpr}
 use Rattle.smt_sexpr.specs.Table.{Table, Means}
-use Rattle.stn_core.specs.declared.literal.Literal.{Literal}
 use Rattle.dtp_session.specs.declared.command.Request.{Request}
 use Rattle.dtp_session.specs.declared.command.Request.TheVariants.{Declare, Assert, CheckSat, Exit}
 use Rattle.dtp_session.specs.declared.kind.Kind.TheVariants.{NotYet}
 use Rattle.dtp_session.specs.declared.state.Effect.TheVariants as effect
 use Rattle.dtp_session.specs.Commands.{Command, declaring, asserting, checking, exiting, another, command_of}
-use Rattle.dtp_session.specs.Lowered.{lowered}
+use Rattle.idl_term.specs.Lowered.{lowered}
+use Rattle.idl_term.specs.Nodes.{NodeValue, Placed}
 use Rattle.dtp_session.specs.Shapes.{CommandIs}
-use Rattle.dtp_session.specs.States.{State, Kept, StandsFor, Steps, after, after_command, may_be_declared, may_be_asserted, with_literal}
+use Rattle.dtp_session.specs.States.{State, Kept, StandsFor, Steps, after, after_command, after_assertion, may_be_declared}
 
 -- ---- what a request says of the command
 
@@ -91,31 +91,28 @@ pub step_declares : (kept new : Kept) (s : State) (x : Sexpr) (name : List ℕ) 
 step_declares kept new s x name h e allowed is = record {
   state = record s { names = s.names ++ name ∷ [] };
   leads = after_is s x (declaring name) e ∙ chosen (may_be_declared s.names name) _ _ (ap (λ (names : List (List ℕ)). may_be_declared names name) (sym h.names) ∙ allowed);
-  stands = rw is (record { names = ap (λ (names : List (List ℕ)). names ++ name ∷ []) h.names; nodes = h.nodes });
+  stands = rw is (record { names = ap (λ (names : List (List ℕ)). names ++ name ∷ []) h.names; nodes = h.nodes; roots = h.roots });
 }
 
 pub refused_declares : (kept : Kept) (s : State) (x : Sexpr) (name : List ℕ) → StandsFor kept s → command_of x ≡ declaring name → may_be_declared kept.names name ≡ false → after s x ≡ Err NotYet
 refused_declares kept s x name h e refused =
     after_is s x (declaring name) e ∙ passed (may_be_declared s.names name) _ _ (ap (λ (names : List (List ℕ)). may_be_declared names name) (sym h.names) ∙ refused)
 
--- the test of an assertion, on what is kept and on the state
-same_test : (kept : Kept) (s : State) (term : Sexpr) → StandsFor kept s → may_be_asserted s.nodes (lowered s.names term) ≡ may_be_asserted kept.nodes (lowered kept.names term)
-same_test kept s term h =
-    ap (λ (nodes : List Literal). may_be_asserted nodes (lowered s.names term)) (sym h.nodes) ∙ ap (λ (names : List (List ℕ)). may_be_asserted kept.nodes (lowered names term)) (sym h.names)
+-- the node of a term, on what is kept and on the state
+same_node : (kept : Kept) (s : State) (term : Sexpr) → StandsFor kept s → lowered s.names s.nodes term ≡ lowered kept.names kept.nodes term
+same_node kept s term h =
+    ap (λ (nodes : List NodeValue). lowered s.names nodes term) (sym h.nodes) ∙ ap (λ (names : List (List ℕ)). lowered names kept.nodes term) (sym h.names)
 
-pub step_asserts : (kept new : Kept) (s : State) (x term : Sexpr) → StandsFor kept s → command_of x ≡ asserting term → may_be_asserted kept.nodes (lowered kept.names term) ≡ true
-    → new ≡ record kept { nodes = with_literal kept.nodes (lowered kept.names term) } → Steps s x effect.Silent new
-step_asserts kept new s x term h e allowed is = record {
-  state = record s { assertions = s.assertions ++ term ∷ []; nodes = with_literal s.nodes (lowered s.names term) };
-  leads = after_is s x (asserting term) e ∙ chosen (may_be_asserted s.nodes (lowered s.names term)) _ _ (same_test kept s term h ∙ allowed);
-  stands = rw is (record {
-    names = h.names;
-    nodes = ap (λ (nodes : List Literal). with_literal nodes (lowered kept.names term)) h.nodes ∙ ap (λ (names : List (List ℕ)). with_literal s.nodes (lowered names term)) h.names;
-  });
+pub step_asserts : (kept new : Kept) (s : State) (x term : Sexpr) (p : Placed) → StandsFor kept s → command_of x ≡ asserting term → lowered kept.names kept.nodes term ≡ Some p
+    → new ≡ record kept { nodes = p.nodes; roots = kept.roots ++ p.number ∷ [] } → Steps s x effect.Silent new
+step_asserts kept new s x term p h e made is = record {
+  state = record s { assertions = s.assertions ++ term ∷ []; nodes = p.nodes; roots = s.roots ++ p.number ∷ [] };
+  leads = after_is s x (asserting term) e ∙ ap (after_assertion s term) (same_node kept s term h ∙ made);
+  stands = rw is (record { names = h.names; nodes = refl; roots = ap (λ (ks : List ℕ). ks ++ p.number ∷ []) h.roots });
 }
 
-pub refused_asserts : (kept : Kept) (s : State) (x term : Sexpr) → StandsFor kept s → command_of x ≡ asserting term → may_be_asserted kept.nodes (lowered kept.names term) ≡ false → after s x ≡ Err NotYet
-refused_asserts kept s x term h e refused = after_is s x (asserting term) e ∙ passed (may_be_asserted s.nodes (lowered s.names term)) _ _ (same_test kept s term h ∙ refused)
+pub refused_asserts : (kept : Kept) (s : State) (x term : Sexpr) → StandsFor kept s → command_of x ≡ asserting term → lowered kept.names kept.nodes term ≡ None → after s x ≡ Err NotYet
+refused_asserts kept s x term h e refused = after_is s x (asserting term) e ∙ ap (after_assertion s term) (same_node kept s term h ∙ refused)
 
 pub step_checks : (kept : Kept) (s : State) (x : Sexpr) → StandsFor kept s → command_of x ≡ checking → Steps s x effect.CheckSat kept
 step_checks kept s x h e = record { state = s; leads = after_is s x checking e; stands = h }

@@ -20,13 +20,14 @@ use Rattle.dtp_session.specs.declared.state.Effect.{Effect}
 use Rattle.dtp_session.specs.declared.state.Effect.TheVariants.{Silent, CheckSat, Exit}
 use Rattle.dtp_session.specs.Answers.{error_line, kind_of, kind_of_error}
 use Rattle.dtp_session.specs.Commands.{Command, declaring, asserting, checking, exiting, another, command_of}
-use Rattle.dtp_session.specs.Lowered.{lowered}
-use Rattle.dtp_session.specs.States.{State, start_state, Step, Kept, Steps, after, after_command, after_assertion, may_be_declared, may_be_asserted, with_literal}
+use Rattle.idl_term.specs.Lowered.{lowered}
+use Rattle.idl_term.specs.Nodes.{NodeValue, Placed}
+use Rattle.idl_term.proofs.Rooting.{tabled_start, tabled_declares, tabled_asserts}
+use Rattle.dtp_session.specs.States.{State, start_state, Step, Kept, Steps, after, after_command, after_assertion, may_be_declared}
 use Rattle.dtp_session.specs.Tables.{IsTabled}
 use Rattle.dtp_session.specs.Transcripts.{IsDecided, Answers, opening, closing, Closes, GoesOn, GoesOnPart, Follows, FollowsPart, IsFront, IsPartOf, TranscribesFrom, TranscribesPartFrom, IsReport, IsReportPart}
 use Rattle.dtp_session.specs.Turns.{Stands, IsAnswered, IsCarriedOut, IsCutShort, IsTurn}
 use Rattle.dtp_session.specs.Written.{Writes}
-use Rattle.dtp_session.proofs.Standing.{tabled_start, tabled_declares, tabled_asserts}
 
 pub is_false : (b : Bool) → b ≡ false → b ≡ true → ⊥
 is_false true e f = absurd cc
@@ -59,22 +60,17 @@ tabled_declared : (s : State) (name : List ℕ) (step : Step) (test : Bool) → 
 tabled_declared s name step false h e = absurd cc
 tabled_declared s name step true h e =
     let same : record { state = record s { names = s.names ++ name ∷ [] }; effect = Silent } ≡ step = cc in
-    subst (λ (q : Step). IsTabled q.state) same (tabled_declares s name h)
+    subst (λ (q : Step). IsTabled q.state) same (tabled_declares s.names (name ∷ []) s.assertions s.nodes s.roots h)
 
-tabled_asserted : (s : State) (term : Sexpr) (l : Literal) (step : Step) (test : Bool) → IsTabled s → lowered s.names term ≡ Some l
-    → (if test then Ok (record { state = record s { assertions = s.assertions ++ term ∷ []; nodes = with_literal s.nodes (Some l) }; effect = Silent }) else Err NotYet) ≡ Ok step → IsTabled step.state
-tabled_asserted s term l step false h e f = absurd cc
-tabled_asserted s term l step true h e f =
-    let same : record { state = record s { assertions = s.assertions ++ term ∷ []; nodes = with_literal s.nodes (Some l) }; effect = Silent } ≡ step = cc in
-    subst (λ (q : Step). IsTabled q.state) same (tabled_asserts s term l h e)
-
-tabled_literal : (s : State) (term : Sexpr) (found : Option Literal) (step : Step) → IsTabled s → lowered s.names term ≡ found → after_assertion s term found ≡ Ok step → IsTabled step.state
-tabled_literal s term None step h e f = absurd cc
-tabled_literal s term (Some l) step h e f = tabled_asserted s term l step (may_be_asserted s.nodes (Some l)) h e f
+tabled_asserted : (s : State) (term : Sexpr) (found : Option Placed) (step : Step) → IsTabled s → lowered s.names s.nodes term ≡ found → after_assertion s term found ≡ Ok step → IsTabled step.state
+tabled_asserted s term None step h e f = absurd cc
+tabled_asserted s term (Some p) step h e f =
+    let same : record { state = record s { assertions = s.assertions ++ term ∷ []; nodes = p.nodes; roots = s.roots ++ p.number ∷ [] }; effect = Silent } ≡ step = cc in
+    subst (λ (q : Step). IsTabled q.state) same (tabled_asserts s.names s.assertions s.nodes s.roots term p h e)
 
 tabled_command : (s : State) (command : Command) (step : Step) → IsTabled s → after_command s command ≡ Ok step → IsTabled step.state
 tabled_command s (declaring name) step h e = tabled_declared s name step (may_be_declared s.names name) h e
-tabled_command s (asserting term) step h e = tabled_literal s term (lowered s.names term) step h refl e
+tabled_command s (asserting term) step h e = tabled_asserted s term (lowered s.names s.nodes term) step h refl e
 tabled_command s checking step h e =
     let same : record { state = s; effect = CheckSat } ≡ step = cc in
     subst (λ (q : Step). IsTabled q.state) same h
@@ -247,7 +243,7 @@ cut_by report bytes place behind s k why kind added h e front = record {
 }
 
 -- what the reader refuses, by the kind that its error line has
-explained : (bytes : List ℕ) (place behind : ℕ) (error : SexprError) (kind : Kind) → Explains bytes place error behind → kind_of_error error ≡ Some kind → (why : Refusal) × Outcomes bytes place (refused why) behind × (kind_of why ≡ kind)
+pub explained : (bytes : List ℕ) (place behind : ℕ) (error : SexprError) (kind : Kind) → Explains bytes place error behind → kind_of_error error ≡ Some kind → (why : Refusal) × Outcomes bytes place (refused why) behind × (kind_of why ≡ kind)
 explained bytes place behind OutOfMemory kind h e = absurd cc
 explained bytes place behind (Lex error) kind h e = let same : kind_of (lexical error) ≡ kind = cc in (lexical error, h, same)
 explained bytes place behind (OpenList outer) kind h e = let same : kind_of (unclosed outer) ≡ kind = cc in (unclosed outer, h, same)
@@ -293,10 +289,10 @@ pub record IsSoFar (report : Report) (bytes : List ℕ) (place : ℕ) (kept : Ke
   pub goes_on : (rest : List ℕ) (status : ℕ) → TranscribesFrom report bytes place s k rest status → TranscribesFrom report bytes 0 start_state 1 (written ++ rest) status
   pub part : (rest : List ℕ) → TranscribesPartFrom report bytes place s k rest → TranscribesPartFrom report bytes 0 start_state 1 (written ++ rest)
 
-pub so_far_starts : (report : Report) (bytes : List ℕ) (kept : Kept) (held : Option (List ℕ)) → kept ≡ record { names = []; nodes = [] } → IsSoFar report bytes 0 kept 1 held held
+pub so_far_starts : (report : Report) (bytes : List ℕ) (kept : Kept) (held : Option (List ℕ)) → kept ≡ record { names = []; nodes = []; roots = [] } → IsSoFar report bytes 0 kept 1 held held
 so_far_starts report bytes kept held e = record {
   s = start_state;
-  stands = rw e (record { stands = record { names = refl; nodes = refl }; tabled = tabled_start });
+  stands = rw e (record { stands = record { names = refl; nodes = refl; roots = refl }; tabled = tabled_start });
   written = [];
   adds = appends_nothing held;
   goes_on = λ rest status t. t;

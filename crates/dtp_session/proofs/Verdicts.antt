@@ -1,62 +1,55 @@
 -- The two verdicts, on what is kept.
 use Rattle.std.proofs.Common.{refl, sym, ap, subst, ◌∙◌, ◌≡◌, ◌+◌, ℕ, List, length, true, false, ℤ}
 use Rattle.std.specs.Prelude.{All, Contains, Decides}
-use Rattle.std.proofs.lemmas.List.Elements.{All-from_recursion}
+use Rattle.std.specs.List.{AllByRecursion}
 use Rattle.stn_core.specs.declared.literal.Literal.{Literal}
-use Rattle.stn_core.specs.declared.schedule.Greatest.{Greatest}
-use Rattle.stn_core.specs.declared.schedule.Greatest.TheVariants.{Greatest as AsGreatest, Negative}
-use Rattle.stn_core.specs.Literal.{Holds, IsOver}
-use Rattle.stn_core.specs.Cycle.{IsNegativeCycle}
-use Rattle.stn_core.specs.Answer.{IsAnswer}
+use Rattle.stn_core.specs.Literal.{IsOver}
+use Rattle.stn_core.specs.Problem.{ProblemHolds}
 use Rattle.stn_core.specs.declared.named.NamedValue.{NamedValue}
 use Rattle.refute_tree.specs.declared.lemma.Lemma.{Lemma}
 use Rattle.refute_tree.specs.Trees.{IsRefutation}
-use Rattle.refute_tree.specs.Conjunctions.{conjunction_of, ArePlaces}
 use Rattle.cert_text.specs.declared.entry.Entry.TheVariants.{Sat, Unsat}
-use Rattle.dtp_session.specs.Entries.{named_values, points_of, IsEntryOf}
-use Rattle.dtp_session.specs.Points.{schedule_of}
-use Rattle.dtp_session.specs.Satisfiable.{IsSatisfiable}
+use Rattle.idl_term.specs.ClauseForm.{clauses_of}
+use Rattle.idl_term.specs.Nodes.{NodeValue}
+use Rattle.idl_term.specs.Points.{named_values, schedule_of, point_values}
+use Rattle.idl_term.specs.Satisfiable.{IsScheduleFor, IsTrueOn, IsSatisfiable}
+use Rattle.idl_term.specs.Values.{Value}
+use Rattle.idl_term.proofs.Meaning.{clauses_hold, satisfied}
+use Rattle.plain_search.specs.declared.verdict.Verdict.{Verdict}
+use Rattle.plain_search.specs.declared.verdict.Verdict.TheVariants as found
+use Rattle.plain_search.specs.Verdicts.{IsSolution, IsVerdict}
+use Rattle.dtp_session.specs.Entries.{points_of, problem_of, IsEntryOf}
 use Rattle.dtp_session.specs.States.{State, Kept, StandsFor}
 use Rattle.dtp_session.specs.Tables.{IsTabled}
-use Rattle.dtp_session.proofs.Standing.{nodes_over, satisfied_schedule, satisfied, unsatisfied}
 
--- the fields of what is kept are asked for their count of names and for their nodes
-module _ (s : State) (kept fields : Kept) (view : fields ≡ kept) (count : ℕ) (nodes : List Literal) (counted : count ≡ length fields.names) (lent : nodes ≡ fields.nodes) (stands : StandsFor kept s) (h : IsTabled s) where
-  points_are : count + 1 ≡ length s.names + 1
-  points_are = ap (λ (n : ℕ). n + 1) (counted ∙ ap (λ (k : Kept). length k.names) view ∙ ap (λ (names : List (List ℕ)). length names) stands.names)
+-- a solution of the problem is a schedule that satisfies the assertions
+pub record Satisfies (s : State) (schedule : List Value) : Type 0 where
+  pub fits : IsScheduleFor s.names schedule
+  pub true_all : AllByRecursion (IsTrueOn s.names schedule) s.assertions
 
-  nodes_are : nodes ≡ s.nodes
-  nodes_are = lent ∙ ap (λ (k : Kept). k.nodes) view ∙ stands.nodes
+pub solution_satisfies : (s : State) (values : List ℤ) → IsTabled s → IsSolution (points_of s) (problem_of s) values → Satisfies s (schedule_of values)
+solution_satisfies s values h v =
+    let w = satisfied s.names s.assertions s.nodes s.roots h values v.count v.holds in
+    record { fits = w.0; true_all = w.1 }
 
-  pub kept_over : All (IsOver (count + 1)) nodes
-  kept_over =
-      let over = All-from_recursion (IsOver (length s.names + 1)) s.nodes (nodes_over s h) in
-      subst (λ (p : ℕ). All (IsOver p) nodes) (sym points_are) (subst (λ (ls : List Literal). All (IsOver (length s.names + 1)) ls) (sym nodes_are) over)
+module _ (s : State) (verdict : Verdict) (h : IsTabled s) (v : IsVerdict (points_of s) (problem_of s) verdict) where
+  pub as_found : (other : Verdict) → verdict ≡ other → IsVerdict (points_of s) (problem_of s) other
+  as_found other is = subst (λ (w : Verdict). IsVerdict (points_of s) (problem_of s) w) is v
 
-  module _ (answer : Greatest) (best : IsAnswer (count + 1) nodes answer) where
-    answer_of : (found : Greatest) → answer ≡ found → IsAnswer (length s.names + 1) s.nodes found
-    answer_of found is = subst (λ (r : Greatest). IsAnswer (length s.names + 1) s.nodes r) is (subst (λ (p : ℕ). IsAnswer p s.nodes answer) points_are (subst (λ (ls : List Literal). IsAnswer (count + 1) ls answer) nodes_are best))
+  pub sat_decides : (values : List ℤ) → verdict ≡ found.Sat values → Decides true (IsSatisfiable s.names s.assertions)
+  sat_decides values is =
+      let w = solution_satisfies s values h (as_found (found.Sat values) is) in
+      (λ t. (schedule_of values, w.fits, w.true_all), λ t. refl)
 
-    -- a greatest schedule of the nodes satisfies the assertions
-    pub greatest_satisfies : (values : List ℤ) → answer ≡ AsGreatest values → Decides true (IsSatisfiable s.names s.assertions)
-    greatest_satisfies values is = (λ t. satisfied s values h (answer_of (AsGreatest values) is).greatest.schedule, λ t. refl)
+  pub unsat_decides : ((points : ℕ) (clauses : List (List Literal)) (lemmas : List Lemma) → IsRefutation points clauses lemmas → (values : List ℤ) → ProblemHolds values clauses → ⊥) → (lemmas : List Lemma) → verdict ≡ found.Unsat lemmas
+      → Decides false (IsSatisfiable s.names s.assertions)
+  unsat_decides law lemmas is =
+      (λ t. absurd cc, λ sat. absurd (law (points_of s) (problem_of s) lemmas (as_found (found.Unsat lemmas) is) (point_values sat.0) (clauses_hold s.names s.assertions s.nodes s.roots h sat.0 sat.1 sat.2)))
 
-    -- a negative cycle of the nodes leaves no schedule
-    pub negative_refutes : ((cycle : List Literal) (values : List ℤ) → IsNegativeCycle cycle → All (Holds values) cycle → ⊥) → (cycle : List Literal) → answer ≡ Negative cycle → Decides false (IsSatisfiable s.names s.assertions)
-    negative_refutes law cycle is =
-        let a = answer_of (Negative cycle) is in
-        (λ t. absurd cc, λ sat. absurd (unsatisfied law s cycle h a.negative a.given sat))
+  pub sat_entry : (values : List ℤ) (named : List NamedValue) → verdict ≡ found.Sat values → named ≡ named_values (schedule_of values) → IsEntryOf s (Sat named)
+  sat_entry values named is e =
+      let w = solution_satisfies s values h (as_found (found.Sat values) is) in
+      (schedule_of values, w.fits, w.true_all, e)
 
-    -- the entry of a greatest schedule is the schedule that it gives
-    pub greatest_entry : (values : List ℤ) (named : List NamedValue) → answer ≡ AsGreatest values → named ≡ named_values (schedule_of values) → IsEntryOf s (Sat named)
-    greatest_entry values named is e = let w = satisfied_schedule s values h (answer_of (AsGreatest values) is).greatest.schedule in (schedule_of values, w.fits, w.true_all, e)
-
-    -- the literals of a negative cycle are nodes, so they have places there
-    pub given_cycle : (cycle : List Literal) → answer ≡ Negative cycle → All (Contains nodes) cycle
-    given_cycle cycle is = subst (λ (ls : List Literal). All (Contains ls) cycle) (sym nodes_are) (answer_of (Negative cycle) is).given
-
-    -- and the entry of a negative cycle is the conjunction's refutation
-    pub negative_entry : (cycle : List Literal) (places : List ℕ) (lemmas : List Lemma) → answer ≡ Negative cycle → ArePlaces nodes places cycle
-        → ((points : ℕ) (literals : List Literal) → ArePlaces literals places cycle → IsNegativeCycle cycle → IsRefutation points (conjunction_of literals) lemmas) → IsEntryOf s (Unsat lemmas)
-    negative_entry cycle places lemmas is stand refutes =
-        refutes (points_of s) s.nodes (subst (λ (ls : List Literal). ArePlaces ls places cycle) nodes_are stand) (answer_of (Negative cycle) is).negative
+  pub unsat_entry : (lemmas : List Lemma) → verdict ≡ found.Unsat lemmas → IsEntryOf s (Unsat lemmas)
+  unsat_entry lemmas is = as_found (found.Unsat lemmas) is

@@ -4,6 +4,7 @@ use Rattle.std.specs.Str.{bytes_eq}
 use Rattle.dtp_session.specs.declared.command_name.CommandName.{CommandName}
 use Rattle.dtp_session.specs.declared.command_name.CommandName.TheVariants.{DeclareConst, Assert, CheckSat, Exit}
 use Rattle.smt_sexpr.specs.Tree.{Sexpr, Items, list, none, more, symbol_of}
+use Rattle.idl_term.specs.Operators.{is_symbol}
 
 pub data Command : Type 0 where
   declaring : (name : List ℕ) → Command
@@ -12,13 +13,6 @@ pub data Command : Type 0 where
   exiting : Command
   -- none that is read yet
   another : Command
-
--- whether the s-expression is this symbol
-abbrev pub is_symbol : List ℕ → Sexpr → Bool
-is_symbol text t = elim (symbol_of t) [
-  | None ↦ false
-  | Some name ↦ bytes_eq name text
-]
 
 abbrev pub declared_as : Option (List ℕ) → Command
 declared_as None = another

@@ -1,11 +1,7 @@
-pub mod Operators
-pub mod Values
-pub mod Satisfiable
-pub mod Points
-pub mod Lowered
 pub mod Commands
 pub mod States
 pub mod Tables
+pub mod Refusals
 pub mod Answers
 pub mod Entries
 pub mod Transcripts
@@ -18,3 +14,6 @@ pub use Rattle.dtp_io.specs.Faults
 pub use Rattle.smt_sexpr.specs.Tree
 pub use Rattle.smt_sexpr.specs.Table
 pub use Rattle.stn_core.specs.Literal
+pub use Rattle.idl_term.specs.Values
+pub use Rattle.idl_term.specs.Satisfiable
+pub use Rattle.idl_term.specs.Nodes

@@ -11,7 +11,7 @@ use Rattle.dtp_session.specs.declared.state.Effect.TheVariants.{Silent, CheckSat
 use Rattle.dtp_session.specs.Answers.{sat_line, unsat_line, error_line, kind_of}
 use Rattle.cert_text.specs.Form.{header_sexpr, end_sexpr, line_of}
 use Rattle.dtp_session.specs.Entries.{IsEntry}
-use Rattle.dtp_session.specs.Satisfiable.{IsSatisfiable}
+use Rattle.idl_term.specs.Satisfiable.{IsSatisfiable}
 use Rattle.dtp_session.specs.States.{State, start_state, after}
 
 -- `sat` where some schedule satisfies all the assertions, else `unsat`

@@ -48,7 +48,7 @@ impl From<WriteFault> for SessionError {
 }
 
 /// Writes a text. Where the sink fails, a front of the text is written.
-fn write_text<K: Sink>(sink: &mut K, text: &[u8]) -> Result<(), SessionError>
+pub fn write_text<K: Sink>(sink: &mut K, text: &[u8]) -> Result<(), SessionError>
     ensures ok { OnOk result (Appends (K.holds sink.old) (K.holds sink.new) text.now) }
     ensures err { OnErr result (Writes (K.holds sink.old) (K.holds sink.new) (λ added. IsFront added text.now)) }
     ensures fault { OnErr result (Rose (K.faults sink.old) (K.faults sink.new)) }

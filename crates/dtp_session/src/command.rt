@@ -3,10 +3,11 @@ ghost use Rattle.std.specs.Prelude.{◌≡◌, List, ℕ, option_map};
 ghost use Rattle.smt_sexpr.specs.Tree.{Sexpr, Items};
 ghost use Rattle.smt_sexpr.specs.Table.{Means, MeansEach, HasMeaning};
 ghost use Rattle.dtp_session.specs.Commands.{declaration_of, assertion_of, command_of};
-ghost use Rattle.dtp_session.specs.Shapes.{HeadIs, CommandIs, HaveMeaning};
+ghost use Rattle.idl_term.specs.Shapes.{HaveMeaning};
+ghost use Rattle.dtp_session.specs.Shapes.{HeadIs, CommandIs};
 
 use crate::command_name::{CommandName, command_name};
-use crate::term::is_symbol;
+use idl_term::is_symbol;
 use smt_sexpr::{SexprId, Sexprs};
 
 /// A command, by what it asks for.

@@ -31,7 +31,7 @@ fn verdict_line(alloc: Global, state: &State) -> Result<Vec<u8>, AllocError>
     requires { (s : Meaning) × Stands state.now s }
     ensures { IfOk result (λ line. (s : Meaning) → Stands state.now s → IsVerdict s line.items) }
 {
-    if state.is_satisfiable(alloc)? {
+    if state.is_satisfiable()? {
         let line = Vec::from_slice(alloc, b"sat\n")?;
         Ok(line)
     } else {
@@ -44,7 +44,7 @@ fn entry_line(alloc: Global, state: &State) -> Result<Vec<u8>, AllocError>
     requires { (s : Meaning) × Stands state.now s }
     ensures { IfOk result (λ line. (s : Meaning) → Stands state.now s → IsEntry s line.items) }
 {
-    let entry = state.entry(alloc)?;
+    let entry = state.entry()?;
     let mut line = Vec::new(alloc);
     write_entry(&entry, &mut line)?;
     Ok(line)

@@ -19,32 +19,27 @@ mod answer;
 mod command;
 mod command_name;
 mod decision;
-mod difference;
 mod examples;
 mod gate;
 mod kind;
 mod laws;
-mod named;
-mod names;
-mod nodes;
-mod relation;
 mod report;
 mod reserved;
 mod session;
-mod shape;
 mod solve;
 mod state;
-mod term;
 mod text;
 
-pub use answer::SessionError;
-pub use examples::{worked_commands, worked_literals, worked_values};
+pub use answer::{SessionError, write_text};
+pub use command::{Request, request_of};
+pub use examples::worked_commands;
 pub use gate::{Gate, NoGate};
 pub use kind::Kind;
-pub use laws::{literal_of_a_term, one_transcript};
-pub use session::Solved;
+pub use laws::one_transcript;
+pub use session::{Solved, kind_of_error};
 pub use solve::{certify_script, solve_script};
 pub use state::{Effect, ScriptError, State};
+pub use text::kind_text;
 
 #[cfg(test)]
 mod tests;

@@ -71,7 +71,7 @@ fn carry_out<'a, K: Sink>(
 }
 
 /// The kind of a reader's error, or `None` for want of memory.
-fn kind_of_error(error: SexprError) -> Option<Kind>
+pub fn kind_of_error(error: SexprError) -> Option<Kind>
     ensures { result ≡ kind_of_error error }
 {
     match error {

@@ -1,26 +1,26 @@
 //! The state after the commands.
-ghost use Rattle.std.specs.Prelude.{◌≡◌, ◌++◌, ◌∷◌, [], ℕ, length, true, false, OnOk, OnErr, IfOk, Err, Decides};
+ghost use Rattle.std.specs.Prelude.{◌≡◌, ◌++◌, ◌∷◌, [], ℕ, true, Some, None, false, OnOk, OnErr, IfOk, Err, Decides};
 ghost use Rattle.smt_sexpr.specs.Tree.{Sexpr};
 ghost use Rattle.smt_sexpr.specs.Table.{Means, HasMeaning};
 ghost use Rattle.dtp_session.specs.declared.kind.Kind.TheVariants.{NotYet as Refused};
-ghost use Rattle.dtp_session.specs.Lowered.{lowered};
-ghost use Rattle.dtp_session.specs.Entries.{IsEntryOf};
-ghost use Rattle.dtp_session.specs.Satisfiable.{IsSatisfiable};
+ghost use Rattle.idl_term.specs.Lowered.{lowered};
+ghost use Rattle.idl_term.specs.Nodes.{Placed};
+ghost use Rattle.plain_search.specs.Verdicts.{IsVerdict};
+ghost use Rattle.dtp_session.specs.Entries.{IsEntryOf, points_of, problem_of};
+ghost use Rattle.idl_term.specs.Satisfiable.{IsSatisfiable};
 ghost use Rattle.dtp_session.specs.Tables.{IsTabled};
-ghost use Rattle.dtp_session.specs.States.{State as Meaning, StandsFor, Steps, Kept, after, may_be_declared, may_be_asserted, with_literal};
+ghost use Rattle.dtp_session.specs.States.{State as Meaning, StandsFor, Steps, Kept, after, may_be_declared};
 
 use crate::command::{Request, request_of};
-use crate::named::named_values;
-use crate::names::Names;
-use crate::nodes::Nodes;
 use crate::reserved::is_reserved;
-use crate::term::lower;
 use cert_text::Entry;
-use refute_tree::conjunction_refutation;
+use idl_term::{Names, Nodes, TermError, lower, named_values, problem_of};
+use inc_paths::Network;
+use plain_search::{Verdict, decide};
 use smt_sexpr::{SexprId, Sexprs};
 use std::alloc::{AllocError, AllocFailed, Global};
 use std::marker::Model;
-use stn_core::{Greatest, greatest};
+use stn_core::Problem;
 
 /// What a command is to be answered.
 #[derive(Clone, Copy, Debug, PartialEq, Eq)]
@@ -52,28 +52,55 @@ impl<T: Drop> From<AllocFailed<T>> for ScriptError {
     }
 }
 
+impl From<AllocError> for ScriptError {
+    ghost use Rattle.std.specs.Prelude.{◌≡◌};
+    ghost use Rattle.dtp_session.specs.declared.state.ScriptError.TheVariants.{OutOfMemory};
+
+    ghost from_gives = { λ _ e. e ≡ OutOfMemory };
+
+    fn from(_error: AllocError) -> Self {
+        ScriptError::OutOfMemory
+    }
+}
+
+impl From<TermError> for ScriptError {
+    ghost use Rattle.dtp_session.specs.Refusals.{refusal_of_term};
+    ghost use Rattle.std.specs.Prelude.{◌≡◌};
+
+    ghost from_gives = { λ error e. e ≡ refusal_of_term error };
+
+    fn from(error: TermError) -> Self {
+        match error {
+            TermError::OutOfMemory => ScriptError::OutOfMemory,
+            TermError::NotYet => ScriptError::NotYet,
+        }
+    }
+}
+
 /// The greatest number of declared names.
 const NAMES_LIMIT: usize = 65_536;
 
-/// The greatest number of nodes.
-const NODES_LIMIT: usize = 1_048_576;
-
-/// The declared names and the node table: what later commands and verdicts rest on (SMT-LIB 2.6, section 4.1).
+/// The declared names, the node table and the asserted nodes: what later commands and verdicts rest on (SMT-LIB 2.6,
+/// section 4.1).
 ///
 /// The names are borrowed from the script. The asserted terms aren't kept.
 #[derive(Drop)]
 pub struct State<'a> {
+    alloc: Global,
     names: Names<'a>,
     nodes: Nodes,
+    // the number of each assertion's node, in order
+    roots: Vec<u32>,
 }
 
 impl<'a> Model for State<'a> {
     ghost use Rattle.std.specs.Prelude.{◌≤◌, length};
-    ghost use Rattle.dtp_session.specs.States.{Kept, names_limit};
+    ghost use Rattle.idl_term.specs.Limits.{names_limit};
+    ghost use Rattle.dtp_session.specs.States.{Kept};
 
     ghost Value = { Kept };
 
-    ghost view = { λ s. record { names = s.names; nodes = s.nodes } };
+    ghost view = { λ s. record { names = s.names; nodes = s.nodes; roots = s.roots.items } };
 
     ghost invariant = { λ s. length s.names ≤ names_limit };
 }
@@ -81,12 +108,35 @@ impl<'a> Model for State<'a> {
 impl<'a> State<'a> {
     /// The state before the first command. It takes no memory yet.
     pub fn new(alloc: Global) -> Self
-        ensures { result ≡ record { names = []; nodes = [] } }
+        ensures { result ≡ record { names = []; nodes = []; roots = [] } }
     {
         State {
+            alloc,
             names: Names::new(alloc),
             nodes: Nodes::new(alloc),
+            roots: Vec::new(alloc),
         }
+    }
+
+    /// The declared names, in order of declaration.
+    pub fn names(&self) -> &Names<'a>
+        ensures { result.now ≡ self.now.names }
+    {
+        &self.names
+    }
+
+    /// The node table.
+    pub fn nodes(&self) -> &Nodes
+        ensures { result.now ≡ self.now.nodes }
+    {
+        &self.nodes
+    }
+
+    /// The number of each assertion's node, in order.
+    pub fn roots(&self) -> &[u32]
+        ensures { result.now ≡ self.now.roots }
+    {
+        self.roots.as_slice()
     }
 
     /// A new name.
@@ -109,18 +159,13 @@ impl<'a> State<'a> {
     /// A new assertion.
     fn assert_term(&mut self, sexprs: &Sexprs, term: SexprId) -> Result<(), ScriptError>
         requires { HasMeaning sexprs.now term }
-        ensures allowed { OnOk result ((t : Sexpr) → Means sexprs.now term t → may_be_asserted self.old.nodes (lowered self.old.names t) ≡ true) }
-        ensures ok { OnOk result ((t : Sexpr) → Means sexprs.now term t → self.new ≡ record self.old { nodes = with_literal self.old.nodes (lowered self.old.names t) }) }
-        ensures refused { result ≡ Err ScriptError.NotYet → (t : Sexpr) → Means sexprs.now term t → may_be_asserted self.old.nodes (lowered self.old.names t) ≡ false }
+        ensures ok { OnOk result ((p : Placed) × (self.new ≡ record self.old { nodes = p.nodes; roots = self.old.roots ++ p.number ∷ [] }) × ((t : Sexpr) → Means sexprs.now term t → lowered self.old.names self.old.nodes t ≡ Some p)) }
+        ensures refused { result ≡ Err ScriptError.NotYet → (t : Sexpr) → Means sexprs.now term t → lowered self.old.names self.old.nodes t ≡ None }
         ensures err { OnErr result (self.new ≡ self.old) }
     {
-        let Some(literal) = lower(sexprs, &self.names, term) else {
-            return Err(ScriptError::NotYet);
-        };
-        if !self.nodes.contains(literal) && self.nodes.len() >= NODES_LIMIT {
-            return Err(ScriptError::NotYet);
-        }
-        self.nodes.add(literal)?;
+        self.roots.reserve(1)?;
+        let root = lower(self.alloc, sexprs, &self.names, &mut self.nodes, term)?;
+        self.roots.push_reserved(root);
         Ok(())
     }
 
@@ -141,36 +186,52 @@ impl<'a> State<'a> {
         Ok(Effect::Silent)
     }
 
-    /// Whether some schedule satisfies all the assertions. It takes time of the order of names times nodes at most, and
-    /// memory of their sum.
-    pub fn is_satisfiable(&self, alloc: Global) -> Result<bool, AllocError>
+    /// The problem of the assertions.
+    pub fn problem(&self) -> Result<Problem, AllocError>
+        requires { (s : Meaning) × StandsFor self.now s × IsTabled s }
+        ensures { IfOk result (λ problem. (s : Meaning) → StandsFor self.now s → (problem.points ≡ points_of s) × (problem.clauses ≡ problem_of s)) }
+    {
+        idl_term::clause_form_law();
+        let points = self.names.len() as u32 + 1;
+        problem_of(self.alloc, points, &self.nodes, &self.roots)
+    }
+
+    /// A schedule that satisfies all the assertions, or a refutation of their problem. It is a search, whose time may
+    /// grow with the number of ways to choose a literal of each clause.
+    pub fn decide(&self) -> Result<Verdict, AllocError>
+        requires { (s : Meaning) × StandsFor self.now s × IsTabled s }
+        ensures { IfOk result (λ verdict. (s : Meaning) → StandsFor self.now s → IsVerdict (points_of s) (problem_of s) verdict) }
+    {
+        let problem = self.problem()?;
+        let mut net = Network::new(self.alloc, problem.points)?;
+        decide(self.alloc, &problem, &mut net)
+    }
+
+    /// Whether some schedule satisfies all the assertions.
+    pub fn is_satisfiable(&self) -> Result<bool, AllocError>
         requires { (s : Meaning) × StandsFor self.now s × IsTabled s }
         ensures { IfOk result (λ sat. (s : Meaning) → StandsFor self.now s → IsTabled s → Decides sat (IsSatisfiable s.names s.assertions)) }
     {
-        stn_core::cycle_law();
-        let points = self.names.len() as u32 + 1;
-        match greatest(alloc, points, self.nodes.as_slice())? {
-            Greatest::Greatest(_) => Ok(true),
-            Greatest::Negative(_) => Ok(false),
+        idl_term::clause_form_law();
+        refute_tree::refutation_law();
+        match self.decide()? {
+            Verdict::Sat(_) => Ok(true),
+            Verdict::Unsat(_) => Ok(false),
         }
     }
 
     /// A schedule that satisfies all the assertions, or a refutation of their problem.
-    pub fn entry(&self, alloc: Global) -> Result<Entry, AllocError>
+    pub fn entry(&self) -> Result<Entry, AllocError>
         requires { (s : Meaning) × StandsFor self.now s × IsTabled s }
         ensures { IfOk result (λ entry. (s : Meaning) → StandsFor self.now s → IsTabled s → IsEntryOf s entry) }
     {
-        let points = self.names.len() as u32 + 1;
-        match greatest(alloc, points, self.nodes.as_slice())? {
-            Greatest::Greatest(schedule) => {
-                let values = named_values(alloc, schedule.as_slice())?;
+        idl_term::clause_form_law();
+        match self.decide()? {
+            Verdict::Sat(schedule) => {
+                let values = named_values(self.alloc, schedule.as_slice())?;
                 Ok(Entry::Sat(values))
             }
-            Greatest::Negative(cycle) => {
-                let places = self.nodes.places(alloc, cycle.as_slice())?;
-                let refutation = conjunction_refutation(alloc, &places, cycle)?;
-                Ok(Entry::Unsat(refutation))
-            }
+            Verdict::Unsat(refutation) => Ok(Entry::Unsat(refutation)),
         }
     }
 }

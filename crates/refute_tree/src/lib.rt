@@ -3,6 +3,7 @@
 #![tactic(auto)]
 
 mod conjunction;
+mod earlier;
 mod laws;
 mod lemma;
 mod step;
@@ -11,6 +12,7 @@ mod tests;
 mod tree;
 
 pub use conjunction::conjunction_refutation;
+pub use earlier::Earlier;
 pub use laws::{conjunction_law, examples_law, kept_law, refutation_law};
 pub use lemma::{Lemma, Lemmas, Refutation};
 pub use step::{Step, Steps};

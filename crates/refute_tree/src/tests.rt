@@ -1,7 +1,8 @@
 use super::*;
 use std::alloc::{AllocError, Global};
+use std::sync::Arc;
 use std::test::Fail;
-use stn_core::{Literal, Literals};
+use stn_core::{Clause, Literal, Literals};
 
 fn literal(x: u32, y: u32, c: i64) -> Literal {
     Literal { x, y, c }
@@ -55,5 +56,34 @@ fn builders(rt: HostRuntime) -> Result<(), Fail> {
             expected.as_slice()
         );
     }
+    Ok(())
+}
+
+fn stated(alloc: Global, clause: &[Literal]) -> Result<Lemma, AllocError> {
+    Ok(Lemma {
+        clause: Clause::new(Vec::from_slice(alloc, clause)?),
+        steps: Steps::new(Vec::new(alloc)),
+    })
+}
+
+// The number of literals of each clause, through the trait alone.
+fn literal_counts<E: Earlier>(alloc: Global, earlier: &E) -> Result<Vec<usize>, AllocError> {
+    let mut counts = Vec::with_capacity(alloc, earlier.count())?;
+    for j in 0..earlier.count() {
+        counts.push(earlier.clause(j).len())?;
+    }
+    Ok(counts)
+}
+
+#[test]
+fn earlier_lemmas(rt: HostRuntime) -> Result<(), Fail> {
+    let alloc = rt.alloc();
+    let clause = [literal(1, 2, 3), literal(2, 1, -4)];
+    let lemmas = vec![in alloc; stated(alloc, &clause)?, stated(alloc, &[])?]?;
+    let shared = vec![in alloc; Arc::new(alloc, stated(alloc, &clause)?)?]?;
+    let counts = literal_counts(alloc, &lemmas.as_slice())?;
+    assert_eq!(rt; counts.as_slice(), [2, 0].as_slice());
+    let counts = literal_counts(alloc, &shared.as_slice())?;
+    assert_eq!(rt; counts.as_slice(), [2].as_slice());
     Ok(())
 }

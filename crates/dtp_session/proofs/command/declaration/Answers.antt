@@ -1,5 +1,5 @@
 use Rattle.smt_sexpr.specs.Tree.{list}
-use Rattle.dtp_session.proofs.Shapes.{pair_of}
+use Rattle.idl_term.proofs.Shapes.{pair_of}
 use Rattle.dtp_session.proofs.command.declaration.Goals as goal
 
 pub is_symbol-requires : goal.is_symbol-requires

@@ -1,5 +1,5 @@
 use Rattle.std.proofs.Common.{sym}
-use Rattle.dtp_session.proofs.Shapes.{begun}
+use Rattle.idl_term.proofs.Shapes.{begun}
 use Rattle.dtp_session.proofs.command.headed.Goals as goal
 
 pub symbol-requires : goal.symbol-requires

@@ -29,4 +29,5 @@ returns-in_ok-declare-in-Some-Declare-clause-ok c = λ s x stands means.
 pub returns-in_ok-assert_term-in-Some-Assert-clause-ok : goal.returns-in_ok-assert_term-in-Some-Assert-clause-ok
 returns-in_ok-assert_term-in-Some-Assert-clause-ok c = λ s x stands means.
     let a = asserts c.args.sexprs.now _ (command_of x) c.in-Some-Assert.term c.in-Some-Assert.field-0-is (c.in-Some-Assert.ensures x means) in
-    step_asserts c.args.self.now c.assert_term.new.self s x a.term stands a.is (c.in_ok-assert_term-in-Some-Assert.ensures.allowed a.term a.means) (c.in_ok-assert_term-in-Some-Assert.ensures.ok a.term a.means)
+    let made = c.in_ok-assert_term-in-Some-Assert.ensures.ok in
+    step_asserts c.args.self.now c.assert_term.new.self s x a.term made.0 stands a.is (made.2 a.term a.means) made.1

@@ -1,0 +1,10 @@
+pub mod Tests
+pub mod Flaws
+pub mod FlawExamples
+pub mod Schedules
+pub mod Walks
+pub use Rattle.stn_core.specs.Literal
+pub use Rattle.stn_core.specs.Cycle
+pub use Rattle.stn_core.specs.Problem
+pub use Rattle.refute_tree.specs.Trees
+pub use Rattle.refute_tree.specs.Examples

@@ -1,0 +1,105 @@
+ghost use Rattle.std.specs.Prelude.{◌≡◌, ◌∷◌, [], Ok, map, OnOk, None, Some};
+ghost use Rattle.stn_core.specs.Literal.{negation_of};
+ghost use Rattle.refute_tree.specs.Trees.{IsRefuted, IsRefutation, stated};
+ghost use Rattle.cert_check.specs.Flaws.{steps_flaw, lemma_flaw, ends_empty, refutation_flaw, TellsFlaw};
+
+use crate::cases::are_on_points;
+use crate::flaw::{CheckError, Flaw, FlawKind};
+use crate::laws::{flaw_law, lemma_law};
+use crate::walk::{Walk, WalkError};
+use refute_tree::{Earlier, Lemma, Refutation};
+use std::alloc::Global;
+use stn_core::Problem;
+
+fn flawed(lemma: usize, step: usize, kind: FlawKind) -> Result<(), CheckError>
+    ensures { TellsFlaw (Some (record { lemma = lemma; step = step; kind = kind })) result }
+{
+    Err(CheckError::Flawed(Flaw { lemma, step, kind }))
+}
+
+// The lemma's steps, of which its tree is to be made.
+fn check_steps<E: Earlier>(
+    alloc: Global,
+    problem: &Problem,
+    earlier: &E,
+    lemma: &Lemma,
+) -> Result<(), CheckError>
+    ensures { TellsFlaw (steps_flaw problem.now.points problem.now.clauses (E.clauses earlier.now) (map negation_of lemma.now.clause ∷ []) 0 lemma.now.steps) result }
+{
+    let number = earlier.count();
+    let Ok(mut walk) = Walk::new(alloc, lemma.clause.as_slice()) else {
+        return Err(CheckError::OutOfMemory);
+    };
+    let mut open = true;
+    for (at, step) in lemma.steps.as_slice().iter().enumerate() {
+        if !open {
+            return flawed(number, at, FlawKind::StepsLeftOver);
+        }
+        open = match walk.read(problem, earlier, step) {
+            Ok(open) => open,
+            Err(WalkError::Flawed(kind)) => return flawed(number, at, kind),
+            Err(WalkError::OutOfMemory) => return Err(CheckError::OutOfMemory),
+        };
+    }
+    if open {
+        return flawed(number, lemma.steps.as_slice().len(), FlawKind::StepsMissing);
+    }
+    Ok(())
+}
+
+/// Whether the lemma is refuted over the problem and the earlier lemmas, whose clauses alone count, or its first flaw.
+/// The lemma's number is the count of the earlier ones.
+///
+/// Nothing is asked of the lemma: its literals may name any points and have any bounds. It takes time in proportion to
+/// the literals of its steps and of the clauses whose cases these read, and memory in the depth of the tree and the
+/// literals that are assumed at once. The one error beside a flaw is want of memory.
+pub fn check_lemma<E: Earlier>(
+    alloc: Global,
+    problem: &Problem,
+    earlier: &E,
+    lemma: &Lemma,
+) -> Result<(), CheckError>
+    ensures flaw { TellsFlaw (lemma_flaw problem.now.points problem.now.clauses (E.clauses earlier.now) lemma.now) result }
+    ensures refuted { OnOk result (IsRefuted problem.now.points problem.now.clauses (E.clauses earlier.now) lemma.now) }
+{
+    lemma_law();
+    if !are_on_points(problem.points, lemma.clause.as_slice()) {
+        return flawed(earlier.count(), 0, FlawKind::NoSuchPoint);
+    }
+    check_steps(alloc, problem, earlier, lemma)
+}
+
+// Whether the last lemma has no literals, and there is one.
+fn ends_empty(lemmas: &[Lemma]) -> bool
+    ensures { result ≡ ends_empty (map stated lemmas.now) }
+{
+    match lemmas.last() {
+        Some(lemma) => lemma.clause.as_slice().is_empty(),
+        None => false,
+    }
+}
+
+/// Whether the lemmas are a refutation of the problem, or their first flaw, in the order of the lemmas and of the steps
+/// in each.
+///
+/// Nothing is asked of the lemmas. It takes the time and memory of `check_lemma` for each of them. The one error beside
+/// a flaw is want of memory.
+pub fn check_refutation(
+    alloc: Global,
+    problem: &Problem,
+    refutation: &Refutation,
+) -> Result<(), CheckError>
+    ensures flaw { TellsFlaw (refutation_flaw problem.now.points problem.now.clauses refutation.now) result }
+    ensures refutes { OnOk result (IsRefutation problem.now.points problem.now.clauses refutation.now) }
+{
+    flaw_law();
+    let lemmas = refutation.as_slice();
+    for (number, lemma) in lemmas.iter().enumerate() {
+        let earlier = &lemmas[..number];
+        check_lemma(alloc, problem, &earlier, lemma)?;
+    }
+    if !ends_empty(lemmas) {
+        return flawed(lemmas.len(), 0, FlawKind::LastLemmaNotEmpty);
+    }
+    Ok(())
+}

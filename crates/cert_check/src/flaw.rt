@@ -1,0 +1,48 @@
+use std::alloc::{AllocError, AllocFailed};
+
+/// What is wrong with a step, or with a list of lemmas.
+#[derive(Clone, Copy, Debug, PartialEq, Eq)]
+pub enum FlawKind {
+    /// A literal of a lemma's clause or of an `Either` step names a time point that the problem hasn't.
+    NoSuchPoint,
+    /// An `Input` step whose number is no clause's, or a `Lemma` step whose number is no earlier lemma's.
+    NoSuchClause,
+    /// A literal of a `Cycle` step isn't assumed.
+    NotAssumed,
+    /// A `Cycle` step whose literals are all assumed, and no negative cycle.
+    NotACycle,
+    /// The steps end before the tree does.
+    StepsMissing,
+    /// The tree ends before the steps do.
+    StepsLeftOver,
+    /// All lemmas are refuted, and the last has a literal, or there is none.
+    LastLemmaNotEmpty,
+}
+
+/// The first flaw, in the order of the lemmas, and of the steps in each: the numbers of the lemma and of the step, from
+/// 0. A lemma's own literals come before its steps, with the step number 0. Where steps are missing, the step number is
+/// their count. At `LastLemmaNotEmpty` the lemma number is the count of the lemmas, and the step number is 0.
+#[derive(Clone, Copy, Debug, PartialEq, Eq)]
+pub struct Flaw {
+    pub lemma: usize,
+    pub step: usize,
+    pub kind: FlawKind,
+}
+
+/// Why lemmas aren't accepted.
+#[derive(Clone, Copy, Debug, PartialEq, Eq)]
+pub enum CheckError {
+    OutOfMemory,
+    Flawed(Flaw),
+}
+
+impl From<AllocError> for CheckError {
+    ghost use Rattle.std.specs.Prelude.{◌≡◌};
+    ghost use Rattle.cert_check.specs.declared.flaw.CheckError.TheVariants.{OutOfMemory};
+
+    ghost from_gives = { λ _ e. e ≡ OutOfMemory };
+
+    fn from(_failed: AllocError) -> Self {
+        CheckError::OutOfMemory
+    }
+}

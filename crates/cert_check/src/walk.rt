@@ -1,0 +1,129 @@
+ghost use Rattle.std.specs.Prelude.{◌≡◌, ◌<◌, [], ◌∷◌, true, ◌++◌, length, map, drop, OnOk, IfOk, IfErr, IsOkUnless};
+ghost use Rattle.stn_core.specs.Literal.{negation_of};
+ghost use Rattle.cert_check.specs.Flaws.{cases_of, opened};
+ghost use Rattle.cert_check.specs.declared.walk.WalkError.TheVariants.{OutOfMemory};
+ghost use Rattle.cert_check.specs.Walks.{clause_in, waiting, open_cases, AreAlike, IsStack, LeavesOpen, IsFaultOf};
+
+use crate::assumptions::Assumptions;
+use crate::cases::{Cases, cases_of_step};
+use crate::flaw::FlawKind;
+use refute_tree::{Earlier, Step};
+use std::alloc::{AllocFailed, Global};
+use stn_core::{Literal, Problem, negate};
+
+// A clause whose cases are being read: the one at `place` now, the later ones when that has been read. Its first
+// assumptions, so many as `base`, are those of the case at `place` but for its literal.
+#[derive(Clone, Copy, Drop)]
+pub struct Frame<'a> {
+    pub cases: Cases<'a>,
+    pub place: usize,
+    pub base: usize,
+}
+
+// Why a step can't be read.
+#[derive(Clone, Copy)]
+pub enum WalkError {
+    OutOfMemory,
+    Flawed(FlawKind),
+}
+
+impl<T: Drop> From<AllocFailed<T>> for WalkError {
+    ghost use Rattle.std.specs.Prelude.{◌≡◌};
+    ghost use Rattle.cert_check.specs.declared.walk.WalkError.TheVariants.{OutOfMemory};
+
+    ghost from_gives = { λ _ e. e ≡ OutOfMemory };
+
+    fn from(_failed: AllocFailed<T>) -> Self {
+        WalkError::OutOfMemory
+    }
+}
+
+impl From<FlawKind> for WalkError {
+    ghost use Rattle.std.specs.Prelude.{◌≡◌};
+    ghost use Rattle.cert_check.specs.declared.walk.WalkError.TheVariants.{Flawed};
+
+    ghost from_gives = { λ kind e. e ≡ Flawed kind };
+
+    fn from(kind: FlawKind) -> Self {
+        WalkError::Flawed(kind)
+    }
+}
+
+// The way through a tree: what is assumed in the case that is read now, and the clauses with cases that wait, the last
+// opened last.
+#[derive(Drop)]
+pub struct Walk<'a> {
+    pub assumed: Assumptions,
+    pub frames: Vec<Frame<'a>>,
+}
+
+impl<'a> Walk<'a> {
+    // At the root of a lemma's tree, where its literals are denied.
+    pub fn new(alloc: Global, clause: &[Literal]) -> Result<Self, WalkError>
+        ensures stack { IfOk result (λ walk. IsStack 0 walk.frames.items (length walk.assumed)) }
+        ensures cases { IfOk result (λ walk. AreAlike (open_cases true walk.frames.items walk.assumed) (map negation_of clause.now ∷ [])) }
+        ensures error { IsOkUnless result OutOfMemory }
+    {
+        let mut assumed = Assumptions::new(alloc);
+        for literal in clause {
+            assumed.assume(negate(*literal))?;
+        }
+        let frames = Vec::new(alloc);
+        Ok(Walk { assumed, frames })
+    }
+
+    // Goes into the case of the literal at `place`, and leaves those of the later literals waiting.
+    fn enter(&mut self, cases: Cases<'a>, place: usize) -> Result<(), WalkError>
+        requires stack { IsStack 0 self.old.frames.items (length self.old.assumed) }
+        requires place { place < length (clause_in cases) }
+        ensures stack { OnOk result (IsStack 0 self.new.frames.items (length self.new.assumed)) }
+        ensures cases { OnOk result (AreAlike (open_cases true self.new.frames.items self.new.assumed) (cases_of self.old.assumed (drop place (clause_in cases.entry)) ++ waiting self.old.frames.items self.old.assumed)) }
+        ensures error { IsOkUnless result OutOfMemory }
+    {
+        let base = self.assumed.len();
+        self.frames.push(Frame { cases, place, base })?;
+        self.assumed.assume(cases.literal(place))?;
+        Ok(())
+    }
+
+    // Goes to the first case that waits, and tells whether there is one.
+    fn advance(&mut self) -> Result<bool, WalkError>
+        requires { IsStack 0 self.old.frames.items (length self.old.assumed) }
+        ensures stack { OnOk result (IsStack 0 self.new.frames.items (length self.new.assumed)) }
+        ensures cases { IfOk result (λ open_. AreAlike (open_cases open_ self.new.frames.items self.new.assumed) (waiting self.old.frames.items self.old.assumed)) }
+        ensures error { IsOkUnless result OutOfMemory }
+    {
+        while let Some(frame) = self.frames.pop() {
+            self.assumed.cut(frame.base);
+            let count = frame.cases.len();
+            if frame.place + 1 < count {
+                let denied = negate(frame.cases.literal(frame.place));
+                self.assumed.assume(denied)?;
+                self.enter(frame.cases, frame.place + 1)?;
+                return Ok(true);
+            }
+        }
+        Ok(false)
+    }
+
+    // Reads a step in the case that is open, and tells whether a case is open then.
+    pub fn read<E: Earlier>(
+        &mut self,
+        problem: &'a Problem,
+        earlier: &'a E,
+        step: &Step,
+    ) -> Result<bool, WalkError>
+        requires { IsStack 0 self.old.frames.items (length self.old.assumed) }
+        ensures stack { OnOk result (IsStack 0 self.new.frames.items (length self.new.assumed)) }
+        ensures cases { IfOk result (λ open_. LeavesOpen problem.now.points problem.now.clauses (E.clauses earlier.now) self.old.assumed (waiting self.old.frames.items self.old.assumed) step.now (open_cases open_ self.new.frames.items self.new.assumed)) }
+        ensures fault { IfErr result (IsFaultOf (opened problem.now.points problem.now.clauses (E.clauses earlier.now) self.old.assumed step.now)) }
+    {
+        let cases = cases_of_step(problem, earlier, &self.assumed, step)?;
+        if cases.len() == 0 {
+            let open = self.advance()?;
+            return Ok(open);
+        }
+        self.enter(cases, 0)?;
+        Ok(true)
+    }
+}

@@ -1,0 +1,97 @@
+-- The s-expression of an entry within the limits stands for this entry.
+use Rattle.std.proofs.Common.{◌≡◌, ◌∙◌, refl, ap, arith, ℕ, suc, ◌+◌, ◌-◌, ◌*◌, ◌<◌, ◌≤◌, ◌^◌, ℤ, pos, negsuc, true, false, List, [], ◌∷◌, map, Option, Some, eq-zero-or-pos, inl, inr}
+use Rattle.std.specs.Prelude.{All, min}
+use Rattle.std.proofs.lemmas.Bool.{ne_eqb, le-leb}
+use Rattle.std.proofs.lemmas.Int.Digits.{number_digits_of}
+use Rattle.std.proofs.lemmas.List.Elements.{recursion_from_All}
+use Rattle.std.specs.List.{AllByRecursion}
+use Rattle.std.specs.Int.Digits.{digits_of, number_from_digits_after}
+use Rattle.smt_lex.specs.Numbers.{value_from, value_of}
+use Rattle.smt_sexpr.specs.Tree.{Sexpr}
+use Rattle.stn_core.specs.declared.literal.Literal.{Literal}
+use Rattle.stn_core.specs.declared.named.NamedValue.{NamedValue}
+use Rattle.stn_core.specs.declared.named.NamedValue.TheVariants.{Int, Truth}
+use Rattle.refute_tree.specs.declared.step.Step.{Step}
+use Rattle.refute_tree.specs.declared.step.Step.TheVariants.{Cycle, Input, Lemma as Earlier, Either}
+use Rattle.refute_tree.specs.declared.lemma.Lemma.{Lemma}
+use Rattle.cert_text.specs.declared.entry.Entry.{Entry}
+use Rattle.cert_text.specs.declared.entry.Entry.TheVariants.{Sat, Unsat}
+use Rattle.cert_text.specs.Form.{numeral_text, numeral, items_of, bound_sexprs, number_of_value, literal_sexpr, step_sexpr, lemma_sexpr, value_sexpr, entry_sexpr}
+use Rattle.cert_read.specs.Parts.{limit, limited, index_of, point_of, number_of, each_of, bound_of, literal_of, step_of, lemma_of, named_value_of, entry_of}
+use Rattle.cert_read.specs.Written.{NumberFits, LiteralWithin, StepWithin, LemmaWithin, ValueFits, EntryFits}
+
+-- ---- numbers
+
+value_after : (acc : ℕ) (ds : List ℕ) → value_from acc (map (λ d. 48 + d) ds) ≡ number_from_digits_after 10 acc ds
+unfolding value_from
+value_after acc [] = refl
+value_after acc (d ∷ ds) =
+    let digit : 48 + d - 48 ≡ d = omega arith in
+    ap (λ k. value_from (acc * 10 + k) (map (λ x. 48 + x) ds)) digit ∙ value_after (acc * 10 + d) ds
+
+-- the digits of a number stand for it
+pub numeral_value : (n : ℕ) → value_of (numeral_text n) ≡ n
+unfolding numeral_text value_from
+numeral_value n =
+    elim (eq-zero-or-pos n) [
+      | inl least ↦ rw least refl
+      | inr some ↦ rw (ne_eqb n 0 (λ z. absurd (omega arith))) (value_after 0 (digits_of 10 n) ∙ number_digits_of 10 n (omega arith))
+    ]
+
+limited_is : (n : ℕ) → n ≤ limit → limited n ≡ Some n
+limited_is n h = rw (le-leb n limit h) refl
+
+index_back : (n : ℕ) → n ≤ limit → index_of (numeral n) ≡ Some n
+index_back n h = ap limited (numeral_value n) ∙ limited_is n h
+
+least_is : (n : ℕ) → n < 2 ^ 32 → min n 4294967295 ≡ n
+least_is n h = omega arith
+
+point_back : (n : ℕ) → n < 2 ^ 32 → point_of (numeral n) ≡ Some n
+point_back n h = rw (index_back n (omega arith)) (ap Some (least_is n h))
+
+number_back : (n : ℤ) → NumberFits n → number_of (number_of_value n) ≡ Some n
+number_back (pos n) h = rw (index_back n h) refl
+number_back (negsuc n) h = rw (index_back (suc n) h) refl
+
+-- ---- parts
+
+abbrev LiteralFits : Literal → Type 0
+LiteralFits l = LiteralWithin (2 ^ 32) l
+
+abbrev StepFits : Step → Type 0
+StepFits s = StepWithin (2 ^ 32) s
+
+abbrev LemmaFits : Lemma → Type 0
+LemmaFits l = LemmaWithin (2 ^ 32) l
+
+each_from : {A : Type 0} (f : Sexpr → Option A) (g : A → Sexpr) (P : A → Type 0) → ((x : A) → P x → f (g x) ≡ Some x) → (xs : List A) → AllByRecursion P xs → each_of f (items_of (map g xs)) ≡ Some xs
+each_from f g P back [] h = refl
+each_from f g P back (x ∷ xs) h = rw (back x h.0, each_from f g P back xs h.1) refl
+
+each_back : {A : Type 0} (f : Sexpr → Option A) (g : A → Sexpr) (P : A → Type 0) → ((x : A) → P x → f (g x) ≡ Some x) → (xs : List A) → All P xs → each_of f (items_of (map g xs)) ≡ Some xs
+each_back f g P back xs h = each_from f g P back xs (recursion_from_All P xs h)
+
+bound_back : (l : Literal) → LiteralFits l → bound_of (items_of (bound_sexprs l)) ≡ Some l
+bound_back l h = rw (point_back l.x h.x, point_back l.y h.y, number_back l.c h.c) refl
+
+literals_back : (ls : List Literal) → All LiteralFits ls → each_of literal_of (items_of (map literal_sexpr ls)) ≡ Some ls
+literals_back ls h = each_back literal_of literal_sexpr LiteralFits bound_back ls h
+
+step_back : (s : Step) → StepFits s → step_of (step_sexpr s) ≡ Some s
+step_back (Cycle ls) h = rw (literals_back ls h) refl
+step_back (Input i) h = rw (index_back i h) refl
+step_back (Earlier j) h = rw (index_back j h) refl
+step_back (Either l) h = rw (bound_back l h) refl
+
+lemma_back : (l : Lemma) → LemmaFits l → lemma_of (lemma_sexpr l) ≡ Some l
+lemma_back l h = rw (literals_back l.clause h.clause, each_back step_of step_sexpr StepFits step_back l.steps h.steps) refl
+
+value_back : (v : NamedValue) → ValueFits v → named_value_of (value_sexpr v) ≡ Some v
+value_back (Int n) h = rw (number_back n h) refl
+value_back (Truth true) h = refl
+value_back (Truth false) h = refl
+
+pub entry_back : (e : Entry) → EntryFits e → entry_of (entry_sexpr e) ≡ Some e
+entry_back (Sat values) h = rw (each_back named_value_of value_sexpr ValueFits value_back values h) refl
+entry_back (Unsat lemmas) h = rw (each_back lemma_of lemma_sexpr LemmaFits lemma_back lemmas h) refl

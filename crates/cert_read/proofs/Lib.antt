@@ -1,0 +1,10 @@
+pub mod Shapes
+pub mod Each
+pub mod Numbers
+pub mod Lines
+pub mod Texts
+pub mod OneCertificate
+pub mod EntryBack
+pub mod WrittenBack
+pub mod NumeralTexts
+pub mod OnlyForms

@@ -1,0 +1,255 @@
+-- A text is one thing at most.
+use Rattle.std.proofs.Common.{◌⊎◌, inl, inr, ◌≡◌, ◌∙◌, refl, sym, ap, subst, ℕ, ◌+◌, List, [], ◌∷◌, length, Option, Some, None, Result, Ok}
+use Rattle.smt_lex.specs.declared.token.Token.{Token}
+use Rattle.smt_lex.specs.declared.token.LexError.{LexError}
+use Rattle.smt_lex.specs.Grammar.{Reads}
+use Rattle.smt_sexpr.specs.Tree.{Sexpr}
+use Rattle.smt_sexpr.specs.Reading.{Spells, Outcome, expression, finished, refused, Outcomes}
+use Rattle.cert_text.specs.declared.entry.Entry.{Entry}
+use Rattle.cert_text.specs.Form.{header_sexpr, end_sexpr}
+use Rattle.cert_read.specs.Parts.{entry_of}
+use Rattle.cert_read.specs.Certificates.{no_header, ill_formed, no_end, text_after_end, CertificateOutcome, certificate, no_certificate, HoldsEntries, IsStrange, HasMore, ReadsEntries, LacksHeader, ReadsCertificate}
+
+-- what the laws of s-expressions and of tokens say
+abbrev pub OneOutcome : Type 0
+OneOutcome = (bytes : List ℕ) (place : ℕ) (o p : Outcome) (m n : ℕ) → Outcomes bytes place o m → Outcomes bytes place p n → (o ≡ p) × (m ≡ n)
+
+abbrev pub OneReading : Type 0
+OneReading = (bytes : List ℕ) (place : ℕ) (r s : Result (Option Token) LexError) (m n : ℕ) → Reads bytes place r m → Reads bytes place s n → (r ≡ s) × (m ≡ n)
+
+-- no entry stands at the place
+abbrev IsNone : Outcome → Type 0
+IsNone (expression x) = entry_of x ≡ None
+IsNone finished = Unit {0}
+IsNone (refused why) = Unit {0}
+
+abbrev Stops : List ℕ → ℕ → Type 0
+Stops bytes here = (o : Outcome) × (after : ℕ) × Outcomes bytes here o after × IsNone o
+
+strange_none : (o : Outcome) → IsStrange o → IsNone o
+strange_none (expression x) h = h.0
+strange_none finished h = tt
+strange_none (refused why) h = tt
+
+expression_same : (x y : Sexpr) → ◌≡◌ {A = Outcome} (expression x) (expression y) → x ≡ y
+expression_same x y e = cc
+
+end_not_finished : ◌≡◌ {A = Outcome} (expression end_sexpr) finished → ⊥
+end_not_finished e = cc
+
+end_not_strange : (o : Outcome) → o ≡ expression end_sexpr → IsStrange o → ⊥
+end_not_strange (expression x) e h = h.1 (expression_same x end_sexpr e)
+end_not_strange finished e h = h
+end_not_strange (refused why) e h = absurd cc
+
+finished_not_strange : (o : Outcome) → o ≡ finished → IsStrange o → ⊥
+finished_not_strange o e h = subst IsStrange e h
+
+none_apart : (e : Entry) (o : Option Entry) → o ≡ Some e → o ≡ None → ⊥
+none_apart e o is none = absurd cc
+
+entry_same : (e f : Entry) (x y : Sexpr) → x ≡ y → entry_of x ≡ Some e → entry_of y ≡ Some f → e ≡ f
+entry_same e f x y same p q =
+    let h : ◌≡◌ {A = Option Entry} (Some e) (Some f) = sym p ∙ ap entry_of same ∙ q in
+    cc
+
+module _ (one : OneOutcome) (reading : OneReading) (bytes : List ℕ) where
+  not_here : (here : ℕ) (e : Entry) (x : Sexpr) (mid : ℕ) → Stops bytes here → Spells bytes here x mid → entry_of x ≡ Some e → ⊥
+  not_here here e x mid (o, after, outcome, none) spells is =
+      none_apart e (entry_of x) is (subst IsNone (one bytes here o (expression x) after mid outcome spells).0 none)
+
+  held_same : (place here there : ℕ) (es fs : List Entry) → HoldsEntries bytes place es here → Stops bytes here → HoldsEntries bytes place fs there → Stops bytes there → (es ≡ fs) × (here ≡ there)
+  held_same place here there [] [] p stop q halt = (refl, sym p ∙ q)
+  held_same place here there [] (f ∷ fs) p stop (y, mid, spells, is, rest) halt = absurd (not_here place f y mid (subst (Stops bytes) (sym p) stop) spells is)
+  held_same place here there (e ∷ es) [] (x, mid, spells, is, rest) stop q halt = absurd (not_here place e x mid (subst (Stops bytes) (sym q) halt) spells is)
+  held_same place here there (e ∷ es) (f ∷ fs) (x, mid, spells, is, rest) stop (y, next, spelt, also, others) halt =
+      let same = one bytes place (expression x) (expression y) mid next spells spelt in
+      let head = entry_same e f x y (expression_same x y same.0) is also in
+      let tail = held_same mid here there es fs rest stop (subst (λ (k : ℕ). HoldsEntries bytes k fs there) (sym same.1) others) halt in
+      (λ i. head i ∷ tail.0 i, tail.1)
+
+  -- ---- what stands behind the entries
+
+  module _ (here : ℕ) where
+    abbrev EndsAt : ℕ → Type 0
+    EndsAt mid = Spells bytes here end_sexpr mid
+
+    abbrev StrangeAt : Type 0
+    StrangeAt = (o : Outcome) × (after : ℕ) × Outcomes bytes here o after × IsStrange o
+
+    end_stops : (mid : ℕ) → EndsAt mid → Stops bytes here
+    end_stops mid h = (expression end_sexpr, mid, h, refl)
+
+    strange_stops : StrangeAt → Stops bytes here
+    strange_stops (o, after, outcome, strange) = (o, after, outcome, strange_none o strange)
+
+    finished_stops : (after : ℕ) → Outcomes bytes here finished after → Stops bytes here
+    finished_stops after h = (finished, after, h, tt)
+
+    end_apart_strange : (mid : ℕ) → EndsAt mid → StrangeAt → ⊥
+    end_apart_strange mid h (o, after, outcome, strange) = end_not_strange o (one bytes here o (expression end_sexpr) after mid outcome h).0 strange
+
+    end_apart_finished : (mid after : ℕ) → EndsAt mid → Outcomes bytes here finished after → ⊥
+    end_apart_finished mid after h f = end_not_finished (one bytes here (expression end_sexpr) finished mid after h f).0
+
+    strange_apart_finished : (after : ℕ) → StrangeAt → Outcomes bytes here finished after → ⊥
+    strange_apart_finished after (o, other, outcome, strange) f = finished_not_strange o (one bytes here o finished other after outcome f).0 strange
+
+    closed_apart_more : (mid after next : ℕ) → EndsAt mid → Reads bytes mid (Ok None) after → EndsAt next → HasMore bytes next → ⊥
+    closed_apart_more mid after next h rest k (result, end, reads, more) =
+        let same = one bytes here (expression end_sexpr) (expression end_sexpr) mid next h k in
+        more (reading bytes next result (Ok None) end after reads (subst (λ (m : ℕ). Reads bytes m (Ok None) after) same.1 rest)).0
+
+  -- ---- behind the header
+
+  -- each kind of outcome but the first has an entry's place where it shows
+  abbrev At : (ℕ → Type 0) → ℕ → List Entry → Type 0
+  At P place es = (here : ℕ) × HoldsEntries bytes place es here × P here
+
+  abbrev Closed : ℕ → Type 0
+  Closed here = (mid : ℕ) × (after : ℕ) × EndsAt here mid × Reads bytes mid (Ok None) after
+
+  abbrev Finished : ℕ → Type 0
+  Finished here = (after : ℕ) × Outcomes bytes here finished after
+
+  abbrev More : ℕ → Type 0
+  More here = (mid : ℕ) × EndsAt here mid × HasMore bytes mid
+
+  -- two texts of entries that stop are one
+  together : (P Q : ℕ → Type 0) (place : ℕ) (es fs : List Entry) → ((here : ℕ) → P here → Stops bytes here) → ((here : ℕ) → Q here → Stops bytes here) → At P place es → At Q place fs → (es ≡ fs) × ((here : ℕ) × P here × Q here)
+  together P Q place es fs stop halt (here, held, p) (there, also, q) =
+      let same = held_same place here there es fs held (stop here p) also (halt there q) in
+      (same.0, (there, subst P same.1 p, q))
+
+  closed_stops : (here : ℕ) → Closed here → Stops bytes here
+  closed_stops here (mid, after, h, rest) = end_stops here mid h
+
+  finished_halts : (here : ℕ) → Finished here → Stops bytes here
+  finished_halts here (after, h) = finished_stops here after h
+
+  more_stops : (here : ℕ) → More here → Stops bytes here
+  more_stops here (mid, h, more) = end_stops here mid h
+
+  closed_at : (place : ℕ) (es : List Entry) → ReadsEntries bytes place (certificate es) → At Closed place es
+  closed_at place es (here, mid, after, held, h, rest) = (here, held, (mid, after, h, rest))
+
+  -- the entries before an ill-formed one
+  strange_at : (place k : ℕ) → ReadsEntries bytes place (no_certificate (ill_formed k)) → (es : List Entry) × (k ≡ length es + 1) × At StrangeAt place es
+  strange_at place k (es, here, held, (o, after, outcome, strange, e)) = (es, e, (here, held, (o, after, outcome, strange)))
+
+  finished_at : (place : ℕ) → ReadsEntries bytes place (no_certificate no_end) → (es : List Entry) × At Finished place es
+  finished_at place (es, here, held, h) = (es, (here, held, h))
+
+  more_at : (place : ℕ) → ReadsEntries bytes place (no_certificate text_after_end) → (es : List Entry) × At More place es
+  more_at place (es, here, held, h) = (es, (here, held, h))
+
+  closed_not_strange : (place k : ℕ) (es : List Entry) → ReadsEntries bytes place (certificate es) → ReadsEntries bytes place (no_certificate (ill_formed k)) → ⊥
+  closed_not_strange place k es h g =
+      let s = strange_at place k g in
+      let both = together Closed StrangeAt place es s.0 closed_stops strange_stops (closed_at place es h) s.2 in
+      end_apart_strange both.1.0 both.1.1.0 both.1.1.2 both.1.2
+
+  closed_not_finished : (place : ℕ) (es : List Entry) → ReadsEntries bytes place (certificate es) → ReadsEntries bytes place (no_certificate no_end) → ⊥
+  closed_not_finished place es h g =
+      let f = finished_at place g in
+      let both = together Closed Finished place es f.0 closed_stops finished_halts (closed_at place es h) f.1 in
+      end_apart_finished both.1.0 both.1.1.0 both.1.2.0 both.1.1.2 both.1.2.1
+
+  closed_not_more : (place : ℕ) (es : List Entry) → ReadsEntries bytes place (certificate es) → ReadsEntries bytes place (no_certificate text_after_end) → ⊥
+  closed_not_more place es h g =
+      let m = more_at place g in
+      let both = together Closed More place es m.0 closed_stops more_stops (closed_at place es h) m.1 in
+      closed_apart_more both.1.0 both.1.1.0 both.1.1.1 both.1.2.0 both.1.1.2 both.1.1.3 both.1.2.1 both.1.2.2
+
+  strange_not_finished : (place k : ℕ) → ReadsEntries bytes place (no_certificate (ill_formed k)) → ReadsEntries bytes place (no_certificate no_end) → ⊥
+  strange_not_finished place k h g =
+      let s = strange_at place k h in
+      let f = finished_at place g in
+      let both = together StrangeAt Finished place s.0 f.0 strange_stops finished_halts s.2 f.1 in
+      strange_apart_finished both.1.0 both.1.2.0 both.1.1 both.1.2.1
+
+  strange_not_more : (place k : ℕ) → ReadsEntries bytes place (no_certificate (ill_formed k)) → ReadsEntries bytes place (no_certificate text_after_end) → ⊥
+  strange_not_more place k h g =
+      let s = strange_at place k h in
+      let m = more_at place g in
+      let both = together StrangeAt More place s.0 m.0 strange_stops more_stops s.2 m.1 in
+      end_apart_strange both.1.0 both.1.2.0 both.1.2.1 both.1.1
+
+  finished_not_more : (place : ℕ) → ReadsEntries bytes place (no_certificate no_end) → ReadsEntries bytes place (no_certificate text_after_end) → ⊥
+  finished_not_more place h g =
+      let f = finished_at place h in
+      let m = more_at place g in
+      let both = together Finished More place f.0 m.0 finished_halts more_stops f.1 m.1 in
+      end_apart_finished both.1.0 both.1.2.0 both.1.1.0 both.1.2.1 both.1.1.1
+
+  closed_same : (place : ℕ) (es fs : List Entry) → ReadsEntries bytes place (certificate es) → ReadsEntries bytes place (certificate fs) → es ≡ fs
+  closed_same place es fs h g = (together Closed Closed place es fs closed_stops closed_stops (closed_at place es h) (closed_at place fs g)).0
+
+  strange_same : (place j k : ℕ) → ReadsEntries bytes place (no_certificate (ill_formed j)) → ReadsEntries bytes place (no_certificate (ill_formed k)) → j ≡ k
+  strange_same place j k h g =
+      let s = strange_at place j h in
+      let t = strange_at place k g in
+      let same = (together StrangeAt StrangeAt place s.0 t.0 strange_stops strange_stops s.2 t.2).0 in
+      s.1 ∙ ap (λ (es : List Entry). length es + 1) same ∙ sym t.1
+
+  no_header_behind : (place : ℕ) → ReadsEntries bytes place (no_certificate no_header) → ⊥
+  no_header_behind place (es, here, held, h) = h
+
+  entries_one : (place : ℕ) (o p : CertificateOutcome) → ReadsEntries bytes place o → ReadsEntries bytes place p → o ≡ p
+  entries_one place (certificate es) (certificate fs) h g = ap certificate (closed_same place es fs h g)
+  entries_one place (certificate es) (no_certificate (ill_formed k)) h g = absurd (closed_not_strange place k es h g)
+  entries_one place (certificate es) (no_certificate no_end) h g = absurd (closed_not_finished place es h g)
+  entries_one place (certificate es) (no_certificate text_after_end) h g = absurd (closed_not_more place es h g)
+  entries_one place (no_certificate (ill_formed k)) (certificate es) h g = absurd (closed_not_strange place k es g h)
+  entries_one place (no_certificate (ill_formed j)) (no_certificate (ill_formed k)) h g = ap (λ (n : ℕ). no_certificate (ill_formed n)) (strange_same place j k h g)
+  entries_one place (no_certificate (ill_formed k)) (no_certificate no_end) h g = absurd (strange_not_finished place k h g)
+  entries_one place (no_certificate (ill_formed k)) (no_certificate text_after_end) h g = absurd (strange_not_more place k h g)
+  entries_one place (no_certificate no_end) (certificate es) h g = absurd (closed_not_finished place es g h)
+  entries_one place (no_certificate no_end) (no_certificate (ill_formed k)) h g = absurd (strange_not_finished place k g h)
+  entries_one place (no_certificate no_end) (no_certificate no_end) h g = refl
+  entries_one place (no_certificate no_end) (no_certificate text_after_end) h g = absurd (finished_not_more place h g)
+  entries_one place (no_certificate text_after_end) (certificate es) h g = absurd (closed_not_more place es g h)
+  entries_one place (no_certificate text_after_end) (no_certificate (ill_formed k)) h g = absurd (strange_not_more place k g h)
+  entries_one place (no_certificate text_after_end) (no_certificate no_end) h g = absurd (finished_not_more place g h)
+  entries_one place (no_certificate text_after_end) (no_certificate text_after_end) h g = refl
+  entries_one place (no_certificate no_header) p h g = absurd (no_header_behind place h)
+  entries_one place o (no_certificate no_header) h g = absurd (no_header_behind place g)
+
+  -- ---- with the header
+
+  abbrev Headed : ℕ → CertificateOutcome → Type 0
+  Headed place o = (mid : ℕ) × Spells bytes place header_sexpr mid × ReadsEntries bytes mid o
+
+  lacks_not_headed : (place : ℕ) (o : CertificateOutcome) → LacksHeader bytes place → Headed place o → ⊥
+  lacks_not_headed place o (p, after, outcome, other) (mid, h, rest) = other (one bytes place p (expression header_sexpr) after mid outcome h).0
+
+  headed_one : (place : ℕ) (o p : CertificateOutcome) → Headed place o → Headed place p → o ≡ p
+  headed_one place o p (mid, h, rest) (next, g, others) =
+      let same = one bytes place (expression header_sexpr) (expression header_sexpr) next mid g h in
+      entries_one mid o p rest (subst (λ (k : ℕ). ReadsEntries bytes k p) same.1 others)
+
+  -- either there is no header, or what follows it
+  cases : (place : ℕ) (o : CertificateOutcome) → ReadsCertificate bytes place o → (LacksHeader bytes place × (o ≡ no_certificate no_header)) ⊎ Headed place o
+  cases place (certificate es) h = inr h
+  cases place (no_certificate no_header) h = inl (h, refl)
+  cases place (no_certificate (ill_formed k)) h = inr h
+  cases place (no_certificate no_end) h = inr h
+  cases place (no_certificate text_after_end) h = inr h
+
+  certificate_same : (place : ℕ) (o p : CertificateOutcome) → ReadsCertificate bytes place o → ReadsCertificate bytes place p → o ≡ p
+  certificate_same place o p h g = elim (cases place o h) [
+    | inl lacks ↦ elim (cases place p g) [
+      | inl also ↦ lacks.1 ∙ sym also.1
+      | inr headed ↦ absurd (lacks_not_headed place p lacks.0 headed)
+    ]
+    | inr headed ↦ elim (cases place p g) [
+      | inl lacks ↦ absurd (lacks_not_headed place o lacks.0 headed)
+      | inr also ↦ headed_one place o p headed also
+    ]
+  ]
+
+pub certificate_one : OneOutcome → OneReading → (bytes : List ℕ) (place : ℕ) (o p : CertificateOutcome) → ReadsCertificate bytes place o → ReadsCertificate bytes place p → o ≡ p
+certificate_one one reading bytes place o p h g = certificate_same one reading bytes place o p h g
+
+pub one_behind : OneOutcome → OneReading → (bytes : List ℕ) (place : ℕ) (o p : CertificateOutcome) → ReadsEntries bytes place o → ReadsEntries bytes place p → o ≡ p
+one_behind one reading bytes place o p h g = entries_one one reading bytes place o p h g

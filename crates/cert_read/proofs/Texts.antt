@@ -1,0 +1,143 @@
+-- The text of a certificate, line by line.
+use Rattle.std.proofs.Common.{◌≡◌, ◌≢◌, ◌∙◌, refl, sym, ap, subst, ℕ, ◌+◌, List, [], ◌∷◌, ◌++◌, length, Option, Some, None, Result, Ok, Err}
+use Rattle.smt_lex.specs.Grammar.{Reads}
+use Rattle.smt_sexpr.specs.declared.error.SexprError.{SexprError}
+use Rattle.smt_sexpr.specs.declared.error.SexprError.TheVariants.{OutOfMemory, Lex, UnclosedList, StrayClose}
+use Rattle.smt_sexpr.specs.Tree.{Sexpr}
+use Rattle.smt_sexpr.specs.Table.{Table, Means}
+use Rattle.smt_sexpr.specs.Reading.{Spells, Refusal, Outcome, expression, finished, refused, lexical, unclosed, stray, Outcomes, Explains, Finds, failed_of}
+use Rattle.cert_text.specs.declared.entry.Entry.{Entry}
+use Rattle.cert_text.specs.Form.{header_sexpr, end_sexpr}
+use Rattle.cert_read.specs.Parts.{entry_of}
+use Rattle.cert_read.specs.declared.error.CertTextError.{CertTextError}
+use Rattle.cert_read.specs.declared.error.CertTextError.TheVariants.{OutOfMemory as OutOfSpace, NoHeader, IllFormed, NoEnd, TextAfterEnd}
+use Rattle.cert_read.specs.Certificates.{ill_formed, certificate, no_certificate, HoldsEntries, RefusesBehind, ReadsEntries, LacksHeader, ReadsCertificate, ErrorSays}
+use Rattle.cert_read.specs.declared.certificate.Line.{Line}
+use Rattle.cert_read.specs.declared.certificate.Line.TheVariants.{Shown, End}
+use Rattle.cert_read.specs.declared.error.PartError.{PartError}
+use Rattle.cert_read.specs.declared.error.PartError.TheVariants.{OutOfMemory as NoSpace, IllFormed as NoPart}
+use Rattle.cert_read.specs.Shapes.{Lacks, LineIs, told_as}
+
+-- ---- entries
+
+-- one entry more
+pub holds_more : (bytes : List ℕ) (place here mid : ℕ) (es : List Entry) (e : Entry) (x : Sexpr) → HoldsEntries bytes place es here → Spells bytes here x mid → entry_of x ≡ Some e → HoldsEntries bytes place (es ++ e ∷ []) mid
+holds_more bytes place here mid [] e x same spells is = (x, mid, subst (λ (p : ℕ). Spells bytes p x mid) (sym same) spells, is, refl)
+holds_more bytes place here mid (f ∷ es) e x (y, next, spelt, meant, rest) spells is = (y, next, spelt, meant, holds_more bytes next here mid es e x rest spells is)
+
+-- ---- what a call of the reader of s-expressions finds
+
+pub still_fresh : (result : Result (Option ℕ) SexprError) (id : ℕ) → result ≡ Ok (Some id) → failed_of result ≡ None
+still_fresh result id e = ap failed_of e
+
+module _ (t : Table) (bytes : List ℕ) (same : t.bytes ≡ bytes) (place after : ℕ) where
+  found : (o : Outcome) → Outcomes t.bytes place o after → Outcomes bytes place o after
+  found o h = subst (λ (text : List ℕ). Outcomes text place o after) same h
+
+  pub finds_end : (result : Result (Option ℕ) SexprError) → result ≡ Ok None → Finds t place result after → Outcomes bytes place finished after
+  finds_end (Ok None) e h = found finished h
+  finds_end (Ok (Some id)) e h = absurd cc
+  finds_end (Err error) e h = absurd cc
+
+  pub finds_one : (result : Result (Option ℕ) SexprError) (id : ℕ) → result ≡ Ok (Some id) → Finds t place result after → (x : Sexpr) × Means t id x × Spells bytes place x after
+  finds_one (Ok None) id e h = absurd cc
+  finds_one (Ok (Some found_id)) id e h =
+      let same_id : found_id ≡ id = cc in
+      (h.0, subst (λ (k : ℕ). Means t k h.0) same_id h.1, found (expression h.0) h.2)
+  finds_one (Err error) id e h = absurd cc
+
+  -- what is found is an error
+  pub finds_error : (result : Result (Option ℕ) SexprError) (error : SexprError) → result ≡ Err error → Finds t place result after → Explains bytes place error after
+  finds_error (Ok None) error e h = absurd cc
+  finds_error (Ok (Some id)) error e h = absurd cc
+  finds_error (Err other) error e h =
+      let same_error : other ≡ error = cc in
+      subst (λ (text : List ℕ). Explains text place error after) same (subst (λ (k : SexprError). Explains t.bytes place k after) same_error h)
+
+-- ---- refusals
+
+-- it can't be read
+strange : (bytes : List ℕ) (place after count : ℕ) (why : Refusal) → Outcomes bytes place (refused why) after → RefusesBehind bytes count place (ill_formed (count + 1))
+strange bytes place after count why h = (refused why, after, h, tt, refl)
+
+pub refuses_error : (bytes : List ℕ) (place after count : ℕ) (error : SexprError) → Explains bytes place error after → ErrorSays (RefusesBehind bytes count place) (told_as (IllFormed (count + 1)) error)
+refuses_error bytes place after count OutOfMemory h = tt
+refuses_error bytes place after count (Lex why) h = strange bytes place after count (lexical why) h
+refuses_error bytes place after count (UnclosedList outer) h = strange bytes place after count (unclosed outer) h
+refuses_error bytes place after count (StrayClose start) h = strange bytes place after count (stray start) h
+
+no_header_in : (bytes : List ℕ) (place after : ℕ) (why : Refusal) → Outcomes bytes place (refused why) after → LacksHeader bytes place
+no_header_in bytes place after why h = (refused why, after, h, λ r. absurd cc)
+
+pub no_header_error : (bytes : List ℕ) (place after : ℕ) (error : SexprError) → Explains bytes place error after → ErrorSays (λ why. ReadsCertificate bytes place (no_certificate why)) (told_as NoHeader error)
+no_header_error bytes place after OutOfMemory h = tt
+no_header_error bytes place after (Lex why) h = no_header_in bytes place after (lexical why) h
+no_header_error bytes place after (UnclosedList outer) h = no_header_in bytes place after (unclosed outer) h
+no_header_error bytes place after (StrayClose start) h = no_header_in bytes place after (stray start) h
+
+pub no_header_at_end : (bytes : List ℕ) (place after : ℕ) → Outcomes bytes place finished after → LacksHeader bytes place
+no_header_at_end bytes place after h = (finished, after, h, λ r. absurd cc)
+
+expression_same : (x y : Sexpr) → ◌≡◌ {A = Outcome} (expression x) (expression y) → x ≡ y
+expression_same x y e = cc
+
+pub another_first : (bytes : List ℕ) (place after : ℕ) (x : Sexpr) → Spells bytes place x after → x ≢ header_sexpr → LacksHeader bytes place
+another_first bytes place after x h other = (expression x, after, h, λ e. other (expression_same x header_sexpr e))
+
+-- what is refused behind the header
+behind : (bytes : List ℕ) (place here count : ℕ) (es : List Entry) (error : CertTextError) → HoldsEntries bytes place es here → count ≡ length es → ErrorSays (RefusesBehind bytes count here) error → ErrorSays (λ why. ReadsEntries bytes place (no_certificate why)) error
+behind bytes place here count es OutOfSpace held same h = tt
+behind bytes place here count es NoHeader held same h = absurd h
+behind bytes place here count es (IllFormed k) held same h = (es, here, held, subst (λ (n : ℕ). RefusesBehind bytes n here (ill_formed k)) same h)
+behind bytes place here count es NoEnd held same h = (es, here, held, h)
+behind bytes place here count es TextAfterEnd held same h = (es, here, held, h)
+
+pub refused_behind : (text bytes : List ℕ) (place here count : ℕ) (es : List Entry) (error : CertTextError) → text ≡ bytes → HoldsEntries bytes place es here → count ≡ length es → ErrorSays (RefusesBehind text count here) error → ErrorSays (λ why. ReadsEntries bytes place (no_certificate why)) error
+refused_behind text bytes place here count es error same held counted h =
+    behind bytes place here count es error held counted (subst (λ (b : List ℕ). ErrorSays (RefusesBehind b count here) error) same h)
+
+-- what is refused with the header
+with_header : (bytes : List ℕ) (place mid : ℕ) (error : CertTextError) → Spells bytes place header_sexpr mid → ErrorSays (λ why. ReadsEntries bytes mid (no_certificate why)) error → ErrorSays (λ why. ReadsCertificate bytes place (no_certificate why)) error
+with_header bytes place mid OutOfSpace header h = tt
+with_header bytes place mid NoHeader header (es, here, held, h) = absurd h
+with_header bytes place mid (IllFormed k) header h = (mid, header, h)
+with_header bytes place mid NoEnd header h = (mid, header, h)
+with_header bytes place mid TextAfterEnd header h = (mid, header, h)
+
+header_at : (bytes : List ℕ) (place mid : ℕ) (x : Sexpr) → Spells bytes place x mid → x ≡ header_sexpr → Spells bytes place header_sexpr mid
+header_at bytes place mid x h e = subst (λ (y : Sexpr). Spells bytes place y mid) e h
+
+pub refused_with_header : (text bytes : List ℕ) (place mid : ℕ) (x : Sexpr) (error : CertTextError) → text ≡ bytes → Spells bytes place x mid → x ≡ header_sexpr → ErrorSays (λ why. ReadsEntries text mid (no_certificate why)) error → ErrorSays (λ why. ReadsCertificate bytes place (no_certificate why)) error
+refused_with_header text bytes place mid x error same h e says =
+    with_header bytes place mid error (header_at bytes place mid x h e) (subst (λ (b : List ℕ). ErrorSays (λ why. ReadsEntries b mid (no_certificate why)) error) same says)
+
+pub certificate_with_header : (text bytes : List ℕ) (place mid : ℕ) (x : Sexpr) (es : List Entry) → text ≡ bytes → Spells bytes place x mid → x ≡ header_sexpr → ReadsEntries text mid (certificate es) → ReadsCertificate bytes place (certificate es)
+certificate_with_header text bytes place mid x es same h e reads =
+    (mid, header_at bytes place mid x h e, subst (λ (b : List ℕ). ReadsEntries b mid (certificate es)) same reads)
+
+-- ---- lines
+
+shown : (text : List ℕ) (here mid : ℕ) (line : Line) (e : Entry) → LineIs text here line mid → line ≡ Shown e → (x : Sexpr) × Spells text here x mid × (entry_of x ≡ Some e)
+shown text here mid (Shown f) e (x, spells, is) same =
+    let entries : f ≡ e = cc in
+    (x, spells, is ∙ ap Some entries)
+shown text here mid End e h same = absurd cc
+
+pub holds_line : (text bytes : List ℕ) (place here mid : ℕ) (es : List Entry) (line : Line) (e : Entry) → text ≡ bytes → HoldsEntries bytes place es here → LineIs text here line mid → line ≡ Shown e → HoldsEntries bytes place (es ++ e ∷ []) mid
+holds_line text bytes place here mid es line e same held is shows =
+    let h = shown text here mid line e is shows in
+    holds_more bytes place here mid es e h.0 held (subst (λ (b : List ℕ). Spells b here h.0 mid) same h.1) h.2
+
+ended : (text : List ℕ) (here mid : ℕ) (line : Line) → LineIs text here line mid → line ≡ End → Spells text here end_sexpr mid
+ended text here mid (Shown f) h same = absurd cc
+ended text here mid End h same = h
+
+pub certificate_ends : (text later bytes : List ℕ) (place here mid after : ℕ) (es : List Entry) (line : Line) → text ≡ bytes → later ≡ bytes → HoldsEntries bytes place es here → LineIs text here line mid → line ≡ End → Reads later mid (Ok None) after → ReadsEntries bytes place (certificate es)
+certificate_ends text later bytes place here mid after es line same also held is end rest =
+    (here, mid, after, held, subst (λ (b : List ℕ). Spells b here end_sexpr mid) same (ended text here mid line is end), subst (λ (b : List ℕ). Reads b mid (Ok None) after) also rest)
+
+-- ---- parts
+
+pub lacks_any : {A : Type 0} (meant : Option A) (error : PartError) → error ≡ NoPart → Lacks meant error → meant ≡ None
+lacks_any meant NoPart e h = h
+lacks_any meant NoSpace e h = absurd cc

@@ -1,0 +1,7 @@
+use Rattle.std.proofs.Common.{refl}
+use Rattle.smt_lex.specs.Numbers.{value_from}
+use Rattle.cert_read.proofs.laws.examples_law.Goals as goal
+
+pub returns : goal.returns
+unfolding value_from
+returns c = record { entry = refl; minus_zero = refl; beyond_points = refl; beyond_limit = refl; end = refl; end_with_more = refl }

@@ -1,0 +1,6 @@
+use Rattle.cert_read.proofs.EntryBack.{numeral_value}
+use Rattle.cert_read.proofs.NumeralTexts.{text_of_value}
+use Rattle.cert_read.proofs.laws.numeral_law.Goals as goal
+
+pub returns : goal.returns
+returns c = record { text = text_of_value; value = numeral_value }

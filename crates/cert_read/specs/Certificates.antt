@@ -1,0 +1,72 @@
+-- The text of a certificate: the header, the entries, the end, and nothing behind it but white space and comments. What
+-- isn't such a text is refused for the first thing that shows it.
+use Rattle.std.specs.Prelude.{◌≡◌, ◌≢◌, ℕ, ◌+◌, List, [], ◌∷◌, length, Option, Some, None, Result, Ok}
+use Rattle.smt_lex.specs.declared.token.Token.{Token}
+use Rattle.smt_lex.specs.declared.token.LexError.{LexError}
+use Rattle.smt_lex.specs.Grammar.{Reads}
+use Rattle.smt_sexpr.specs.Tree.{Sexpr}
+use Rattle.smt_sexpr.specs.Reading.{Spells, Outcome, expression, finished, refused, Outcomes}
+use Rattle.cert_text.specs.declared.entry.Entry.{Entry}
+use Rattle.cert_text.specs.Form.{header_sexpr, end_sexpr}
+use Rattle.cert_read.specs.Parts.{entry_of}
+use Rattle.cert_read.specs.declared.error.CertTextError.{CertTextError}
+use Rattle.cert_read.specs.declared.error.CertTextError.TheVariants.{OutOfMemory, NoHeader, IllFormed, NoEnd, TextAfterEnd}
+
+-- why a text is no certificate
+pub data CertificateRefusal : Type 0 where
+  -- it doesn't begin with the header
+  no_header : CertificateRefusal
+  -- what stands in place of this entry, counted from 1, is none
+  ill_formed : (entry : ℕ) → CertificateRefusal
+  -- it ends before the end is written
+  no_end : CertificateRefusal
+  -- something follows the end
+  text_after_end : CertificateRefusal
+
+pub data CertificateOutcome : Type 0 where
+  certificate : (entries : List Entry) → CertificateOutcome
+  no_certificate : (why : CertificateRefusal) → CertificateOutcome
+
+-- from the place up to here the bytes hold these entries, one behind the other
+abbrev pub HoldsEntries : List ℕ → ℕ → List Entry → ℕ → Type 0
+HoldsEntries bytes place [] here = place ≡ here
+HoldsEntries bytes place (e ∷ es) here = (x : Sexpr) × (mid : ℕ) × Spells bytes place x mid × (entry_of x ≡ Some e) × HoldsEntries bytes mid es here
+
+-- what stands at the place is an s-expression that is neither an entry nor the end, or it can't be read
+abbrev pub IsStrange : Outcome → Type 0
+IsStrange (expression x) = (entry_of x ≡ None) × (x ≢ end_sexpr)
+IsStrange finished = ⊥
+IsStrange (refused why) = Unit {0}
+
+-- something that is no white space and no comment follows the place, or what follows can't be read
+abbrev pub HasMore : List ℕ → ℕ → Type 0
+HasMore bytes place = (result : Result (Option Token) LexError) × (after : ℕ) × Reads bytes place result after × (result ≢ Ok None)
+
+-- behind the header, and so many entries, the text is refused for this
+abbrev pub RefusesBehind : List ℕ → ℕ → ℕ → CertificateRefusal → Type 0
+RefusesBehind bytes count here no_header = ⊥
+RefusesBehind bytes count here (ill_formed k) = (o : Outcome) × (after : ℕ) × Outcomes bytes here o after × IsStrange o × (k ≡ count + 1)
+RefusesBehind bytes count here no_end = (after : ℕ) × Outcomes bytes here finished after
+RefusesBehind bytes count here text_after_end = (mid : ℕ) × Spells bytes here end_sexpr mid × HasMore bytes mid
+
+-- what stands behind the header, from the place on
+abbrev pub ReadsEntries : List ℕ → ℕ → CertificateOutcome → Type 0
+ReadsEntries bytes place (certificate entries) = (here : ℕ) × (mid : ℕ) × (after : ℕ) × HoldsEntries bytes place entries here × Spells bytes here end_sexpr mid × Reads bytes mid (Ok None) after
+ReadsEntries bytes place (no_certificate why) = (entries : List Entry) × (here : ℕ) × HoldsEntries bytes place entries here × RefusesBehind bytes (length entries) here why
+
+-- what stands at the place isn't the header
+abbrev pub LacksHeader : List ℕ → ℕ → Type 0
+LacksHeader bytes place = (o : Outcome) × (after : ℕ) × Outcomes bytes place o after × (o ≢ expression header_sexpr)
+
+-- what the text from the place on is, as a certificate
+abbrev pub ReadsCertificate : List ℕ → ℕ → CertificateOutcome → Type 0
+ReadsCertificate bytes place (no_certificate no_header) = LacksHeader bytes place
+ReadsCertificate bytes place outcome = (mid : ℕ) × Spells bytes place header_sexpr mid × ReadsEntries bytes mid outcome
+
+-- what an error says: that the text is refused for this; want of memory says nothing
+abbrev pub ErrorSays : (CertificateRefusal → Type 0) → CertTextError → Type 0
+ErrorSays IsRefused OutOfMemory = Unit {0}
+ErrorSays IsRefused NoHeader = IsRefused no_header
+ErrorSays IsRefused (IllFormed entry) = IsRefused (ill_formed entry)
+ErrorSays IsRefused NoEnd = IsRefused no_end
+ErrorSays IsRefused TextAfterEnd = IsRefused text_after_end

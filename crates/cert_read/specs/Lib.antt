@@ -1,0 +1,14 @@
+pub mod Parts
+pub mod Certificates
+pub mod Written
+pub mod WorkedForms
+pub mod Shapes
+pub use Rattle.smt_lex.specs.Grammar
+pub use Rattle.smt_lex.specs.Lexing
+pub use Rattle.smt_lex.specs.Numbers
+pub use Rattle.smt_sexpr.specs.Tree
+pub use Rattle.smt_sexpr.specs.Table
+pub use Rattle.smt_sexpr.specs.Reading
+pub use Rattle.smt_sexpr.specs.Printing
+pub use Rattle.refute_tree.specs.Examples
+pub use Rattle.cert_text.specs.Form

@@ -1,0 +1,135 @@
+-- What the s-expressions of a certificate stand for, part by part. The format is this project's own:
+--
+--     entry    (sat v ..), (unsat lemma ..)
+--     lemma    (lemma (literal ..) step ..)   its clause and its tree in preorder
+--     step     (cycle literal ..), (input i), (lemma j), (either x y c)
+--     literal  (x y c)                        x - y <= c
+--     v        a number, true or false
+--
+-- A number is a numeral, or (- n) with n at least 1. The indices i and j and the points x and y are numerals. No number
+-- and no numeral goes beyond the limit. What has none of these forms stands for nothing.
+use Rattle.std.specs.Prelude.{ℕ, Bool, zero, suc, min, nat_le, ℤ, pos, negsuc, true, false, if◌then◌else◌, List, [], ◌∷◌, codes, Option, Some, None, option_map, option_and_then}
+use Rattle.std.specs.Option.{option_or, option_map_or}
+use Rattle.std.specs.Str.{bytes_eq}
+use Rattle.smt_lex.specs.Numbers.{value_of}
+use Rattle.smt_sexpr.specs.Tree.{Sexpr, Items, leaf, list, none, more, symbol_of, numeral_of}
+use Rattle.stn_core.specs.declared.literal.Literal.{Literal}
+use Rattle.stn_core.specs.declared.named.NamedValue.{NamedValue}
+use Rattle.stn_core.specs.declared.named.NamedValue.TheVariants.{Int, Truth}
+use Rattle.refute_tree.specs.declared.step.Step.{Step}
+use Rattle.refute_tree.specs.declared.step.Step.TheVariants.{Cycle, Input, Lemma as Earlier, Either}
+use Rattle.refute_tree.specs.declared.lemma.Lemma.{Lemma}
+use Rattle.cert_text.specs.declared.entry.Entry.{Entry}
+use Rattle.cert_text.specs.declared.entry.Entry.TheVariants.{Sat, Unsat}
+
+-- ---- numbers
+
+-- whether the s-expression is this symbol
+abbrev pub is_symbol : List ℕ → Sexpr → Bool
+is_symbol text x = option_map_or (λ name. bytes_eq name text) (symbol_of x) false
+
+-- 2^61
+abbrev pub limit : ℕ
+limit = 2305843009213693952
+
+abbrev pub limited : ℕ → Option ℕ
+limited n = if nat_le n limit then Some n else None
+
+-- the value of a numeral within the limit
+abbrev pub index_of : Sexpr → Option ℕ
+index_of x = option_and_then limited (option_map value_of (numeral_of x))
+
+-- A time point. No problem has the greatest one, 2^32 - 1, so it can stand for all that are greater.
+abbrev pub point_of : Sexpr → Option ℕ
+point_of x = option_map (λ n. min n 4294967295) (index_of x)
+
+abbrev pub negative : ℕ → Option ℤ
+negative zero = None
+negative (suc n) = Some (negsuc n)
+
+abbrev pub negative_of : Sexpr → Option ℤ
+negative_of (list (more head (more digits none))) = if is_symbol (codes "-") head then option_and_then negative (index_of digits) else None
+negative_of _ = None
+
+abbrev pub number_of : Sexpr → Option ℤ
+number_of x = option_or (option_map pos (index_of x)) (negative_of x)
+
+-- ---- lists
+
+abbrev pub put : {A : Type 0} → Option A → Option (List A) → Option (List A)
+put (Some x) (Some xs) = Some (x ∷ xs)
+put _ _ = None
+
+-- what the items stand for, where each stands for something
+abbrev pub each_of : {A : Type 0} → (Sexpr → Option A) → Items → Option (List A)
+each_of f none = Some []
+each_of f (more x xs) = put (f x) (each_of f xs)
+
+-- of a list that begins with a symbol: its bytes, and what follows it
+abbrev pub headed_of : Sexpr → Option (List ℕ × Items)
+headed_of (list (more head xs)) = option_map (λ name. (name, xs)) (symbol_of head)
+headed_of _ = None
+
+-- ---- the parts of an entry
+
+abbrev pub literal_with : Option ℕ → Option ℕ → Option ℤ → Option Literal
+literal_with (Some x) (Some y) (Some c) = Some (record { x = x; y = y; c = c })
+literal_with _ _ _ = None
+
+-- x, y and c
+abbrev pub bound_of : Items → Option Literal
+bound_of (more x (more y (more c none))) = literal_with (point_of x) (point_of y) (number_of c)
+bound_of _ = None
+
+abbrev pub literal_of : Sexpr → Option Literal
+literal_of (leaf _ _) = None
+literal_of (list xs) = bound_of xs
+
+abbrev pub clause_of : Sexpr → Option (List Literal)
+clause_of (leaf _ _) = None
+clause_of (list xs) = each_of literal_of xs
+
+-- an index alone
+abbrev pub single_of : Items → Option ℕ
+single_of (more x none) = index_of x
+single_of _ = None
+
+abbrev pub step_named : List ℕ → Items → Option Step
+step_named name xs =
+    if bytes_eq name (codes "cycle") then option_map Cycle (each_of literal_of xs)
+    else (if bytes_eq name (codes "input") then option_map Input (single_of xs)
+    else (if bytes_eq name (codes "lemma") then option_map Earlier (single_of xs)
+    else (if bytes_eq name (codes "either") then option_map Either (bound_of xs)
+    else None)))
+
+abbrev pub step_of : Sexpr → Option Step
+step_of x = option_and_then (λ (p : List ℕ × Items). step_named p.0 p.1) (headed_of x)
+
+abbrev pub lemma_with : Option (List Literal) → Option (List Step) → Option Lemma
+lemma_with (Some clause) (Some steps) = Some (record { clause = clause; steps = steps })
+lemma_with _ _ = None
+
+abbrev pub lemma_named : List ℕ → Items → Option Lemma
+lemma_named name none = None
+lemma_named name (more clause steps) = if bytes_eq name (codes "lemma") then lemma_with (clause_of clause) (each_of step_of steps) else None
+
+abbrev pub lemma_of : Sexpr → Option Lemma
+lemma_of x = option_and_then (λ (p : List ℕ × Items). lemma_named p.0 p.1) (headed_of x)
+
+abbrev pub truth_named : List ℕ → Option NamedValue
+truth_named name =
+    if bytes_eq name (codes "true") then Some (Truth true)
+    else (if bytes_eq name (codes "false") then Some (Truth false)
+    else None)
+
+abbrev pub named_value_of : Sexpr → Option NamedValue
+named_value_of x = option_or (option_map Int (number_of x)) (option_and_then truth_named (symbol_of x))
+
+abbrev pub entry_named : List ℕ → Items → Option Entry
+entry_named name xs =
+    if bytes_eq name (codes "sat") then option_map Sat (each_of named_value_of xs)
+    else (if bytes_eq name (codes "unsat") then option_map Unsat (each_of lemma_of xs)
+    else None)
+
+abbrev pub entry_of : Sexpr → Option Entry
+entry_of x = option_and_then (λ (p : List ℕ × Items). entry_named p.0 p.1) (headed_of x)

@@ -1,0 +1,46 @@
+-- How the code sees the parts of an entry in the table, by the ids of a list's items.
+-- These are words of the code's inner contracts, and no part of the meaning.
+use Rattle.std.specs.Prelude.{◌≡◌, ℕ, Bool, false, List, Option, Some, None}
+use Rattle.std.specs.Option.{option_map_or}
+use Rattle.std.specs.Str.{bytes_eq}
+use Rattle.smt_sexpr.specs.declared.error.SexprError.{SexprError}
+use Rattle.smt_sexpr.specs.declared.error.SexprError.TheVariants.{OutOfMemory as NoMemory}
+use Rattle.smt_sexpr.specs.Tree.{Sexpr, Items, numeral_of}
+use Rattle.smt_sexpr.specs.Reading.{Spells}
+use Rattle.smt_sexpr.specs.Table.{Table, MeansEach}
+use Rattle.cert_text.specs.Form.{end_sexpr}
+use Rattle.cert_read.specs.Parts.{headed_of, entry_of}
+use Rattle.cert_read.specs.declared.certificate.Line.{Line}
+use Rattle.cert_read.specs.declared.certificate.Line.TheVariants.{Shown, End}
+use Rattle.cert_read.specs.declared.error.CertTextError.{CertTextError}
+use Rattle.cert_read.specs.declared.error.CertTextError.TheVariants.{OutOfMemory as OutOfSpace}
+use Rattle.cert_read.specs.declared.error.PartError.{PartError}
+use Rattle.cert_read.specs.declared.error.PartError.TheVariants.{OutOfMemory, IllFormed}
+
+-- ids that stand for s-expressions
+abbrev pub HaveMeaning : Table → List ℕ → Type 0
+HaveMeaning t ids = (xs : Items) × MeansEach t ids xs
+
+-- whether the s-expression is this numeral
+abbrev pub is_numeral : List ℕ → Sexpr → Bool
+is_numeral digits x = option_map_or (λ text. bytes_eq text digits) (numeral_of x) false
+
+-- an ill-formed part stands for nothing; want of memory says nothing
+abbrev pub Lacks : {A : Type 0} → Option A → PartError → Type 0
+Lacks meant IllFormed = meant ≡ None
+Lacks meant OutOfMemory = Unit {0}
+
+-- a list that begins with a symbol: its bytes, and the ids of what follows it
+abbrev pub HeadIs : Table → Sexpr → Option (List ℕ × List ℕ) → Type 0
+HeadIs t x (Some p) = (xs : Items) × (headed_of x ≡ Some (p.0, xs)) × MeansEach t p.1 xs
+HeadIs t x None = headed_of x ≡ None
+
+-- an entry or the end stands at the place, and after is the place behind it
+abbrev pub LineIs : List ℕ → ℕ → Line → ℕ → Type 0
+LineIs bytes place (Shown e) after = (x : Sexpr) × Spells bytes place x after × (entry_of x ≡ Some e)
+LineIs bytes place End after = Spells bytes place end_sexpr after
+
+-- what can't be read is refused for this
+abbrev pub told_as : CertTextError → SexprError → CertTextError
+told_as why NoMemory = OutOfSpace
+told_as why _ = why

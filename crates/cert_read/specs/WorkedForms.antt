@@ -1,0 +1,43 @@
+-- Worked examples: what s-expressions stand for.
+use Rattle.std.specs.Prelude.{[], ◌∷◌, codes}
+use Rattle.smt_lex.specs.declared.token.TokenKind.TheVariants.{Numeral}
+use Rattle.smt_sexpr.specs.Tree.{Sexpr, leaf}
+use Rattle.cert_text.specs.Form.{list_of, form}
+
+abbrev zero : Sexpr
+zero = leaf Numeral (codes "0")
+
+abbrev one : Sexpr
+one = leaf Numeral (codes "1")
+
+abbrev two : Sexpr
+two = leaf Numeral (codes "2")
+
+-- (- 1)
+abbrev below_zero : Sexpr
+below_zero = form (codes "-") (one ∷ [])
+
+-- (unsat (lemma () (input 0) (input 1) (cycle (1 2 (- 1)) (2 1 (- 1)))))
+abbrev pub two_orders_sexpr : Sexpr
+two_orders_sexpr = form (codes "unsat") (form (codes "lemma") (
+    list_of []
+    ∷ form (codes "input") (zero ∷ [])
+    ∷ form (codes "input") (one ∷ [])
+    ∷ form (codes "cycle") (list_of (one ∷ two ∷ below_zero ∷ []) ∷ list_of (two ∷ one ∷ below_zero ∷ []) ∷ [])
+    ∷ []) ∷ [])
+
+-- (- 0)
+abbrev pub minus_zero : Sexpr
+minus_zero = form (codes "-") (zero ∷ [])
+
+-- 2^32 as a numeral
+abbrev pub beyond_points : Sexpr
+beyond_points = leaf Numeral (codes "4294967296")
+
+-- 2^61 + 1 as a numeral
+abbrev pub beyond_limit : Sexpr
+beyond_limit = leaf Numeral (codes "2305843009213693953")
+
+-- (end 1)
+abbrev pub end_with_more : Sexpr
+end_with_more = form (codes "end") (one ∷ [])

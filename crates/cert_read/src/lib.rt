@@ -1,0 +1,20 @@
+//! The reader of certificates: the text that `cert_text` writes, from the bytes to the entries.
+//!
+//! [`read_certificate`] reads a certificate to the end of the text, [`read_entries`] what stands behind the header, and
+//! [`is_header`] tells the header from other s-expressions. `specs/Parts.antt` says what each s-expression stands for,
+//! and `specs/Certificates.antt` which texts are certificates, and why another is refused. The laws: a text is one thing
+//! at most ([`one_certificate`]), what was written is read again ([`certificate_reads_back`]), and nothing but the form of
+//! an entry is read as one ([`only_entries`]).
+#![tactic(auto)]
+
+mod certificate;
+mod error;
+mod laws;
+mod number;
+mod part;
+#[cfg(test)]
+mod tests;
+
+pub use certificate::{is_header, read_certificate, read_entries};
+pub use error::CertTextError;
+pub use laws::{certificate_reads_back, examples_law, numeral_law, one_certificate, only_entries};

@@ -1,0 +1,201 @@
+//! The parts of an entry.
+ghost use Rattle.std.specs.Prelude.{◌≡◌, Option, Some, option_map, IfOk, IfErr};
+ghost use Rattle.smt_sexpr.specs.Tree.{Sexpr, Items};
+ghost use Rattle.smt_sexpr.specs.Table.{Means, MeansEach, HasMeaning};
+ghost use Rattle.cert_read.specs.Parts.{headed_of, each_of, bound_of, literal_of, clause_of, single_of, step_named, truth_named, entry_of};
+ghost use Rattle.cert_read.specs.Shapes.{HaveMeaning, Lacks, HeadIs};
+
+use crate::error::PartError;
+use crate::number::{index, number, point};
+use cert_text::Entry;
+use refute_tree::{Lemma, Refutation, Step, Steps};
+use smt_sexpr::{SexprId, Sexprs};
+use std::alloc::Global;
+use stn_core::{Clause, Literal, Literals, NamedValue, NamedValues};
+
+/// What an s-expression can stand for.
+pub(crate) trait Part {
+    ghost meant: { Sexpr → Option Self };
+
+    fn read(alloc: Global, table: &Sexprs, id: SexprId) -> Result<Self, PartError>
+        requires { HasMeaning table.now id }
+        ensures ok { IfOk result (λ part. (x : Sexpr) → Means table.now id x → meant x ≡ Some part) }
+        ensures err { IfErr result (λ e. (x : Sexpr) → Means table.now id x → Lacks (meant x) e) };
+}
+
+/// What the items of a list stand for.
+pub(crate) fn read_each<T: Part + Drop>(
+    alloc: Global,
+    table: &Sexprs,
+    ids: &[SexprId],
+) -> Result<Vec<T>, PartError>
+    requires { HaveMeaning table.now ids.now }
+    ensures ok { IfOk result (λ parts. (xs : Items) → MeansEach table.now ids.now xs → each_of (λ x. T.meant x) xs ≡ Some parts.items) }
+    ensures err { IfErr result (λ e. (xs : Items) → MeansEach table.now ids.now xs → Lacks (each_of (λ x. T.meant x) xs) e) }
+{
+    let mut parts = Vec::with_capacity(alloc, ids.len())?;
+    for id in ids {
+        parts.push(T::read(alloc, table, *id)?)?;
+    }
+    Ok(parts)
+}
+
+/// Of a list that begins with a symbol: its bytes, and what follows it.
+fn headed<'s, 'a>(table: &'s Sexprs<'a>, id: SexprId) -> Option<(&'a [u8], &'s [SexprId])>
+    requires { HasMeaning table.now id }
+    ensures { (x : Sexpr) → Means table.now id x → HeadIs table.now x (option_map (λ p. (p.0.now, p.1.now)) result) }
+{
+    match table.items(id) {
+        Some([head, rest @ ..]) => Some((table.symbol(*head)?, rest)),
+        _ => None,
+    }
+}
+
+/// A literal, by the ids of `x`, `y` and `c`.
+fn bound(table: &Sexprs, ids: &[SexprId]) -> Option<Literal>
+    requires { HaveMeaning table.now ids.now }
+    ensures { (xs : Items) → MeansEach table.now ids.now xs → result ≡ bound_of xs }
+{
+    match ids {
+        [x, y, c] => Some(Literal {
+            x: point(table, *x)?,
+            y: point(table, *y)?,
+            c: number(table, *c)?,
+        }),
+        _ => None,
+    }
+}
+
+impl Part for Literal {
+    ghost use Rattle.cert_read.specs.Parts.{literal_of};
+
+    ghost meant = { literal_of };
+
+    fn read(_alloc: Global, table: &Sexprs, id: SexprId) -> Result<Literal, PartError> {
+        let ids = table.items(id).ok_or(PartError::IllFormed)?;
+        bound(table, ids).ok_or(PartError::IllFormed)
+    }
+}
+
+/// The literals of a clause.
+fn clause(alloc: Global, table: &Sexprs, id: SexprId) -> Result<Clause, PartError>
+    requires { HasMeaning table.now id }
+    ensures ok { IfOk result (λ literals. (x : Sexpr) → Means table.now id x → clause_of x ≡ Some literals) }
+    ensures err { IfErr result (λ e. (x : Sexpr) → Means table.now id x → Lacks (clause_of x) e) }
+{
+    let ids = table.items(id).ok_or(PartError::IllFormed)?;
+    let literals = read_each(alloc, table, ids)?;
+    Ok(Clause::new(literals))
+}
+
+/// An index that stands alone.
+fn single(table: &Sexprs, ids: &[SexprId]) -> Option<usize>
+    requires { HaveMeaning table.now ids.now }
+    ensures { (xs : Items) → MeansEach table.now ids.now xs → result ≡ single_of xs }
+{
+    match ids {
+        [id] => index(table, *id),
+        _ => None,
+    }
+}
+
+/// A step, by its name and what follows it.
+fn step(alloc: Global, table: &Sexprs, name: &[u8], ids: &[SexprId]) -> Result<Step, PartError>
+    requires { HaveMeaning table.now ids.now }
+    ensures ok { IfOk result (λ step. (xs : Items) → MeansEach table.now ids.now xs → step_named name.now xs ≡ Some step) }
+    ensures err { IfErr result (λ e. (xs : Items) → MeansEach table.now ids.now xs → Lacks (step_named name.now xs) e) }
+{
+    if name == b"cycle".as_slice() {
+        let literals = read_each(alloc, table, ids)?;
+        Ok(Step::Cycle(Literals::new(literals)))
+    } else if name == b"input".as_slice() {
+        let i = single(table, ids).ok_or(PartError::IllFormed)?;
+        Ok(Step::Input(i))
+    } else if name == b"lemma".as_slice() {
+        let j = single(table, ids).ok_or(PartError::IllFormed)?;
+        Ok(Step::Lemma(j))
+    } else if name == b"either".as_slice() {
+        let literal = bound(table, ids).ok_or(PartError::IllFormed)?;
+        Ok(Step::Either(literal))
+    } else {
+        Err(PartError::IllFormed)
+    }
+}
+
+impl Part for Step {
+    ghost use Rattle.cert_read.specs.Parts.{step_of};
+
+    ghost meant = { step_of };
+
+    fn read(alloc: Global, table: &Sexprs, id: SexprId) -> Result<Step, PartError> {
+        let (name, ids) = headed(table, id).ok_or(PartError::IllFormed)?;
+        let step = step(alloc, table, name, ids)?;
+        Ok(step)
+    }
+}
+
+impl Part for Lemma {
+    ghost use Rattle.cert_read.specs.Parts.{lemma_of};
+
+    ghost meant = { lemma_of };
+
+    fn read(alloc: Global, table: &Sexprs, id: SexprId) -> Result<Lemma, PartError> {
+        let (name, ids) = headed(table, id).ok_or(PartError::IllFormed)?;
+        match ids {
+            [first, rest @ ..] if name == b"lemma".as_slice() => {
+                let clause = clause(alloc, table, *first)?;
+                let steps = read_each(alloc, table, rest)?;
+                Ok(Lemma {
+                    clause,
+                    steps: Steps::new(steps),
+                })
+            }
+            _ => Err(PartError::IllFormed),
+        }
+    }
+}
+
+/// A truth value, by its name.
+fn truth(name: &[u8]) -> Option<NamedValue>
+    ensures { result ≡ truth_named name.now }
+{
+    if name == b"true".as_slice() {
+        Some(NamedValue::Truth(true))
+    } else if name == b"false".as_slice() {
+        Some(NamedValue::Truth(false))
+    } else {
+        None
+    }
+}
+
+impl Part for NamedValue {
+    ghost use Rattle.cert_read.specs.Parts.{named_value_of};
+
+    ghost meant = { named_value_of };
+
+    fn read(_alloc: Global, table: &Sexprs, id: SexprId) -> Result<NamedValue, PartError> {
+        if let Some(n) = number(table, id) {
+            return Ok(NamedValue::Int(n));
+        }
+        let name = table.symbol(id).ok_or(PartError::IllFormed)?;
+        truth(name).ok_or(PartError::IllFormed)
+    }
+}
+
+/// An entry.
+pub(crate) fn read_entry(alloc: Global, table: &Sexprs, id: SexprId) -> Result<Entry, PartError>
+    requires { HasMeaning table.now id }
+    ensures ok { IfOk result (λ entry. (x : Sexpr) → Means table.now id x → entry_of x ≡ Some entry) }
+    ensures err { IfErr result (λ e. (x : Sexpr) → Means table.now id x → Lacks (entry_of x) e) }
+{
+    let (name, ids) = headed(table, id).ok_or(PartError::IllFormed)?;
+    if name == b"sat".as_slice() {
+        let values = read_each(alloc, table, ids)?;
+        Ok(Entry::Sat(NamedValues::new(values)))
+    } else if name == b"unsat".as_slice() {
+        let lemmas = read_each(alloc, table, ids)?;
+        Ok(Entry::Unsat(Refutation::new(lemmas)))
+    } else {
+        Err(PartError::IllFormed)
+    }
+}

@@ -1,0 +1,4 @@
+pub mod Walking
+pub mod Judging
+pub mod Reading
+pub mod Telling

@@ -1,0 +1,145 @@
+-- What is read of the script's part is what stands there.
+use Rattle.std.proofs.Common.{refl, sym, ap, subst, arith, ◌∙◌, ◌≡◌, ◌≢◌, ◌+◌, ◌≤◌, ℕ, List, [], ◌∷◌, length, drop, Bool, true, false}
+use Rattle.smt_sexpr.specs.Tree.{Sexpr}
+use Rattle.smt_sexpr.specs.Table.{Table, Means}
+use Rattle.smt_sexpr.specs.Reading.{Spells, Refusal, Outcome, expression, finished, refused, Outcomes}
+use Rattle.cert_text.specs.declared.entry.Entry.{Entry}
+use Rattle.cert_text.specs.Form.{header_sexpr}
+use Rattle.dtp_session.specs.declared.kind.Kind.{Kind}
+use Rattle.dtp_session.specs.States.{State, start_state, Kept}
+use Rattle.dtp_session.specs.Turns.{Stands}
+use Rattle.idl_term.proofs.Rooting.{tabled_start}
+use Rattle.dtp_check.specs.declared.part.PartEnd.{PartEnd}
+use Rattle.dtp_check.specs.declared.part.PartEnd.TheVariants as part
+use Rattle.dtp_check.specs.declared.judge.Turn.{Turn}
+use Rattle.dtp_check.specs.declared.judge.Turn.TheVariants.{Going, Judged}
+use Rattle.dtp_check.specs.declared.judgement.Judgement.{Judgement}
+use Rattle.dtp_check.specs.Judged.{is_exit, EndsPart, ExitEnds, FollowsExit, ScriptPart, surplus_of, judged}
+use Rattle.dtp_check.specs.Parts.{IsReadable}
+use Rattle.dtp_check.specs.Turns.{IsJudgedTurn}
+use Rattle.dtp_check.proofs.Judging.{judged_none}
+
+-- the command that was read is the script's next
+pub record IsMore (bytes : List ℕ) (after : ℕ) (x : Sexpr) (rest : List Sexpr) (end : PartEnd) (behind : ℕ) : Type 0 where
+  pub others : List Sexpr
+  pub is : rest ≡ x ∷ others
+  pub follows : FollowsExit (is_exit x) (ExitEnds after others end behind) (ScriptPart bytes after others end behind)
+
+-- ---- the loop
+
+module _ (bytes : List ℕ) (entries : List Entry) where
+  -- what is left of the script is judged as the whole
+  pub record IsLeft (s : State) (place k used : ℕ) (xs : List Sexpr) (end : PartEnd) (behind : ℕ) : Type 0 where
+    pub rest : List Sexpr
+    pub stands_there : ScriptPart bytes place rest end behind
+    pub same : judged start_state 1 1 xs entries ≡ judged s k (used + 1) rest (drop used entries)
+
+  pub record IsJudging (place k used : ℕ) (kept : Kept) : Type 0 where
+    pub s : State
+    pub stands : Stands kept s
+    pub left : (xs : List Sexpr) (end : PartEnd) (behind : ℕ) → ScriptPart bytes 0 xs end behind → IsReadable end → IsLeft s place k used xs end behind
+
+  pub judging_starts : (kept : Kept) → kept ≡ record { names = []; nodes = []; roots = [] } → IsJudging 0 1 0 kept
+  judging_starts kept e = record {
+    s = start_state;
+    stands = rw e (record { stands = record { names = refl; nodes = refl; roots = refl }; tabled = tabled_start });
+    left = λ xs end behind h r. record { rest = xs; stands_there = h; same = refl };
+  }
+
+-- ---- one reading
+
+pub turn_used : (s : State) (k used : ℕ) (entries : List Entry) (x : Sexpr) (new : Kept) (turn : Turn) (now : ℕ) → turn ≡ Going now → IsJudgedTurn s k used entries x new turn → now ≤ length entries
+turn_used s k used entries x new turn now is j =
+    let w : IsJudgedTurn s k used entries x new (Going now) = subst (λ (t : Turn). IsJudgedTurn s k used entries x new t) is j in
+    w.3
+
+module _ (one : (bytes : List ℕ) (place : ℕ) (o p : Outcome) (m n : ℕ) → Outcomes bytes place o m → Outcomes bytes place p n → (o ≡ p) × (m ≡ n)) where
+  same_sexpr : (bytes : List ℕ) (place : ℕ) (x y : Sexpr) (m n : ℕ) → Spells bytes place x m → Spells bytes place y n → (x ≡ y) × (m ≡ n)
+  same_sexpr bytes place x y m n h k =
+      let w = one bytes place (expression x) (expression y) m n h k in
+      let first = w.0 in
+      let same : x ≡ y = cc in
+      (same, w.1)
+
+  not_finished : (bytes : List ℕ) (place : ℕ) (x : Sexpr) (m n : ℕ) → Spells bytes place x m → Outcomes bytes place finished n → ⊥
+  not_finished bytes place x m n h k = let e = (one bytes place (expression x) finished m n h k).0 in absurd cc
+
+  not_refused : (bytes : List ℕ) (place : ℕ) (x : Sexpr) (why : Refusal) (m n : ℕ) → Spells bytes place x m → Outcomes bytes place (refused why) n → ⊥
+  not_refused bytes place x why m n h k = let e = (one bytes place (expression x) (refused why) m n h k).0 in absurd cc
+
+  -- at a command the script doesn't end
+  pub not_ended : (bytes : List ℕ) (place : ℕ) (x : Sexpr) (m : ℕ) (end : PartEnd) (behind : ℕ) → Spells bytes place x m → x ≢ header_sexpr → EndsPart bytes place end behind → ⊥
+  not_ended bytes place x m part.Exit behind h apart e = absurd e
+  not_ended bytes place x m part.Header behind h apart e = apart (same_sexpr bytes place x header_sexpr m behind h e).0
+  not_ended bytes place x m part.End behind h apart e = not_finished bytes place x m behind h e
+  not_ended bytes place x m (part.Unread kind) behind h apart (why, e, is) = not_refused bytes place x why m behind h e
+
+  pub part_is_more : (bytes : List ℕ) (place after : ℕ) (x : Sexpr) (rest : List Sexpr) (end : PartEnd) (behind : ℕ) → ScriptPart bytes place rest end behind → Spells bytes place x after → x ≢ header_sexpr → IsMore bytes after x rest end behind
+  unfolding ScriptPart
+  part_is_more bytes place after x [] end behind h spells apart = absurd (not_ended bytes place x after end behind spells apart h)
+  part_is_more bytes place after x (y ∷ ys) end behind (mid, spells_y, apart_y, follows) spells apart =
+      let same = same_sexpr bytes place y x mid after spells_y spells in
+      record {
+        others = ys;
+        is = ap (λ (z : Sexpr). z ∷ ys) same.0;
+        follows = subst (λ (z : Sexpr). FollowsExit (is_exit z) (ExitEnds after ys end behind) (ScriptPart bytes after ys end behind)) same.0
+            (subst (λ (m : ℕ). FollowsExit (is_exit y) (ExitEnds m ys end behind) (ScriptPart bytes m ys end behind)) same.1 follows);
+      }
+
+  pub part_is_over : (bytes : List ℕ) (place after : ℕ) (rest : List Sexpr) (end found : PartEnd) (behind : ℕ) → ScriptPart bytes place rest end behind → EndsPart bytes place found after → rest ≡ []
+  unfolding ScriptPart
+  part_is_over bytes place after [] end found behind h e = refl
+  part_is_over bytes place after (y ∷ ys) end found behind (mid, spells_y, apart_y, follows) e = absurd (not_ended bytes place y mid found after spells_y apart_y e)
+
+  readable_end : (bytes : List ℕ) (place after : ℕ) (end : PartEnd) (kind : Kind) (behind : ℕ) → EndsPart bytes place end behind → IsReadable end → EndsPart bytes place (part.Unread kind) after → ⊥
+  readable_end bytes place after part.Exit kind behind h r e = absurd h
+  readable_end bytes place after part.Header kind behind h r (why, e, is) = not_refused bytes place header_sexpr why behind after h e
+  readable_end bytes place after part.End kind behind h r (why, e, is) = let w = (one bytes place finished (refused why) behind after h e).0 in absurd cc
+  readable_end bytes place after (part.Unread other) kind behind h r e = absurd r
+
+  -- a script that can be read isn't refused by the reader
+  pub part_is_readable : (bytes : List ℕ) (place after : ℕ) (rest : List Sexpr) (end : PartEnd) (kind : Kind) (behind : ℕ) → ScriptPart bytes place rest end behind → IsReadable end → EndsPart bytes place (part.Unread kind) after → ⊥
+  unfolding ScriptPart
+  part_is_readable bytes place after [] end kind behind h r e = readable_end bytes place after end kind behind h r e
+  part_is_readable bytes place after (y ∷ ys) end kind behind (mid, spells_y, apart_y, follows) r e = not_ended bytes place y mid (part.Unread kind) after spells_y apart_y e
+
+  -- ---- a turn of the loop
+
+  module _ (bytes : List ℕ) (entries : List Entry) where
+    module _ (place k used : ℕ) (kept : Kept) (h : IsJudging bytes entries place k used kept) where
+      pub judging_goes_on : (after : ℕ) (x : Sexpr) (new : Kept) (turn : Turn) (now : ℕ) → Spells bytes place x after → x ≢ header_sexpr → turn ≡ Going now → IsJudgedTurn h.s k used entries x new turn → IsJudging bytes entries after (k + 1) now new
+      judging_goes_on after x new turn now spells apart is j =
+          let w : IsJudgedTurn h.s k used entries x new (Going now) = subst (λ (t : Turn). IsJudgedTurn h.s k used entries x new t) is j in
+          record {
+            s = w.0;
+            stands = w.1;
+            left = λ xs end behind part_of readable. (
+                let l = h.left xs end behind part_of readable in
+                let m = part_is_more bytes place after x l.rest end behind l.stands_there spells apart in
+                record {
+                  rest = m.others;
+                  stands_there = subst (λ (b : Bool). FollowsExit b (ExitEnds after m.others end behind) (ScriptPart bytes after m.others end behind)) w.2 m.follows;
+                  same = l.same ∙ ap (λ (ys : List Sexpr). judged h.s k (used + 1) ys (drop used entries)) m.is ∙ w.4 m.others;
+                });
+          }
+
+      pub judged_here : (after : ℕ) (x : Sexpr) (new : Kept) (turn : Turn) (judgement : Judgement) → Spells bytes place x after → x ≢ header_sexpr → turn ≡ Judged judgement → IsJudgedTurn h.s k used entries x new turn
+          → (xs : List Sexpr) (end : PartEnd) (behind : ℕ) → ScriptPart bytes 0 xs end behind → IsReadable end → judgement ≡ judged start_state 1 1 xs entries
+      judged_here after x new turn judgement spells apart is j xs end behind part_of readable =
+          let w : IsJudgedTurn h.s k used entries x new (Judged judgement) = subst (λ (t : Turn). IsJudgedTurn h.s k used entries x new t) is j in
+          let l = h.left xs end behind part_of readable in
+          let m = part_is_more bytes place after x l.rest end behind l.stands_there spells apart in
+          sym (l.same ∙ ap (λ (ys : List Sexpr). judged h.s k (used + 1) ys (drop used entries)) m.is ∙ w m.others)
+
+      pub judged_over : (after : ℕ) (found : PartEnd) (judgement : Judgement) → EndsPart bytes place found after → judgement ≡ surplus_of (used + 1) (drop used entries)
+          → (xs : List Sexpr) (end : PartEnd) (behind : ℕ) → ScriptPart bytes 0 xs end behind → IsReadable end → judgement ≡ judged start_state 1 1 xs entries
+      judged_over after found judgement e is xs end behind part_of readable =
+          let l = h.left xs end behind part_of readable in
+          let over = part_is_over bytes place after l.rest end found behind l.stands_there e in
+          is ∙ sym (l.same ∙ ap (λ (ys : List Sexpr). judged h.s k (used + 1) ys (drop used entries)) over ∙ judged_none h.s k (used + 1) (drop used entries))
+
+      pub judged_unread : (after : ℕ) (kind : Kind) (judgement : Judgement) → EndsPart bytes place (part.Unread kind) after
+          → (xs : List Sexpr) (end : PartEnd) (behind : ℕ) → ScriptPart bytes 0 xs end behind → IsReadable end → judgement ≡ judged start_state 1 1 xs entries
+      judged_unread after kind judgement e xs end behind part_of readable =
+          let l = h.left xs end behind part_of readable in
+          absurd (part_is_readable bytes place after l.rest end kind behind l.stands_there readable e)

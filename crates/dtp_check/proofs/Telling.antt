@@ -1,0 +1,74 @@
+-- What stands behind the script, and the whole.
+use Rattle.std.proofs.Common.{refl, sym, ap, subst, ◌∙◌, ◌≡◌, ◌+◌, ℕ, List, [], length, Option, Some, None, Result, Ok, Err, inl, inr}
+use Rattle.smt_sexpr.specs.Tree.{Sexpr}
+use Rattle.cert_text.specs.declared.entry.Entry.{Entry as Shown}
+use Rattle.cert_read.specs.Certificates.{CertificateRefusal, no_header, ill_formed, no_end, text_after_end, CertificateOutcome, certificate, no_certificate, ErrorSays, ReadsEntries, ReadsCertificate}
+use Rattle.cert_read.specs.declared.error.CertTextError.{CertTextError}
+use Rattle.cert_read.specs.declared.error.CertTextError.TheVariants as text
+use Rattle.dtp_session.specs.declared.kind.Kind.{Kind}
+use Rattle.dtp_session.specs.States.{start_state}
+use Rattle.dtp_session.specs.Transcripts.{IsFront}
+use Rattle.dtp_session.specs.Written.{Writes}
+use Rattle.dtp_session.proofs.Turning.{appends_nothing}
+use Rattle.dtp_check.specs.Answered.{checked_of, IsAnswerPart}
+use Rattle.dtp_check.specs.Texts.{judgement_line}
+use Rattle.dtp_check.specs.declared.behind.Behind.{Behind as Found}
+use Rattle.dtp_check.specs.declared.behind.Behind.TheVariants.{Entries, Flawed}
+use Rattle.dtp_check.specs.declared.judgement.CertificateFlaw.{CertificateFlaw}
+use Rattle.dtp_check.specs.declared.judgement.Judgement.{Judgement}
+use Rattle.dtp_check.specs.declared.judgement.Judgement.TheVariants.{Script, Certificate}
+use Rattle.dtp_check.specs.declared.part.PartEnd.{PartEnd}
+use Rattle.dtp_check.specs.declared.part.PartEnd.TheVariants as part
+use Rattle.dtp_check.specs.Behind.{IsBehind, flaw_of_error}
+use Rattle.dtp_check.specs.Judged.{ScriptPart, CertificateBehind, flaw_of_refusal, judged, judged_with, JudgedPart, IsJudged}
+use Rattle.dtp_check.specs.Parts.{IsReadable}
+
+-- an error that tells a refusal tells its flaw
+pub error_told : (IsRefused : CertificateRefusal → Type 0) (error : CertTextError) (flaw : CertificateFlaw) → ErrorSays IsRefused error → flaw_of_error error ≡ Some flaw → (why : CertificateRefusal) × IsRefused why × (flaw ≡ flaw_of_refusal why)
+error_told IsRefused text.OutOfMemory flaw h e = absurd cc
+error_told IsRefused text.NoHeader flaw h e = let same : flaw_of_refusal no_header ≡ flaw = cc in (no_header, h, sym same)
+error_told IsRefused (text.IllFormed k) flaw h e = let same : flaw_of_refusal (ill_formed k) ≡ flaw = cc in (ill_formed k, h, sym same)
+error_told IsRefused text.NoEnd flaw h e = let same : flaw_of_refusal no_end ≡ flaw = cc in (no_end, h, sym same)
+error_told IsRefused text.TextAfterEnd flaw h e = let same : flaw_of_refusal text_after_end ≡ flaw = cc in (text_after_end, h, sym same)
+
+-- ---- the whole
+
+module _ (bytes : List ℕ) (xs : List Sexpr) (behind : ℕ) where
+  pub judged_entries : (end : PartEnd) (entries : List Shown) (judgement : Judgement) → ScriptPart bytes 0 xs end behind → IsReadable end → CertificateBehind bytes end behind (certificate entries) → judgement ≡ judged start_state 1 1 xs entries → IsJudged bytes judgement
+  judged_entries part.Exit entries judgement h r b e = record { commands = xs; end = part.Exit; behind = behind; script = h; judged_part = (certificate entries, b, e) }
+  judged_entries part.Header entries judgement h r b e = record { commands = xs; end = part.Header; behind = behind; script = h; judged_part = (certificate entries, b, e) }
+  judged_entries part.End entries judgement h r b e = record { commands = xs; end = part.End; behind = behind; script = h; judged_part = (certificate entries, b, e) }
+  judged_entries (part.Unread kind) entries judgement h r b e = absurd r
+
+  pub judged_flaw : (end : PartEnd) (why : CertificateRefusal) (flaw : CertificateFlaw) → ScriptPart bytes 0 xs end behind → IsReadable end → CertificateBehind bytes end behind (no_certificate why) → flaw ≡ flaw_of_refusal why → IsJudged bytes (Certificate flaw)
+  judged_flaw part.Exit why flaw h r b e = record { commands = xs; end = part.Exit; behind = behind; script = h; judged_part = (no_certificate why, b, ap Certificate e) }
+  judged_flaw part.Header why flaw h r b e = record { commands = xs; end = part.Header; behind = behind; script = h; judged_part = (no_certificate why, b, ap Certificate e) }
+  judged_flaw part.End why flaw h r b e = record { commands = xs; end = part.End; behind = behind; script = h; judged_part = (no_certificate why, b, ap Certificate e) }
+  judged_flaw (part.Unread kind) why flaw h r b e = absurd r
+
+  pub judged_unreadable : (kind : Kind) → ScriptPart bytes 0 xs (part.Unread kind) behind → IsJudged bytes (Script (length xs + 1) kind)
+  judged_unreadable kind h = record { commands = xs; end = part.Unread kind; behind = behind; script = h; judged_part = refl }
+
+pub readable_by : (end : PartEnd) → ((kind : Kind) → end ≡ part.Unread kind → ⊥) → IsReadable end
+readable_by part.Exit h = tt
+readable_by part.Header h = tt
+readable_by part.End h = tt
+readable_by (part.Unread kind) h = h kind refl
+
+-- the same, as the code has it: over the bytes of lexers that are the source's
+module _ (bytes first second : List ℕ) (behind : ℕ) (end : PartEnd) (found : Found) (same_first : first ≡ bytes) (same_second : second ≡ first) (readable : IsReadable end) (is_behind : IsBehind second end behind found) where
+  pub stands : (other : Found) → found ≡ other → IsBehind bytes end behind other
+  stands other e = subst (λ (f : Found). IsBehind bytes end behind f) e (subst (λ (b : List ℕ). IsBehind b end behind found) (same_second ∙ same_first) is_behind)
+
+  pub found_flaw : (flaw : CertificateFlaw) (xs : List Sexpr) → ScriptPart first 0 xs end behind → found ≡ Flawed flaw → IsJudged bytes (Certificate flaw)
+  found_flaw flaw xs p e =
+      let w = stands (Flawed flaw) e in
+      judged_flaw bytes xs behind end w.0 flaw (subst (λ (b : List ℕ). ScriptPart b 0 xs end behind) same_first p) readable w.1 w.2
+
+-- ---- the line
+
+pub nothing_written : (bytes : List ℕ) (held : Option (List ℕ)) → Writes held held (IsAnswerPart bytes)
+nothing_written bytes held = ([], appends_nothing held, inl refl)
+
+pub line_cut : (bytes line : List ℕ) (before now : Option (List ℕ)) (judgement : Judgement) → IsJudged bytes judgement → line ≡ judgement_line judgement → Writes before now (λ added. IsFront added line) → Writes before now (IsAnswerPart bytes)
+line_cut bytes line before now judgement h e w = (w.0, w.1, inr (line, checked_of judgement, (judgement, h, e, refl), w.2))

@@ -1,0 +1,159 @@
+-- What a script with its certificate comes to: accepted, or the first reason against it. The order of the reasons is this
+-- project's own. Sources: SMT-LIB 2.6, section 4.1 (a script), section 4.2.5 (check-sat).
+use Rattle.std.specs.Prelude.{◌≡◌, ◌≢◌, ℕ, ◌+◌, List, [], ◌∷◌, length, map, ◌==◌, Bool, true, false, if◌then◌else◌, Option, Some, None, option_map, Ok, Err}
+use Rattle.smt_sexpr.specs.Tree.{Sexpr}
+use Rattle.smt_sexpr.specs.Reading.{Spells, Refusal, Outcomes, finished, refused}
+use Rattle.stn_core.specs.declared.named.NamedValue.{NamedValue}
+use Rattle.stn_core.specs.declared.named.NamedValue.TheVariants.{Int, Truth}
+use Rattle.cert_text.specs.declared.entry.Entry.{Entry}
+use Rattle.cert_text.specs.declared.entry.Entry.TheVariants.{Sat, Unsat}
+use Rattle.cert_text.specs.Form.{header_sexpr}
+use Rattle.cert_read.specs.Certificates.{CertificateRefusal, no_header, ill_formed, no_end, text_after_end, CertificateOutcome, certificate, no_certificate, ReadsEntries, ReadsCertificate}
+use Rattle.cert_check.specs.Flaws.{refutation_flaw}
+use Rattle.idl_term.specs.Values.{Value, whole, truth, value}
+use Rattle.dtp_session.specs.declared.state.Effect.{Effect}
+use Rattle.dtp_session.specs.declared.state.Effect.TheVariants.{Silent, CheckSat, Exit}
+use Rattle.dtp_session.specs.Answers.{kind_of}
+use Rattle.dtp_session.specs.Commands.{Command, exiting, command_of}
+use Rattle.dtp_session.specs.Entries.{points_of, problem_of}
+use Rattle.dtp_session.specs.States.{State, start_state, after}
+use Rattle.dtp_check.specs.declared.judgement.CertificateFlaw.{CertificateFlaw}
+use Rattle.dtp_check.specs.declared.judgement.CertificateFlaw.TheVariants as flaw
+use Rattle.dtp_check.specs.declared.judgement.EntryFlaw.{EntryFlaw}
+use Rattle.dtp_check.specs.declared.judgement.EntryFlaw.TheVariants.{WrongCount, WrongSort, FalseAssertion, Flawed}
+use Rattle.dtp_check.specs.declared.judgement.Judgement.{Judgement}
+use Rattle.dtp_check.specs.declared.judgement.Judgement.TheVariants.{Accepted, Script, Certificate, Missing, Entry as BadEntry, Surplus}
+use Rattle.dtp_check.specs.declared.part.PartEnd.{PartEnd}
+use Rattle.dtp_check.specs.declared.part.PartEnd.TheVariants as part
+
+-- ---- the script's part of the source
+
+abbrev pub is_exiting : Command → Bool
+is_exiting exiting = true
+is_exiting _ = false
+
+-- the command `(exit)`
+abbrev pub is_exit : Sexpr → Bool
+is_exit x = is_exiting (command_of x)
+
+-- what ends the script at the place, and the place behind it; an `(exit)` is the script's own last command
+abbrev pub EndsPart : List ℕ → ℕ → PartEnd → ℕ → Type 0
+EndsPart bytes place part.Exit behind = ⊥
+EndsPart bytes place part.Header behind = Spells bytes place header_sexpr behind
+EndsPart bytes place part.End behind = Outcomes bytes place finished behind
+EndsPart bytes place (part.Unread kind) behind = (why : Refusal) × Outcomes bytes place (refused why) behind × (kind_of why ≡ kind)
+
+-- behind an `(exit)` nothing of the script follows
+abbrev pub ExitEnds : ℕ → List Sexpr → PartEnd → ℕ → Type 0
+ExitEnds mid xs end behind = (xs ≡ []) × (end ≡ part.Exit) × (mid ≡ behind)
+
+abbrev pub FollowsExit : Bool → Type 0 → Type 0 → Type 0
+FollowsExit true A B = A
+FollowsExit false A B = B
+
+-- the commands of the script's part from the place on: up to the first `(exit)`, which is the last of them, or to the first
+-- header, or to the end of the source, or to what can't be read
+unfoldable pub ScriptPart : List ℕ → ℕ → List Sexpr → PartEnd → ℕ → Type 0
+ScriptPart bytes place [] end behind = EndsPart bytes place end behind
+ScriptPart bytes place (x ∷ xs) end behind =
+    (mid : ℕ) × Spells bytes place x mid × (x ≢ header_sexpr) × FollowsExit (is_exit x) (ExitEnds mid xs end behind) (ScriptPart bytes mid xs end behind)
+
+-- what stands behind the script, as a certificate: the text behind an `(exit)`, or that from a header on
+abbrev pub CertificateBehind : List ℕ → PartEnd → ℕ → CertificateOutcome → Type 0
+CertificateBehind bytes part.Exit behind outcome = ReadsCertificate bytes behind outcome
+CertificateBehind bytes part.Header behind outcome = ReadsEntries bytes behind outcome
+CertificateBehind bytes part.End behind outcome = outcome ≡ no_certificate no_header
+CertificateBehind bytes (part.Unread kind) behind outcome = ⊥
+
+-- ---- an entry
+
+-- the schedule that an entry's values are
+abbrev pub value_of_named : NamedValue → Value
+value_of_named (Int n) = whole n
+value_of_named (Truth b) = truth b
+
+abbrev pub schedule_of_named : List NamedValue → List Value
+schedule_of_named values = map value_of_named values
+
+-- the first value of another sort than Int, which all names have; the values are numbered from k on
+abbrev pub first_of_wrong_sort : ℕ → List NamedValue → Option ℕ
+first_of_wrong_sort k [] = None
+first_of_wrong_sort k (Int n ∷ values) = first_of_wrong_sort (k + 1) values
+first_of_wrong_sort k (Truth b ∷ values) = Some k
+
+abbrev pub is_true : Value → Bool
+is_true (truth b) = b
+is_true _ = false
+
+-- the first assertion that isn't true on the schedule; the assertions are numbered from k on
+abbrev pub first_false : List (List ℕ) → List Value → ℕ → List Sexpr → Option ℕ
+first_false names schedule k [] = None
+first_false names schedule k (t ∷ assertions) = if is_true (value names schedule t) then first_false names schedule (k + 1) assertions else Some k
+
+abbrev pub first_of_two : Option EntryFlaw → Option EntryFlaw → Option EntryFlaw
+first_of_two (Some flaw) other = Some flaw
+first_of_two None other = other
+
+-- the values are no schedule that makes the assertions true
+abbrev pub values_flaw : State → List NamedValue → Option EntryFlaw
+values_flaw s values =
+    if length values == length s.names
+    then first_of_two (option_map WrongSort (first_of_wrong_sort 1 values)) (option_map FalseAssertion (first_false s.names (schedule_of_named values) 1 s.assertions))
+    else Some WrongCount
+
+-- what is wrong with the entry of a check-sat in a state
+abbrev pub entry_flaw : State → Entry → Option EntryFlaw
+entry_flaw s (Sat values) = values_flaw s values
+entry_flaw s (Unsat lemmas) = option_map Flawed (refutation_flaw (points_of s) (problem_of s) lemmas)
+
+-- ---- the whole
+
+abbrev pub surplus_of : ℕ → List Entry → Judgement
+surplus_of n [] = Accepted
+surplus_of n (entry ∷ entries) = Surplus n
+
+-- what is wrong with an entry, or else what follows
+abbrev pub judged_entry : ℕ → Option EntryFlaw → Judgement → Judgement
+judged_entry n None others = others
+judged_entry n (Some flaw) others = BadEntry n flaw
+
+-- at a check-sat its entry, and then what follows
+abbrev pub judged_check : State → ℕ → List Entry → (List Entry → Judgement) → Judgement
+judged_check s n [] others = Missing n
+judged_check s n (entry ∷ entries) others = judged_entry n (entry_flaw s entry) (others entries)
+
+abbrev pub judged_effect : Effect → State → ℕ → List Entry → (ℕ → List Entry → Judgement) → Judgement
+judged_effect Silent s n entries others = others n entries
+judged_effect CheckSat s n entries others = judged_check s n entries (others (n + 1))
+judged_effect Exit s n entries others = surplus_of n entries
+
+-- command k and those behind it, in this state, with entry n and those behind it
+unfoldable pub judged : State → ℕ → ℕ → List Sexpr → List Entry → Judgement
+judged s k n [] entries = surplus_of n entries
+judged s k n (x ∷ xs) entries = elim (after s x) [
+  | Ok step ↦ judged_effect step.effect step.state n entries (λ m rest. judged step.state (k + 1) m xs rest)
+  | Err kind ↦ Script k kind
+]
+
+abbrev pub flaw_of_refusal : CertificateRefusal → CertificateFlaw
+flaw_of_refusal no_header = flaw.NoHeader
+flaw_of_refusal (ill_formed k) = flaw.IllFormed k
+flaw_of_refusal no_end = flaw.NoEnd
+flaw_of_refusal text_after_end = flaw.TextAfterEnd
+
+-- the commands with what stands behind them
+abbrev pub judged_with : List Sexpr → CertificateOutcome → Judgement
+judged_with xs (certificate entries) = judged start_state 1 1 xs entries
+judged_with xs (no_certificate why) = Certificate (flaw_of_refusal why)
+
+abbrev pub JudgedPart : List ℕ → List Sexpr → PartEnd → ℕ → Judgement → Type 0
+JudgedPart bytes xs (part.Unread kind) behind judgement = judgement ≡ Script (length xs + 1) kind
+JudgedPart bytes xs end behind judgement = (outcome : CertificateOutcome) × CertificateBehind bytes end behind outcome × (judgement ≡ judged_with xs outcome)
+
+-- what a source comes to, which is a script and then a certificate
+pub record IsJudged (bytes : List ℕ) (judgement : Judgement) : Type 0 where
+  pub commands : List Sexpr
+  pub end : PartEnd
+  pub behind : ℕ
+  pub script : ScriptPart bytes 0 commands end behind
+  pub judged_part : JudgedPart bytes commands end behind judgement

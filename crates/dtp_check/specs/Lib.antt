@@ -1,0 +1,10 @@
+pub mod Judged
+pub mod Texts
+pub mod Answered
+pub mod Parts
+pub mod Behind
+pub mod Roots
+pub mod Turns
+pub use Rattle.smt_sexpr.specs.Tree
+pub use Rattle.smt_sexpr.specs.Table
+pub use Rattle.dtp_session.specs.States

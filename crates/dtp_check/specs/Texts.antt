@@ -1,0 +1,46 @@
+-- The line that answers a script with its certificate. Its words are this project's own.
+use Rattle.std.specs.Prelude.{ℕ, List, ◌++◌, codes, decimal}
+use Rattle.cert_check.specs.declared.flaw.FlawKind.{FlawKind}
+use Rattle.cert_check.specs.declared.flaw.FlawKind.TheVariants.{NoSuchPoint, NoSuchClause, NotAssumed, NotACycle, StepsMissing, StepsLeftOver, LastLemmaNotEmpty}
+use Rattle.cert_check.specs.declared.flaw.Flaw.{Flaw}
+use Rattle.dtp_session.specs.Answers.{kind_text}
+use Rattle.dtp_check.specs.declared.judgement.CertificateFlaw.{CertificateFlaw}
+use Rattle.dtp_check.specs.declared.judgement.CertificateFlaw.TheVariants.{NoHeader, IllFormed, NoEnd, TextAfterEnd}
+use Rattle.dtp_check.specs.declared.judgement.EntryFlaw.{EntryFlaw}
+use Rattle.dtp_check.specs.declared.judgement.EntryFlaw.TheVariants.{WrongCount, WrongSort, FalseAssertion, Flawed}
+use Rattle.dtp_check.specs.declared.judgement.Judgement.{Judgement}
+use Rattle.dtp_check.specs.declared.judgement.Judgement.TheVariants.{Accepted, Script, Certificate, Missing, Entry, Surplus}
+
+abbrev pub flaw_text : FlawKind → List ℕ
+flaw_text NoSuchPoint = codes "no such point"
+flaw_text NoSuchClause = codes "no such clause"
+flaw_text NotAssumed = codes "not assumed"
+flaw_text NotACycle = codes "not a cycle"
+flaw_text StepsMissing = codes "steps missing"
+flaw_text StepsLeftOver = codes "steps left over"
+flaw_text LastLemmaNotEmpty = codes "last lemma not empty"
+
+abbrev pub certificate_line : CertificateFlaw → List ℕ
+certificate_line NoHeader = codes "refused: certificate: no header\n"
+certificate_line (IllFormed entry) = codes "refused: certificate: entry " ++ (decimal entry ++ codes " is ill-formed\n")
+certificate_line NoEnd = codes "refused: certificate: no end\n"
+certificate_line TextAfterEnd = codes "refused: certificate: text after the end\n"
+
+-- the last kind is of all lemmas together
+abbrev pub lemma_line : ℕ → ℕ → ℕ → FlawKind → List ℕ
+lemma_line entry lemma step LastLemmaNotEmpty = codes "refused: entry " ++ (decimal entry ++ codes ": last lemma not empty\n")
+lemma_line entry lemma step kind = codes "refused: entry " ++ (decimal entry ++ (codes ": lemma " ++ (decimal lemma ++ (codes ": step " ++ (decimal step ++ (codes ": " ++ (flaw_text kind ++ codes "\n")))))))
+
+abbrev pub entry_line : ℕ → EntryFlaw → List ℕ
+entry_line entry WrongCount = codes "refused: entry " ++ (decimal entry ++ codes ": wrong count of values\n")
+entry_line entry (WrongSort k) = codes "refused: entry " ++ (decimal entry ++ (codes ": value " ++ (decimal k ++ codes " has the wrong sort\n")))
+entry_line entry (FalseAssertion k) = codes "refused: entry " ++ (decimal entry ++ (codes ": assertion " ++ (decimal k ++ codes " is false\n")))
+entry_line entry (Flawed flaw) = lemma_line entry flaw.lemma flaw.step flaw.kind
+
+unfoldable pub judgement_line : Judgement → List ℕ
+judgement_line Accepted = codes "accepted\n"
+judgement_line (Script command kind) = codes "refused: script: command " ++ (decimal command ++ (codes ": " ++ (kind_text kind ++ codes "\n")))
+judgement_line (Certificate flaw) = certificate_line flaw
+judgement_line (Missing entry) = codes "refused: entry " ++ (decimal entry ++ codes ": missing\n")
+judgement_line (Entry entry flaw) = entry_line entry flaw
+judgement_line (Surplus entry) = codes "refused: entry " ++ (decimal entry ++ codes ": surplus\n")

@@ -1,0 +1,65 @@
+//! The call that accepts or refuses.
+ghost use Rattle.std.specs.Prelude.{◌≡◌, ◌≤◌, IfOk, OnErr, Err};
+ghost use Rattle.std.specs.Io.KnownBytes.{Appends};
+ghost use Rattle.dtp_io.specs.Faults.{Rose};
+ghost use Rattle.dtp_session.specs.Written.{Writes};
+ghost use Rattle.dtp_check.specs.Judged.{IsJudged};
+ghost use Rattle.dtp_check.specs.Answered.{IsAnswer, IsAnswerPart};
+
+use crate::behind::{Behind, read_behind};
+use crate::judge::judge;
+use crate::judgement::{CertificateFlaw, Judgement};
+use crate::part::{PartEnd, read_part};
+use crate::text::judgement_line;
+use dtp_io::Sink;
+use dtp_session::{SessionError, write_text};
+use smt_lex::Lexer;
+use std::alloc::{AllocError, Global};
+
+/// How a source ended that was answered.
+#[derive(Clone, Copy, Debug, PartialEq, Eq)]
+pub enum Checked {
+    Accepted,
+    NotAccepted,
+}
+
+/// What the source comes to.
+fn judgement_of(alloc: Global, bytes: &[u8]) -> Result<Judgement, AllocError>
+    ensures { IfOk result (IsJudged bytes.now) }
+{
+    let mut lexer = Lexer::new(bytes);
+    let part = read_part(alloc, &mut lexer)?;
+    match part.end {
+        PartEnd::Unread(kind) => return Ok(Judgement::Script(part.commands + 1, kind)),
+        _ => {}
+    }
+    match read_behind(alloc, &mut lexer, part.end)? {
+        Behind::Entries(entries) => {
+            let judgement = judge(alloc, bytes, &entries)?;
+            Ok(judgement)
+        }
+        Behind::Flawed(flaw) => Ok(Judgement::Certificate(flaw)),
+    }
+}
+
+/// Writes the line that accepts or refuses a script with its certificate, which stand one behind the other.
+///
+/// It takes time and memory of the order of the source, beside what the script's largest state takes at each check-sat.
+pub fn check_pair<K: Sink>(
+    alloc: Global,
+    bytes: &[u8],
+    sink: &mut K,
+) -> Result<Checked, SessionError>
+    ensures whole { IfOk result (λ checked. Writes (K.holds sink.old) (K.holds sink.new) (λ added. IsAnswer bytes.now added checked)) }
+    ensures part { OnErr result (Writes (K.holds sink.old) (K.holds sink.new) (IsAnswerPart bytes.now)) }
+    ensures fault { result ≡ Err SessionError.WriteFault → Rose (K.faults sink.old) (K.faults sink.new) }
+    ensures later { K.faults sink.old ≤ K.faults sink.new }
+{
+    let judgement = judgement_of(alloc, bytes)?;
+    let line = judgement_line(alloc, judgement)?;
+    write_text(sink, line.as_bytes())?;
+    match judgement {
+        Judgement::Accepted => Ok(Checked::Accepted),
+        _ => Ok(Checked::NotAccepted),
+    }
+}

@@ -1,0 +1,110 @@
+//! The commands of a script, with the entries of its certificate.
+ghost use Rattle.std.specs.Prelude.{◌≡◌, ◌≢◌, ◌+◌, ◌<◌, ◌≤◌, ℕ, List, length, drop, IfOk, None};
+ghost use Rattle.smt_sexpr.specs.Tree.{Sexpr};
+ghost use Rattle.smt_sexpr.specs.Table.{Means, HasMeaning};
+ghost use Rattle.dtp_session.specs.States.{State as Meaning, start_state};
+ghost use Rattle.dtp_session.specs.Turns.{Stands};
+ghost use Rattle.dtp_check.specs.declared.part.PartEnd.{PartEnd as End};
+ghost use Rattle.dtp_check.specs.Judged.{surplus_of, judged, ScriptPart};
+ghost use Rattle.dtp_check.specs.Parts.{IsReadable};
+ghost use Rattle.dtp_check.specs.Turns.{IsCheckTurn, IsJudgedTurn};
+
+use crate::entry::entry_flaw;
+use crate::judgement::Judgement;
+use crate::part::{Next, PartEnd, next_command};
+use cert_text::Entry;
+use dtp_session::{Effect, Kind, ScriptError, State};
+use smt_lex::Lexer;
+use smt_sexpr::{SexprId, Sexprs};
+use std::alloc::{AllocError, Global};
+
+/// What a command leads to.
+#[derive(Clone, Copy)]
+pub enum Turn {
+    /// The script goes on, and so many entries have been used.
+    Going(usize),
+    Judged(Judgement),
+}
+
+/// Behind the script no entry may be left.
+fn surplus(entries: &[Entry], used: usize) -> Judgement
+    requires { used ≤ length entries.now }
+    ensures { result ≡ surplus_of (used + 1) (drop used entries.now) }
+{
+    if used < entries.len() {
+        Judgement::Surplus(used + 1)
+    } else {
+        Judgement::Accepted
+    }
+}
+
+/// A check-sat, with its entry.
+fn judge_check(
+    alloc: Global,
+    state: &State,
+    entries: &[Entry],
+    used: usize,
+) -> Result<Turn, AllocError>
+    requires stands { (s : Meaning) × Stands state.now s }
+    requires used { used ≤ length entries.now }
+    ensures { IfOk result (λ turn. (s : Meaning) → Stands state.now s → IsCheckTurn s used entries.now turn) }
+{
+    match entries.get(used) {
+        Some(entry) => match entry_flaw(alloc, state, entry)? {
+            Some(flaw) => Ok(Turn::Judged(Judgement::Entry(used + 1, flaw))),
+            None => Ok(Turn::Going(used + 1)),
+        },
+        None => Ok(Turn::Judged(Judgement::Missing(used + 1))),
+    }
+}
+
+/// A command, with the entry of its check-sat.
+fn judge_command<'a>(
+    alloc: Global,
+    sexprs: &Sexprs<'a>,
+    id: SexprId,
+    state: &mut State<'a>,
+    command: u64,
+    entries: &[Entry],
+    used: usize,
+) -> Result<Turn, AllocError>
+    requires meaning { HasMeaning sexprs.now id }
+    requires stands { (s : Meaning) × Stands state.old s }
+    requires used { used ≤ length entries.now }
+    ensures { IfOk result (λ turn. (s : Meaning) (x : Sexpr) → Stands state.old s → Means sexprs.now id x → IsJudgedTurn s command used entries.now x state.new turn) }
+{
+    match state.step(sexprs, id) {
+        Ok(Effect::Silent) => Ok(Turn::Going(used)),
+        Ok(Effect::CheckSat) => {
+            let turn = judge_check(alloc, state, entries, used)?;
+            Ok(turn)
+        }
+        Ok(Effect::Exit) => Ok(Turn::Judged(surplus(entries, used))),
+        Err(ScriptError::NotYet) => Ok(Turn::Judged(Judgement::Script(command, Kind::NotYet))),
+        Err(ScriptError::OutOfMemory) => Err(AllocError),
+    }
+}
+
+/// What the script comes to with these entries. The script is read again, command by command.
+pub fn judge(alloc: Global, bytes: &[u8], entries: &[Entry]) -> Result<Judgement, AllocError>
+    ensures { IfOk result (λ judgement. (xs : List Sexpr) (end : End) (behind : ℕ) → ScriptPart bytes.now 0 xs end behind → IsReadable end → judgement ≡ judged start_state 1 1 xs entries.now) }
+{
+    smt_sexpr::one_outcome();
+    let mut lexer = Lexer::new(bytes);
+    let mut sexprs = Sexprs::new(alloc, bytes);
+    let mut state = State::new(alloc);
+    let mut command = 1u64;
+    let mut used = 0usize;
+    'script: loop {
+        let id = match next_command(&mut sexprs, &mut lexer)? {
+            Next::Command(id) => id,
+            Next::Ended(PartEnd::Unread(kind)) => return Ok(Judgement::Script(command, kind)),
+            Next::Ended(_) => return Ok(surplus(entries, used)),
+        };
+        match judge_command(alloc, &sexprs, id, &mut state, command, entries, used)? {
+            Turn::Going(now) => used = now,
+            Turn::Judged(judgement) => return Ok(judgement),
+        }
+        command += 1;
+    }
+}

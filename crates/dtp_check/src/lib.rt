@@ -1,0 +1,14 @@
+//! Accepts or refuses a script with its certificate.
+#![tactic(auto)]
+
+mod behind;
+mod check;
+mod entry;
+mod judge;
+mod judgement;
+mod part;
+mod text;
+
+pub use check::{Checked, check_pair};
+pub use judgement::{CertificateFlaw, EntryFlaw, Judgement};
+pub use part::PartEnd;

@@ -1,0 +1,86 @@
+//! The line that answers a script with its certificate.
+ghost use Rattle.std.specs.Prelude.{◌≡◌, string_bytes, codes, IfOk};
+ghost use Rattle.dtp_check.specs.Texts.{flaw_text, certificate_line, entry_line, judgement_line};
+
+use crate::judgement::{CertificateFlaw, EntryFlaw, Judgement};
+use cert_check::FlawKind;
+use dtp_session::kind_text;
+use std::alloc::{AllocError, Global};
+
+/// What a flaw's line says of its kind. The last kind is written without the numbers of a lemma and a step.
+fn flaw_text(kind: FlawKind) -> &'static str
+    ensures { result.now ≡ flaw_text kind }
+{
+    match kind {
+        FlawKind::NoSuchPoint => "no such point",
+        FlawKind::NoSuchClause => "no such clause",
+        FlawKind::NotAssumed => "not assumed",
+        FlawKind::NotACycle => "not a cycle",
+        FlawKind::StepsMissing => "steps missing",
+        FlawKind::StepsLeftOver => "steps left over",
+        FlawKind::LastLemmaNotEmpty => "last lemma not empty",
+    }
+}
+
+/// The line for a text that is no certificate.
+fn certificate_line(alloc: Global, flaw: CertificateFlaw) -> Result<String, AllocError>
+    ensures { IfOk result (λ line. string_bytes line ≡ certificate_line flaw) }
+{
+    match flaw {
+        CertificateFlaw::NoHeader => format!(in alloc; "refused: certificate: no header\n"),
+        CertificateFlaw::IllFormed(entry) => {
+            format!(in alloc; "refused: certificate: entry {entry} is ill-formed\n")
+        }
+        CertificateFlaw::NoEnd => format!(in alloc; "refused: certificate: no end\n"),
+        CertificateFlaw::TextAfterEnd => {
+            format!(in alloc; "refused: certificate: text after the end\n")
+        }
+    }
+}
+
+/// The line for an entry that isn't right.
+fn entry_line(alloc: Global, entry: usize, flaw: EntryFlaw) -> Result<String, AllocError>
+    ensures { IfOk result (λ line. string_bytes line ≡ entry_line entry flaw) }
+{
+    match flaw {
+        EntryFlaw::WrongCount => format!(in alloc;
+            "refused: entry {entry}: wrong count of values\n"
+        ),
+        EntryFlaw::WrongSort(k) => {
+            format!(in alloc; "refused: entry {entry}: value {k} has the wrong sort\n")
+        }
+        EntryFlaw::FalseAssertion(k) => {
+            format!(in alloc; "refused: entry {entry}: assertion {k} is false\n")
+        }
+        EntryFlaw::Flawed(flaw) => match flaw.kind {
+            FlawKind::LastLemmaNotEmpty => {
+                format!(in alloc; "refused: entry {entry}: last lemma not empty\n")
+            }
+            kind => {
+                format!(in alloc;
+                    "refused: entry {entry}: lemma {}: step {}: {}\n",
+                    flaw.lemma,
+                    flaw.step,
+                    flaw_text(kind)
+                )
+            }
+        },
+    }
+}
+
+/// The line of the answer.
+#[tactic(auto, unfolding(crate::specs::Texts::judgement_line))]
+pub fn judgement_line(alloc: Global, judgement: Judgement) -> Result<String, AllocError>
+    ensures { IfOk result (λ line. string_bytes line ≡ judgement_line judgement) }
+{
+    match judgement {
+        Judgement::Accepted => format!(in alloc; "accepted\n"),
+        Judgement::Script(command, kind) => {
+            format!(in alloc; "refused: script: command {command}: {}\n", kind_text(kind))
+        }
+        Judgement::Certificate(flaw) => certificate_line(alloc, flaw),
+        Judgement::Missing(entry) => format!(in alloc; "refused: entry {entry}: missing\n"),
+        Judgement::Entry(entry, flaw) => entry_line(alloc, entry, flaw),
+        Judgement::Surplus(entry) => format!(in alloc; "refused: entry {entry}: surplus\n"),
+    }
+}

@@ -1,0 +1,12 @@
+pub mod Sharing
+pub mod Comparing
+pub mod Growing
+pub mod Maps
+pub mod Shapes
+pub mod Limits
+pub mod Arguments
+pub mod Tabling
+pub mod Restricting
+pub mod Rooting
+pub mod Meaning
+pub mod Holding

@@ -1,0 +1,16 @@
+pub mod Limits
+pub mod Operators
+pub mod Values
+pub mod Satisfiable
+pub mod Points
+pub mod Comparisons
+pub mod Nodes
+pub mod Lowered
+pub mod ClauseForm
+pub mod Tables
+pub mod Shapes
+pub mod Examples
+pub use Rattle.smt_sexpr.specs.Tree
+pub use Rattle.smt_sexpr.specs.Table
+pub use Rattle.stn_core.specs.Literal
+pub use Rattle.stn_core.specs.Problem

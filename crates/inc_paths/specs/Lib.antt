@@ -1,0 +1,4 @@
+pub mod Graphs
+pub mod Trails
+pub mod Work
+pub mod Networks

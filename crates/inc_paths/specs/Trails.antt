@@ -1,0 +1,51 @@
+-- Of the code and not of the meaning: the trail of lowerings.
+use Rattle.std.specs.Prelude.{◌≡◌, ℕ, zero, suc, ◌<◌, ◌≤◌, List, [], ◌∷◌, length, drop, All, Contains, slice_index_or, slice_set, ℤ, pos, ◌+ℤ◌}
+use Rattle.stn_core.specs.declared.literal.Literal.{Literal}
+use Rattle.stn_core.specs.Literal.{value_at}
+use Rattle.inc_paths.specs.declared.labels.Lowering.{Lowering}
+
+pub record Labelled : Type 0 where
+  pub values : List ℤ
+  pub trail : List Lowering
+  pub start : ℕ
+  pub queue : List (ℕ × ℕ)
+
+pub record IsLabelled (values : List ℤ) (trail : List Lowering) (before : List ℤ) : Type 0 where
+  pub count : length before ≡ length values
+  pub points : All (λ (e : Lowering). e.literal.x < length values) trail
+
+abbrev pub no_lowering : Lowering
+no_lowering = record { literal = record { x = 0; y = 0; c = pos 0 }; now = pos 0; old = pos 0; parent = 0 }
+
+abbrev pub entry_at : List Lowering → ℕ → Lowering
+entry_at trail place = slice_index_or trail place no_lowering
+
+-- the literal lowers its first point to what it allows
+abbrev pub lowering : List ℤ → Literal → ℕ → Lowering
+lowering values literal parent = record { literal = literal; now = value_at values literal.y +ℤ literal.c; old = value_at values literal.x; parent = parent }
+
+-- the values before these lowerings
+abbrev pub undone : List Lowering → List ℤ → List ℤ
+undone [] values = values
+undone (e ∷ es) values = slice_set (undone es values) e.literal.x e.old
+
+-- the values before the lowerings from a place on
+abbrev pub first_of : ℕ → List Lowering → List ℤ → List ℤ
+first_of start trail values = undone (drop start trail) values
+
+-- the point and the value that a lowering gave, by its number; 0 stands for the point where all began
+abbrev pub point_of : List Lowering → ℕ → ℕ → ℕ
+point_of trail source zero = source
+point_of trail source (suc place) = (entry_at trail place).literal.x
+
+abbrev pub level_of : List Lowering → ℤ → ℕ → ℤ
+level_of trail base zero = base
+level_of trail base (suc place) = (entry_at trail place).now
+
+-- the lowering at a place comes of an earlier one, or of the point where all began
+pub record IsTraced (literals : List Literal) (source : ℕ) (base : ℤ) (start : ℕ) (trail : List Lowering) (place : ℕ) : Type 0 where
+  pub given : Contains literals (entry_at trail place).literal
+  pub y_is : (entry_at trail place).literal.y ≡ point_of trail source (entry_at trail place).parent
+  pub now_is : (entry_at trail place).now ≡ level_of trail base (entry_at trail place).parent +ℤ (entry_at trail place).literal.c
+  pub low : 0 < (entry_at trail place).parent → start < (entry_at trail place).parent
+  pub high : (entry_at trail place).parent ≤ place

@@ -1,0 +1,9 @@
+pub mod Bases
+pub mod Deciding
+pub mod Frames
+pub mod Holding
+pub mod Moving
+pub mod Opening
+pub mod Trails
+pub mod Trying
+pub mod Turns

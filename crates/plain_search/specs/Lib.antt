@@ -1,0 +1,11 @@
+pub mod Verdicts
+pub mod Base
+pub mod Clauses
+pub mod Cases
+pub mod Work
+pub mod Paths
+pub use Rattle.stn_core.specs.Limits
+pub use Rattle.stn_core.specs.Literal
+pub use Rattle.stn_core.specs.Problem
+pub use Rattle.stn_core.specs.Schedule
+pub use Rattle.refute_tree.specs.Trees

@@ -1,0 +1,58 @@
+//! Which clauses hold.
+ghost use Rattle.std.specs.Prelude.{◌≡◌, ◌<◌, ◌≤◌, ℕ, [], length, All, true, false, MatchOption, Some, slice_get};
+ghost use Rattle.stn_core.specs.Literal.{IsOver};
+ghost use Rattle.stn_core.specs.Problem.{ClauseHolds, ProblemHolds};
+ghost use Rattle.plain_search.specs.Clauses.{HoldBetween, IsFalse, IsFalseAt, IsNotEmpty};
+
+use stn_core::{Clause, holds};
+
+// The number of a clause without literals.
+pub fn empty_clause(clauses: &[Clause]) -> Option<usize>
+    ensures { MatchOption result (All IsNotEmpty clauses.now) (λ i. slice_get clauses.now i ≡ Some []) }
+{
+    for (i, clause) in clauses.iter().enumerate() {
+        if clause.as_slice().is_empty() {
+            return Some(i);
+        }
+    }
+    None
+}
+
+fn clause_holds(clause: &Clause, values: &[i64]) -> bool
+    requires { All (IsOver (length values.now)) clause.now }
+    ensures holds { result ≡ true → ClauseHolds values.now clause.now }
+    ensures fails { result ≡ false → IsFalse values.now clause.now }
+{
+    for literal in clause.as_slice() {
+        if holds(*literal, values) {
+            return true;
+        }
+    }
+    false
+}
+
+// The first clause from one number up to another that doesn't hold on the values.
+fn false_between(clauses: &[Clause], values: &[i64], low: usize, high: usize) -> Option<usize>
+    requires over { All (λ clause. All (IsOver (length values.now)) clause) clauses.now }
+    requires high { high ≤ length clauses.now }
+    ensures { MatchOption result (HoldBetween values.now clauses.now low high) (IsFalseAt values.now clauses.now) }
+{
+    for i in low..high {
+        if !clause_holds(&clauses[i], values) {
+            return Some(i);
+        }
+    }
+    None
+}
+
+// A clause that doesn't hold on the values: the first from a number on, or else the first of all.
+pub fn false_clause(clauses: &[Clause], values: &[i64], from: usize) -> Option<usize>
+    requires over { All (λ clause. All (IsOver (length values.now)) clause) clauses.now }
+    requires from { from ≤ length clauses.now }
+    ensures { MatchOption result (ProblemHolds values.now clauses.now) (IsFalseAt values.now clauses.now) }
+{
+    match false_between(clauses, values, from, clauses.len()) {
+        Some(i) => Some(i),
+        None => false_between(clauses, values, 0, from),
+    }
+}

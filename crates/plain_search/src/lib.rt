@@ -1,0 +1,18 @@
+//! Plain branching over the clauses of a Disjunctive Temporal Problem.
+#![tactic(auto)]
+
+mod clauses;
+mod frame;
+mod path;
+#[cfg(test)]
+mod plain_reader;
+#[cfg(test)]
+mod random_tests;
+mod search;
+#[cfg(test)]
+mod tests;
+mod units;
+mod verdict;
+
+pub use search::decide;
+pub use verdict::Verdict;

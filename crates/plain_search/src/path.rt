@@ -1,0 +1,194 @@
+//! The way down to the case that is looked at, and the steps of the refutation so far.
+ghost use Rattle.std.specs.Prelude.{◌≡◌, ◌<◌, ◌≤◌, ◌+◌, ◌++◌, ◌∷◌, [], ℕ, List, length, All, MatchOption, true, IfOk, OnOk};
+ghost use Rattle.stn_core.specs.declared.literal.Literal.{Literal as Bound};
+ghost use Rattle.stn_core.specs.Literal.{IsOver};
+ghost use Rattle.refute_tree.specs.Trees.{Tree};
+ghost use Rattle.plain_search.specs.Base.{IsBase, IsPlain, steps_of, leaf_steps};
+ghost use Rattle.plain_search.specs.Clauses.{clause_at, IsNotEmpty};
+ghost use Rattle.plain_search.specs.Cases.{trail_of, denied_in, IsOpenSoFar};
+ghost use Rattle.plain_search.specs.Paths.{case_of, cases_of, literal_at, IsFalsified, IsOpen, IsClosed, IsReady, IsLater, Goes, Tries, turns_behind, turns_with};
+
+use crate::frame::Frame;
+use crate::units::Units;
+use refute_tree::Step;
+use std::alloc::{AllocError, Global};
+use stn_core::{Added, Literal, Literals, Net, Problem, negate};
+
+// The literal of the frame's case.
+fn literal_of(problem: &Problem, frame: Frame) -> Literal
+    requires clause { frame.clause < length problem.now.clauses }
+    requires case { frame.case < length (clause_at problem.now.clauses frame.clause) }
+    ensures literal { result ≡ (case_of problem.now.clauses frame).literal }
+    ensures over { IsOver problem.now.points result }
+{
+    problem.clauses.as_slice()[frame.clause].as_slice()[frame.case]
+}
+
+// The place of the clause's literal behind the frame's.
+fn later_case(problem: &Problem, frame: Frame) -> Option<usize>
+    requires clause { frame.clause < length problem.now.clauses }
+    requires case { frame.case < length (clause_at problem.now.clauses frame.clause) }
+    ensures { MatchOption result (length (clause_at problem.now.clauses frame.clause) ≤ frame.case + 1) (IsLater (clause_at problem.now.clauses frame.clause) frame.case) }
+{
+    let count = problem.clauses.as_slice()[frame.clause].as_slice().len();
+    if frame.case + 1 < count {
+        Some(frame.case + 1)
+    } else {
+        None
+    }
+}
+
+#[derive(Drop)]
+pub struct Path {
+    // the clauses whose cases are open, outermost first
+    pub frames: Vec<Frame>,
+    // of the refutation, up to the case that is looked at
+    pub steps: Vec<Step>,
+    ghost plain: { All IsPlain steps.items },
+}
+
+impl Path {
+    pub fn new(alloc: Global) -> Self
+        ensures frames { result.frames.items ≡ [] }
+        ensures steps { result.steps.items ≡ [] }
+    {
+        Path {
+            frames: Vec::new(alloc),
+            steps: Vec::new(alloc),
+        }
+    }
+
+    // Assumes the literal of the unit clause with the number, if there is one.
+    fn assume_unit(&mut self, number: Option<usize>) -> Result<(), AllocError>
+        ensures frames { self.new.frames.items ≡ self.old.frames.items }
+        ensures steps { OnOk result (self.new.steps.items ≡ self.old.steps.items ++ steps_of number) }
+    {
+        if let Some(number) = number {
+            self.steps.push(Step::Input(number))?;
+        }
+        Ok(())
+    }
+
+    // Closes the case with a cycle of what is assumed.
+    pub fn close(&mut self, units: &Units, cycle: Literals) -> Result<(), AllocError>
+        ensures frames { self.new.frames.items ≡ self.old.frames.items }
+        ensures steps { OnOk result (self.new.steps.items ≡ self.old.steps.items ++ leaf_steps units.now cycle) }
+    {
+        for literal in cycle.as_slice() {
+            self.assume_unit(units.number(*literal))?;
+        }
+        self.steps.push(Step::Cycle(cycle))?;
+        Ok(())
+    }
+
+    // Assumes the literal of the frame's case. Where the net refuses it, its cycle closes the case.
+    fn try_case<N: Net>(
+        &mut self,
+        problem: &Problem,
+        units: &Units,
+        net: &mut N,
+        frame: Frame,
+    ) -> Result<bool, AllocError>
+        requires points { N.points_of net.old ≡ problem.now.points }
+        requires base { IsBase problem.now.clauses units.now }
+        requires ready { IsReady problem.now.clauses units.now.literals (self.old.frames.items ++ frame ∷ []) self.old.steps.items (N.literals_of net.old) }
+        ensures points { N.points_of net.new ≡ N.points_of net.old }
+        ensures frames { IfOk result (λ _. self.new.frames.items ≡ self.old.frames.items ++ frame ∷ []) }
+        ensures tried { IfOk result (Tries problem.now.clauses units.now.literals self.new.frames.items self.new.steps.items (N.literals_of net.new)) }
+    {
+        self.frames.push(frame)?;
+        match net.add(literal_of(problem, frame))? {
+            Added::Yes => Ok(true),
+            Added::Cycle(cycle) => {
+                self.close(units, cycle)?;
+                Ok(false)
+            }
+        }
+    }
+
+    // The frame's case is closed: on to the next one, in which the negation of its literal is assumed. The net can't
+    // refuse the negation, since the clause was false on a schedule of what is assumed before it.
+    fn next_case<N: Net>(
+        &mut self,
+        problem: &Problem,
+        units: &Units,
+        net: &mut N,
+        frame: Frame,
+        later: usize,
+    ) -> Result<bool, AllocError>
+        requires points { N.points_of net.old ≡ problem.now.points }
+        requires base { IsBase problem.now.clauses units.now }
+        requires later { IsLater (clause_at problem.now.clauses frame.clause) frame.case later }
+        requires closed { IsClosed problem.now.clauses units.now.literals (self.old.frames.items ++ frame ∷ []) self.old.steps.items (N.literals_of net.old) }
+        ensures points { N.points_of net.new ≡ N.points_of net.old }
+        ensures count { IfOk result (λ _. length self.new.frames.items ≡ length self.old.frames.items + 1) }
+        ensures turns { IfOk result (λ _. turns_with problem.now.clauses self.new.frames.items ≤ turns_behind problem.now.clauses (self.old.frames.items ++ frame ∷ [])) }
+        ensures tried { IfOk result (Tries problem.now.clauses units.now.literals self.new.frames.items self.new.steps.items (N.literals_of net.new)) }
+    {
+        stn_core::cycle_law();
+        stn_core::negation_law();
+        stn_core::negation_kept();
+        net.retract(frame.mark);
+        net.add(negate(literal_of(problem, frame)))?;
+        let next = Frame {
+            clause: frame.clause,
+            case: later,
+            mark: net.mark(),
+        };
+        self.try_case(problem, units, net, next)
+    }
+
+    // The innermost case is closed: on to the next case that the net takes. There is none where all are closed.
+    fn turn_back<N: Net>(
+        &mut self,
+        problem: &Problem,
+        units: &Units,
+        net: &mut N,
+    ) -> Result<bool, AllocError>
+        requires points { N.points_of net.old ≡ problem.now.points }
+        requires base { IsBase problem.now.clauses units.now }
+        requires closed { IsClosed problem.now.clauses units.now.literals self.old.frames.items self.old.steps.items (N.literals_of net.old) }
+        ensures points { N.points_of net.new ≡ N.points_of net.old }
+        ensures goes { IfOk result (Goes problem.now.clauses units.now.literals self.new.frames.items self.new.steps.items (N.literals_of net.new)) }
+        ensures turns { IfOk result (λ taken. taken ≡ true → turns_with problem.now.clauses self.new.frames.items ≤ turns_behind problem.now.clauses self.old.frames.items) }
+    {
+        while let Some(frame) = self.frames.pop() {
+            if let Some(later) = later_case(problem, frame) {
+                if self.next_case(problem, units, net, frame, later)? {
+                    return Ok(true);
+                }
+            }
+        }
+        Ok(false)
+    }
+
+    // Opens the cases of a clause that is false on a schedule of what is assumed.
+    pub fn open<N: Net>(
+        &mut self,
+        problem: &Problem,
+        units: &Units,
+        net: &mut N,
+        clause: usize,
+    ) -> Result<bool, AllocError>
+        requires points { N.points_of net.old ≡ problem.now.points }
+        requires base { IsBase problem.now.clauses units.now }
+        requires open { IsOpen problem.now.clauses units.now.literals self.old.frames.items self.old.steps.items (N.literals_of net.old) }
+        requires within { clause < length problem.now.clauses }
+        requires some { 0 < length (clause_at problem.now.clauses clause) }
+        requires falsified { IsFalsified (N.literals_of net.old) (clause_at problem.now.clauses clause) }
+        ensures points { N.points_of net.new ≡ N.points_of net.old }
+        ensures goes { IfOk result (Goes problem.now.clauses units.now.literals self.new.frames.items self.new.steps.items (N.literals_of net.new)) }
+        ensures turns { IfOk result (λ taken. taken ≡ true → turns_with problem.now.clauses self.new.frames.items < turns_with problem.now.clauses self.old.frames.items) }
+    {
+        self.steps.push(Step::Input(clause))?;
+        let frame = Frame {
+            clause,
+            case: 0,
+            mark: net.mark(),
+        };
+        if self.try_case(problem, units, net, frame)? {
+            return Ok(true);
+        }
+        self.turn_back(problem, units, net)
+    }
+}
