@@ -2,3 +2,4 @@ pub mod Walking
 pub mod Judging
 pub mod Reading
 pub mod Telling
+pub mod Truths

@@ -14,7 +14,9 @@ use Rattle.dtp_check.specs.declared.part.PartEnd.TheVariants as part
 use Rattle.dtp_check.specs.declared.judge.Turn.{Turn}
 use Rattle.dtp_check.specs.declared.judge.Turn.TheVariants.{Going, Judged}
 use Rattle.dtp_check.specs.declared.judgement.Judgement.{Judgement}
-use Rattle.dtp_check.specs.Judged.{is_exit, EndsPart, ExitEnds, FollowsExit, ScriptPart, surplus_of, judged}
+use Rattle.cert_read.specs.Certificates.{CertificateOutcome, ReadsEntries, ReadsCertificate}
+use Rattle.dtp_session.specs.Answers.{kind_of}
+use Rattle.dtp_check.specs.Judged.{CertificateBehind, judged_with, JudgedPart, IsJudged, is_exit, EndsPart, ExitEnds, FollowsExit, ScriptPart, surplus_of, judged}
 use Rattle.dtp_check.specs.Parts.{IsReadable}
 use Rattle.dtp_check.specs.Turns.{IsJudgedTurn}
 use Rattle.dtp_check.proofs.Judging.{judged_none}
@@ -102,6 +104,68 @@ module _ (one : (bytes : List ℕ) (place : ℕ) (o p : Outcome) (m n : ℕ) →
   unfolding ScriptPart
   part_is_readable bytes place after [] end kind behind h r e = readable_end bytes place after end kind behind h r e
   part_is_readable bytes place after (y ∷ ys) end kind behind (mid, spells_y, apart_y, follows) r e = not_ended bytes place y mid (part.Unread kind) after spells_y apart_y e
+
+  -- ---- one judgement
+
+  same_end : (bytes : List ℕ) (place : ℕ) (e f : PartEnd) (m n : ℕ) → EndsPart bytes place e m → EndsPart bytes place f n → (e ≡ f) × (m ≡ n)
+  same_end bytes place part.Exit f m n h k = absurd h
+  same_end bytes place part.Header part.Exit m n h k = absurd k
+  same_end bytes place part.Header part.Header m n h k = (refl, (same_sexpr bytes place header_sexpr header_sexpr m n h k).1)
+  same_end bytes place part.Header part.End m n h k = absurd (not_finished bytes place header_sexpr m n h k)
+  same_end bytes place part.Header (part.Unread kind) m n h (why, k, is) = absurd (not_refused bytes place header_sexpr why m n h k)
+  same_end bytes place part.End part.Exit m n h k = absurd k
+  same_end bytes place part.End part.Header m n h k = absurd (not_finished bytes place header_sexpr n m k h)
+  same_end bytes place part.End part.End m n h k = (refl, (one bytes place finished finished m n h k).1)
+  same_end bytes place part.End (part.Unread kind) m n h (why, k, is) = let e = (one bytes place finished (refused why) m n h k).0 in absurd cc
+  same_end bytes place (part.Unread kind) part.Exit m n h k = absurd k
+  same_end bytes place (part.Unread kind) part.Header m n (why, h, is) k = absurd (not_refused bytes place header_sexpr why n m k h)
+  same_end bytes place (part.Unread kind) part.End m n (why, h, is) k = let e = (one bytes place (refused why) finished m n h k).0 in absurd cc
+  same_end bytes place (part.Unread kind) (part.Unread other) m n (why, h, is) (how, k, too) =
+      let w = one bytes place (refused why) (refused how) m n h k in
+      let first = w.0 in
+      let same : why ≡ how = cc in
+      (ap part.Unread (sym is ∙ ap kind_of same ∙ too), w.1)
+
+  pub record IsSame (xs ys : List Sexpr) (e f : PartEnd) (m n : ℕ) : Type 0 where
+    pub commands : xs ≡ ys
+    pub ends : e ≡ f
+    pub behind : m ≡ n
+
+  same_behind : (bytes : List ℕ) (x : Sexpr) (mid : ℕ) (b : Bool) (xs ys : List Sexpr) (e f : PartEnd) (m n : ℕ) → FollowsExit b (ExitEnds mid xs e m) (ScriptPart bytes mid xs e m) → FollowsExit b (ExitEnds mid ys f n) (ScriptPart bytes mid ys f n)
+      → (ScriptPart bytes mid xs e m → ScriptPart bytes mid ys f n → IsSame xs ys e f m n) → IsSame xs ys e f m n
+  same_behind bytes x mid true xs ys e f m n h k rest = record { commands = h.0 ∙ sym k.0; ends = h.1 ∙ sym k.1; behind = sym h.2 ∙ k.2 }
+  same_behind bytes x mid false xs ys e f m n h k rest = rest h k
+
+  pub same_part : (bytes : List ℕ) (place : ℕ) (xs ys : List Sexpr) (e f : PartEnd) (m n : ℕ) → ScriptPart bytes place xs e m → ScriptPart bytes place ys f n → IsSame xs ys e f m n
+  unfolding ScriptPart
+  same_part bytes place [] [] e f m n h k = let w = same_end bytes place e f m n h k in record { commands = refl; ends = w.0; behind = w.1 }
+  same_part bytes place [] (y ∷ ys) e f m n h (mid, spells, apart, follows) = absurd (not_ended bytes place y mid e m spells apart h)
+  same_part bytes place (x ∷ xs) ys e f m n (mid, spells, apart, follows) k =
+      let other = part_is_more bytes place mid x ys f n k spells apart in
+      let same = same_behind bytes x mid (is_exit x) xs other.others e f m n follows other.follows (λ a b. same_part bytes mid xs other.others e f m n a b) in
+      record { commands = ap (λ (zs : List Sexpr). x ∷ zs) same.commands ∙ sym other.is; ends = same.ends; behind = same.behind }
+
+  module _ (one_read : (bytes : List ℕ) (place : ℕ) (o p : CertificateOutcome) → ReadsCertificate bytes place o → ReadsCertificate bytes place p → o ≡ p)
+      (one_rest : (bytes : List ℕ) (place : ℕ) (o p : CertificateOutcome) → ReadsEntries bytes place o → ReadsEntries bytes place p → o ≡ p) where
+    same_certificate : (bytes : List ℕ) (end : PartEnd) (behind : ℕ) (o p : CertificateOutcome) → CertificateBehind bytes end behind o → CertificateBehind bytes end behind p → o ≡ p
+    same_certificate bytes part.Exit behind o p h k = one_read bytes behind o p h k
+    same_certificate bytes part.Header behind o p h k = one_rest bytes behind o p h k
+    same_certificate bytes part.End behind o p h k = h ∙ sym k
+    same_certificate bytes (part.Unread kind) behind o p h k = absurd h
+
+    same_judgement : (bytes : List ℕ) (xs : List Sexpr) (end : PartEnd) (behind : ℕ) (i j : Judgement) → JudgedPart bytes xs end behind i → JudgedPart bytes xs end behind j → i ≡ j
+    same_judgement bytes xs part.Exit behind i j h k = h.2 ∙ ap (judged_with xs) (same_certificate bytes part.Exit behind h.0 k.0 h.1 k.1) ∙ sym k.2
+    same_judgement bytes xs part.Header behind i j h k = h.2 ∙ ap (judged_with xs) (same_certificate bytes part.Header behind h.0 k.0 h.1 k.1) ∙ sym k.2
+    same_judgement bytes xs part.End behind i j h k = h.2 ∙ ap (judged_with xs) (same_certificate bytes part.End behind h.0 k.0 h.1 k.1) ∙ sym k.2
+    same_judgement bytes xs (part.Unread kind) behind i j h k = h ∙ sym k
+
+    pub judgement_is_one : (bytes : List ℕ) (i j : Judgement) → IsJudged bytes i → IsJudged bytes j → i ≡ j
+    judgement_is_one bytes i j h k =
+        let same = same_part bytes 0 h.commands k.commands h.end k.end h.behind k.behind h.script k.script in
+        let first : JudgedPart bytes k.commands h.end h.behind i = subst (λ (xs : List Sexpr). JudgedPart bytes xs h.end h.behind i) same.commands h.judged_part in
+        let second : JudgedPart bytes k.commands k.end h.behind i = subst (λ (e : PartEnd). JudgedPart bytes k.commands e h.behind i) same.ends first in
+        let third : JudgedPart bytes k.commands k.end k.behind i = subst (λ (b : ℕ). JudgedPart bytes k.commands k.end b i) same.behind second in
+        same_judgement bytes k.commands k.end k.behind i j third k.judged_part
 
   -- ---- a turn of the loop
 

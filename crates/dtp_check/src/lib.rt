@@ -6,9 +6,11 @@ mod check;
 mod entry;
 mod judge;
 mod judgement;
+mod laws;
 mod part;
 mod text;
 
 pub use check::{Checked, check_pair};
 pub use judgement::{CertificateFlaw, EntryFlaw, Judgement};
+pub use laws::{nothing_false_is_accepted, one_judgement};
 pub use part::PartEnd;

@@ -1,0 +1,32 @@
+-- What the entries of a certificate say of a script's check-sats.
+use Rattle.std.specs.Prelude.{◌≡◌, List, [], ◌∷◌, Ok, Err}
+use Rattle.smt_sexpr.specs.Tree.{Sexpr}
+use Rattle.cert_text.specs.declared.entry.Entry.{Entry}
+use Rattle.cert_text.specs.declared.entry.Entry.TheVariants.{Sat, Unsat}
+use Rattle.idl_term.specs.Satisfiable.{IsSatisfiable}
+use Rattle.dtp_session.specs.declared.state.Effect.{Effect}
+use Rattle.dtp_session.specs.declared.state.Effect.TheVariants.{Silent, CheckSat, Exit}
+use Rattle.dtp_session.specs.States.{State, after}
+
+-- a sat entry says that some schedule satisfies the assertions, an unsat entry that none does
+abbrev pub Tells : State → Entry → Type 0
+Tells s (Sat values) = IsSatisfiable s.names s.assertions
+Tells s (Unsat lemmas) = ¬ IsSatisfiable s.names s.assertions
+
+-- a check-sat takes one entry; no entry is left behind the script
+abbrev pub IsToldAt : State → List Entry → (List Entry → Type 0) → Type 0
+IsToldAt s [] Rest = ⊥
+IsToldAt s (entry ∷ entries) Rest = Tells s entry × Rest entries
+
+abbrev pub IsToldBy : Effect → State → List Entry → (List Entry → Type 0) → Type 0
+IsToldBy Silent s entries Rest = Rest entries
+IsToldBy CheckSat s entries Rest = IsToldAt s entries Rest
+IsToldBy Exit s entries Rest = entries ≡ []
+
+-- no command is refused, and each check-sat has an entry that says what is so, in order
+unfoldable pub IsTold : State → List Sexpr → List Entry → Type 0
+IsTold s [] entries = entries ≡ []
+IsTold s (x ∷ xs) entries = elim (after s x) [
+  | Ok step ↦ IsToldBy step.effect step.state entries (λ rest. IsTold step.state xs rest)
+  | Err kind ↦ ⊥
+]
