@@ -3,3 +3,4 @@ pub mod Judging
 pub mod Reading
 pub mod Telling
 pub mod Truths
+pub mod Accepting

@@ -2,6 +2,7 @@ pub mod Judged
 pub mod Texts
 pub mod Answered
 pub mod Told
+pub mod Whole
 pub mod Parts
 pub mod Behind
 pub mod Roots

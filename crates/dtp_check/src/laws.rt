@@ -1,13 +1,16 @@
 //! Laws of the definitions alone.
-ghost use Rattle.std.specs.Prelude.{◌≡◌, List, ℕ};
+ghost use Rattle.std.specs.Prelude.{◌≡◌, ◌++◌, List, ℕ};
 ghost use Rattle.smt_sexpr.specs.Tree.{Sexpr};
 ghost use Rattle.cert_text.specs.declared.entry.Entry.{Entry};
+ghost use Rattle.dtp_session.specs.declared.report.Report.TheVariants as report;
 ghost use Rattle.dtp_session.specs.States.{start_state};
+ghost use Rattle.dtp_session.specs.Transcripts.{IsReport};
 ghost use Rattle.dtp_check.specs.declared.judgement.Judgement.{Judgement};
 ghost use Rattle.dtp_check.specs.declared.judgement.Judgement.TheVariants.{Accepted};
 ghost use Rattle.dtp_check.specs.declared.part.PartEnd.{PartEnd};
 ghost use Rattle.dtp_check.specs.Judged.{ScriptPart, IsJudged};
 ghost use Rattle.dtp_check.specs.Told.{IsTold};
+ghost use Rattle.dtp_check.specs.Whole.{IsWhole, NumbersFit};
 
 /// A source comes to one judgement at most.
 pub fn one_judgement()
@@ -23,4 +26,15 @@ pub fn nothing_false_is_accepted()
     ensures { (bytes : List ℕ) → IsJudged bytes Accepted → (xs : List Sexpr) × (end : PartEnd) × (behind : ℕ) × (entries : List Entry) × ScriptPart bytes 0 xs end behind × IsTold start_state xs entries }
 {
     cert_check::accepted_law();
+}
+
+/// A script is accepted with the certificate that was written of it without an error. The script is cut behind its
+/// `(exit)`, where it has one, and doesn't end in a comment.
+pub fn certified_is_accepted()
+    ensures { (script out : List ℕ) → IsReport report.Certificate script out 0 → IsWhole script → NumbersFit out → IsJudged (script ++ out) Accepted }
+{
+    smt_sexpr::one_outcome();
+    smt_sexpr::reads_on();
+    cert_check::flaw_law();
+    cert_read::certificate_reads_back();
 }

@@ -8,5 +8,6 @@ pub mod Gaps
 pub mod Complete
 pub mod OneReading
 pub mod Printed
+pub mod Local
 pub mod SymbolLaws
 pub mod Values

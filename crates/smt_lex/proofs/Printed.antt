@@ -86,7 +86,7 @@ unfolding text_of
 text_before inside c rest h e =
     rw (text_inside inside (34 ∷ c ∷ rest) h, open_mark 34 (c ∷ rest) refl, shut_plain c rest e, text_of) refl
 
-quoted_before : (inside rest : List ℕ) → list_all is_quoted_byte inside ≡ true → quoted_of (inside ++ 124 ∷ rest) ≡ Ok (Symbol, 2 + length inside)
+pub quoted_before : (inside rest : List ℕ) → list_all is_quoted_byte inside ≡ true → quoted_of (inside ++ 124 ∷ rest) ≡ Ok (Symbol, 2 + length inside)
 unfolding quoted_of quoted_end_of is_quoted_byte
 quoted_before inside rest h = rw (run_stops is_quoted_byte inside 124 rest h refl, drop_at inside (124 ∷ rest) (length inside) refl) refl
 

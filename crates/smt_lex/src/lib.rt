@@ -24,7 +24,7 @@ mod scan;
 mod symbol;
 mod token;
 
-pub use laws::{one_reading, reads_back};
+pub use laws::{one_reading, reads_back, reads_on};
 pub use lexer::Lexer;
 pub use numeral::{numeral_digits, numeral_value};
 pub use symbol::{content_of_symbol, symbol_content};

@@ -7,3 +7,4 @@ pub mod Printed
 pub mod Stack
 pub mod Loop
 pub mod Writing
+pub mod Onward

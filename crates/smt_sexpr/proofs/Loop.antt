@@ -137,7 +137,7 @@ mutual
       let d = token_forward bytes last closing after c in
       omega arith
 
-  each_forward : (bytes : List ℕ) (xs : Items) (place after : ℕ) → SpellsEach bytes place xs after → place ≤ after
+  pub each_forward : (bytes : List ℕ) (xs : Items) (place after : ℕ) → SpellsEach bytes place xs after → place ≤ after
   each_forward bytes none place after e = omega arith
   each_forward bytes (more x xs) place after (mid, first, rest) =
       let a = spells_forward bytes x place mid first in

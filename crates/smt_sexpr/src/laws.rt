@@ -1,6 +1,6 @@
 //! Laws of the grammar alone.
-ghost use Rattle.std.specs.Prelude.{◌≡◌, ◌++◌, ◌+◌, length, List, ℕ};
-ghost use Rattle.smt_sexpr.specs.Tree.{Sexpr};
+ghost use Rattle.std.specs.Prelude.{◌≡◌, ◌≤◌, ◌++◌, ◌+◌, length, List, ℕ};
+ghost use Rattle.smt_sexpr.specs.Tree.{Sexpr, Items, list};
 ghost use Rattle.smt_sexpr.specs.Table.{Table, Means, Grows};
 ghost use Rattle.smt_sexpr.specs.Reading.{Spells, Outcome, Outcomes};
 ghost use Rattle.smt_sexpr.specs.Printing.{text_of, IsWritable, EndsSexpr};
@@ -44,4 +44,12 @@ pub fn reads_back()
     ensures { (x : Sexpr) (before after : List ℕ) → IsWritable x → EndsSexpr x after → Spells (before ++ (text_of x ++ after)) (length before) x (length before + length (text_of x)) }
 {
     smt_lex::reads_back();
+}
+
+/// A list is read the same whatever follows it, and it doesn't go beyond the text.
+pub fn reads_on()
+    ensures list { (bytes more : List ℕ) (place after : ℕ) (xs : Items) → Spells bytes place (list xs) after → Spells (bytes ++ more) place (list xs) after }
+    ensures within { (bytes : List ℕ) (place after : ℕ) (xs : Items) → Spells bytes place (list xs) after → after ≤ length bytes }
+{
+    smt_lex::reads_on();
 }

@@ -22,7 +22,7 @@ mod text;
 pub use error::SexprError;
 pub use laws::{
     meaning_is_writable, meaning_stays, one_meaning, one_outcome, one_value, read_is_writable,
-    reads_back,
+    reads_back, reads_on,
 };
 pub use node::{Node, SexprId};
 pub use sexprs::Sexprs;
