@@ -91,13 +91,13 @@ with_unit_at clauses base new l number clause h within at is e =
     let here : slice_get clauses number ≡ Some (l ∷ []) = slice_get-get_or clauses number clause within ∙ ap (λ (c : List Literal). Some c) (sym at ∙ is) in
     subst (IsBase clauses) (sym e) (with_unit_by clauses base l number (list_any (same_literal l) base.literals) h here)
 
+pub same_self : (l : Literal) → same_literal l l ≡ true
+same_self l = grind (arith, ints, nat_tests)
+
 -- a literal that is listed has a number
 numbered : (base : Base) (l : Literal) → Contains base.literals l → number_of base l ≡ None → ⊥
 numbered base l h e = by base.literals (position (same_literal l) base.literals) refl h e
   where
-    same_self : same_literal l l ≡ true
-    same_self = grind (arith, ints, nat_tests)
-
     by : (literals : List Literal) (p : Option ℕ) → position (same_literal l) literals ≡ p → Contains literals l → option_map (λ (k : ℕ). slice_index base.numbers k) p ≡ None → ⊥
     by literals (Some k) is c f = absurd cc
     by literals None is c f =
@@ -105,7 +105,7 @@ numbered base l h e = by base.literals (position (same_literal l) base.literals)
         let inside = c.1 in
         let no = fails_before_first (same_literal l) literals c.0 l (omega arith) in
         let off : same_literal l l ≡ false = subst (λ (m : Literal). same_literal l m ≡ false) c.2 no in
-        let both : true ≡ false = sym same_self ∙ off in
+        let both : true ≡ false = sym (same_self l) ∙ off in
         absurd cc
 
 -- the literals of unit clauses that are still to be assumed are coming

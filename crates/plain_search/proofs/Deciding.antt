@@ -15,7 +15,6 @@ use Rattle.refute_tree.specs.Trees.{Tree, cases, none}
 use Rattle.plain_search.specs.declared.frame.Frame.{Frame}
 use Rattle.plain_search.specs.Base.{Base, IsBase, leaf_steps}
 use Rattle.plain_search.specs.Clauses.{clause_at, IsFalseAt, IsNotEmpty}
-use Rattle.plain_search.specs.Cases.{IsOpenSoFar}
 use Rattle.plain_search.specs.Paths.{IsFalsified, IsOpen, Goes}
 use Rattle.plain_search.specs.Verdicts.{IsSolution}
 use Rattle.plain_search.proofs.Bases.{leaf_closes}
@@ -37,12 +36,9 @@ none_different : IsDistinct nat_eq []
 unfolding IsDistinct
 none_different = tt
 
-started_so_far : (clauses : List (List Literal)) → IsOpenSoFar clauses [] []
-started_so_far clauses here rest tree finish = subst (λ (s : List Step). Tree clauses [] [] here s) finish tree
-
 pub started : (clauses : List (List Literal)) (base literals : List Literal) (frames : List Frame) (steps : List Step) → frames ≡ [] → steps ≡ [] → literals ≡ base → IsOpen clauses base frames steps literals
 started clauses base literals frames steps no_frames no_steps is =
-    let first : IsOpen clauses base [] [] literals = record { frames_are = tt; different = none_different; literals_are = is ∙ sym (append-nil base); so_far = started_so_far clauses } in
+    let first : IsOpen clauses base [] [] literals = record { frames_are = tt; different = none_different; literals_are = is ∙ sym (append-nil base); begun = refl } in
     subst (λ (fs : List Frame). IsOpen clauses base fs steps literals) (sym no_frames) (subst (λ (s : List Step). IsOpen clauses base [] s literals) (sym no_steps) first)
 
 -- the net's schedule has a value for each point

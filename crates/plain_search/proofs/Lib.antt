@@ -7,3 +7,4 @@ pub mod Opening
 pub mod Trails
 pub mod Trying
 pub mod Turns
+pub mod Writing

@@ -8,10 +8,11 @@ use Rattle.refute_tree.specs.declared.step.Step.{Step}
 use Rattle.refute_tree.specs.declared.step.Step.TheVariants.{Input}
 use Rattle.plain_search.specs.declared.frame.Frame.{Frame}
 use Rattle.plain_search.specs.Clauses.{clause_at}
-use Rattle.plain_search.specs.Cases.{Case, denied_in, trail_of, held_of, IsOpenSoFar}
-use Rattle.plain_search.specs.Work.{width_of, open_turns}
-use Rattle.plain_search.specs.Paths.{case_at, case_of, cases_of, IsFalsified, IsFrame, IsReady, IsOpen, turns_with, turns_behind}
-use Rattle.plain_search.proofs.Trails.{opened_so_far}
+use Rattle.plain_search.specs.Cases.{Case, denied_in, trail_of, held_of}
+use Rattle.plain_search.specs.Work.{width_of, later_turns, open_turns}
+use Rattle.plain_search.specs.Paths.{case_at, case_of, cases_of, IsFalsified, IsFrame, used_of, AreBegun, IsReady, IsOpen, turns_with, turns_behind}
+use Rattle.plain_search.proofs.Trails.{opened_begun}
+use Rattle.plain_search.proofs.Writing.{begun_join}
 use Rattle.plain_search.proofs.Turns.{longest, opened_turns}
 use Rattle.plain_search.proofs.Frames.{cases_push, frames_join, frames_few, held_frames, case_first, different_push, All-append_right}
 use Rattle.plain_search.proofs.Moving.{behind_fewer}
@@ -20,8 +21,8 @@ module _ (clauses : List (List Literal)) (base : List Literal) (fs : List Frame)
   first_case : case_of clauses f ≡ case_at (clause_at clauses i) 0
   first_case = ap (λ (j : ℕ). case_at (clause_at clauses j) f.case) clause ∙ ap (case_at (clause_at clauses i)) case
 
-  pub opened_ready : (steps now : List Step) (literals : List Literal) → IsOpen clauses base fs steps literals → i < length clauses → 0 < length (clause_at clauses i) → IsFalsified literals (clause_at clauses i) → f.mark.length ≡ length literals → now ≡ steps ++ Input i ∷ [] → IsReady clauses base (fs ++ f ∷ []) now literals
-  opened_ready steps now literals h within some falsified mark is =
+  pub opened_ready : (steps now : List Step) (literals : List Literal) → IsOpen clauses base fs steps literals → i < length clauses → 0 < length (clause_at clauses i) → IsFalsified literals (clause_at clauses i) → f.mark.length ≡ length literals → f.start ≡ length steps → now ≡ steps ++ Input i ∷ [] → IsReady clauses base (fs ++ f ∷ []) now literals
+  opened_ready steps now literals h within some falsified mark start is =
       let cs = cases_of clauses fs in
       let c = case_of clauses f in
       let front = base ++ trail_of cs in
@@ -43,7 +44,7 @@ module _ (clauses : List (List Literal)) (base : List Literal) (fs : List Frame)
         frames_are = frames_join clauses base fs f h.frames_are frame;
         different = different_push clauses base fails.0 fs f fails.2 h.frames_are (All-append_right (Holds fails.0) base (trail_of cs) fails.1) h.different;
         literals_are = held;
-        so_far = subst (λ (ds : List Case). IsOpenSoFar clauses ds now) (sym (cases_push clauses fs f)) (opened_so_far clauses cs c i steps now before at h.so_far is);
+        begun = subst (AreBegun clauses [] 0 (fs ++ f ∷ [])) (sym is) (begun_join clauses [] 0 fs f steps (Input i ∷ []) (omega arith) h.begun (opened_begun clauses (used_of clauses fs) c i before at));
       }
 
   pub opened_fewer : (steps : List Step) (literals : List Literal) → i < length clauses → 0 < length (clause_at clauses i) → IsReady clauses base (fs ++ f ∷ []) steps literals → turns_with clauses (fs ++ f ∷ []) < turns_with clauses fs
@@ -61,12 +62,12 @@ module _ (clauses : List (List Literal)) (base : List Literal) (fs : List Frame)
       omega arith
 
 -- where the case that was tried is open
-pub tried_fewer : (clauses : List (List Literal)) (frames tried : List Frame) (bound : ℕ) → frames ≡ tried → turns_with clauses tried < bound → turns_with clauses frames < bound
-tried_fewer clauses frames tried bound is lt = let same : turns_with clauses frames ≡ turns_with clauses tried = ap (turns_with clauses) is in omega arith
+pub tried_fewer : (clauses : List (List Literal)) (frames tried : List Frame) (bound : ℕ) → cases_of clauses frames ≡ cases_of clauses tried → turns_with clauses tried < bound → turns_with clauses frames < bound
+tried_fewer clauses frames tried bound is lt = let same : turns_with clauses frames ≡ turns_with clauses tried = ap (open_turns (width_of clauses) (length clauses)) is in omega arith
 
 -- where it is closed, and another one is open
-pub turned_fewer : (clauses : List (List Literal)) (frames before tried : List Frame) (bound : ℕ) → before ≡ tried → turns_with clauses frames ≤ turns_behind clauses before → turns_with clauses tried < bound → turns_with clauses frames < bound
+pub turned_fewer : (clauses : List (List Literal)) (frames before tried : List Frame) (bound : ℕ) → cases_of clauses before ≡ cases_of clauses tried → turns_with clauses frames ≤ turns_behind clauses before → turns_with clauses tried < bound → turns_with clauses frames < bound
 turned_fewer clauses frames before tried bound is le lt =
     let behind = behind_fewer clauses tried in
-    let same : turns_behind clauses before ≡ turns_behind clauses tried = ap (turns_behind clauses) is in
+    let same : turns_behind clauses before ≡ turns_behind clauses tried = ap (later_turns (width_of clauses) (length clauses)) is in
     omega arith

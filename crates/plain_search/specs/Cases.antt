@@ -1,10 +1,12 @@
--- Of the code and not of the meaning: the cases that are open, and what is still to come behind them. Contracts of private
--- functions alone cite it.
-use Rattle.std.specs.Prelude.{◌≡◌, List, [], ◌∷◌, ◌++◌, map}
+-- Of the code and not of the meaning: the cases that are open, and the steps that are written for them. Contracts of
+-- private functions alone cite it.
+use Rattle.std.specs.Prelude.{◌||◌, Bool, List, [], ◌∷◌, ◌++◌, map, Contains}
+use Rattle.std.specs.List.{list_any}
 use Rattle.stn_core.specs.declared.literal.Literal.{Literal}
 use Rattle.stn_core.specs.Literal.{negation_of}
 use Rattle.refute_tree.specs.declared.step.Step.{Step}
 use Rattle.refute_tree.specs.Trees.{Tree, Forest}
+use Rattle.plain_search.specs.Base.{same_literal}
 
 -- one case of a clause: the literals before it, its own, and those after it
 pub record Case : Type 0 where
@@ -31,17 +33,24 @@ held_of [] = []
 held_of (c ∷ []) = denied_in c
 held_of (c ∷ d ∷ cases) = assumed_in c ++ held_of (d ∷ cases)
 
--- the steps begin with the later cases of each clause, the innermost clause's first, and the rest is what follows them
-abbrev pub Finish : List (List Literal) → List Literal → List Case → List Step → List Step → Type 0
-Finish clauses assumed [] steps rest = steps ≡ rest
-Finish clauses assumed (c ∷ cases) steps rest =
-    (between : List Step) × Finish clauses (assumed ++ assumed_in c) cases steps between × Forest clauses [] ((assumed ++ denied_in c) ++ negation_of c.literal ∷ []) c.after between rest
+-- each literal of the one list is in the other
+abbrev pub AreIn : List Literal → List Literal → Type 0
+AreIn fewer many = (l : Literal) → Contains fewer l → Contains many l
 
--- with the later cases the steps so far are a tree
-abbrev pub IsSoFar : List (List Literal) → List Case → List Step → Type 0
-IsSoFar clauses cases steps = (rest : List Step) → Finish clauses [] cases rest [] → Tree clauses [] [] (steps ++ rest) []
+-- the steps open the clause of the case and close the cases before it: with a tree for the case, and then the later
+-- cases, they are a tree under all assumptions that have what is needed
+abbrev pub IsBegun : List (List Literal) → List Literal → Case → List Step → Type 0
+IsBegun clauses needed c steps =
+    (assumed : List Literal) (here later rest : List Step) → AreIn needed assumed → Tree clauses [] (assumed ++ assumed_in c) here later → Forest clauses [] ((assumed ++ denied_in c) ++ negation_of c.literal ∷ []) c.after later rest → Tree clauses [] assumed (steps ++ here) rest
 
--- with a tree for the innermost case and then the later cases the steps so far are a tree
-abbrev pub IsOpenSoFar : List (List Literal) → List Case → List Step → Type 0
-IsOpenSoFar clauses cases steps =
-    (here rest : List Step) → Tree clauses [] (trail_of cases) here rest → Finish clauses [] cases rest [] → Tree clauses [] [] (steps ++ here) []
+-- the steps are a tree under all assumptions that have what is needed
+abbrev pub IsTreeOver : List (List Literal) → List Literal → List Step → Type 0
+IsTreeOver clauses needed steps = (assumed : List Literal) (rest : List Step) → AreIn needed assumed → Tree clauses [] assumed (steps ++ rest) rest
+
+-- the case assumes the literal
+abbrev pub assumes : Case → Literal → Bool
+assumes c l = same_literal c.literal l || list_any (λ (m : Literal). same_literal (negation_of m) l) c.before
+
+-- the case assumes a literal of the cycle
+abbrev pub cites : List Literal → Case → Bool
+cites cycle c = list_any (λ (l : Literal). assumes c l) cycle

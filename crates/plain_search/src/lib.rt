@@ -1,4 +1,4 @@
-//! Plain branching over the clauses of a Disjunctive Temporal Problem.
+//! Branching over the clauses of a Disjunctive Temporal Problem, up to a schedule or a refutation.
 #![tactic(auto)]
 
 mod clauses;

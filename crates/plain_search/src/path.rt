@@ -1,12 +1,13 @@
 //! The way down to the case that is looked at, and the steps of the refutation so far.
-ghost use Rattle.std.specs.Prelude.{◌≡◌, ◌<◌, ◌≤◌, ◌+◌, ◌++◌, ◌∷◌, [], ℕ, List, length, All, MatchOption, true, IfOk, OnOk};
+ghost use Rattle.std.specs.Prelude.{◌≡◌, ◌||◌, ◌<◌, ◌≤◌, ◌+◌, ◌++◌, ◌∷◌, [], ℕ, List, length, All, MatchOption, true, IfOk, OnOk, map, take, drop};
 ghost use Rattle.stn_core.specs.declared.literal.Literal.{Literal as Bound};
-ghost use Rattle.stn_core.specs.Literal.{IsOver};
+ghost use Rattle.std.specs.List.{list_any};
+ghost use Rattle.stn_core.specs.Literal.{IsOver, negation_of};
 ghost use Rattle.refute_tree.specs.Trees.{Tree};
-ghost use Rattle.plain_search.specs.Base.{IsBase, IsPlain, steps_of, leaf_steps};
+ghost use Rattle.plain_search.specs.Base.{IsBase, IsPlain, same_literal, steps_of, leaf_steps};
 ghost use Rattle.plain_search.specs.Clauses.{clause_at, IsNotEmpty};
-ghost use Rattle.plain_search.specs.Cases.{trail_of, denied_in, IsOpenSoFar};
-ghost use Rattle.plain_search.specs.Paths.{case_of, cases_of, literal_at, IsFalsified, IsOpen, IsClosed, IsReady, IsLater, Goes, Tries, turns_behind, turns_with};
+ghost use Rattle.plain_search.specs.Cases.{cites};
+ghost use Rattle.plain_search.specs.Paths.{case_of, cases_of, IsFalsified, IsOpen, IsClosed, IsReady, IsLater, IsIn, Goes, Tries, marked, turns_behind, turns_with};
 
 use crate::frame::Frame;
 use crate::units::Units;
@@ -38,11 +39,66 @@ fn later_case(problem: &Problem, frame: Frame) -> Option<usize>
     }
 }
 
+// Whether this is the negation of one of them.
+fn is_negated(before: &[Literal], l: Literal) -> bool
+    ensures { result ≡ list_any (λ (m : Bound). same_literal (negation_of m) l) before.now }
+{
+    for m in before {
+        if negate(*m) == l {
+            return true;
+        }
+    }
+    false
+}
+
+// Whether this is the literal, or the negation of one of those before it.
+fn is_assumed(before: &[Literal], literal: Literal, l: Literal) -> bool
+    ensures { result ≡ (same_literal literal l || list_any (λ (m : Bound). same_literal (negation_of m) l) before.now) }
+{
+    literal == l || is_negated(before, l)
+}
+
+// Whether the frame's case assumes a literal of the cycle.
+fn is_cited(problem: &Problem, frame: Frame, cycle: &[Literal]) -> bool
+    requires { IsIn problem.now.clauses frame }
+    ensures { result ≡ cites cycle.now (case_of problem.now.clauses frame) }
+{
+    let clause = problem.clauses.as_slice()[frame.clause].as_slice();
+    for l in cycle {
+        if is_assumed(&clause[..frame.case], clause[frame.case], *l) {
+            return true;
+        }
+    }
+    false
+}
+
+// The frame is used where its case assumes a literal of the cycle.
+fn mark(problem: &Problem, frame: Frame, cycle: &[Literal]) -> Frame
+    requires { IsIn problem.now.clauses frame }
+    ensures { result ≡ marked problem.now.clauses cycle.now frame }
+{
+    Frame {
+        used: frame.used || is_cited(problem, frame, cycle),
+        ..frame
+    }
+}
+
+fn mark_frames(problem: &Problem, frames: &mut [Frame], cycle: &[Literal])
+    requires { All (IsIn problem.now.clauses) frames.old }
+    ensures { frames.new ≡ map (marked problem.now.clauses cycle.now) frames.old }
+{
+    for frame in frames.iter_mut() {
+        *frame = mark(problem, *frame, cycle);
+    }
+}
+
+// The clauses that are open, and what is written so far: for each of them the step that opens it and the trees of the
+// cases before its own.
 #[derive(Drop)]
 pub struct Path {
-    // the clauses whose cases are open, outermost first
+    // outermost first
     pub frames: Vec<Frame>,
-    // of the refutation, up to the case that is looked at
+    // of the refutation
     pub steps: Vec<Step>,
     ghost plain: { All IsPlain steps.items },
 }
@@ -81,7 +137,8 @@ impl Path {
         Ok(())
     }
 
-    // Assumes the literal of the frame's case. Where the net refuses it, its cycle closes the case.
+    // Assumes the literal of the frame's case. Where the net refuses it, its cycle closes the case, and the frames on which
+    // the cycle rests are marked.
     fn try_case<N: Net>(
         &mut self,
         problem: &Problem,
@@ -93,13 +150,14 @@ impl Path {
         requires base { IsBase problem.now.clauses units.now }
         requires ready { IsReady problem.now.clauses units.now.literals (self.old.frames.items ++ frame ∷ []) self.old.steps.items (N.literals_of net.old) }
         ensures points { N.points_of net.new ≡ N.points_of net.old }
-        ensures frames { IfOk result (λ _. self.new.frames.items ≡ self.old.frames.items ++ frame ∷ []) }
-        ensures tried { IfOk result (Tries problem.now.clauses units.now.literals self.new.frames.items self.new.steps.items (N.literals_of net.new)) }
+        ensures cases { IfOk result (λ _. cases_of problem.now.clauses self.new.frames.items ≡ cases_of problem.now.clauses (self.old.frames.items ++ frame ∷ [])) }
+        ensures tried { IfOk result (Tries problem.now.clauses units.now.literals self.new.frames.items self.new.steps.items (length self.old.steps.items) (N.literals_of net.new)) }
     {
         self.frames.push(frame)?;
         match net.add(literal_of(problem, frame))? {
             Added::Yes => Ok(true),
             Added::Cycle(cycle) => {
+                mark_frames(problem, &mut self.frames, cycle.as_slice());
                 self.close(units, cycle)?;
                 Ok(false)
             }
@@ -119,11 +177,11 @@ impl Path {
         requires points { N.points_of net.old ≡ problem.now.points }
         requires base { IsBase problem.now.clauses units.now }
         requires later { IsLater (clause_at problem.now.clauses frame.clause) frame.case later }
-        requires closed { IsClosed problem.now.clauses units.now.literals (self.old.frames.items ++ frame ∷ []) self.old.steps.items (N.literals_of net.old) }
+        requires closed { (place : ℕ) × IsClosed problem.now.clauses units.now.literals (self.old.frames.items ++ frame ∷ []) self.old.steps.items place (N.literals_of net.old) }
         ensures points { N.points_of net.new ≡ N.points_of net.old }
         ensures count { IfOk result (λ _. length self.new.frames.items ≡ length self.old.frames.items + 1) }
         ensures turns { IfOk result (λ _. turns_with problem.now.clauses self.new.frames.items ≤ turns_behind problem.now.clauses (self.old.frames.items ++ frame ∷ [])) }
-        ensures tried { IfOk result (Tries problem.now.clauses units.now.literals self.new.frames.items self.new.steps.items (N.literals_of net.new)) }
+        ensures tried { IfOk result (Tries problem.now.clauses units.now.literals self.new.frames.items self.new.steps.items (length self.old.steps.items) (N.literals_of net.new)) }
     {
         stn_core::cycle_law();
         stn_core::negation_law();
@@ -134,30 +192,51 @@ impl Path {
             clause: frame.clause,
             case: later,
             mark: net.mark(),
+            start: frame.start,
+            used: false,
         };
         self.try_case(problem, units, net, next)
     }
 
-    // The innermost case is closed: on to the next case that the net takes. There is none where all are closed.
+    // Takes out the steps from one place up to another.
+    fn cut_out(&mut self, low: usize, high: usize)
+        requires order { low ≤ high }
+        requires within { high ≤ length self.old.steps.items }
+        ensures frames { self.new.frames.items ≡ self.old.frames.items }
+        ensures steps { self.new.steps.items ≡ take low self.old.steps.items ++ drop high self.old.steps.items }
+    {
+        self.steps.drain(low..high);
+    }
+
+    // The innermost case is closed by the steps from the place on: on to the next case that the net takes. There is none
+    // where all are closed.
     fn turn_back<N: Net>(
         &mut self,
         problem: &Problem,
         units: &Units,
         net: &mut N,
+        closed: usize,
     ) -> Result<bool, AllocError>
         requires points { N.points_of net.old ≡ problem.now.points }
         requires base { IsBase problem.now.clauses units.now }
-        requires closed { IsClosed problem.now.clauses units.now.literals self.old.frames.items self.old.steps.items (N.literals_of net.old) }
+        requires closed { IsClosed problem.now.clauses units.now.literals self.old.frames.items self.old.steps.items closed (N.literals_of net.old) }
         ensures points { N.points_of net.new ≡ N.points_of net.old }
         ensures goes { IfOk result (Goes problem.now.clauses units.now.literals self.new.frames.items self.new.steps.items (N.literals_of net.new)) }
         ensures turns { IfOk result (λ taken. taken ≡ true → turns_with problem.now.clauses self.new.frames.items ≤ turns_behind problem.now.clauses self.old.frames.items) }
     {
+        let mut place = closed;
         while let Some(frame) = self.frames.pop() {
-            if let Some(later) = later_case(problem, frame) {
+            if !frame.used {
+                // the tree doesn't rest on the case, so it closes what the clause was opened for
+                self.cut_out(frame.start, place);
+            } else if let Some(later) = later_case(problem, frame) {
+                place = self.steps.len();
                 if self.next_case(problem, units, net, frame, later)? {
                     return Ok(true);
                 }
+                continue;
             }
+            place = frame.start;
         }
         Ok(false)
     }
@@ -180,15 +259,19 @@ impl Path {
         ensures goes { IfOk result (Goes problem.now.clauses units.now.literals self.new.frames.items self.new.steps.items (N.literals_of net.new)) }
         ensures turns { IfOk result (λ taken. taken ≡ true → turns_with problem.now.clauses self.new.frames.items < turns_with problem.now.clauses self.old.frames.items) }
     {
+        let start = self.steps.len();
         self.steps.push(Step::Input(clause))?;
+        let place = self.steps.len();
         let frame = Frame {
             clause,
             case: 0,
             mark: net.mark(),
+            start,
+            used: false,
         };
         if self.try_case(problem, units, net, frame)? {
             return Ok(true);
         }
-        self.turn_back(problem, units, net)
+        self.turn_back(problem, units, net, place)
     }
 }

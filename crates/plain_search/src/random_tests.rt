@@ -99,6 +99,31 @@ fn long_problem(alloc: Global, last: Literal) -> Result<Problem, AllocError> {
     Ok(problem)
 }
 
+// Pairs on points of their own, and behind them three points within 0 and 1 that are to be pairwise different: no
+// solution, but the search may not try what the pairs can be before it says so.
+#[test]
+fn what_a_conflict_does_not_rest_on(rt: HostRuntime) -> Result<(), Fail> {
+    let alloc = rt.alloc();
+    let mut problem = no_clauses(alloc, 204);
+    for k in 2..102 {
+        problem = with_clause(
+            problem,
+            &[literal(2 * k, 2 * k + 1, -1), literal(2 * k + 1, 2 * k, -1)],
+        )?;
+    }
+    for point in 1..4 {
+        problem = with_clause(problem, &[literal(0, point, 0)])?;
+        problem = with_clause(problem, &[literal(point, 0, 1)])?;
+        let other = point % 3 + 1;
+        problem = with_clause(
+            problem,
+            &[literal(point, other, -1), literal(other, point, -1)],
+        )?;
+    }
+    assert!(rt; !is_sat(&rt, alloc, &problem)?);
+    Ok(())
+}
+
 #[test]
 fn long_problems(rt: HostRuntime) -> Result<(), Fail> {
     let alloc = rt.alloc();

@@ -102,15 +102,19 @@ fn search<N: Net>(alloc: Global, problem: &Problem, net: &mut N) -> Result<Verdi
 }
 
 /// Decides the problem by branching over its clauses, each first literal first, and returns on every problem. The net
-/// must have the problem's points and no literal, and has none after the call, whatever the answer.
+/// must have the problem's points and no literal, and has none after the call, whatever the answer. The one error is
+/// want of memory.
 ///
-/// Unit clauses are the base of all branches. A clause is branched on where it is false on the net's schedule. The
-/// refutation is one lemma without literals, whose steps are written as the branches close; for a problem of unit
-/// clauses it is an `Input` step for each literal of a negative cycle, and then the cycle. The memory is that of the
-/// problem and the refutation.
+/// Unit clauses are the base of all branches. A clause is branched on where it is false on the net's schedule. Where a
+/// case is closed by what doesn't rest on it, the other cases of its clause aren't tried.
 ///
-/// Source: Stergiou, Koubarakis, "Backtracking algorithms for disjunctions of temporal constraints", Artificial
-/// Intelligence 120 (2000).
+/// The refutation is one lemma without literals, whose steps are written as the branches close; for a problem of unit
+/// clauses it is an `Input` step for each literal of the negative cycle that `greatest` finds, and then the cycle. The
+/// memory is that of the problem, the net and the refutation.
+///
+/// Sources: Stergiou, Koubarakis, "Backtracking algorithms for disjunctions of temporal constraints", Artificial
+/// Intelligence 120 (2000); Prosser, "Hybrid algorithms for the constraint satisfaction problem", Computational
+/// Intelligence 9 (1993), on backjumping.
 pub fn decide<N: Net>(alloc: Global, problem: &Problem, net: &mut N) -> Result<Verdict, AllocError>
     requires points { N.points_of net.old ≡ problem.now.points }
     requires empty { N.literals_of net.old ≡ [] }

@@ -27,12 +27,13 @@ pub record AreFates (points : ℕ) (literals clause : List Literal) (fates : Lis
 abbrev pub Implies : ℕ → List Literal → Literal → Type 0
 Implies points literals l = (values : List ℤ) → IsSchedule points literals values → Holds values l
 
--- the literal at the place is implied, as a negative cycle with its negation shows
+-- the literal at the place is the first that is implied, as a negative cycle with its negation shows
 -- (removal of subsumed variables: Tsamardinos, Pollack 2003, section 4)
 pub record IsSubsumedBy (points : ℕ) (literals clause : List Literal) (found : Subsumed) : Type 0 where
   pub within : found.place < length clause
   pub implied : Implies points literals (literal_at clause found.place)
   pub cycle : IsCycleAmong (literals ++ negation_of (literal_at clause found.place) ∷ []) found.cycle
+  pub first : (k : ℕ) → k < found.place → Implies points literals (literal_at clause k) → ⊥
 
 -- no literal of the clause is implied: the literals are consistent with the negation of each
 pub record NoneImplied (points : ℕ) (literals clause : List Literal) : Type 0 where

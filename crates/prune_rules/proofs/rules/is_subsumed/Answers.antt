@@ -17,6 +17,7 @@ returns-in-Dead-clause-subsumed g c =
       within = omega (arith, ap (length {A = Literal}) c.as_slice-literals.ensures);
       implied = implied (net.points_of c.args.net.now) (net.literals_of c.args.net.now) l c.in-Dead.cycle cycle;
       cycle = cycle;
+      first = λ k lt. not_implied (net.points_of c.args.net.now) (net.literals_of c.args.net.now) (literal_at c.args.clause.now k) (c.literals.invariant.consistent k lt);
     }
 
 pub literals-preserved : goal.literals-preserved
