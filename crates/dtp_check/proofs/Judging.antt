@@ -1,27 +1,25 @@
 -- The judging of a script, command by command.
-use Rattle.std.proofs.Common.{refl, sym, ap, subst, arith, ◌∙◌, ◌≡◌, ◌≢◌, ◌<◌, ◌≤◌, ◌+◌, ◌==◌, ◌⊎◌, inl, inr, ℕ, zero, suc, List, [], ◌∷◌, length, map, drop, Bool, true, false, Option, Some, None, Ok, Err, ℤ, get_or}
-use Rattle.std.specs.Prelude.{if◌then◌else◌, option_map}
+use Rattle.std.proofs.Common.{refl, sym, ap, subst, arith, ◌∙◌, ◌≡◌, ◌<◌, ◌≤◌, ◌+◌, ◌==◌, inl, inr, ℕ, zero, suc, List, [], ◌∷◌, length, drop, Bool, true, false, Option, Some, None, Ok, Err, ℤ}
+use Rattle.std.specs.Prelude.{option_map}
 use Rattle.std.specs.List.{AllByRecursion}
 use Rattle.std.proofs.lemmas.Bool.Decides.{nat_tests}
-use Rattle.std.proofs.lemmas.List.{drop_more, drop_all}
 use Rattle.smt_sexpr.specs.Tree.{Sexpr}
 use Rattle.stn_core.specs.Problem.{ClauseHolds}
 use Rattle.stn_core.specs.declared.named.NamedValue.{NamedValue}
 use Rattle.stn_core.specs.declared.named.NamedValue.TheVariants.{Int, Truth}
 use Rattle.cert_text.specs.declared.entry.Entry.{Entry}
-use Rattle.cert_text.specs.declared.entry.Entry.TheVariants.{Sat, Unsat}
-use Rattle.idl_term.specs.ClauseForm.{clause_of_found, clause_of_node, clause_at}
+use Rattle.idl_term.specs.ClauseForm.{clause_of_found, clause_at}
 use Rattle.idl_term.specs.Nodes.{NodeValue}
-use Rattle.idl_term.specs.Points.{numbers_of, point_values}
-use Rattle.idl_term.specs.Satisfiable.{IsWhole, IsScheduleFor, IsTrueOn}
+use Rattle.idl_term.specs.Points.{point_values}
+use Rattle.idl_term.specs.Satisfiable.{IsWhole, IsScheduleFor}
 use Rattle.idl_term.specs.Tables.{IsTableOver, IsRoot, AreRoots}
-use Rattle.idl_term.specs.Values.{Value, whole, truth, value}
+use Rattle.idl_term.specs.Values.{Value, value}
 use Rattle.idl_term.proofs.Meaning.{clause_is}
 use Rattle.dtp_session.specs.declared.kind.Kind.{Kind}
 use Rattle.dtp_session.specs.declared.state.Effect.{Effect}
 use Rattle.dtp_session.specs.declared.state.Effect.TheVariants.{Silent, CheckSat, Exit}
 use Rattle.dtp_session.specs.Commands.{Command, declaring, asserting, checking, exiting, another, command_of}
-use Rattle.dtp_session.specs.States.{State, start_state, Step, Kept, Steps, after, after_command}
+use Rattle.dtp_session.specs.States.{State, Step, Kept, Steps, after, after_command}
 use Rattle.dtp_session.specs.Tables.{IsTabled}
 use Rattle.dtp_session.specs.Turns.{Stands}
 use Rattle.dtp_session.proofs.Turning.{stands_after}
@@ -29,10 +27,9 @@ use Rattle.dtp_check.specs.declared.judge.Turn.{Turn}
 use Rattle.dtp_check.specs.declared.judge.Turn.TheVariants.{Going, Judged}
 use Rattle.dtp_check.specs.Turns.{IsCheckTurn, IsJudgedTurn}
 use Rattle.dtp_check.specs.declared.judgement.EntryFlaw.{EntryFlaw}
-use Rattle.dtp_check.specs.declared.judgement.EntryFlaw.TheVariants.{WrongCount, WrongSort, FalseAssertion}
-use Rattle.dtp_check.specs.declared.judgement.Judgement.{Judgement}
-use Rattle.dtp_check.specs.declared.judgement.Judgement.TheVariants.{Accepted, Script, Missing, Surplus, Entry as BadEntry}
-use Rattle.dtp_check.specs.Judged.{is_exiting, is_exit, value_of_named, schedule_of_named, first_of_wrong_sort, is_true, first_false, first_of_two, values_flaw, entry_flaw, surplus_of, judged_entry, judged_check, judged_effect, judged}
+use Rattle.dtp_check.specs.declared.judgement.EntryFlaw.TheVariants.{WrongSort, FalseAssertion}
+use Rattle.dtp_check.specs.declared.judgement.Judgement.TheVariants.{Script, Surplus}
+use Rattle.dtp_check.specs.Judged.{is_exiting, is_exit, schedule_of_named, first_of_wrong_sort, is_true, first_false, first_of_two, values_flaw, surplus_of, judged_effect, judged}
 use Rattle.dtp_check.specs.Roots.{IsFirstFalse}
 
 -- ---- entries that are left

@@ -1,8 +1,8 @@
 -- What stands behind the script, and the whole.
-use Rattle.std.proofs.Common.{refl, sym, ap, subst, ◌∙◌, ◌≡◌, ◌+◌, ℕ, List, [], length, Option, Some, None, Result, Ok, Err, inl, inr}
+use Rattle.std.proofs.Common.{refl, sym, ap, subst, ◌∙◌, ◌≡◌, ◌+◌, ℕ, List, [], length, Option, Some, inl, inr}
 use Rattle.smt_sexpr.specs.Tree.{Sexpr}
 use Rattle.cert_text.specs.declared.entry.Entry.{Entry as Shown}
-use Rattle.cert_read.specs.Certificates.{CertificateRefusal, no_header, ill_formed, no_end, text_after_end, CertificateOutcome, certificate, no_certificate, ErrorSays, ReadsEntries, ReadsCertificate}
+use Rattle.cert_read.specs.Certificates.{CertificateRefusal, no_header, ill_formed, no_end, text_after_end, certificate, no_certificate, ErrorSays}
 use Rattle.cert_read.specs.declared.error.CertTextError.{CertTextError}
 use Rattle.cert_read.specs.declared.error.CertTextError.TheVariants as text
 use Rattle.dtp_session.specs.declared.kind.Kind.{Kind}
@@ -13,14 +13,14 @@ use Rattle.dtp_session.proofs.Turning.{appends_nothing}
 use Rattle.dtp_check.specs.Answered.{checked_of, IsAnswerPart}
 use Rattle.dtp_check.specs.Texts.{judgement_line}
 use Rattle.dtp_check.specs.declared.behind.Behind.{Behind as Found}
-use Rattle.dtp_check.specs.declared.behind.Behind.TheVariants.{Entries, Flawed}
+use Rattle.dtp_check.specs.declared.behind.Behind.TheVariants.{Flawed}
 use Rattle.dtp_check.specs.declared.judgement.CertificateFlaw.{CertificateFlaw}
 use Rattle.dtp_check.specs.declared.judgement.Judgement.{Judgement}
 use Rattle.dtp_check.specs.declared.judgement.Judgement.TheVariants.{Script, Certificate}
 use Rattle.dtp_check.specs.declared.part.PartEnd.{PartEnd}
 use Rattle.dtp_check.specs.declared.part.PartEnd.TheVariants as part
 use Rattle.dtp_check.specs.Behind.{IsBehind, flaw_of_error}
-use Rattle.dtp_check.specs.Judged.{ScriptPart, CertificateBehind, flaw_of_refusal, judged, judged_with, JudgedPart, IsJudged}
+use Rattle.dtp_check.specs.Judged.{ScriptPart, CertificateBehind, flaw_of_refusal, judged, IsJudged}
 use Rattle.dtp_check.specs.Parts.{IsReadable}
 
 -- an error that tells a refusal tells its flaw

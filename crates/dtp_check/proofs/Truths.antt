@@ -1,5 +1,5 @@
 -- What is accepted is so.
-use Rattle.std.proofs.Common.{refl, sym, ap, subst, arith, ◌∙◌, ◌≡◌, ◌+◌, ◌==◌, ℕ, List, [], ◌∷◌, length, Bool, true, false, Option, Some, None, Result, Ok, Err, ℤ}
+use Rattle.std.proofs.Common.{refl, sym, ap, ◌≡◌, ◌+◌, ◌==◌, ℕ, List, [], ◌∷◌, length, Bool, true, false, Option, Some, None, Result, Ok, Err, ℤ}
 use Rattle.std.specs.Prelude.{if◌then◌else◌, option_map}
 use Rattle.std.specs.List.{AllByRecursion}
 use Rattle.std.proofs.lemmas.Bool.{eqb-true}
@@ -14,7 +14,7 @@ use Rattle.cert_check.specs.declared.flaw.Flaw.{Flaw}
 use Rattle.cert_check.specs.Flaws.{refutation_flaw}
 use Rattle.cert_read.specs.Certificates.{CertificateOutcome, certificate, no_certificate}
 use Rattle.idl_term.specs.Points.{point_values}
-use Rattle.idl_term.specs.Satisfiable.{IsScheduleFor, IsTrueOn, IsSatisfiable}
+use Rattle.idl_term.specs.Satisfiable.{IsTrueOn, IsSatisfiable}
 use Rattle.idl_term.specs.Values.{Value, whole, truth, nothing, value}
 use Rattle.idl_term.proofs.Meaning.{clauses_hold}
 use Rattle.idl_term.proofs.Rooting.{tabled_start}
@@ -28,10 +28,10 @@ use Rattle.dtp_session.proofs.Turning.{tabled_after}
 use Rattle.dtp_check.specs.declared.judgement.EntryFlaw.{EntryFlaw}
 use Rattle.dtp_check.specs.declared.judgement.EntryFlaw.TheVariants.{WrongCount, WrongSort, FalseAssertion, Flawed}
 use Rattle.dtp_check.specs.declared.judgement.Judgement.{Judgement}
-use Rattle.dtp_check.specs.declared.judgement.Judgement.TheVariants.{Accepted, Script, Missing, Surplus, Entry as BadEntry}
+use Rattle.dtp_check.specs.declared.judgement.Judgement.TheVariants.{Accepted, Script}
 use Rattle.dtp_check.specs.declared.part.PartEnd.{PartEnd}
 use Rattle.dtp_check.specs.declared.part.PartEnd.TheVariants as part
-use Rattle.dtp_check.specs.Judged.{schedule_of_named, first_of_wrong_sort, is_true, first_false, first_of_two, values_flaw, entry_flaw, surplus_of, judged_entry, judged_check, judged_effect, judged, judged_with, ScriptPart, CertificateBehind, JudgedPart, IsJudged}
+use Rattle.dtp_check.specs.Judged.{schedule_of_named, first_of_wrong_sort, is_true, first_false, first_of_two, entry_flaw, surplus_of, judged_entry, judged_check, judged_effect, judged, judged_with, ScriptPart, JudgedPart, IsJudged}
 use Rattle.dtp_check.specs.Told.{Tells, IsToldAt, IsToldBy, IsTold}
 use Rattle.dtp_check.proofs.Judging.{schedule_fits}
 

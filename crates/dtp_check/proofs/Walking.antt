@@ -1,12 +1,9 @@
 -- The walk over the script's part of a source.
-use Rattle.std.proofs.Common.{refl, sym, ap, subst, arith, ◌∙◌, ◌≡◌, ◌≢◌, ◌+◌, ℕ, suc, List, [], ◌∷◌, length, Bool, true, false, Ok, None}
-use Rattle.smt_lex.specs.Grammar.{Reads}
+use Rattle.std.proofs.Common.{refl, sym, subst, arith, ◌∙◌, ◌≡◌, ◌≢◌, ◌+◌, ℕ, List, [], ◌∷◌, length, Bool, true, false}
 use Rattle.smt_sexpr.specs.Tree.{Sexpr}
 use Rattle.smt_sexpr.specs.Table.{Table, Means}
-use Rattle.smt_sexpr.specs.Reading.{Spells, Refusal, Outcome, expression, finished, refused, Outcomes}
+use Rattle.smt_sexpr.specs.Reading.{Spells}
 use Rattle.cert_text.specs.Form.{header_sexpr}
-use Rattle.dtp_session.specs.declared.kind.Kind.{Kind}
-use Rattle.dtp_session.specs.Answers.{kind_of}
 use Rattle.dtp_check.specs.declared.part.PartEnd.{PartEnd}
 use Rattle.dtp_check.specs.declared.part.PartEnd.TheVariants as part
 use Rattle.dtp_check.specs.declared.part.Next.{Next}

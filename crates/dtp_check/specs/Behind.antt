@@ -1,7 +1,6 @@
 -- How the code reads what stands behind the script's part of a source.
 -- These are words of the code's inner contracts, and no part of the meaning.
-use Rattle.std.specs.Prelude.{◌≡◌, ℕ, List, Option, Some, None, Result, Ok, Err}
-use Rattle.cert_text.specs.declared.entry.Entry.{Entry as Shown}
+use Rattle.std.specs.Prelude.{◌≡◌, ℕ, List, Option, Some, None}
 use Rattle.cert_read.specs.Certificates.{CertificateRefusal, certificate, no_certificate}
 use Rattle.cert_read.specs.declared.error.CertTextError.{CertTextError}
 use Rattle.cert_read.specs.declared.error.CertTextError.TheVariants as text

@@ -6,7 +6,7 @@ use Rattle.smt_sexpr.specs.Table.{Table, Means}
 use Rattle.smt_sexpr.specs.Reading.{Spells}
 use Rattle.cert_text.specs.Form.{header_sexpr}
 use Rattle.dtp_check.specs.declared.part.PartEnd.{PartEnd}
-use Rattle.dtp_check.specs.declared.part.PartEnd.TheVariants.{Exit, Header, End, Unread}
+use Rattle.dtp_check.specs.declared.part.PartEnd.TheVariants.{Exit, Header, Unread}
 use Rattle.dtp_check.specs.declared.part.Next.{Next}
 use Rattle.dtp_check.specs.declared.part.Next.TheVariants.{Command, Ended}
 use Rattle.dtp_check.specs.Judged.{EndsPart}

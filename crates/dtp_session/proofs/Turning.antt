@@ -10,7 +10,6 @@ use Rattle.smt_sexpr.specs.Reading.{Finds, Spells, Outcomes, finished, refused, 
 use Rattle.smt_sexpr.specs.Commands.{Ending, ended, stopped, unread}
 use Rattle.smt_sexpr.specs.declared.error.SexprError.{SexprError}
 use Rattle.smt_sexpr.specs.declared.error.SexprError.TheVariants.{OutOfMemory, Lex, UnclosedList as OpenList, StrayClose as Stray}
-use Rattle.stn_core.specs.declared.literal.Literal.{Literal}
 use Rattle.dtp_session.specs.declared.kind.Kind.{Kind}
 use Rattle.dtp_session.specs.declared.kind.Kind.TheVariants.{NotYet}
 use Rattle.dtp_session.specs.declared.report.Report.{Report}
@@ -21,7 +20,7 @@ use Rattle.dtp_session.specs.declared.state.Effect.TheVariants.{Silent, CheckSat
 use Rattle.dtp_session.specs.Answers.{error_line, kind_of, kind_of_error}
 use Rattle.dtp_session.specs.Commands.{Command, declaring, asserting, checking, exiting, another, command_of}
 use Rattle.idl_term.specs.Lowered.{lowered}
-use Rattle.idl_term.specs.Nodes.{NodeValue, Placed}
+use Rattle.idl_term.specs.Nodes.{Placed}
 use Rattle.idl_term.proofs.Rooting.{tabled_start, tabled_declares, tabled_asserts}
 use Rattle.dtp_session.specs.States.{State, start_state, Step, Kept, Steps, after, after_command, after_assertion, may_be_declared}
 use Rattle.dtp_session.specs.Tables.{IsTabled}

@@ -1,16 +1,13 @@
 -- The two verdicts, on what is kept.
-use Rattle.std.proofs.Common.{refl, sym, ap, subst, ◌∙◌, ◌≡◌, ◌+◌, ℕ, List, length, true, false, ℤ}
-use Rattle.std.specs.Prelude.{All, Contains, Decides}
+use Rattle.std.proofs.Common.{refl, subst, ◌≡◌, ℕ, List, true, false, ℤ}
+use Rattle.std.specs.Prelude.{Decides}
 use Rattle.std.specs.List.{AllByRecursion}
 use Rattle.stn_core.specs.declared.literal.Literal.{Literal}
-use Rattle.stn_core.specs.Literal.{IsOver}
 use Rattle.stn_core.specs.Problem.{ProblemHolds}
 use Rattle.stn_core.specs.declared.named.NamedValue.{NamedValue}
 use Rattle.refute_tree.specs.declared.lemma.Lemma.{Lemma}
 use Rattle.refute_tree.specs.Trees.{IsRefutation}
 use Rattle.cert_text.specs.declared.entry.Entry.TheVariants.{Sat, Unsat}
-use Rattle.idl_term.specs.ClauseForm.{clauses_of}
-use Rattle.idl_term.specs.Nodes.{NodeValue}
 use Rattle.idl_term.specs.Points.{named_values, schedule_of, point_values}
 use Rattle.idl_term.specs.Satisfiable.{IsScheduleFor, IsTrueOn, IsSatisfiable}
 use Rattle.idl_term.specs.Values.{Value}
@@ -19,7 +16,7 @@ use Rattle.plain_search.specs.declared.verdict.Verdict.{Verdict}
 use Rattle.plain_search.specs.declared.verdict.Verdict.TheVariants as found
 use Rattle.plain_search.specs.Verdicts.{IsSolution, IsVerdict}
 use Rattle.dtp_session.specs.Entries.{points_of, problem_of, IsEntryOf}
-use Rattle.dtp_session.specs.States.{State, Kept, StandsFor}
+use Rattle.dtp_session.specs.States.{State}
 use Rattle.dtp_session.specs.Tables.{IsTabled}
 
 -- a solution of the problem is a schedule that satisfies the assertions

@@ -1,5 +1,5 @@
 -- What kind of command an s-expression is (SMT-LIB 2.6, section 3.9).
-use Rattle.std.specs.Prelude.{ℕ, List, Bool, false, codes, Option, None, Some, if◌then◌else◌}
+use Rattle.std.specs.Prelude.{ℕ, List, codes, Option, None, Some, if◌then◌else◌}
 use Rattle.std.specs.Str.{bytes_eq}
 use Rattle.dtp_session.specs.declared.command_name.CommandName.{CommandName}
 use Rattle.dtp_session.specs.declared.command_name.CommandName.TheVariants.{DeclareConst, Assert, CheckSat, Exit}

@@ -1,5 +1,5 @@
 -- The commands and states of the worked examples.
-use Rattle.std.specs.Prelude.{ℕ, List, [], ◌∷◌, codes, ℤ, pos}
+use Rattle.std.specs.Prelude.{ℕ, List, [], ◌∷◌, codes, pos}
 use Rattle.smt_lex.specs.declared.token.TokenKind.TheVariants.{Symbol}
 use Rattle.smt_sexpr.specs.Tree.{Sexpr, leaf, list, none, more}
 use Rattle.idl_term.specs.Examples.{x_below_5, literal}

@@ -7,7 +7,7 @@ use Rattle.smt_sexpr.specs.Commands.{Commands, Ending, ended, stopped, unread, E
 use Rattle.dtp_session.specs.declared.report.Report.{Report}
 use Rattle.dtp_session.specs.declared.report.Report.TheVariants.{Verdicts, Certificate}
 use Rattle.dtp_session.specs.declared.state.Effect.{Effect}
-use Rattle.dtp_session.specs.declared.state.Effect.TheVariants.{Silent, CheckSat, Exit}
+use Rattle.dtp_session.specs.declared.state.Effect.TheVariants.{CheckSat, Exit}
 use Rattle.dtp_session.specs.Answers.{sat_line, unsat_line, error_line, kind_of}
 use Rattle.cert_text.specs.Form.{header_sexpr, end_sexpr, line_of}
 use Rattle.dtp_session.specs.Entries.{IsEntry}

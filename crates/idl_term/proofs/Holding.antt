@@ -1,5 +1,5 @@
 -- The truth of nodes on point values, as the code finds it.
-use Rattle.std.proofs.Common.{refl, sym, ap, subst, arith, ◌∙◌, ◌≡◌, ◌<◌, ◌≤◌, ◌+◌, inl, inr, ℕ, List, [], ◌∷◌, length, map, drop, get_or, Bool, true, false, Option, Some, None, ℤ}
+use Rattle.std.proofs.Common.{sym, ap, subst, arith, ◌∙◌, ◌≡◌, ◌<◌, ◌≤◌, ◌+◌, inl, inr, ℕ, List, [], length, map, drop, get_or, true, false, Some, None, ℤ}
 use Rattle.std.specs.Prelude.{slice_get, option_map, nat_lt, Decides}
 use Rattle.std.proofs.lemmas.List.{drop_more, drop_all}
 use Rattle.std.proofs.lemmas.Option.{slice_get-map, slice_get-get_or}
@@ -9,9 +9,9 @@ use Rattle.stn_core.specs.Literal.{Holds}
 use Rattle.stn_core.specs.Problem.{ClauseHolds}
 use Rattle.idl_term.specs.declared.nodes.Node.{Node}
 use Rattle.idl_term.specs.ClauseForm.{clause_of_node, clause_of_found, clause_at}
-use Rattle.idl_term.specs.Nodes.{NodeValue, node_value, shown}
+use Rattle.idl_term.specs.Nodes.{node_value, shown}
 use Rattle.idl_term.specs.Tables.{IsNodeOver, IsTableOver}
-use Rattle.idl_term.proofs.Meaning.{by_first, first_or_other, empty_fails}
+use Rattle.idl_term.proofs.Meaning.{first_or_other, empty_fails}
 use Rattle.idl_term.proofs.Rooting.{pick_at}
 
 -- none of the first literals holds, so one of the others does

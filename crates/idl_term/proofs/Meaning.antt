@@ -1,8 +1,7 @@
 -- The clauses of the asserted nodes hold exactly where the assertions are true.
-use Rattle.std.proofs.Common.{refl, sym, ap, subst, arith, ◌∙◌, ◌≡◌, ◌<◌, ◌≤◌, ◌+◌, ◌||◌, ◌⊎◌, inl, inr, ℕ, zero, suc, add-one, List, [], ◌∷◌, ◌++◌, length, map, Bool, true, false, Option, Some, None, ℤ, pos, get_or}
-use Rattle.std.specs.Prelude.{slice_get, option_map, Decides, All, Contains, codes, nat_eq, if◌then◌else◌}
-use Rattle.std.specs.List.{AllByRecursion, list_any}
-use Rattle.std.specs.Str.{bytes_eq}
+use Rattle.std.proofs.Common.{refl, sym, ap, subst, arith, ◌∙◌, ◌≡◌, ◌≤◌, ◌+◌, ◌||◌, ◌⊎◌, inl, inr, ℕ, zero, suc, List, [], ◌∷◌, length, Bool, true, false, Option, Some, None, ℤ}
+use Rattle.std.specs.Prelude.{slice_get, option_map, Decides, codes, nat_eq, if◌then◌else◌}
+use Rattle.std.specs.List.{AllByRecursion}
 use Rattle.std.proofs.lemmas.Bool.Decides.{nat_tests}
 use Rattle.std.proofs.lemmas.List.Elements.{All-from_recursion, recursion_from_All}
 use Rattle.std.proofs.lemmas.Slice.Eq.{bytes_eq-Decides}
@@ -19,10 +18,9 @@ use Rattle.idl_term.specs.Operators.{is_symbol, relation_of}
 use Rattle.idl_term.specs.Points.{point_values, shifted, schedule_of}
 use Rattle.idl_term.specs.Satisfiable.{IsScheduleFor, IsTrueOn}
 use Rattle.idl_term.specs.Tables.{put_before, literals_of, clause_by, term_clause, IsRoot, AreRoots, IsTabled}
-use Rattle.idl_term.specs.Values.{Value, truth, nothing, value, values, either_of, any_of, disjoined, applied_by}
+use Rattle.idl_term.specs.Values.{Value, truth, value, values, either_of, any_of, disjoined, applied_by}
 use Rattle.idl_term.proofs.Comparing.{atom_exact}
 use Rattle.idl_term.proofs.Restricting.{shifted_count, shifted_whole, shifted_holds, zeros, zeros_fit}
-use Rattle.idl_term.proofs.Tabling.{each}
 
 -- ---- clauses
 

@@ -1,12 +1,12 @@
 -- Values of the time points, and the schedules that they give.
-use Rattle.std.proofs.Common.{arith, refl, sym, ap, subst, ◌∙◌, ◌≡◌, ◌<◌, ◌+◌, ℕ, zero, suc, List, [], ◌∷◌, length, ℤ, pos, ◌-ℤ◌}
+use Rattle.std.proofs.Common.{arith, refl, ap, ◌≡◌, ◌<◌, ◌+◌, ℕ, zero, suc, List, [], ◌∷◌, length, ℤ, pos, ◌-ℤ◌}
 use Rattle.std.specs.List.{AllByRecursion}
 use Rattle.std.proofs.lemmas.Int.{ints}
 use Rattle.stn_core.specs.declared.literal.Literal.{Literal}
 use Rattle.stn_core.specs.Literal.{value_at, Holds}
 use Rattle.idl_term.specs.Values.{Value, whole}
 use Rattle.idl_term.specs.Satisfiable.{IsWhole, IsScheduleFor}
-use Rattle.idl_term.specs.Points.{shifted, schedule_of, numbers_of, point_values}
+use Rattle.idl_term.specs.Points.{shifted, numbers_of, point_values}
 
 -- a schedule of zeros, to speak of a literal's limits
 pub zeros : List (List ℕ) → List Value

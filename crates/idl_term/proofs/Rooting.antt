@@ -1,14 +1,14 @@
 -- The node of an asserted term says what the term says, and goes on saying it as the table and the names grow.
-use Rattle.std.proofs.Common.{refl, sym, ap, subst, arith, ◌∙◌, ◌≡◌, ◌<◌, ◌≤◌, ◌+◌, ℕ, zero, suc, List, [], ◌∷◌, ◌++◌, length, map, Option, Some, None}
+use Rattle.std.proofs.Common.{refl, sym, ap, subst, arith, ◌∙◌, ◌≡◌, ◌≤◌, ◌+◌, ℕ, zero, suc, List, [], ◌∷◌, ◌++◌, length, map, Option, Some, None}
 use Rattle.std.specs.Prelude.{slice_get, option_map}
 use Rattle.std.specs.List.{AllByRecursion}
 use Rattle.smt_sexpr.specs.Tree.{Sexpr, Items, none, more}
 use Rattle.stn_core.specs.declared.literal.Literal.{Literal}
 use Rattle.stn_core.specs.Literal.{IsOver}
 use Rattle.idl_term.specs.Comparisons.{atom_of}
-use Rattle.idl_term.specs.ClauseForm.{literal_of_node, literal_at, clause_of_node}
+use Rattle.idl_term.specs.ClauseForm.{literal_of_node, literal_at}
 use Rattle.idl_term.specs.Lowered.{Members, placed_atom, lowered_atom, members_behind, joined, joined_members, disjuncts_of, lowered_by, lowered}
-use Rattle.idl_term.specs.Nodes.{NodeValue, atom, or, Placed, placed}
+use Rattle.idl_term.specs.Nodes.{NodeValue, atom, or, Placed}
 use Rattle.idl_term.specs.Tables.{IsAtomNumber, IsNodeOver, IsTableOver, put_before, literals_of, clause_by, term_clause, IsRoot, AreRoots, IsTabled}
 use Rattle.idl_term.proofs.Comparing.{atom_exact}
 use Rattle.idl_term.proofs.Growing.{atom_grows}

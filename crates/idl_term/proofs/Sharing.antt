@@ -1,5 +1,5 @@
 -- Nodes are shared by what they are, and not by where they lie in memory.
-use Rattle.std.proofs.Common.{arith, ◌<◌, refl, sym, ap, ◌∙◌, ◌≡◌, ◌+◌, ℕ, List, [], ◌∷◌, ◌++◌, map, take, length, Bool, true, false, ◌||◌, Option, Some, None}
+use Rattle.std.proofs.Common.{arith, ◌<◌, refl, sym, ap, ◌∙◌, ◌≡◌, ◌+◌, ℕ, List, [], ◌∷◌, ◌++◌, length, Bool, true, false, ◌||◌, Option, Some, None}
 use Rattle.std.specs.Prelude.{cond, nat_lt}
 use Rattle.std.specs.List.{position, position_from, list_any}
 use Rattle.std.proofs.lemmas.Iterator.Adapters.{position_from-zero}
@@ -9,7 +9,7 @@ use Rattle.indexmap.specs.IndexSet.{insert_key}
 use Rattle.idl_term.specs.contracts.nodes.NodePartialEq.TheImpl.{eq-value}
 use Rattle.idl_term.specs.declared.nodes.Node.{Node}
 use Rattle.idl_term.specs.declared.nodes.Node.TheVariants.{Atom, Or}
-use Rattle.idl_term.specs.Nodes.{NodeValue, node_value, same_node, number_in, shown, Placed, placed, placed_by}
+use Rattle.idl_term.specs.Nodes.{NodeValue, node_value, same_node, number_in, shown, placed, placed_by}
 
 pub node_eq : (a b : Node) → eq-value.it a b ≡ same_node (node_value a) (node_value b)
 node_eq (Atom l) (Atom m) = refl

@@ -1,24 +1,18 @@
 -- The node table stays that of the assertions.
-use Rattle.std.proofs.Common.{refl, sym, ap, subst, arith, ◌∙◌, ◌≡◌, ◌<◌, ◌≤◌, ◌+◌, ℕ, zero, suc, List, [], ◌∷◌, ◌++◌, length, map, Bool, true, false, ◌&&◌, ◌==◌, Option, Some, None, ℤ, get_or}
-use Rattle.std.specs.Prelude.{if◌then◌else◌, slice_get, nat_lt, option_map}
-use Rattle.std.specs.List.{AllByRecursion, position}
+use Rattle.std.proofs.Common.{refl, sym, ap, subst, ◌∙◌, ◌≡◌, ℕ, zero, suc, List, [], ◌∷◌, ◌++◌, length, map, Bool, true, false, ◌&&◌, ◌==◌, Option, Some, None, ℤ, get_or}
+use Rattle.std.specs.Prelude.{if◌then◌else◌, slice_get, nat_lt}
+use Rattle.std.specs.List.{AllByRecursion}
 use Rattle.std.specs.Ordering.{int_eq}
-use Rattle.std.specs.Str.{bytes_eq}
 use Rattle.std.proofs.lemmas.Bool.{eqb-true}
 use Rattle.std.proofs.lemmas.Bool.Decides.{Decides-int_eq}
 use Rattle.std.proofs.lemmas.List.Quantifiers.{position-Some}
 use Rattle.std.proofs.lemmas.Option.{slice_get-get_or}
 use Rattle.std.proofs.lemmas.Slice.Eq.{bytes_eq-Decides}
-use Rattle.smt_sexpr.specs.Tree.{Sexpr, Items, none, more}
 use Rattle.stn_core.specs.declared.literal.Literal.{Literal}
-use Rattle.stn_core.specs.Literal.{IsOver}
-use Rattle.idl_term.specs.Comparisons.{atom_of}
 use Rattle.idl_term.specs.ClauseForm.{literal_of_node, literal_at, clause_of_node}
-use Rattle.idl_term.specs.Lowered.{Members, placed_atom, lowered_atom, members_behind, joined, joined_members, disjuncts_of, lowered_by, lowered}
 use Rattle.idl_term.specs.Nodes.{NodeValue, atom, or, same_literal, same_node, number_in, Placed, placed, placed_by}
-use Rattle.idl_term.specs.Tables.{IsAtomNumber, IsNodeOver, IsTableOver, put_before, literals_of, clause_by, term_clause, IsRoot, AreRoots, IsTabled}
-use Rattle.idl_term.proofs.Comparing.{and_both, atom_exact}
-use Rattle.idl_term.proofs.Growing.{atom_grows}
+use Rattle.idl_term.specs.Tables.{IsAtomNumber, IsNodeOver, IsTableOver}
+use Rattle.idl_term.proofs.Comparing.{and_both}
 
 -- ---- lists
 

@@ -1,6 +1,6 @@
 -- Which clauses hold on some values.
 use Rattle.std.proofs.Common.{arith, ◌≡◌, ◌≢◌, ℕ, zero, suc, ◌<◌, ◌≤◌, ◌+◌, inl, inr, List, [], ◌∷◌, length, take, Bool, true, false, Option, Some, None, All, get_or, subst, sym, ap, ◌∙◌, refl, IsTrue, ◌==◌, ℤ}
-use Rattle.std.specs.Prelude.{slice_get, MatchOption}
+use Rattle.std.specs.Prelude.{slice_get, MatchOption, IfSome}
 use Rattle.std.proofs.lemmas.Bool.{cases_lt}
 use Rattle.std.proofs.lemmas.Bool.Decides.{nat_tests}
 use Rattle.std.proofs.lemmas.List.{take_all}
@@ -8,7 +8,7 @@ use Rattle.std.proofs.lemmas.List.Elements.{All-more, All-same, All-from_get_or}
 use Rattle.std.proofs.lemmas.Option.{slice_get-get_or}
 use Rattle.stn_core.specs.declared.literal.Literal.{Literal}
 use Rattle.stn_core.specs.Problem.{ClauseHolds, ProblemHolds}
-use Rattle.plain_search.specs.Clauses.{IsNotEmpty, clause_at, IsFalseAt, HoldBetween}
+use Rattle.plain_search.specs.Clauses.{IsNotEmpty, clause_at, IsFalseAt, HoldBetween, IsNext}
 
 pub All-whole_of : {X : Type 0} (P : X → Type 0) (items xs : List X) (i : ℕ) → items ≡ xs → length items ≤ i → All P (take i xs) → All P xs
 All-whole_of P items xs i same le all = All-same P xs (take i xs) (sym (take_all i xs (let n : length items ≡ length xs = ap length same in omega arith))) all
@@ -64,3 +64,10 @@ all_hold values clauses from late early = All-from_get_or (ClauseHolds values) c
 pub all_hold_by : (values : List ℤ) (clauses : List (List Literal)) (from : ℕ) (found : Option ℕ) → HoldBetween values clauses from (length clauses) → MatchOption found (HoldBetween values clauses 0 from) (IsFalseAt values clauses) → MatchOption found (ProblemHolds values clauses) (IsFalseAt values clauses)
 all_hold_by values clauses from None late early = all_hold values clauses from late early
 all_hold_by values clauses from (Some i) late found = found
+
+pub next_late : (values : List ℤ) (clauses : List (List Literal)) (from i : ℕ) → from ≤ i → HoldBetween values clauses from i → IsNext values clauses from i
+next_late values clauses from i le hold = record { late = λ _. hold; early = λ lt. absurd (omega arith) }
+
+pub next_early : (values : List ℤ) (clauses : List (List Literal)) (from : ℕ) (found : Option ℕ) → HoldBetween values clauses from (length clauses) → IfSome found (λ i. (0 ≤ i) × (i < from) × HoldBetween values clauses 0 i) → IfSome found (IsNext values clauses from)
+next_early values clauses from None late early = early
+next_early values clauses from (Some i) late early = let lt = early.1 in record { late = λ le. absurd (omega arith); early = λ _. (late, early.2) }

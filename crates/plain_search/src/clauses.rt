@@ -1,8 +1,8 @@
 //! Which clauses hold.
-ghost use Rattle.std.specs.Prelude.{◌≡◌, ◌<◌, ◌≤◌, ℕ, [], length, All, true, false, MatchOption, Some, slice_get};
+ghost use Rattle.std.specs.Prelude.{◌≡◌, ◌<◌, ◌≤◌, ℕ, [], length, All, true, false, MatchOption, IfSome, Some, slice_get};
 ghost use Rattle.stn_core.specs.Literal.{IsOver};
 ghost use Rattle.stn_core.specs.Problem.{ClauseHolds, ProblemHolds};
-ghost use Rattle.plain_search.specs.Clauses.{HoldBetween, IsFalse, IsFalseAt, IsNotEmpty};
+ghost use Rattle.plain_search.specs.Clauses.{HoldBetween, IsFalse, IsFalseAt, IsNext, IsNotEmpty};
 
 use stn_core::{Clause, holds};
 
@@ -35,7 +35,8 @@ fn clause_holds(clause: &Clause, values: &[i64]) -> bool
 fn false_between(clauses: &[Clause], values: &[i64], low: usize, high: usize) -> Option<usize>
     requires over { All (λ clause. All (IsOver (length values.now)) clause) clauses.now }
     requires high { high ≤ length clauses.now }
-    ensures { MatchOption result (HoldBetween values.now clauses.now low high) (IsFalseAt values.now clauses.now) }
+    ensures found { MatchOption result (HoldBetween values.now clauses.now low high) (IsFalseAt values.now clauses.now) }
+    ensures first { IfSome result (λ i. (low ≤ i) × (i < high) × HoldBetween values.now clauses.now low i) }
 {
     for i in low..high {
         if !clause_holds(&clauses[i], values) {
@@ -49,7 +50,8 @@ fn false_between(clauses: &[Clause], values: &[i64], low: usize, high: usize) ->
 pub fn false_clause(clauses: &[Clause], values: &[i64], from: usize) -> Option<usize>
     requires over { All (λ clause. All (IsOver (length values.now)) clause) clauses.now }
     requires from { from ≤ length clauses.now }
-    ensures { MatchOption result (ProblemHolds values.now clauses.now) (IsFalseAt values.now clauses.now) }
+    ensures found { MatchOption result (ProblemHolds values.now clauses.now) (IsFalseAt values.now clauses.now) }
+    ensures next { IfSome result (IsNext values.now clauses.now from) }
 {
     match false_between(clauses, values, from, clauses.len()) {
         Some(i) => Some(i),

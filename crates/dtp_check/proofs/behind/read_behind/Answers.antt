@@ -1,9 +1,7 @@
-use Rattle.std.proofs.Common.{◌≡◌, ◌∙◌, sym, subst, ap, None}
-use Rattle.cert_read.specs.Certificates.{CertificateRefusal, no_certificate, ReadsEntries, ReadsCertificate}
-use Rattle.dtp_check.specs.declared.judgement.CertificateFlaw.{CertificateFlaw}
+use Rattle.std.proofs.Common.{◌∙◌, sym, subst}
+use Rattle.cert_read.specs.Certificates.{no_certificate, ReadsEntries, ReadsCertificate}
 use Rattle.dtp_check.specs.declared.part.PartEnd.{PartEnd}
-use Rattle.dtp_check.specs.declared.part.PartEnd.TheVariants as part
-use Rattle.dtp_check.specs.Judged.{CertificateBehind, flaw_of_refusal}
+use Rattle.dtp_check.specs.Judged.{CertificateBehind}
 use Rattle.dtp_check.specs.Parts.{IsBefore}
 use Rattle.dtp_check.proofs.Telling.{error_told}
 use Rattle.dtp_check.proofs.behind.read_behind.Goals as goal

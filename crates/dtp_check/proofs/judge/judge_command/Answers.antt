@@ -1,4 +1,4 @@
-use Rattle.std.proofs.Common.{arith, ◌≡◌, ◌≤◌, ◌+◌, ◌∙◌, sym, ap, subst, refl, drop, Ok, Err, List, ℕ}
+use Rattle.std.proofs.Common.{◌≡◌, ◌+◌, ◌∙◌, sym, ap, subst, drop, Err}
 use Rattle.smt_sexpr.specs.Tree.{Sexpr}
 use Rattle.dtp_session.specs.declared.state.Effect.{Effect}
 use Rattle.dtp_session.specs.declared.state.Effect.TheVariants.{Silent, CheckSat, Exit}

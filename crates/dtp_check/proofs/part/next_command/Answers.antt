@@ -1,4 +1,4 @@
-use Rattle.std.proofs.Common.{◌≡◌, ◌∙◌, sym, ap, List, ℕ}
+use Rattle.std.proofs.Common.{◌≡◌, ◌∙◌, sym, ap}
 use Rattle.smt_sexpr.specs.Table.{Table}
 use Rattle.dtp_session.proofs.Turning.{explained, found_error}
 use Rattle.dtp_check.proofs.part.next_command.Goals as goal

@@ -1,4 +1,4 @@
-use Rattle.std.proofs.Common.{arith, ◌≡◌, ◌≤◌, ◌+◌, ◌∙◌, sym, subst, List, ℕ, length}
+use Rattle.std.proofs.Common.{arith, ◌+◌, ◌∙◌, sym, subst, List, ℕ}
 use Rattle.dtp_check.proofs.Walking.{IsWalked, walked_more, command_read, end_read, command_goes_on, walk_exits, walk_ends}
 use Rattle.dtp_check.proofs.part.read_part.Goals as goal
 

@@ -1,4 +1,4 @@
-use Rattle.std.proofs.Common.{◌≡◌, ◌∙◌, ap, List, ℕ, ◌++◌}
+use Rattle.std.proofs.Common.{◌∙◌, ap, List, ℕ, ◌++◌}
 use Rattle.cert_text.specs.Form.{entry_sexpr, line_of}
 use Rattle.dtp_session.proofs.decision.entry_line.Goals as goal
 

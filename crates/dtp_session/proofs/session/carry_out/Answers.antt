@@ -1,4 +1,4 @@
-use Rattle.std.proofs.Common.{◌≡◌, List, ℕ, [], subst, ap, refl, Err}
+use Rattle.std.proofs.Common.{◌≡◌, [], subst, ap, refl, Err}
 use Rattle.smt_sexpr.specs.Tree.{Sexpr}
 use Rattle.dtp_session.specs.declared.state.Effect.{Effect}
 use Rattle.dtp_session.specs.declared.state.Effect.TheVariants.{Silent, CheckSat, Exit}

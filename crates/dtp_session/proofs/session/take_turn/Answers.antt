@@ -1,4 +1,4 @@
-use Rattle.std.proofs.Common.{◌≡◌, ◌∙◌, sym, ap, subst, List, ℕ, []}
+use Rattle.std.proofs.Common.{◌≡◌, ◌∙◌, sym, ap, subst}
 use Rattle.smt_sexpr.specs.Table.{Table}
 use Rattle.dtp_session.specs.declared.session.Turn.{Turn}
 use Rattle.dtp_session.specs.Answers.{error_line}

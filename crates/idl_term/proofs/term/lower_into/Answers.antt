@@ -1,4 +1,4 @@
-use Rattle.std.proofs.Common.{rules, ap, ◌∙◌, ◌≡◌, Option, List, ℕ}
+use Rattle.std.proofs.Common.{rules, ap, ◌∙◌}
 use Rattle.std.specs.Prelude.{option_map}
 use Rattle.idl_term.proofs.Arguments.{disjunction, no_disjunction, lowered_or, lowered_other}
 use Rattle.idl_term.proofs.term.lower_into.Goals as goal

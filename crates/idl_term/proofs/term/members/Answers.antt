@@ -1,6 +1,6 @@
-use Rattle.std.proofs.Common.{rules, arith, ◌+◌, sym, subst, ◌∙◌, ◌≡◌, ℕ, List, [], ◌∷◌, ◌++◌, drop, take, Err, length}
+use Rattle.std.proofs.Common.{rules, arith, ◌+◌, sym, subst, ℕ, List}
 use Rattle.std.proofs.lemmas.List.{drop_all}
-use Rattle.idl_term.proofs.Arguments.{AreMade, made_none, next_argument, made_more, made_no_more, made_all, front_grows}
+use Rattle.idl_term.proofs.Arguments.{AreMade, next_argument, made_more, made_no_more, made_all, front_grows}
 use Rattle.idl_term.proofs.term.members.Goals as goal
 
 pub lower_atom-requires-clause-meaning : goal.lower_atom-requires-clause-meaning

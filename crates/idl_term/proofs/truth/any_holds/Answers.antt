@@ -1,4 +1,4 @@
-use Rattle.std.proofs.Common.{arith, ◌≡◌, sym, ◌∙◌, ap, false}
+use Rattle.std.proofs.Common.{arith}
 use Rattle.idl_term.specs.ClauseForm.{literal_at}
 use Rattle.idl_term.specs.Nodes.{shown}
 use Rattle.idl_term.proofs.Holding.{later_holds, none_holds}

@@ -1,10 +1,9 @@
-use Rattle.std.proofs.Common.{arith, ◌≡◌, ◌≤◌, ◌<◌, sym, ◌∙◌, ap, false, Some, None, subst, List}
-use Rattle.std.specs.Prelude.{Decides, length, slice_get}
+use Rattle.std.proofs.Common.{arith, ◌≤◌, sym, ◌∙◌, ap, subst, List}
+use Rattle.std.specs.Prelude.{Decides, length}
 use Rattle.std.proofs.lemmas.Bool.Decides.{nat_tests}
 use Rattle.std.proofs.lemmas.Option.{slice_get_past}
 use Rattle.stn_core.specs.declared.literal.Literal.{Literal}
 use Rattle.stn_core.specs.Problem.{ClauseHolds}
-use Rattle.idl_term.specs.declared.nodes.Node.{Node}
 use Rattle.idl_term.specs.ClauseForm.{clause_at}
 use Rattle.idl_term.specs.Nodes.{NodeValue, shown}
 use Rattle.idl_term.specs.Tables.{IsTableOver}

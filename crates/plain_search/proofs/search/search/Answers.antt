@@ -19,7 +19,7 @@ greatest-requires-clause-over g c =
 
 pub returns-then-is_none-clause-verdict : goal.returns-then-is_none-clause-verdict
 returns-then-is_none-clause-verdict g c =
-    solved_by c.args.problem.now.points c.args.problem.now.clauses _ _ c.in-Greatest.schedule _ _ _ c.in_ok-schedule.ensures c.in-Greatest.is c.as_slice-in-Greatest-2.ensures c.as_slice-in-Greatest.ensures c.if-is_none.ensures c.false_clause.ensures
+    solved_by c.args.problem.now.points c.args.problem.now.clauses _ _ c.in-Greatest.schedule _ _ _ c.in_ok-schedule.ensures c.in-Greatest.is c.as_slice-in-Greatest-2.ensures c.as_slice-in-Greatest.ensures c.if-is_none.ensures c.false_clause.ensures.found
 
 pub returns-in-Negative-clause-verdict : goal.returns-in-Negative-clause-verdict
 returns-in-Negative-clause-verdict g c =

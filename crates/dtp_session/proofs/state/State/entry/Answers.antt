@@ -1,4 +1,4 @@
-use Rattle.std.proofs.Common.{arith, ◌≡◌, ◌∙◌, ◌+◌, ◌<◌, sym, ap, subst, List, ℤ, length}
+use Rattle.std.proofs.Common.{arith, ◌∙◌, sym, ap, subst, List, ℤ}
 use Rattle.std.specs.Prelude.{All}
 use Rattle.stn_core.specs.Schedule.{IsInRange}
 use Rattle.idl_term.specs.Points.{named_values, schedule_of}

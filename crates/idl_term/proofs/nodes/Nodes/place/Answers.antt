@@ -1,6 +1,6 @@
-use Rattle.std.proofs.Common.{arith, ◌≡◌, ◌∙◌, ap, sym, List, ℕ, ◌++◌, ◌∷◌, [], Some, None, length}
+use Rattle.std.proofs.Common.{arith, ◌≡◌, ◌∙◌, ap, sym, List, Some, None, length}
 use Rattle.std.proofs.lemmas.List.{length-map}
-use Rattle.idl_term.specs.Nodes.{NodeValue, Placed, node_value, shown, number_in}
+use Rattle.idl_term.specs.Nodes.{NodeValue, node_value, shown, number_in}
 use Rattle.idl_term.proofs.Sharing.{node_added, placed_new}
 use Rattle.idl_term.proofs.nodes.Nodes.place.Goals as goal
 
