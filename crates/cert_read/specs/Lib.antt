@@ -12,3 +12,4 @@ pub use Rattle.smt_sexpr.specs.Reading
 pub use Rattle.smt_sexpr.specs.Printing
 pub use Rattle.refute_tree.specs.Examples
 pub use Rattle.cert_text.specs.Form
+pub use Rattle.cert_text.specs.Limits

@@ -20,6 +20,7 @@ use Rattle.refute_tree.specs.declared.step.Step.{Step}
 use Rattle.refute_tree.specs.declared.step.Step.TheVariants.{Cycle, Input, Lemma as Earlier, Either}
 use Rattle.refute_tree.specs.declared.lemma.Lemma.{Lemma}
 use Rattle.cert_text.specs.declared.entry.Entry.{Entry}
+pub use Rattle.cert_text.specs.Limits.{limit}
 use Rattle.cert_text.specs.declared.entry.Entry.TheVariants.{Sat, Unsat}
 
 -- ---- numbers
@@ -27,10 +28,6 @@ use Rattle.cert_text.specs.declared.entry.Entry.TheVariants.{Sat, Unsat}
 -- whether the s-expression is this symbol
 abbrev pub is_symbol : List ℕ → Sexpr → Bool
 is_symbol text x = option_map_or (λ name. bytes_eq name text) (symbol_of x) false
-
--- 2^61
-abbrev pub limit : ℕ
-limit = 2305843009213693952
 
 abbrev pub limited : ℕ → Option ℕ
 limited n = if nat_le n limit then Some n else None

@@ -1,16 +1,9 @@
--- The text of a whole certificate as it is written, and the numbers that it may have to be read again.
-use Rattle.std.specs.Prelude.{◌≡◌, ℕ, ◌<◌, ◌≤◌, ◌^◌, ◌-◌, ℤ, List, [], ◌∷◌, ◌++◌, All, unsigned_abs, false}
+-- The text of a whole certificate as it is written.
+use Rattle.std.specs.Prelude.{◌≡◌, ℕ, List, [], ◌∷◌, ◌++◌, false}
 use Rattle.smt_lex.specs.Grammar.{is_gap}
-use Rattle.stn_core.specs.declared.literal.Literal.{Literal}
-use Rattle.stn_core.specs.declared.named.NamedValue.{NamedValue}
-use Rattle.stn_core.specs.declared.named.NamedValue.TheVariants.{Int, Truth}
-use Rattle.refute_tree.specs.declared.step.Step.{Step}
-use Rattle.refute_tree.specs.declared.step.Step.TheVariants.{Cycle, Input, Lemma as Earlier, Either}
-use Rattle.refute_tree.specs.declared.lemma.Lemma.{Lemma}
 use Rattle.cert_text.specs.declared.entry.Entry.{Entry}
-use Rattle.cert_text.specs.declared.entry.Entry.TheVariants.{Sat, Unsat}
 use Rattle.cert_text.specs.Form.{header_sexpr, entry_sexpr, end_sexpr, line_of}
-use Rattle.cert_read.specs.Parts.{limit}
+pub use Rattle.cert_text.specs.Limits.{NumberFits, LiteralWithin, StepWithin, LemmaWithin, ValueFits, EntryWithin, EntryFits, IsPlain}
 
 -- ---- the text
 
@@ -24,39 +17,3 @@ certificate_text es = line_of header_sexpr ++ (entries_text es ++ line_of end_se
 -- white space and comments, all of whose comments are ended: what follows isn't in one
 abbrev pub IsClosedGap : List ℕ → Type 0
 IsClosedGap gap = (rest : List ℕ) → is_gap false (gap ++ rest) ≡ is_gap false rest
-
--- ---- limits: the points are below a number, and all other numbers within 2^61
-
-abbrev pub NumberFits : ℤ → Type 0
-NumberFits n = unsigned_abs n ≤ limit
-
-pub record LiteralWithin (points : ℕ) (l : Literal) : Type 0 where
-  pub x : l.x < points
-  pub y : l.y < points
-  pub c : NumberFits l.c
-
-abbrev pub StepWithin : ℕ → Step → Type 0
-StepWithin points (Cycle literals) = All (LiteralWithin points) literals
-StepWithin points (Input i) = i ≤ limit
-StepWithin points (Earlier j) = j ≤ limit
-StepWithin points (Either l) = LiteralWithin points l
-
-pub record LemmaWithin (points : ℕ) (lemma : Lemma) : Type 0 where
-  pub clause : All (LiteralWithin points) lemma.clause
-  pub steps : All (StepWithin points) lemma.steps
-
-abbrev pub ValueFits : NamedValue → Type 0
-ValueFits (Int n) = NumberFits n
-ValueFits (Truth b) = Unit {0}
-
-abbrev pub EntryWithin : ℕ → Entry → Type 0
-EntryWithin points (Sat values) = All ValueFits values
-EntryWithin points (Unsat lemmas) = All (LemmaWithin points) lemmas
-
--- what is written is read again
-abbrev pub EntryFits : Entry → Type 0
-EntryFits e = EntryWithin (2 ^ 32) e
-
--- the greatest point, as which all greater ones are read, isn't in it
-abbrev pub IsPlain : Entry → Type 0
-IsPlain e = EntryWithin (2 ^ 32 - 1) e

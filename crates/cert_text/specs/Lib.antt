@@ -1,4 +1,5 @@
 pub mod Form
+pub mod Limits
 pub use Rattle.smt_sexpr.specs.Tree
 pub use Rattle.smt_sexpr.specs.Reading
 pub use Rattle.smt_sexpr.specs.Printing

@@ -2,6 +2,7 @@
 use Rattle.std.proofs.Common.{refl, sym, ap, subst, arith, ◌∙◌, ◌≡◌, ◌≢◌, ◌≤◌, ◌+◌, ℕ, suc, List, [], ◌∷◌, ◌++◌, length, take, drop, Bool, true, false, Option, Some, None, Result, Ok, Err}
 use Rattle.std.specs.Prelude.{if◌then◌else◌, option_map, All}
 use Rattle.std.specs.List.{AllByRecursion}
+use Rattle.std.proofs.lemmas.List.Elements.{All-nil, All-cons}
 use Rattle.std.proofs.lemmas.List.{append_assoc, append-nil, drop-append-le, length-drop, take_all}
 use Rattle.smt_lex.specs.Grammar.{is_gap}
 use Rattle.smt_sexpr.specs.Tree.{Sexpr, Items, leaf, list}
@@ -28,7 +29,7 @@ use Rattle.dtp_session.specs.declared.state.Effect.{Effect}
 use Rattle.dtp_session.specs.declared.state.Effect.TheVariants.{Silent, CheckSat, Exit}
 use Rattle.dtp_session.specs.Answers.{error_line}
 use Rattle.dtp_session.specs.Commands.{Command, declaring, asserting, checking, exiting, another, command_name, command_of}
-use Rattle.dtp_session.specs.Entries.{IsEntryOf}
+use Rattle.dtp_session.specs.Entries.{IsRight, IsEntryOf}
 use Rattle.dtp_session.specs.States.{State, start_state, Step, may_be_declared, after_assertion, after_command, after}
 use Rattle.dtp_session.specs.Transcripts.{Stops, GoesOn, Follows, IsReport}
 use Rattle.dtp_check.specs.declared.judgement.EntryFlaw.{EntryFlaw}
@@ -37,7 +38,7 @@ use Rattle.dtp_check.specs.declared.judgement.Judgement.TheVariants.{Accepted}
 use Rattle.dtp_check.specs.declared.part.PartEnd.{PartEnd}
 use Rattle.dtp_check.specs.declared.part.PartEnd.TheVariants as part
 use Rattle.dtp_check.specs.Judged.{is_exiting, is_exit, EndsPart, ExitEnds, FollowsExit, ScriptPart, schedule_of_named, first_of_wrong_sort, is_true, first_false, entry_flaw, judged_entry, judged, IsJudged}
-use Rattle.dtp_check.specs.Whole.{IsWholeFrom, IsWhole, NumbersFit}
+use Rattle.dtp_check.specs.Whole.{IsWholeFrom, IsWhole}
 use Rattle.dtp_check.proofs.Judging.{values_flaw_is, judged_ok, judged_none, not_exit}
 
 -- ---- what the laws of the lower crates say
@@ -79,7 +80,7 @@ none_false : (names : List (List ℕ)) (schedule : List Value) (k : ℕ) (ts : L
 none_false names schedule k [] h = refl
 none_false names schedule k (t ∷ ts) h = let e : is_true (value names schedule t) ≡ true = ap is_true h.0 in rw e (none_false names schedule (k + 1) ts h.1)
 
-pub entry_right : HasNoFlaw → (s : State) (entry : Entry) → IsEntryOf s entry → entry_flaw s entry ≡ None
+pub entry_right : HasNoFlaw → (s : State) (entry : Entry) → IsRight s entry → entry_flaw s entry ≡ None
 entry_right law s (Sat values) (schedule, fits, trues, e) =
     let count : length values ≡ length s.names = ap length e ∙ named_count schedule ∙ fits.count in
     let sorts : first_of_wrong_sort 1 values ≡ None = ap (first_of_wrong_sort 1) e ∙ named_sorts 1 schedule fits.sorts in
@@ -171,6 +172,7 @@ EndsIn exits bytes last end behind = FollowsExit exits ((end ≡ part.Exit) × (
 record IsSplit (script : List ℕ) (place : ℕ) (s : State) (k : ℕ) (xs : List Sexpr) (out : List ℕ) : Type 0 where
   entries : List Entry
   text : out ≡ entries_text entries ++ line_of end_sexpr
+  fits : All EntryFits entries
   accepted : (n : ℕ) → judged s k n xs entries ≡ Accepted
   last : ℕ
   exits : Bool
@@ -202,7 +204,7 @@ module _ (one : OneOutcome) (on : ReadsOn) (within : ReadsWithin) (flaw : HasNoF
   split_end ys script place here k s stopped out le e ends follows is = absurd follows
   split_end ys script place here k s (unread why) out le e ends follows is = absurd (let z = follows.1 in omega arith)
   split_end [] script place here k s ended out le e ends follows is =
-      record { entries = []; text = follows.0; accepted = λ n. judged_none s k n []; last = place; exits = false; within = le; closed = is; reads = λ added end behind h. h }
+      record { entries = []; text = follows.0; fits = All-nil EntryFits; accepted = λ n. judged_none s k n []; last = place; exits = false; within = le; closed = is; reads = λ added end behind h. h }
   split_end (y ∷ ys) script place here k s ended out le e (n, finishes) follows (mid, spells, is) = absurd (not_finished script place y mid n spells (subst (λ (p : ℕ). Outcomes script p finished n) (sym e) finishes))
 
   module _ (script : List ℕ) (place mid k : ℕ) (s : State) (x : Sexpr) (spells : Spells script place x mid) where
@@ -232,6 +234,7 @@ module _ (one : OneOutcome) (on : ReadsOn) (within : ReadsWithin) (flaw : HasNoF
     split_silent next e xs out rest same h = record {
       entries = h.entries;
       text = same ∙ h.text;
+      fits = h.fits;
       accepted = λ n. judged_ok s k n x xs h.entries (step_of next Silent) e ∙ h.accepted n;
       last = h.last;
       exits = h.exits;
@@ -245,8 +248,9 @@ module _ (one : OneOutcome) (on : ReadsOn) (within : ReadsWithin) (flaw : HasNoF
     split_check next e xs out rest entry right same h = record {
       entries = entry ∷ h.entries;
       text = same ∙ ap (λ (t : List ℕ). line_of (entry_sexpr entry) ++ t) h.text ∙ sym (append_assoc (line_of (entry_sexpr entry)) (entries_text h.entries) (line_of end_sexpr));
+      fits = All-cons EntryFits entry h.entries right.1 h.fits;
       accepted = λ n. (judged_ok s k n x xs (entry ∷ h.entries) (step_of next CheckSat) e
-          ∙ ap (λ (f : Option EntryFlaw). judged_entry n f (judged next (k + 1) (n + 1) xs h.entries)) (entry_right flaw next entry right)
+          ∙ ap (λ (f : Option EntryFlaw). judged_entry n f (judged next (k + 1) (n + 1) xs h.entries)) (entry_right flaw next entry right.0)
           ∙ h.accepted (n + 1));
       last = h.last;
       exits = h.exits;
@@ -260,6 +264,7 @@ module _ (one : OneOutcome) (on : ReadsOn) (within : ReadsWithin) (flaw : HasNoF
     split_exit next e xs out none same is = record {
       entries = [];
       text = same;
+      fits = All-nil EntryFits;
       accepted = λ n. judged_ok s k n x xs [] (step_of next Exit) e;
       last = mid;
       exits = true;
@@ -333,9 +338,9 @@ module _ (one : OneOutcome) (on : ReadsOn) (within : ReadsWithin) (flaw : HasNoF
       judged_part = (certificate h.entries, reads_there.2, sym (h.accepted 1));
     }
 
-  pub certified : ReadsBack → (script out : List ℕ) → IsReport Certificate script out 0 → IsWhole script → NumbersFit out → IsJudged (script ++ out) Accepted
-  certified back script out (rest, text, report) (ys, is) fit =
+  pub certified : ReadsBack → (script out : List ℕ) → IsReport Certificate script out 0 → IsWhole script → IsJudged (script ++ out) Accepted
+  certified back script out (rest, text, report) (ys, is) =
       let h = split report.commands ys script 0 report.here 1 start_state report.ending rest (omega arith) report.reads report.ends report.answers is in
       let same : out ≡ certificate_text h.entries = text ∙ ap (λ (t : List ℕ). line_of header_sexpr ++ t) h.text in
       let there : drop h.last (script ++ out) ≡ drop h.last script ++ certificate_text h.entries = drop-append-le h.last script out h.within ∙ ap (λ (t : List ℕ). drop h.last script ++ t) same in
-      judged_by script out report.commands rest h (back h.entries (script ++ out) (drop h.last script) h.last (fit h.entries same) h.closed there) h.exits refl
+      judged_by script out report.commands rest h (back h.entries (script ++ out) (drop h.last script) h.last h.fits h.closed there) h.exits refl

@@ -4,3 +4,4 @@ pub mod Reading
 pub mod Telling
 pub mod Truths
 pub mod Accepting
+pub mod WholeExamples

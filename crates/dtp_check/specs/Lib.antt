@@ -3,6 +3,7 @@ pub mod Texts
 pub mod Answered
 pub mod Told
 pub mod Whole
+pub mod WholeExamples
 pub mod Parts
 pub mod Behind
 pub mod Roots

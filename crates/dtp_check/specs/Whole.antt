@@ -1,9 +1,8 @@
 -- Scripts behind which their certificate can be appended: the source is read as that script and that certificate.
-use Rattle.std.specs.Prelude.{◌≡◌, ℕ, List, [], ◌∷◌, drop, All}
+use Rattle.std.specs.Prelude.{◌≡◌, ℕ, List, [], ◌∷◌, drop}
 use Rattle.smt_sexpr.specs.Tree.{Sexpr}
 use Rattle.smt_sexpr.specs.Reading.{Spells}
-use Rattle.cert_text.specs.declared.entry.Entry.{Entry}
-use Rattle.cert_read.specs.Written.{certificate_text, IsClosedGap, EntryFits}
+use Rattle.cert_read.specs.Written.{IsClosedGap}
 use Rattle.dtp_check.specs.Judged.{is_exit, FollowsExit}
 
 -- From the place on there are these commands, up to the first `(exit)` or to the end of the script. Behind the last of them
@@ -15,7 +14,3 @@ IsWholeFrom script place (x ∷ xs) = (mid : ℕ) × Spells script place x mid �
 -- a script that is cut behind its `(exit)`, where it has one, and doesn't end in a comment
 abbrev pub IsWhole : List ℕ → Type 0
 IsWhole script = (commands : List Sexpr) × IsWholeFrom script 0 commands
-
--- the numbers of the certificate are within the limits of the format
-abbrev pub NumbersFit : List ℕ → Type 0
-NumbersFit out = (entries : List Entry) → out ≡ certificate_text entries → All EntryFits entries

@@ -10,7 +10,8 @@ ghost use Rattle.dtp_check.specs.declared.judgement.Judgement.TheVariants.{Accep
 ghost use Rattle.dtp_check.specs.declared.part.PartEnd.{PartEnd};
 ghost use Rattle.dtp_check.specs.Judged.{ScriptPart, IsJudged};
 ghost use Rattle.dtp_check.specs.Told.{IsTold};
-ghost use Rattle.dtp_check.specs.Whole.{IsWhole, NumbersFit};
+ghost use Rattle.dtp_check.specs.Whole.{IsWhole};
+ghost use Rattle.dtp_check.specs.WholeExamples.{ends_at_exit, ends_with_line, ends_in_comment};
 
 /// A source comes to one judgement at most.
 pub fn one_judgement()
@@ -31,10 +32,21 @@ pub fn nothing_false_is_accepted()
 /// A script is accepted with the certificate that was written of it without an error. The script is cut behind its
 /// `(exit)`, where it has one, and doesn't end in a comment.
 pub fn certified_is_accepted()
-    ensures { (script out : List ℕ) → IsReport report.Certificate script out 0 → IsWhole script → NumbersFit out → IsJudged (script ++ out) Accepted }
+    ensures { (script out : List ℕ) → IsReport report.Certificate script out 0 → IsWhole script → IsJudged (script ++ out) Accepted }
 {
     smt_sexpr::one_outcome();
     smt_sexpr::reads_on();
     cert_check::flaw_law();
     cert_read::certificate_reads_back();
+}
+
+/// Worked examples of scripts behind which a certificate can be appended: one that ends at `(exit)`, one with a comment
+/// that is ended, and none whose comment isn't.
+pub fn whole_examples()
+    ensures at_exit { IsWhole ends_at_exit }
+    ensures with_line { IsWhole ends_with_line }
+    ensures in_comment { ¬ IsWhole ends_in_comment }
+{
+    smt_sexpr::one_outcome();
+    smt_sexpr::reads_back();
 }

@@ -12,5 +12,5 @@ mod text;
 
 pub use check::{Checked, check_pair};
 pub use judgement::{CertificateFlaw, EntryFlaw, Judgement};
-pub use laws::{certified_is_accepted, nothing_false_is_accepted, one_judgement};
+pub use laws::{certified_is_accepted, nothing_false_is_accepted, one_judgement, whole_examples};
 pub use part::PartEnd;

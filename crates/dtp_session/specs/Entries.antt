@@ -6,6 +6,7 @@ use Rattle.stn_core.specs.declared.literal.Literal.{Literal}
 use Rattle.refute_tree.specs.Trees.{IsRefutation}
 use Rattle.cert_text.specs.declared.entry.Entry.{Entry}
 use Rattle.cert_text.specs.declared.entry.Entry.TheVariants.{Sat, Unsat}
+use Rattle.cert_text.specs.Limits.{EntryFits}
 use Rattle.cert_text.specs.Form.{entry_sexpr, line_of}
 use Rattle.dtp_session.specs.States.{State}
 use Rattle.idl_term.specs.ClauseForm.{clauses_of}
@@ -21,9 +22,14 @@ points_of s = length s.names + 1
 abbrev pub problem_of : State → List (List Literal)
 problem_of s = clauses_of s.nodes s.roots
 
+-- an entry that shows what the assertions come to
+abbrev pub IsRight : State → Entry → Type 0
+IsRight s (Sat values) = (schedule : List Value) × IsScheduleFor s.names schedule × AllByRecursion (IsTrueOn s.names schedule) s.assertions × (values ≡ named_values schedule)
+IsRight s (Unsat lemmas) = IsRefutation (points_of s) (problem_of s) lemmas
+
+-- such an entry, whose numbers are within the limits of the format
 abbrev pub IsEntryOf : State → Entry → Type 0
-IsEntryOf s (Sat values) = (schedule : List Value) × IsScheduleFor s.names schedule × AllByRecursion (IsTrueOn s.names schedule) s.assertions × (values ≡ named_values schedule)
-IsEntryOf s (Unsat lemmas) = IsRefutation (points_of s) (problem_of s) lemmas
+IsEntryOf s entry = IsRight s entry × EntryFits entry
 
 -- the line of a right entry
 abbrev pub IsEntry : State → List ℕ → Type 0

@@ -17,3 +17,4 @@ pub use Rattle.stn_core.specs.Literal
 pub use Rattle.idl_term.specs.Values
 pub use Rattle.idl_term.specs.Satisfiable
 pub use Rattle.idl_term.specs.Nodes
+pub use Rattle.cert_text.specs.Limits

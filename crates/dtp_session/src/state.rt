@@ -1,8 +1,10 @@
 //! The state after the commands.
-ghost use Rattle.std.specs.Prelude.{◌≡◌, ◌++◌, ◌∷◌, [], ℕ, true, Some, None, false, OnOk, OnErr, IfOk, Err, Decides};
+ghost use Rattle.std.specs.Prelude.{◌≡◌, ◌≤◌, length, ◌++◌, ◌∷◌, [], ℕ, true, Some, None, false, OnOk, OnErr, IfOk, Err, Decides};
 ghost use Rattle.smt_sexpr.specs.Tree.{Sexpr};
 ghost use Rattle.smt_sexpr.specs.Table.{Means, HasMeaning};
 ghost use Rattle.dtp_session.specs.declared.kind.Kind.TheVariants.{NotYet as Refused};
+ghost use Rattle.idl_term.specs.ClauseForm.{clauses_of};
+ghost use Rattle.idl_term.specs.Limits.{nodes_limit};
 ghost use Rattle.idl_term.specs.Lowered.{lowered};
 ghost use Rattle.idl_term.specs.Nodes.{Placed};
 ghost use Rattle.plain_search.specs.Verdicts.{IsVerdict};
@@ -189,7 +191,8 @@ impl<'a> State<'a> {
     /// The problem of the assertions.
     pub fn problem(&self) -> Result<Problem, AllocError>
         requires { (s : Meaning) × StandsFor self.now s × IsTabled s }
-        ensures { IfOk result (λ problem. (s : Meaning) → StandsFor self.now s → (problem.points ≡ points_of s) × (problem.clauses ≡ problem_of s)) }
+        ensures problem { IfOk result (λ problem. (s : Meaning) → StandsFor self.now s → (problem.points ≡ points_of s) × (problem.clauses ≡ problem_of s)) }
+        ensures few { length (clauses_of self.now.nodes self.now.roots) ≤ nodes_limit }
     {
         idl_term::clause_form_law();
         let points = self.names.len() as u32 + 1;
@@ -200,7 +203,8 @@ impl<'a> State<'a> {
     /// grow with the number of ways to choose a literal of each clause.
     pub fn decide(&self) -> Result<Verdict, AllocError>
         requires { (s : Meaning) × StandsFor self.now s × IsTabled s }
-        ensures { IfOk result (λ verdict. (s : Meaning) → StandsFor self.now s → IsVerdict (points_of s) (problem_of s) verdict) }
+        ensures verdict { IfOk result (λ verdict. (s : Meaning) → StandsFor self.now s → IsVerdict (points_of s) (problem_of s) verdict) }
+        ensures few { length (clauses_of self.now.nodes self.now.roots) ≤ nodes_limit }
     {
         let problem = self.problem()?;
         let mut net = Network::new(self.alloc, problem.points)?;
@@ -226,6 +230,7 @@ impl<'a> State<'a> {
         ensures { IfOk result (λ entry. (s : Meaning) → StandsFor self.now s → IsTabled s → IsEntryOf s entry) }
     {
         idl_term::clause_form_law();
+        stn_core::negation_kept();
         match self.decide()? {
             Verdict::Sat(schedule) => {
                 let values = named_values(self.alloc, schedule.as_slice())?;

@@ -10,3 +10,4 @@ pub mod Restricting
 pub mod Rooting
 pub mod Meaning
 pub mod Holding
+pub mod Counting

@@ -3,6 +3,7 @@ ghost use Rattle.std.specs.Prelude.{◌≡◌, ◌≤◌, ◌<◌, ℕ, length, 
 ghost use Rattle.stn_core.specs.Limits.{points_limit};
 ghost use Rattle.stn_core.specs.Literal.{IsOver};
 ghost use Rattle.idl_term.specs.ClauseForm.{literal_at, clause_of_node, is_among, clauses_of};
+ghost use Rattle.idl_term.specs.Limits.{nodes_limit};
 ghost use Rattle.idl_term.specs.Nodes.{node_value, shown};
 
 use crate::nodes::{Node, Nodes};
@@ -86,6 +87,7 @@ pub fn problem_of(
     requires over { All (λ clause. All (IsOver points) clause) (clauses_of nodes.now roots.now) }
     ensures points { IfOk result (λ problem. problem.points ≡ points) }
     ensures clauses { IfOk result (λ problem. problem.clauses ≡ clauses_of nodes.now roots.now) }
+    ensures few_clauses { length (clauses_of nodes.now roots.now) ≤ nodes_limit }
 {
     let clauses = clauses_of(alloc, nodes.as_slice(), roots)?;
     Ok(Problem {

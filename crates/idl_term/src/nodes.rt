@@ -1,5 +1,6 @@
 //! The node table.
 ghost use Rattle.std.specs.Prelude.{◌≡◌, ◌≤◌, [], ◌<◌, length, take, IfOk, OnErr, Err, Some, None, Option};
+ghost use Rattle.idl_term.specs.Limits.{nodes_limit};
 ghost use Rattle.idl_term.specs.Nodes.{node_value, number_in, placed, shown};
 
 use crate::error::TermError;
@@ -55,7 +56,8 @@ impl Nodes {
     }
 
     pub fn as_slice(&self) -> &[Node]
-        ensures { shown result.now ≡ self.now }
+        ensures nodes { shown result.now ≡ self.now }
+        ensures few { length result.now ≤ nodes_limit }
     {
         self.set.as_slice()
     }

@@ -5,7 +5,7 @@ ghost use Rattle.refute_tree.specs.Trees.{Tree, IsRefutation};
 ghost use Rattle.plain_search.specs.Base.{IsBase};
 ghost use Rattle.plain_search.specs.Clauses.{IsNotEmpty};
 ghost use Rattle.plain_search.specs.Paths.{IsOpen};
-ghost use Rattle.plain_search.specs.Verdicts.{IsVerdict};
+ghost use Rattle.plain_search.specs.Verdicts.{IsOfInputs, IsVerdict};
 ghost use Rattle.stn_core.specs.Literal.{Holds, IsOver};
 
 use crate::clauses::{empty_clause, false_clause};
@@ -18,7 +18,8 @@ use stn_core::{Clause, Greatest, Net, Problem, Schedule, greatest};
 
 // The refutation with one lemma, which the path's steps show.
 fn refutation_of(alloc: Global, path: Path) -> Result<Refutation, AllocError>
-    ensures { IfOk result (λ lemmas. (points : ℕ) (clauses : List (List Bound)) → Tree clauses [] [] path.steps.items [] → IsRefutation points clauses lemmas) }
+    ensures tree { IfOk result (λ lemmas. (points : ℕ) (clauses : List (List Bound)) → Tree clauses [] [] path.steps.items [] → IsRefutation points clauses lemmas) }
+    ensures plain { IfOk result IsOfInputs }
 {
     let lemma = Lemma {
         clause: Clause::new(Vec::new(alloc)),

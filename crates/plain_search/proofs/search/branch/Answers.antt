@@ -17,4 +17,4 @@ open-requires-clause-falsified g c =
 
 pub returns-then-not-branch-clause-verdict : goal.returns-then-not-branch-clause-verdict
 returns-then-not-branch-clause-verdict g c =
-    c.in_ok-refutation_of.ensures c.args.problem.now.points c.args.problem.now.clauses (ended c.args.problem.now.clauses _ _ _ _ _ c.if-not-branch.true c.in_ok-open.ensures.goes)
+    (c.in_ok-refutation_of.ensures.tree c.args.problem.now.points c.args.problem.now.clauses (ended c.args.problem.now.clauses _ _ _ _ _ c.if-not-branch.true c.in_ok-open.ensures.goes), c.in_ok-refutation_of.ensures.plain)

@@ -10,7 +10,7 @@ use Rattle.plain_search.proofs.search.search.Goals as goal
 pub returns-in-Some-clause-verdict : goal.returns-in-Some-clause-verdict
 returns-in-Some-clause-verdict g c =
     let at : slice_get c.args.problem.now.clauses c.in-Some.clause ≡ Some [] = subst (λ (clauses : List (List Literal)). slice_get clauses c.in-Some.clause ≡ Some []) c.as_slice.ensures c.in-Some.ensures in
-    c.in_ok-refutation_of.ensures c.args.problem.now.points c.args.problem.now.clauses (empty_tree c.args.problem.now.clauses c.in-Some.clause _ _ c.new-path.ensures.steps c.in_ok-push.ensures.items at)
+    (c.in_ok-refutation_of.ensures.tree c.args.problem.now.points c.args.problem.now.clauses (empty_tree c.args.problem.now.clauses c.in-Some.clause _ _ c.new-path.ensures.steps c.in_ok-push.ensures.items at), c.in_ok-refutation_of.ensures.plain)
 
 pub greatest-requires-clause-over : goal.greatest-requires-clause-over
 greatest-requires-clause-over g c =
@@ -25,7 +25,7 @@ pub returns-in-Negative-clause-verdict : goal.returns-in-Negative-clause-verdict
 returns-in-Negative-clause-verdict g c =
     let base : IsBase c.args.problem.now.clauses c.in_ok-units.units = subst (λ (clauses : List (List Literal)). IsBase clauses c.in_ok-units.units) c.as_slice-2.ensures c.in_ok-units.ensures.base in
     let among : IsCycleAmong c.in_ok-units.units.literals c.in-Negative.cycle = refuted_by c.args.problem.now.points c.in_ok-units.units.literals _ c.in-Negative.cycle _ c.in_ok-schedule.ensures c.in-Negative.is c.as_slice-3.ensures in
-    c.in_ok-refutation_of-in-Negative.ensures c.args.problem.now.points c.args.problem.now.clauses (base_tree c.args.problem.now.clauses c.in_ok-units.units c.in-Negative.cycle _ _ c.new-path.ensures.steps c.in_ok-close-in-Negative.ensures.steps base among)
+    (c.in_ok-refutation_of-in-Negative.ensures.tree c.args.problem.now.points c.args.problem.now.clauses (base_tree c.args.problem.now.clauses c.in_ok-units.units c.in-Negative.cycle _ _ c.new-path.ensures.steps c.in_ok-close-in-Negative.ensures.steps base among), c.in_ok-refutation_of-in-Negative.ensures.plain)
 
 pub add_units-requires-clause-over : goal.add_units-requires-clause-over
 add_units-requires-clause-over g c =
