@@ -1,0 +1,89 @@
+//! Work for the incremental network, to be timed from outside (bench/network): 60,000 points and 400,000 random literals
+//! that a hidden schedule satisfies, and with a word 1,000,000 adds and retracts in the manner of a search. What it prints
+//! is the same as what bench/network/network.cpp prints.
+#![tactic(auto)]
+
+ghost use Rattle.std.specs.Prelude.{◌≡◌, ◌<◌, ◌≤◌, length};
+ghost use Rattle.stn_core.specs.Literal.{IsOver};
+
+use inc_paths::Network;
+use std::{env, io};
+use stn_core::{Added, Literal, Mark, Net};
+
+const POINTS: u32 = 60_000;
+
+fn below(state: &mut u64, limit: u32) -> u32
+    requires { 0 < limit }
+    ensures { result < limit }
+{
+    *state = state
+        .wrapping_mul(6364136223846793005)
+        .wrapping_add(1442695040888963407);
+    (*state >> 33) as u32 % limit
+}
+
+fn literal(state: &mut u64, hidden: &[u32], spread: u32, shift: u32) -> Literal
+    requires spread { 0 < spread }
+    ensures { IsOver 60000 result }
+{
+    let x = below(state, POINTS);
+    let y = below(state, POINTS);
+    let slack = i64::from(below(state, spread));
+    let a = i64::from(hidden.get(x as usize).copied().unwrap_or(0));
+    let b = i64::from(hidden.get(y as usize).copied().unwrap_or(0));
+    let c = a - b + slack - i64::from(shift);
+    if c < -1_000_000_000 || c > 1_000_000_000 {
+        return Literal { x, y, c: 0 };
+    }
+    Literal { x, y, c }
+}
+
+fn main(rt: HostRuntime) -> io::Result<()> {
+    let alloc = rt.alloc();
+    let mut words = 0u32;
+    for _w in env::args(&rt)? {
+        words = words.saturating_add(1);
+    }
+    let searching = words > 1;
+    let mut state = 1u64;
+    let mut hidden = Vec::new(alloc);
+    for _i in 0..POINTS {
+        hidden.push(below(&mut state, 1_000_000))?;
+    }
+    let mut net = Network::new(alloc, POINTS)?;
+    'first: for _j in 0..400_000u32 {
+        let l = literal(&mut state, &hidden, 1_000, 0);
+        let _ = net.add(l)?;
+    }
+    let mut refused = 0u64;
+    if searching {
+        let base = net.mark().length;
+        let mut done = 0u32;
+        'second: while done < 1_000_000 {
+            done = done.saturating_add(1);
+            let l = literal(&mut state, &hidden, 2_000, 200);
+            let taken = matches!(net.add(l)?, Added::Yes);
+            if !taken {
+                refused = refused.saturating_add(1);
+            }
+            if !taken || below(&mut state, 10) == 0 {
+                let mark = net.mark().length;
+                let depth = mark.saturating_sub(base);
+                let back = below(&mut state, 20) as usize;
+                let length = base.saturating_add(depth.saturating_sub(back));
+                if length <= mark {
+                    net.retract(Mark { length });
+                }
+                done = done.saturating_add(1);
+            }
+        }
+    }
+    let mut sum = 0u64;
+    for value in net.schedule() {
+        sum = sum.wrapping_mul(31).wrapping_add(value.unsigned_abs());
+    }
+    let adds = net.adds();
+    let length = net.mark().length;
+    println!(rt; "adds {adds} length {length} refused {refused} sum {sum}")?;
+    Ok(())
+}
