@@ -1,5 +1,6 @@
 #!/usr/bin/env python3
-"""Times `dtp solve` on large scripts, beside z3 where it is installed. It prints, and asserts nothing.
+"""Times `dtp solve` on large scripts, beside z3 where it is installed, and then `certify` and `check` on scripts with large
+certificates. It prints, and asserts nothing.
 
     bench/bench.py [PATH OF dtp]
 
@@ -46,13 +47,59 @@ def chain(points):
     yield "(check-sat)\n"
 
 
+def units(names, assertions):
+    """Clauses of one literal each."""
+    for i in range(names):
+        yield f"(declare-const n{i} Int)\n"
+    for i in range(assertions):
+        yield f"(assert (or (<= (- n{i % names} n{(7 * i + 1) % names}) {i})))\n"
+    yield "(check-sat)\n"
+
+
+def pairs(names, assertions):
+    """Clauses of two literals, of which the first always holds."""
+    for i in range(names):
+        yield f"(declare-const n{i} Int)\n"
+    for i in range(assertions):
+        yield f"(assert (or (<= n{i % names} n{i % names}) (< n{i % names} {i})))\n"
+    yield "(check-sat)\n"
+
+
+def orders(count):
+    """Pairs of names, each in one of two orders: every clause is branched on."""
+    for i in range(count):
+        yield f"(declare-const a{i} Int) (declare-const b{i} Int)\n"
+        yield f"(assert (or (< a{i} b{i}) (< b{i} a{i})))\n"
+    yield "(check-sat)\n"
+
+
+def machine(jobs, deadline):
+    """Jobs of lengths 1, 2, .. on one machine: they fit exactly where the deadline is the sum of their lengths."""
+    for j in range(jobs):
+        yield f"(declare-const s{j} Int) (assert (>= s{j} 0)) (assert (<= s{j} {deadline - j - 1}))\n"
+    for a in range(jobs):
+        for b in range(a + 1, jobs):
+            yield f"(assert (or (<= (- s{a} s{b}) (- {a + 1})) (<= (- s{b} s{a}) (- {b + 1}))))\n"
+    yield "(check-sat)\n"
+
+
+def cycles(points, checks):
+    """A negative cycle through all points, asked for many times."""
+    for i in range(points):
+        yield f"(declare-const x{i} Int)\n"
+    for i in range(points):
+        yield f"(assert (< x{i} x{(i + 1) % points}))\n"
+    for _ in range(checks):
+        yield "(check-sat)\n"
+
+
 def nested(depth):
     """Opening parentheses alone."""
     yield "(" * depth
 
 
-def run(command, path):
-    with open(path, "rb") as script, tempfile.TemporaryFile() as out:
+def run(command, path, kept=None):
+    with open(path, "rb") as script, open(kept, "wb+") if kept else tempfile.TemporaryFile() as out:
         start = time.monotonic()
         child = subprocess.Popen(command, stdin=script, stdout=out, stderr=subprocess.DEVNULL)
         timer = threading.Timer(LIMIT, child.kill)
@@ -77,7 +124,14 @@ def main():
     scripts = [
         ("65,536 names, 500,000 assertions", wide(65_536, 500_000)),
         ("a chain of 20,000 points, worst order", chain(20_000)),
+        ("200,000 clauses of one literal", units(1_000, 200_000)),
+        ("100,000 clauses, the first literal holds", pairs(1_000, 100_000)),
+        ("30,000 pairs in one of two orders", orders(30_000)),
         ("1,000,000 opening parentheses", nested(1_000_000)),
+    ]
+    certified = [
+        ("8 jobs on one machine, 1 too little", machine(8, 35)),
+        ("a cycle of 20,000, 80 check-sats", cycles(20_000, 80)),
     ]
     print(f"{'script':40} {'MB in':>6} {'solver':>6} {'seconds':>8} {'MB':>7}  answer")
     with tempfile.TemporaryDirectory() as folder:
@@ -89,6 +143,20 @@ def main():
             for name, command in solvers:
                 seconds, memory, answer = run(command, path)
                 print(f"{title:40} {size:6.1f} {name:>6} {seconds:8.2f} {memory:7.0f}  {answer}", flush=True)
+        for title, lines in certified:
+            path = os.path.join(folder, "script.smt2")
+            with open(path, "w") as script:
+                script.writelines(lines)
+            certificate, both = os.path.join(folder, "certificate"), os.path.join(folder, "both")
+            for word, source, kept in (("certify", path, certificate), ("check", both, None)):
+                if word == "check":
+                    with open(both, "wb") as out:
+                        for part in (path, certificate):
+                            with open(part, "rb") as text:
+                                shutil.copyfileobj(text, out)
+                size = os.path.getsize(source) / 1e6
+                seconds, memory, answer = run([dtp, word], source, kept)
+                print(f"{title:40} {size:6.1f} {word:>7} {seconds:7.2f} {memory:7.0f}  {answer}", flush=True)
 
 
 if __name__ == "__main__":
