@@ -1,5 +1,5 @@
 -- What a run does, by the status that it ends with.
-use Rattle.std.specs.Prelude.{◌≡◌, ◌⊎◌, ℕ, ◌≤◌, ◌^◌, List, length, codes, Option, Some, None}
+use Rattle.std.specs.Prelude.{◌≡◌, ◌≢◌, ◌⊎◌, ℕ, ◌≤◌, ◌^◌, List, [], length, map, codes, Option, Some, None, String, string_bytes}
 use Rattle.std.specs.Io.KnownBytes.{Consumes, Appends, IsAtEnd}
 use Rattle.dtp_io.specs.Faults.{Rose, TookMore, AddsFront}
 use Rattle.dtp_session.specs.Transcripts.{IsReport, IsReportPart}
@@ -8,11 +8,14 @@ use Rattle.dtp_session.specs.declared.report.Report.TheVariants.{Verdicts, Certi
 use Rattle.dtp_check.specs.Answered.{IsAnswer, IsAnswerPart}
 use Rattle.dtp_check.specs.declared.check.Checked.{Checked}
 use Rattle.dtp_check.specs.declared.check.Checked.TheVariants.{Accepted, NotAccepted as Unaccepted}
-use Rattle.dtp_main.specs.declared.line.Line.{Line}
-use Rattle.dtp_main.specs.declared.line.Line.TheVariants.{Solve, Certify, Check}
+use Rattle.clap.specs.Words.{fault_of}
+use Rattle.command_line.specs.declared.line.Line.{Line}
+use Rattle.command_line.specs.declared.line.Line.TheVariants.{Solve, Certify, Check}
+use Rattle.command_line.specs.Apps.{dtp_app}
+use Rattle.command_line.specs.Lines.{line_of}
+use Rattle.command_line.specs.Plain.{IsPlainLine}
 use Rattle.dtp_main.specs.declared.status.Status.{Status}
 use Rattle.dtp_main.specs.declared.status.Status.TheVariants.{Done, Refused, Usage, ReadFault, WriteFault, OutOfMemory, NotAccepted, TooLong}
-use Rattle.dtp_main.specs.Lines.{line_of}
 use Rattle.dtp_main.specs.Statuses.{code_of}
 
 -- what the program sees of the outside: the bytes that the source has left and those that the sink holds, where they
@@ -90,19 +93,31 @@ IsChecked old new TooLong = TookMore old.left new.left input_limit × IsUnwritte
 
 -- each kind of line has its own outcomes
 abbrev pub IsOutcomeOf : Line → Outside → Outside → Status → Type 0
-IsOutcomeOf Solve old new status = IsReported Verdicts old new status
-IsOutcomeOf Certify old new status = IsReported Certificate old new status
+IsOutcomeOf (Solve search) old new status = IsReported Verdicts old new status
+IsOutcomeOf (Certify search) old new status = IsReported Certificate old new status
 IsOutcomeOf Check old new status = IsChecked old new status
+
+-- the words are no command line: the usage line, or nothing for want of memory; the source isn't read
+abbrev pub IsRefused : Outside → Outside → Status → Type 0
+IsRefused old new Usage = IsUnread old new × IsUsage old new
+IsRefused old new OutOfMemory = IsUnread old new × IsUnwritten old new
+IsRefused old new _ = ⊥
 
 -- The outcome of a run: where the words are no command line the usage line, else what the line does.
 abbrev pub IsOutcome : Option Line → Outside → Outside → Status → Type 0
-IsOutcome None old new status = (status ≡ Usage) × IsUnread old new × IsUsage old new
+IsOutcome None old new status = IsRefused old new status
 IsOutcome (Some line) old new status = IsOutcomeOf line old new status
 
 pub record IsRun (words : List (List ℕ)) (old new : Outside) (code : ℕ) : Type 0 where
   pub status : Status
   pub code_is : code ≡ code_of status
   pub outcome : IsOutcome (line_of words) old new status
+  -- the usage line comes only where clap finds a fault in the words, and never on a plain line
+  pub fault : status ≡ Usage → fault_of dtp_app words ≢ []
+  pub plain : (line : Line) → IsPlainLine words line → status ≢ Usage
   -- the counts of faults never fall
   pub read_later : old.read_faults ≤ new.read_faults
   pub write_later : old.write_faults ≤ new.write_faults
+
+abbrev pub texts : {A : Type 0} → List (String A) → List (List ℕ)
+texts words = map (λ word. string_bytes word) words

@@ -3,7 +3,6 @@
 
 #[cfg(test)]
 mod check_tests;
-mod line;
 mod run;
 mod status;
 #[cfg(test)]

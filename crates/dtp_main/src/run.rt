@@ -1,23 +1,17 @@
 //! The top call: from the words and the source to the sink and a status.
 ghost use Rattle.std.specs.Prelude.{◌≡◌, ◌≤◌};
 ghost use Rattle.dtp_session.specs.declared.report.Report.TheVariants.{Verdicts, Certificate};
-ghost use Rattle.dtp_main.specs.Lines.{line_of, texts};
-ghost use Rattle.dtp_main.specs.Outcomes.{IsRun, IsOutcome, IsReported, IsChecked, WritesUsage};
+ghost use Rattle.command_line.specs.Lines.{IsSearchInRange, line_of};
+ghost use Rattle.dtp_main.specs.Outcomes.{IsRun, IsOutcome, IsReported, IsChecked, WritesUsage, texts};
 
-use crate::line::{Line, line_of};
 use crate::status::Status;
+use command_line::{Line, NoLine, Search, read_line};
 use dtp_check::{Checked, check_pair};
 use dtp_io::{ReadError, Sink, Source, read_all, write_all_of};
 use dtp_session::{Gate, SessionError, Solved, certify_script, solve_script};
 use std::alloc::Global;
 use std::sync::Wait;
 use std::thread::Threads;
-
-/// How many workers search, where the words don't say it.
-const WORKERS: u32 = 4;
-
-/// How many literals a slice of search may add, where the words don't say it.
-const SLICE: u64 = 1_000;
 
 /// How many bytes a source may give.
 const INPUT_LIMIT: u64 = 1 << 30;
@@ -58,11 +52,12 @@ fn perform<R: Wait, S: Source, K: Sink, G: Gate>(
     ensures read_later { S.faults source.old ≤ S.faults source.new }
     ensures write_later { K.faults sink.old ≤ K.faults sink.new }
 {
-    match line_of(words) {
-        Some(Line::Solve) => solve(rt, alloc, source, sink, gate),
-        Some(Line::Certify) => certify(rt, alloc, source, sink, gate),
-        Some(Line::Check) => check(alloc, source, sink),
-        None => usage(sink),
+    match read_line(alloc, words) {
+        Ok(Line::Solve(search)) => solve(rt, alloc, source, sink, search, gate),
+        Ok(Line::Certify(search)) => certify(rt, alloc, source, sink, search, gate),
+        Ok(Line::Check) => check(alloc, source, sink),
+        Err(NoLine::Usage) => usage(sink),
+        Err(NoLine::OutOfMemory) => Status::OutOfMemory,
     }
 }
 
@@ -85,8 +80,10 @@ fn solve<R: Wait, S: Source, K: Sink, G: Gate>(
     alloc: Global,
     source: &mut S,
     sink: &mut K,
+    search: Search,
     gate: &G,
 ) -> Status
+    requires range { IsSearchInRange search }
     ensures reported { IsReported Verdicts
         (record { left = S.left source.old; read_faults = S.faults source.old; holds = K.holds sink.old; write_faults = K.faults sink.old })
         (record { left = S.left source.new; read_faults = S.faults source.new; holds = K.holds sink.new; write_faults = K.faults sink.new })
@@ -100,7 +97,15 @@ fn solve<R: Wait, S: Source, K: Sink, G: Gate>(
         Err(ReadError::ReadFault) => return Status::ReadFault,
         Err(ReadError::TooLong) => return Status::TooLong,
     };
-    match solve_script(rt, alloc, &script, sink, WORKERS, SLICE, gate) {
+    match solve_script(
+        rt,
+        alloc,
+        &script,
+        sink,
+        search.workers,
+        u64::from(search.slice),
+        gate,
+    ) {
         Ok(Solved::Done) => Status::Done,
         Ok(Solved::ScriptStopped) => Status::Refused,
         Err(SessionError::WriteFault) => Status::WriteFault,
@@ -114,8 +119,10 @@ fn certify<R: Wait, S: Source, K: Sink, G: Gate>(
     alloc: Global,
     source: &mut S,
     sink: &mut K,
+    search: Search,
     gate: &G,
 ) -> Status
+    requires range { IsSearchInRange search }
     ensures reported { IsReported Certificate
         (record { left = S.left source.old; read_faults = S.faults source.old; holds = K.holds sink.old; write_faults = K.faults sink.old })
         (record { left = S.left source.new; read_faults = S.faults source.new; holds = K.holds sink.new; write_faults = K.faults sink.new })
@@ -129,7 +136,15 @@ fn certify<R: Wait, S: Source, K: Sink, G: Gate>(
         Err(ReadError::ReadFault) => return Status::ReadFault,
         Err(ReadError::TooLong) => return Status::TooLong,
     };
-    match certify_script(rt, alloc, &script, sink, WORKERS, SLICE, gate) {
+    match certify_script(
+        rt,
+        alloc,
+        &script,
+        sink,
+        search.workers,
+        u64::from(search.slice),
+        gate,
+    ) {
         Ok(Solved::Done) => Status::Done,
         Ok(Solved::ScriptStopped) => Status::Refused,
         Err(SessionError::WriteFault) => Status::WriteFault,

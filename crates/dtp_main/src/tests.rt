@@ -192,6 +192,17 @@ fn outside(rt: HostRuntime) -> Result<(), Fail> {
         usage(&["frob"]),
         usage(&["check", "--workers", "2"]),
         usage(&["solve", "--workers", "0"]),
+        usage(&["solve", "--workers", "65"]),
+        usage(&["solve", "--slice", "0"]),
+        usage(&["--help"]),
+        Row {
+            words: &["solve", "--slice", "1", "--workers", "64"],
+            ..solves("(check-sat)", "sat\n", 0)
+        },
+        Row {
+            words: &["certify", "--workers", "2"],
+            ..certifies("(check-sat)", "(dtp-certificate 1)\n(sat)\n(end)\n", 0)
+        },
     ];
     check_all(&rt, &rows)
 }

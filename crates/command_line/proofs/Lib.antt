@@ -1,0 +1,5 @@
+pub mod Numbers
+pub mod Faults
+pub mod PlainLines
+pub mod Saying
+pub mod Faulting

@@ -1,0 +1,31 @@
+-- The command line, as clap sees it: the commands and their options.
+use Rattle.std.specs.Prelude.{ℕ, true, Some, codes}
+use Rattle.clap.specs.Words.{App, Rule, Text, new_app, new_rule, with_rule, with_subcommand}
+use Rattle.clap.specs.declared.builder.value_parser.ValueParser.TheVariants as vp
+
+-- `--name N`, N from 1 to the most
+abbrev pub number_rule : Text → ℕ → Rule
+number_rule name most = record (new_rule name) { long = Some name; parser = Some (vp.Unsigned 1 most) }
+
+abbrev pub workers_rule : Rule
+workers_rule = number_rule (codes "workers") 64
+
+abbrev pub slice_rule : Rule
+slice_rule = number_rule (codes "slice") 1000000
+
+-- without help and version words
+abbrev pub silent : App → App
+silent a = record a { top = record a.top { disable_help_flag = true; disable_version_flag = true; disable_help_subcommand = true } }
+
+abbrev pub searching_app : Text → App
+searching_app name = with_rule (with_rule (silent (new_app name)) workers_rule) slice_rule
+
+abbrev pub top_app : App
+top_app = let a = silent (new_app (codes "dtp")) in record a { top = record a.top { no_binary_name = true; subcommand_required = true } }
+
+abbrev pub checking_app : App
+checking_app = silent (new_app (codes "check"))
+
+-- `solve`, `certify` and `check`
+abbrev pub dtp_app : App
+dtp_app = with_subcommand (with_subcommand (with_subcommand top_app (searching_app (codes "solve")).top) (searching_app (codes "certify")).top) checking_app.top

@@ -1,0 +1,11 @@
+//! The command line of `dtp`: which words ask for what, read by `clap`.
+#![tactic(auto)]
+
+mod command;
+mod laws;
+mod line;
+#[cfg(test)]
+mod tests;
+
+pub use laws::{fault_law, plain_line_law};
+pub use line::{Line, NoLine, Search, read_line};

@@ -1,0 +1,103 @@
+//! What the words ask for.
+ghost use Rattle.std.specs.Prelude.{◌≡◌, ◌≤◌, ℕ, List, Some, None, map, IfOk, IfErr, IfSome, String, string_bytes};
+ghost use Rattle.clap.specs.Words.{found_of, one_of, rows_of};
+ghost use Rattle.command_line.specs.Lines.{line_of, IsInRange, IsSearchInRange, command_of};
+ghost use Rattle.command_line.specs.Lines as spec;
+
+use crate::command::dtp;
+use clap::ArgMatches;
+use clap::error::ErrorKind;
+use std::alloc::{AllocError, Global};
+
+/// How to search.
+#[derive(Clone, Copy, Debug, PartialEq, Eq)]
+pub struct Search {
+    /// How many workers search, 1 to 64.
+    pub workers: u32,
+    /// How many literals a slice of search may add, 1 to 1,000,000.
+    pub slice: u32,
+}
+
+/// What a command line asks for.
+#[derive(Clone, Copy, Debug, PartialEq, Eq)]
+pub enum Line {
+    /// The answers to a script.
+    Solve(Search),
+    /// The certificate of a script.
+    Certify(Search),
+    /// Whether a script's certificate is right.
+    Check,
+}
+
+/// Why there is no line.
+#[derive(Clone, Copy, Debug, PartialEq, Eq)]
+pub enum NoLine {
+    /// The words are no command line.
+    Usage,
+    /// Want of memory.
+    OutOfMemory,
+}
+
+impl From<AllocError> for NoLine {
+    ghost use Rattle.std.specs.Prelude.{◌≡◌};
+    ghost use Rattle.command_line.specs.declared.line.NoLine.TheVariants.{OutOfMemory};
+
+    ghost from_gives = { λ _ e. e ≡ OutOfMemory };
+
+    fn from(_error: AllocError) -> NoLine {
+        NoLine::OutOfMemory
+    }
+}
+
+/// What the words ask for. The program's name isn't among them.
+pub fn read_line(alloc: Global, words: &[String]) -> Result<Line, NoLine>
+    ensures line { IfOk result (λ line. line_of (map string_bytes words.now) ≡ Some line) }
+    ensures range { IfOk result IsInRange }
+    ensures usage { IfErr result (λ why. why ≡ NoLine.Usage → line_of (map string_bytes words.now) ≡ None) }
+{
+    let matches = match dtp(alloc)?.try_get_matches_from(words) {
+        Ok(matches) => matches,
+        Err(error) if error.kind() == ErrorKind::OutOfMemory => return Err(NoLine::OutOfMemory),
+        Err(_) => return Err(NoLine::Usage),
+    };
+    match matches.subcommand() {
+        Some((name, options)) => asked(name, options).ok_or(NoLine::Usage),
+        None => Err(NoLine::Usage),
+    }
+}
+
+/// What the command of this name asks for.
+fn asked(name: &str, options: &ArgMatches<'_>) -> Option<Line>
+    ensures command { result ≡ command_of name.now (rows_of (found_of options.now)) }
+    ensures range { IfSome result IsInRange }
+{
+    match name {
+        "solve" => Some(Line::Solve(search_of(options))),
+        "certify" => Some(Line::Certify(search_of(options))),
+        "check" => Some(Line::Check),
+        _ => None,
+    }
+}
+
+/// How to search, as the options say.
+fn search_of(options: &ArgMatches<'_>) -> Search
+    ensures search { result ≡ spec.search_of (rows_of (found_of options.now)) }
+    ensures range { IsSearchInRange result }
+{
+    Search {
+        workers: number_of(options, "workers", 64, 4),
+        slice: number_of(options, "slice", 1_000_000, 1_000),
+    }
+}
+
+/// The number that the option was given; the default where it wasn't. `clap` lets no other number through.
+fn number_of(options: &ArgMatches<'_>, name: &str, most: u32, default: u32) -> u32
+    requires default { (1 ≤ default) × (default ≤ most) }
+    ensures number { result ≡ spec.number_of (one_of name.now (rows_of (found_of options.now))) most default }
+    ensures range { (1 ≤ result) × (result ≤ most) }
+{
+    match options.get_one::<u32>(name) {
+        Some(number) if 1 <= number && number <= most => number,
+        _ => default,
+    }
+}
