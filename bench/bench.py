@@ -98,6 +98,50 @@ def nested(depth):
     yield "(" * depth
 
 
+def levels(base, turns):
+    """A base of assertions, and over it many times a level of its own."""
+    yield "(declare-const z Int)\n"
+    for i in range(base):
+        yield f"(declare-const n{i} Int) (assert (>= n{i} (+ z {i})))\n"
+    for i in range(turns):
+        yield f"(push 1) (declare-const t Int) (assert (< t n{i % base})) (check-sat) (pop 1)\n"
+
+
+def formulas(names, assertions):
+    """Formulas of all operators, every second one over shared parts."""
+    draw = random.Random(2)
+    for i in range(names):
+        yield f"(declare-const n{i} Int) (declare-const p{i} Bool)\n"
+    for i in range(assertions):
+        a, b, c = (draw.randrange(names) for _ in range(3))
+        k = i if i % 2 else 7
+        yield (
+            f"(assert (let ((?v (- n{a} n{b})) (?w (or p{c} (< n{c} (+ n{a} {k}))))) "
+            f"(or (and ?w (<= ?v {k})) (xor (not ?w) (distinct ?v {k + 1})) (ite p{a} (> ?v (- {k})) (= n{b} n{c})))))\n"
+        )
+    yield "(check-sat)\n"
+
+
+def chained_lets(depth):
+    """Lets in lets; each body uses the first variable."""
+    yield "(declare-const x Int) (assert (let ((v0 (< x 0))) "
+    for i in range(1, depth):
+        yield f"(let ((v{i} (and v{i - 1} v0))) "
+    yield f"(or v{depth - 1} v0)" + ")" * depth + ")\n(check-sat)\n"
+
+
+def long_sum(names):
+    """A sum of all names, less all but two of them."""
+    for i in range(names):
+        yield f"(declare-const n{i} Int)\n"
+    yield "(assert (< (- (+ " + " ".join(f"n{i}" for i in range(names)) + ") " + " ".join(f"n{i}" for i in range(1, names)) + ") 0))\n(check-sat)\n"
+
+
+def deep(head, depth):
+    """One operator in itself."""
+    return "(declare-const p Bool) (assert " + f"({head} " * depth + "p" + ")" * depth + ") (check-sat)\n"
+
+
 def run(command, path, kept=None):
     with open(path, "rb") as script, open(kept, "wb+") if kept else tempfile.TemporaryFile() as out:
         start = time.monotonic()
@@ -128,6 +172,12 @@ def main():
         ("100,000 clauses, the first literal holds", pairs(1_000, 100_000)),
         ("30,000 pairs in one of two orders", orders(30_000)),
         ("1,000,000 opening parentheses", nested(1_000_000)),
+        ("10,000 levels over 1,000 assertions", levels(1_000, 10_000)),
+        ("320,000 formulas over 20,000 names", formulas(20_000, 320_000)),
+        ("100,000 nested lets", chained_lets(100_000)),
+        ("a sum of 60,000 names", long_sum(60_000)),
+        ("100,000 nested not", deep("not", 100_000)),
+        ("300,000 nested and", deep("and", 300_000)),
     ]
     certified = [
         ("8 jobs on one machine, 1 too little", machine(8, 35)),

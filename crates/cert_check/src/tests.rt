@@ -67,13 +67,10 @@ fn expect_steps(
     expect(rt, alloc, vec![in alloc; only]?, expected)
 }
 
+// Steps that open no case, or name what the problem hasn't.
 #[test]
-fn steps(rt: HostRuntime) -> Result<(), Fail> {
+fn opening_steps(rt: HostRuntime) -> Result<(), Fail> {
     let alloc = rt.alloc();
-    let x_before_y = literal(1, 2, -1);
-    let y_before_x = literal(2, 1, -1);
-    let both = [x_before_y, y_before_x];
-
     expect_steps(
         &rt,
         alloc,
@@ -90,8 +87,14 @@ fn steps(rt: HostRuntime) -> Result<(), Fail> {
     expect_steps(&rt, alloc, steps, Err((0, FlawKind::NoSuchPoint)))?;
     let steps = vec![in alloc; Step::Either(literal(0, 3, 0))]?;
     expect_steps(&rt, alloc, steps, Err((0, FlawKind::NoSuchPoint)))?;
+    Ok(())
+}
 
-    // leaves: no literal, not assumed, points and bounds that the problem hasn't, not closed, a sum of 0
+// No literal, not assumed, points and bounds that the problem hasn't, not closed, a sum of 0.
+#[test]
+fn leaves(rt: HostRuntime) -> Result<(), Fail> {
+    let alloc = rt.alloc();
+    let x_before_y = literal(1, 2, -1);
     let steps = vec![in alloc; cycle(alloc, &[])?]?;
     expect_steps(&rt, alloc, steps, Err((0, FlawKind::NotACycle)))?;
     let steps = vec![in alloc; cycle(alloc, &[literal(0, 0, -1)])?]?;
@@ -107,8 +110,15 @@ fn steps(rt: HostRuntime) -> Result<(), Fail> {
     let last = cycle(alloc, &[literal(0, 0, 0)])?;
     let steps = vec![in alloc; Step::Either(literal(0, 0, 0)), last]?;
     expect_steps(&rt, alloc, steps, Err((1, FlawKind::NotACycle)))?;
+    Ok(())
+}
 
-    // whole trees, and one step more
+// Whole trees, and one with a step more.
+#[test]
+fn trees(rt: HostRuntime) -> Result<(), Fail> {
+    let alloc = rt.alloc();
+    let y_before_x = literal(2, 1, -1);
+    let both = [literal(1, 2, -1), y_before_x];
     let steps = vec![in alloc; Step::Input(0), Step::Input(1), cycle(alloc, &both)?]?;
     expect_steps(&rt, alloc, steps, Ok(()))?;
     let last = Step::Input(0);

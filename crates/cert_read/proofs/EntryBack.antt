@@ -17,26 +17,11 @@ use Rattle.refute_tree.specs.declared.lemma.Lemma.{Lemma}
 use Rattle.cert_text.specs.declared.entry.Entry.{Entry}
 use Rattle.cert_text.specs.declared.entry.Entry.TheVariants.{Sat, Unsat}
 use Rattle.cert_text.specs.Form.{numeral_text, numeral, items_of, bound_sexprs, number_of_value, literal_sexpr, step_sexpr, lemma_sexpr, value_sexpr, entry_sexpr}
+use Rattle.cert_text.proofs.OneEntry.{numeral_value}
 use Rattle.cert_read.specs.Parts.{limit, limited, index_of, point_of, number_of, each_of, bound_of, literal_of, step_of, lemma_of, named_value_of, entry_of}
 use Rattle.cert_read.specs.Written.{NumberFits, LiteralWithin, StepWithin, LemmaWithin, ValueFits, EntryFits}
 
 -- ---- numbers
-
-value_after : (acc : ℕ) (ds : List ℕ) → value_from acc (map (λ d. 48 + d) ds) ≡ number_from_digits_after 10 acc ds
-unfolding value_from
-value_after acc [] = refl
-value_after acc (d ∷ ds) =
-    let digit : 48 + d - 48 ≡ d = omega arith in
-    ap (λ k. value_from (acc * 10 + k) (map (λ x. 48 + x) ds)) digit ∙ value_after (acc * 10 + d) ds
-
--- the digits of a number stand for it
-pub numeral_value : (n : ℕ) → value_of (numeral_text n) ≡ n
-unfolding numeral_text value_from
-numeral_value n =
-    elim (eq-zero-or-pos n) [
-      | inl least ↦ rw least refl
-      | inr some ↦ rw (ne_eqb n 0 (λ z. absurd (omega arith))) (value_after 0 (digits_of 10 n) ∙ number_digits_of 10 n (omega arith))
-    ]
 
 limited_is : (n : ℕ) → n ≤ limit → limited n ≡ Some n
 limited_is n h = rw (le-leb n limit h) refl

@@ -105,122 +105,106 @@ fn refusals(rt: HostRuntime) -> Result<(), Fail> {
     Ok(())
 }
 
-/// Entries, each with its line as it is written, or with nothing where it is ill-formed.
+/// A text of a header, this entry and the end.
+fn with_entry(rt: &HostRuntime, entry: &[u8]) -> Result<Vec<u8>, Fail> {
+    let mut text = headed(rt, entry)?;
+    text.extend_from_slice(b" (|end|) ; the end")?;
+    Ok(text)
+}
+
+/// Entries, each with its line as it is written.
 #[test]
 fn entries(rt: HostRuntime) -> Result<(), Fail> {
-    let rows = [
+    for (entry, line) in [
         (b"(sat)".as_slice(), b"(sat)\n".as_slice()),
         (
-            b"( |sat| |true| false |false|;5\n7)".as_slice(),
-            b"(sat true false false 7)\n".as_slice(),
+            b"( |sat| |true| false |false|;5\n7)",
+            b"(sat true false false 7)\n",
+        ),
+        (b"(sat (|-| 3)(- 12)0)", b"(sat (- 3) (- 12) 0)\n"),
+        (
+            b"(sat 2305843009213693952 (- 2305843009213693952))",
+            b"(sat 2305843009213693952 (- 2305843009213693952))\n",
+        ),
+        (b"(unsat)", b"(unsat)\n"),
+        (b"(unsat(lemma()))", b"(unsat (lemma ()))\n"),
+        (
+            b"(unsat (lemma ((1 2 (- 3))(0 4 5)) (either 2 1 0)(|input| 7)(cycle) (lemma 3)))",
+            b"(unsat (lemma ((1 2 (- 3)) (0 4 5)) (either 2 1 0) (input 7) (cycle) (lemma 3)))\n",
         ),
         (
-            b"(sat (|-| 3)(- 12)0)".as_slice(),
-            b"(sat (- 3) (- 12) 0)\n".as_slice(),
+            b"(unsat (lemma () (cycle (4294967294 4294967295 1)(4294967296 2305843009213693952 0))))",
+            b"(unsat (lemma () (cycle (4294967294 4294967295 1) (4294967295 4294967295 0))))\n",
         ),
         (
-            b"(sat 2305843009213693952 (- 2305843009213693952))".as_slice(),
-            b"(sat 2305843009213693952 (- 2305843009213693952))\n".as_slice(),
+            b"(unsat (lemma () (input 2305843009213693952)))",
+            b"(unsat (lemma () (input 2305843009213693952)))\n",
         ),
-        (b"(sat 2305843009213693953)".as_slice(), b"".as_slice()),
-        (b"(sat (- 2305843009213693953))".as_slice(), b"".as_slice()),
-        (b"(sat 18446744073709551616)".as_slice(), b"".as_slice()),
-        (b"(sat (- 0))".as_slice(), b"".as_slice()),
-        (b"(sat (-))".as_slice(), b"".as_slice()),
-        (b"(sat (- 1 2))".as_slice(), b"".as_slice()),
-        (b"(sat (+ 1))".as_slice(), b"".as_slice()),
-        (b"(sat (- (- 1)))".as_slice(), b"".as_slice()),
-        (b"(sat -5)".as_slice(), b"".as_slice()),
-        (b"(sat |5|)".as_slice(), b"".as_slice()),
-        (b"(sat 5.0)".as_slice(), b"".as_slice()),
-        (b"(sat \"5\")".as_slice(), b"".as_slice()),
-        (b"(sat truth)".as_slice(), b"".as_slice()),
-        (b"sat".as_slice(), b"".as_slice()),
-        (b"()".as_slice(), b"".as_slice()),
-        (b"((sat))".as_slice(), b"".as_slice()),
-        (b"(\"sat\" 1)".as_slice(), b"".as_slice()),
-        (b"(unknown)".as_slice(), b"".as_slice()),
-        (b"(unsat)".as_slice(), b"(unsat)\n".as_slice()),
-        (
-            b"(unsat(lemma()))".as_slice(),
-            b"(unsat (lemma ()))\n".as_slice(),
-        ),
-        (b"(unsat (lemma))".as_slice(), b"".as_slice()),
-        (b"(unsat (lemma 1))".as_slice(), b"".as_slice()),
-        (b"(unsat (lemme ()))".as_slice(), b"".as_slice()),
-        (b"(unsat lemma)".as_slice(), b"".as_slice()),
-        (b"(unsat (cycle))".as_slice(), b"".as_slice()),
-        (
-            b"(unsat (lemma ((1 2 (- 3))(0 4 5)) (either 2 1 0)(|input| 7)(cycle) (lemma 3)))".as_slice(),
-            b"(unsat (lemma ((1 2 (- 3)) (0 4 5)) (either 2 1 0) (input 7) (cycle) (lemma 3)))\n".as_slice(),
-        ),
-        (
-            b"(unsat (lemma () (cycle (4294967294 4294967295 1)(4294967296 2305843009213693952 0))))".as_slice(),
-            b"(unsat (lemma () (cycle (4294967294 4294967295 1) (4294967295 4294967295 0))))\n".as_slice(),
-        ),
-        (
-            b"(unsat (lemma () (cycle (2305843009213693953 0 0))))".as_slice(),
-            b"".as_slice(),
-        ),
-        (
-            b"(unsat (lemma () (cycle (0 0 2305843009213693953))))".as_slice(),
-            b"".as_slice(),
-        ),
-        (
-            b"(unsat (lemma () (cycle ((- 1) 0 0))))".as_slice(),
-            b"".as_slice(),
-        ),
-        (
-            b"(unsat (lemma () (cycle (1 2))))".as_slice(),
-            b"".as_slice(),
-        ),
-        (
-            b"(unsat (lemma () (cycle (1 2 3 4))))".as_slice(),
-            b"".as_slice(),
-        ),
-        (
-            b"(unsat (lemma () (cycle 1 2 3)))".as_slice(),
-            b"".as_slice(),
-        ),
-        (
-            b"(unsat (lemma () (either 1 2)))".as_slice(),
-            b"".as_slice(),
-        ),
-        (
-            b"(unsat (lemma () (either (1 2 3))))".as_slice(),
-            b"".as_slice(),
-        ),
-        (b"(unsat (lemma () (input)))".as_slice(), b"".as_slice()),
-        (b"(unsat (lemma () (input 1 2)))".as_slice(), b"".as_slice()),
-        (
-            b"(unsat (lemma () (input (- 1))))".as_slice(),
-            b"".as_slice(),
-        ),
-        (
-            b"(unsat (lemma () (input 2305843009213693952)))".as_slice(),
-            b"(unsat (lemma () (input 2305843009213693952)))\n".as_slice(),
-        ),
-        (
-            b"(unsat (lemma () (input 2305843009213693953)))".as_slice(),
-            b"".as_slice(),
-        ),
-        (
-            b"(unsat (lemma () (input 18446744073709551616)))".as_slice(),
-            b"".as_slice(),
-        ),
-        (b"(unsat (lemma () (lemma ())))".as_slice(), b"".as_slice()),
-        (b"(unsat (lemma () input))".as_slice(), b"".as_slice()),
-        (b"(unsat (lemma () (unsat)))".as_slice(), b"".as_slice()),
-    ];
-    for (entry, line) in rows {
-        let mut text = headed(&rt, entry)?;
-        text.extend_from_slice(b" (|end|) ; the end")?;
-        if line.is_empty() {
-            assert!(rt; is_refused(&rt, &text, CertTextError::IllFormed(1)));
-        } else {
-            let entries = read_certificate(rt.alloc(), &mut Lexer::new(&text))?;
-            assert_eq!(rt; lines(&rt, &entries)?.as_slice(), line);
-        }
+    ] {
+        let text = with_entry(&rt, entry)?;
+        let entries = read_certificate(rt.alloc(), &mut Lexer::new(&text))?;
+        assert_eq!(rt; lines(&rt, &entries)?.as_slice(), line);
+    }
+    Ok(())
+}
+
+/// Entries with a flaw of the grammar in their values or their name.
+#[test]
+fn ill_formed_values(rt: HostRuntime) -> Result<(), Fail> {
+    for entry in [
+        b"(sat 2305843009213693953)".as_slice(),
+        b"(sat (- 2305843009213693953))",
+        b"(sat 18446744073709551616)",
+        b"(sat (- 0))",
+        b"(sat (-))",
+        b"(sat (- 1 2))",
+        b"(sat (+ 1))",
+        b"(sat (- (- 1)))",
+        b"(sat -5)",
+        b"(sat |5|)",
+        b"(sat 5.0)",
+        b"(sat \"5\")",
+        b"(sat truth)",
+        b"sat",
+        b"()",
+        b"((sat))",
+        b"(\"sat\" 1)",
+        b"(unknown)",
+    ] {
+        let text = with_entry(&rt, entry)?;
+        assert!(rt; is_refused(&rt, &text, CertTextError::IllFormed(1)));
+    }
+    Ok(())
+}
+
+/// Entries with a flaw of the grammar in their lemmas.
+#[test]
+fn ill_formed_lemmas(rt: HostRuntime) -> Result<(), Fail> {
+    for entry in [
+        b"(unsat (lemma))".as_slice(),
+        b"(unsat (lemma 1))",
+        b"(unsat (lemme ()))",
+        b"(unsat lemma)",
+        b"(unsat (cycle))",
+        b"(unsat (lemma () (cycle (2305843009213693953 0 0))))",
+        b"(unsat (lemma () (cycle (0 0 2305843009213693953))))",
+        b"(unsat (lemma () (cycle ((- 1) 0 0))))",
+        b"(unsat (lemma () (cycle (1 2))))",
+        b"(unsat (lemma () (cycle (1 2 3 4))))",
+        b"(unsat (lemma () (cycle 1 2 3)))",
+        b"(unsat (lemma () (either 1 2)))",
+        b"(unsat (lemma () (either (1 2 3))))",
+        b"(unsat (lemma () (input)))",
+        b"(unsat (lemma () (input 1 2)))",
+        b"(unsat (lemma () (input (- 1))))",
+        b"(unsat (lemma () (input 2305843009213693953)))",
+        b"(unsat (lemma () (input 18446744073709551616)))",
+        b"(unsat (lemma () (lemma ())))",
+        b"(unsat (lemma () input))",
+        b"(unsat (lemma () (unsat)))",
+    ] {
+        let text = with_entry(&rt, entry)?;
+        assert!(rt; is_refused(&rt, &text, CertTextError::IllFormed(1)));
     }
     Ok(())
 }

@@ -1,11 +1,11 @@
 -- A script with the certificate that was written of it is accepted.
-use Rattle.std.proofs.Common.{refl, sym, ap, subst, arith, ◌∙◌, ◌≡◌, ◌≢◌, ◌≤◌, ◌+◌, ℕ, suc, List, [], ◌∷◌, ◌++◌, length, take, drop, Bool, true, false, Option, Some, None, Result, Ok, Err}
-use Rattle.std.specs.Prelude.{if◌then◌else◌, option_map, All}
+use Rattle.std.proofs.Common.{refl, sym, ap, subst, arith, ◌∙◌, ◌≡◌, ◌≢◌, ◌≤◌, ◌+◌, ℕ, List, [], ◌∷◌, ◌++◌, length, take, drop, Bool, true, false, Option, Some, None, Result, Ok, Err}
+use Rattle.std.specs.Prelude.{if◌then◌else◌, option_map, All, nat_le, nat_lt, codes}
 use Rattle.std.specs.List.{AllByRecursion}
 use Rattle.std.proofs.lemmas.List.Elements.{All-nil, All-cons}
 use Rattle.std.proofs.lemmas.List.{append_assoc, append-nil, drop-append-le, length-drop, take_all}
 use Rattle.smt_lex.specs.Grammar.{is_gap}
-use Rattle.smt_sexpr.specs.Tree.{Sexpr, Items, leaf, list}
+use Rattle.smt_sexpr.specs.Tree.{Sexpr, Items, leaf, list, none, more}
 use Rattle.smt_sexpr.specs.Reading.{Spells, Outcome, expression, finished, Outcomes}
 use Rattle.smt_sexpr.specs.Commands.{Commands, Ending, ended, stopped, unread, EndsAs}
 use Rattle.stn_core.specs.declared.literal.Literal.{Literal}
@@ -17,29 +17,39 @@ use Rattle.cert_text.specs.Form.{header_sexpr, entry_sexpr, end_sexpr, line_of}
 use Rattle.cert_read.specs.Certificates.{certificate, ReadsCertificate}
 use Rattle.cert_read.specs.Written.{entries_text, certificate_text, IsClosedGap, EntryFits}
 use Rattle.cert_check.specs.Flaws.{refutation_flaw}
+use Rattle.idl_node.specs.declared.sort.Sort.{Sort}
+use Rattle.idl_term.specs.Applied.{Made}
+use Rattle.idl_term.specs.Contexts.{Context, environment, scope_of}
+use Rattle.idl_term.specs.Limits.{names_limit}
 use Rattle.idl_term.specs.Lowered.{lowered}
-use Rattle.idl_term.specs.Nodes.{Placed}
-use Rattle.idl_term.specs.Points.{named_values}
-use Rattle.idl_term.specs.Satisfiable.{IsWhole as IsNumber, IsTrueOn}
-use Rattle.idl_term.specs.Values.{Value, whole, truth, nothing, value}
-use Rattle.dtp_session.specs.declared.kind.Kind.{Kind}
-use Rattle.dtp_session.specs.declared.kind.Kind.TheVariants.{NotYet}
+use Rattle.idl_term.specs.Operators.{is_symbol}
+use Rattle.idl_term.specs.Scopes.{LoweredTerm, formula, numeric, sorts_of}
+use Rattle.idl_term.specs.Values.{Named, truth, value}
+use Rattle.idl_term.specs.declared.error.TermRefusal.{TermRefusal}
+use Rattle.smt_script.specs.declared.error.Refusal.{Refusal}
+use Rattle.smt_script.specs.declared.error.Refusal.TheVariants.{AlreadyDeclared, LogicNotSupported, TooManyNames, TooManyLevels, PopBelowTheBottom}
+use Rattle.smt_script.specs.declared.state.Effect.{Effect}
+use Rattle.smt_script.specs.declared.state.Effect.TheVariants.{Silent, CheckSat, Unsupported, Exit}
+use Rattle.smt_script.specs.declared.state.Satisfiability.{Satisfiability}
+use Rattle.smt_script.specs.Commands
+use Rattle.smt_script.specs.Commands.{Command, command_name, is_unsupported, left_out_of, command_of, is_exiting, is_exit}
+use Rattle.smt_script.specs.Limits.{levels_limit}
+use Rattle.smt_script.specs.Options.{OptionEffect, printing_success, no_effect, not_supported, ill_formed_value, option_effect}
+use Rattle.smt_script.specs.States.{State, start_state, Step, after_option, is_taken, sort_of, after_declaration, is_of_sort, defined_by, after_definition, asserted_by, named_by, levels_of, after_by, after, settled}
+use Rattle.smt_answer.specs.Kinds.{kind_of}
+use Rattle.smt_answer.specs.Texts.{error_line}
 use Rattle.dtp_session.specs.declared.report.Report.TheVariants.{Certificate}
-use Rattle.dtp_session.specs.declared.state.Effect.{Effect}
-use Rattle.dtp_session.specs.declared.state.Effect.TheVariants.{Silent, CheckSat, Exit}
-use Rattle.dtp_session.specs.Answers.{error_line}
-use Rattle.dtp_session.specs.Commands.{Command, declaring, asserting, checking, exiting, another, command_name, command_of}
-use Rattle.dtp_session.specs.Entries.{IsRight, IsEntryOf}
-use Rattle.dtp_session.specs.States.{State, start_state, Step, may_be_declared, after_assertion, after_command, after}
+use Rattle.dtp_session.specs.Entries.{verdict_of, IsRight, IsEntryOf}
 use Rattle.dtp_session.specs.Transcripts.{Stops, GoesOn, Follows, IsReport}
+use Rattle.dtp_session.proofs.Verdicts.{sorts_count}
 use Rattle.dtp_check.specs.declared.judgement.EntryFlaw.{EntryFlaw}
 use Rattle.dtp_check.specs.declared.judgement.EntryFlaw.TheVariants.{Flawed}
 use Rattle.dtp_check.specs.declared.judgement.Judgement.TheVariants.{Accepted}
 use Rattle.dtp_check.specs.declared.part.PartEnd.{PartEnd}
 use Rattle.dtp_check.specs.declared.part.PartEnd.TheVariants as part
-use Rattle.dtp_check.specs.Judged.{is_exiting, is_exit, EndsPart, ExitEnds, FollowsExit, ScriptPart, schedule_of_named, first_of_wrong_sort, is_true, first_false, entry_flaw, judged_entry, judged, IsJudged}
+use Rattle.dtp_check.specs.Judged.{EndsPart, ExitEnds, FollowsExit, ScriptPart, is_true, first_false, entry_flaw, judged_entry, judged, IsJudged}
 use Rattle.dtp_check.specs.Whole.{IsWholeFrom, IsWhole}
-use Rattle.dtp_check.proofs.Judging.{values_flaw_is, judged_ok, judged_none, not_exit}
+use Rattle.dtp_check.proofs.Judging.{none_of_wrong_sort, of_sorts_count, values_flaw_is, judged_ok, judged_none, not_exit, silent_apart, unsupported_apart, check_apart, step_of}
 
 -- ---- what the laws of the lower crates say
 
@@ -60,77 +70,102 @@ ReadsBack = (entries : List Entry) (bytes gap : List ℕ) (place : ℕ) → All 
 
 -- ---- a right entry has no flaw
 
-named_back : (schedule : List Value) → AllByRecursion IsNumber schedule → schedule_of_named (named_values schedule) ≡ schedule
-named_back [] h = refl
-named_back (whole n ∷ vs) h = ap (λ (rest : List Value). whole n ∷ rest) (named_back vs h.1)
-named_back (truth b ∷ vs) ((n, e), rest) = absurd cc
-named_back (nothing ∷ vs) ((n, e), rest) = absurd cc
+none_false : (env : List Named) (k : ℕ) (ts : List Sexpr) → AllByRecursion (λ (t : Sexpr). value env t ≡ truth true) ts → first_false env k ts ≡ None
+none_false env k [] h = refl
+none_false env k (t ∷ ts) h =
+    let e : is_true (value env t) ≡ true = ap is_true h.0 in
+    ap (λ (b : Bool). if b then first_false env (k + 1) ts else Some k) e ∙ none_false env (k + 1) ts h.1
 
-named_sorts : (k : ℕ) (schedule : List Value) → AllByRecursion IsNumber schedule → first_of_wrong_sort k (named_values schedule) ≡ None
-named_sorts k [] h = refl
-named_sorts k (whole n ∷ vs) h = named_sorts (k + 1) vs h.1
-named_sorts k (truth b ∷ vs) ((n, e), rest) = absurd cc
-named_sorts k (nothing ∷ vs) ((n, e), rest) = absurd cc
-
-named_count : (schedule : List Value) → length (named_values schedule) ≡ length schedule
-named_count [] = refl
-named_count (v ∷ vs) = ap suc (named_count vs)
-
-none_false : (names : List (List ℕ)) (schedule : List Value) (k : ℕ) (ts : List Sexpr) → AllByRecursion (IsTrueOn names schedule) ts → first_false names schedule k ts ≡ None
-none_false names schedule k [] h = refl
-none_false names schedule k (t ∷ ts) h = let e : is_true (value names schedule t) ≡ true = ap is_true h.0 in rw e (none_false names schedule (k + 1) ts h.1)
-
-pub entry_right : HasNoFlaw → (s : State) (entry : Entry) → IsRight s entry → entry_flaw s entry ≡ None
-entry_right law s (Sat values) (schedule, fits, trues, e) =
-    let count : length values ≡ length s.names = ap length e ∙ named_count schedule ∙ fits.count in
-    let sorts : first_of_wrong_sort 1 values ≡ None = ap (first_of_wrong_sort 1) e ∙ named_sorts 1 schedule fits.sorts in
-    let same : schedule_of_named values ≡ schedule = ap schedule_of_named e ∙ named_back schedule fits.sorts in
-    let holds : first_false s.names (schedule_of_named values) 1 s.assertions ≡ None = ap (λ (vs : List Value). first_false s.names vs 1 s.assertions) same ∙ none_false s.names schedule 1 s.assertions trues in
-    values_flaw_is s values None count sorts holds
-entry_right law s (Unsat lemmas) h = ap (option_map Flawed) (law _ _ lemmas h)
+pub entry_right : HasNoFlaw → (c : Context) (entry : Entry) → IsRight c entry → entry_flaw c entry ≡ None
+entry_right law c (Sat values) (fits, trues) =
+    let count : length values ≡ length c.declared = of_sorts_count (sorts_of c.declared) values fits ∙ sorts_count c.declared in
+    values_flaw_is c values None count (none_of_wrong_sort 1 (sorts_of c.declared) values fits) (none_false (environment c values) 1 c.assertions trues)
+entry_right law c (Unsat lemmas) h = ap (option_map Flawed) (law _ _ lemmas h)
 
 -- ---- commands that are carried out
 
-abbrev step_of : State → Effect → Step
-step_of state effect = record { state = state; effect = effect }
-
 -- such a command is a list
 pub carried_list : (s : State) (x : Sexpr) (step : Step) → after s x ≡ Ok step → (xs : Items) × (x ≡ list xs)
-unfolding after
+unfolding after command_of
 carried_list s (leaf kind text) step e = absurd cc
 carried_list s (list xs) step e = (xs, refl)
 
 header_refused : (s : State) (step : Step) → after s header_sexpr ≡ Ok step → ⊥
-unfolding after command_name
+unfolding after command_of command_name is_unsupported left_out_of
 header_refused s step e = cc
 
 -- and no header
 pub carried_apart : (s : State) (x : Sexpr) (step : Step) → after s x ≡ Ok step → x ≢ header_sexpr
 carried_apart s x step e h = header_refused s step (ap (after s) (sym h) ∙ e)
 
-declared_goes_on : (s : State) (test : Bool) (state : State) (step : Step) → (if test then Ok (step_of state Silent) else Err NotYet) ≡ Ok step → step.effect ≡ Exit → ⊥
-declared_goes_on s false state step e f = cc
-declared_goes_on s true state step e f =
-    let is : step_of state Silent ≡ step = cc in
-    let effect : Silent ≡ Exit = ap (λ (q : Step). q.effect) is ∙ f in
-    cc
+-- what doesn't end the script
+abbrev Stays : Result Step Refusal → Type 0
+Stays (Ok step) = step.effect ≢ Exit
+Stays (Err why) = Unit {0}
 
-asserted_goes_on : (s : State) (term : Sexpr) (found : Option Placed) (step : Step) → after_assertion s term found ≡ Ok step → step.effect ≡ Exit → ⊥
-asserted_goes_on s term None step e f = cc
-asserted_goes_on s term (Some p) step e f =
-    let is : step_of (record s { assertions = s.assertions ++ term ∷ []; nodes = p.nodes; roots = s.roots ++ p.number ∷ [] }) Silent ≡ step = cc in
-    let effect : Silent ≡ Exit = ap (λ (q : Step). q.effect) is ∙ f in
-    cc
+stays : (found : Result Step Refusal) (step : Step) → Stays found → found ≡ Ok step → step.effect ≢ Exit
+stays found step h e = subst Stays e h
 
-exit_by : (s : State) (command : Command) (step : Step) → after_command s command ≡ Ok step → step.effect ≡ Exit → is_exiting command ≡ true
-exit_by s exiting step e f = refl
-exit_by s checking step e f =
-    let is : step_of s CheckSat ≡ step = cc in
-    let effect : CheckSat ≡ Exit = ap (λ (q : Step). q.effect) is ∙ f in
-    absurd cc
-exit_by s another step e f = absurd cc
-exit_by s (declaring name) step e f = absurd (declared_goes_on s (may_be_declared s.names name) (record s { names = s.names ++ name ∷ [] }) step e f)
-exit_by s (asserting term) step e f = absurd (asserted_goes_on s term (lowered s.names s.nodes term) step e f)
+stays_if : (test : Bool) (found : Result Step Refusal) (why : Refusal) → Stays found → Stays (if test then found else Err why)
+stays_if true found why h = h
+stays_if false found why h = tt
+
+stays_unless : (test : Bool) (found : Result Step Refusal) (why : Refusal) → Stays found → Stays (if test then Err why else found)
+stays_unless true found why h = tt
+stays_unless false found why h = h
+
+option_stays : (s : State) (effect : OptionEffect) → Stays (after_option s effect)
+option_stays s (printing_success on) = silent_apart
+option_stays s no_effect = silent_apart
+option_stays s not_supported = unsupported_apart
+option_stays s ill_formed_value = tt
+
+declared_stays : (s : State) (name : List ℕ) (parameters : Items) (found : Option Sort) → Stays (after_declaration s name parameters found)
+declared_stays s name (more x xs) found = tt
+declared_stays s name none None = tt
+declared_stays s name none (Some sort) = stays_unless (is_taken s.context name) _ AlreadyDeclared (stays_if (nat_lt (length s.context.declared) names_limit) _ TooManyNames silent_apart)
+
+defined_stays_by : (s : State) (name : List ℕ) (sort : Sort) (term : Sexpr) (found : Result Made TermRefusal) → Stays (defined_by s name sort term found)
+defined_stays_by s name sort term (Err why) = tt
+defined_stays_by s name sort term (Ok made) = stays_if (is_of_sort sort made.is) _ _ silent_apart
+
+defined_stays : (s : State) (name : List ℕ) (parameters : Items) (found : Option Sort) (term : Sexpr) → Stays (after_definition s name parameters found term)
+defined_stays s name (more x xs) found term = tt
+defined_stays s name none None term = tt
+defined_stays s name none (Some sort) term = stays_unless (is_taken s.context name) _ AlreadyDeclared (defined_stays_by s name sort term (lowered (scope_of s.context) s.context.nodes term))
+
+asserted_stays_as : (s : State) (term : Sexpr) (made : Made) (is : LoweredTerm) → made.is ≡ is → Stays (asserted_by s term (Ok made))
+asserted_stays_as s term made (formula root) e = rw e silent_apart
+asserted_stays_as s term made (numeric cases) e = rw e tt
+
+asserted_stays : (s : State) (term : Sexpr) (found : Result Made TermRefusal) → Stays (asserted_by s term found)
+asserted_stays s term (Err why) = tt
+asserted_stays s term (Ok made) = asserted_stays_as s term made made.is refl
+
+named_stays_as : (s : State) (term : Sexpr) (name : List ℕ) (made : Made) (is : LoweredTerm) → made.is ≡ is → Stays (named_by s term name (Ok made))
+named_stays_as s term name made (formula root) e = rw e (stays_unless (is_taken s.context name) _ AlreadyDeclared silent_apart)
+named_stays_as s term name made (numeric cases) e = rw e tt
+
+named_stays : (s : State) (term : Sexpr) (name : List ℕ) (found : Result Made TermRefusal) → Stays (named_by s term name found)
+named_stays s term name (Err why) = tt
+named_stays s term name (Ok made) = named_stays_as s term name made made.is refl
+
+exit_by : (s : State) (found : Result Command Refusal) (step : Step) → after_by s found ≡ Ok step → step.effect ≡ Exit → is_exiting found ≡ true
+exit_by s (Err why) step e f = absurd cc
+exit_by s (Ok Commands.exiting) step e f = refl
+exit_by s (Ok (Commands.setting_logic logic)) step e f = absurd (stays _ step (stays_if (is_symbol (codes "QF_IDL") logic) _ LogicNotSupported silent_apart) e f)
+exit_by s (Ok (Commands.setting_option keyword v)) step e f = absurd (stays _ step (option_stays s (option_effect keyword v)) e f)
+exit_by s (Ok Commands.informing) step e f = absurd (stays _ step silent_apart e f)
+exit_by s (Ok (Commands.declaring name parameters sort)) step e f = absurd (stays _ step (declared_stays s name parameters (sort_of sort)) e f)
+exit_by s (Ok (Commands.defining name parameters sort term)) step e f = absurd (stays _ step (defined_stays s name parameters (sort_of sort) term) e f)
+exit_by s (Ok (Commands.asserting term)) step e f = absurd (stays _ step (asserted_stays s term (lowered (scope_of s.context) s.context.nodes term)) e f)
+exit_by s (Ok (Commands.naming term name)) step e f = absurd (stays _ step (named_stays s term name (lowered (scope_of s.context) s.context.nodes term)) e f)
+exit_by s (Ok (Commands.pushing n)) step e f = absurd (stays _ step (stays_if (nat_le (levels_of s + n) levels_limit) _ TooManyLevels silent_apart) e f)
+exit_by s (Ok (Commands.popping n)) step e f = absurd (stays _ step (stays_if (nat_le n (levels_of s)) _ PopBelowTheBottom silent_apart) e f)
+exit_by s (Ok Commands.checking) step e f = absurd (stays _ step check_apart e f)
+exit_by s (Ok Commands.resetting_assertions) step e f = absurd (stays _ step silent_apart e f)
+exit_by s (Ok Commands.resetting) step e f = absurd (stays _ step silent_apart e f)
+exit_by s (Ok Commands.unsupported) step e f = absurd (stays _ step unsupported_apart e f)
 
 -- a command that ends the script is `(exit)`
 pub exit_is : (s : State) (x : Sexpr) (step : Step) → after s x ≡ Ok step → step.effect ≡ Exit → is_exit x ≡ true
@@ -154,10 +189,10 @@ closed_ends script place le closed =
 
 -- ---- what was written of the commands
 
-abbrev FollowsBy : State → ℕ → List Sexpr → Ending → List ℕ → ℕ → Result Step Kind → Type 0
+abbrev FollowsBy : State → ℕ → List Sexpr → Ending → List ℕ → ℕ → Result Step Refusal → Type 0
 FollowsBy s k xs ending out status r = elim r [
-  | Ok step ↦ GoesOn Certificate step.effect step.state xs ending out status (λ rest. Follows Certificate step.state (k + 1) xs ending rest status)
-  | Err kind ↦ Stops xs ending × (out ≡ error_line k kind) × (status ≡ 1)
+  | Ok step ↦ GoesOn Certificate step.effect step.state xs ending out status (λ next rest. Follows Certificate next (k + 1) xs ending rest status)
+  | Err why ↦ Stops xs ending × (out ≡ error_line k (kind_of why)) × (status ≡ 1)
 ]
 
 follows_is : (s : State) (k : ℕ) (x : Sexpr) (xs : List Sexpr) (ending : Ending) (out : List ℕ) (status : ℕ) → Follows Certificate s k (x ∷ xs) ending out status → FollowsBy s k xs ending out status (after s x)
@@ -179,12 +214,6 @@ record IsSplit (script : List ℕ) (place : ℕ) (s : State) (k : ℕ) (xs : Lis
   within : last ≤ length script
   closed : IsClosedGap (drop last script)
   reads : (added : List ℕ) (end : PartEnd) (behind : ℕ) → EndsIn exits (script ++ added) last end behind → ScriptPart (script ++ added) place xs end behind
-
-silent_apart : Silent ≡ Exit → ⊥
-silent_apart e = absurd cc
-
-check_apart : CheckSat ≡ Exit → ⊥
-check_apart e = absurd cc
 
 module _ (one : OneOutcome) (on : ReadsOn) (within : ReadsWithin) (flaw : HasNoFlaw) where
   same_sexpr : (bytes : List ℕ) (place : ℕ) (x y : Sexpr) (m n : ℕ) → Spells bytes place x m → Spells bytes place y n → (x ≡ y) × (m ≡ n)
@@ -219,49 +248,51 @@ module _ (one : OneOutcome) (on : ReadsOn) (within : ReadsWithin) (flaw : HasNoF
         let l = carried_list s x step e in
         within script place mid l.0 (subst (λ (z : Sexpr). Spells script place z mid) l.1 spells)
 
-    -- a command that goes on
-    reads_more : (step : Step) → after s x ≡ Ok step → (step.effect ≡ Exit → ⊥) → (xs : List Sexpr) (rest : List ℕ) (h : IsSplit script mid step.state (k + 1) xs rest)
+    -- a command that goes on, in the state behind its answer
+    reads_more : (step : Step) → after s x ≡ Ok step → step.effect ≢ Exit → (next : State) (xs : List Sexpr) (rest : List ℕ) (h : IsSplit script mid next (k + 1) xs rest)
         → (added : List ℕ) (end : PartEnd) (behind : ℕ) → EndsIn h.exits (script ++ added) h.last end behind → ScriptPart (script ++ added) place (x ∷ xs) end behind
     unfolding ScriptPart
-    reads_more step e apart xs rest h added end behind ends = (
+    reads_more step e apart next xs rest h added end behind ends = (
       mid,
       on_command step e added,
       carried_apart s x step e,
       subst (λ (b : Bool). FollowsExit b (ExitEnds mid xs end behind) (ScriptPart (script ++ added) mid xs end behind)) (sym (not_exit s x step e apart)) (h.reads added end behind ends),
     )
 
-    split_silent : (next : State) → after s x ≡ Ok (step_of next Silent) → (xs : List Sexpr) (out rest : List ℕ) → out ≡ rest → IsSplit script mid next (k + 1) xs rest → IsSplit script place s k (x ∷ xs) out
-    split_silent next e xs out rest same h = record {
+    -- a command of which nothing is written
+    split_silent : (effect : Effect) (next : State) (xs : List Sexpr) (out rest : List ℕ) (h : IsSplit script mid next (k + 1) xs rest) → after s x ≡ Ok (step_of next effect) → effect ≢ Exit
+        → ((n : ℕ) → judged s k n (x ∷ xs) h.entries ≡ judged next (k + 1) n xs h.entries) → out ≡ rest → IsSplit script place s k (x ∷ xs) out
+    split_silent effect next xs out rest h e apart goes same = record {
       entries = h.entries;
       text = same ∙ h.text;
       fits = h.fits;
-      accepted = λ n. judged_ok s k n x xs h.entries (step_of next Silent) e ∙ h.accepted n;
+      accepted = λ n. goes n ∙ h.accepted n;
       last = h.last;
       exits = h.exits;
       within = h.within;
       closed = h.closed;
-      reads = reads_more (step_of next Silent) e silent_apart xs rest h;
+      reads = reads_more (step_of next effect) e apart next xs rest h;
     }
 
-    split_check : (next : State) → after s x ≡ Ok (step_of next CheckSat) → (xs : List Sexpr) (out rest : List ℕ) (entry : Entry) → IsEntryOf next entry → out ≡ line_of (entry_sexpr entry) ++ rest → IsSplit script mid next (k + 1) xs rest
-        → IsSplit script place s k (x ∷ xs) out
+    split_check : (next : State) → after s x ≡ Ok (step_of next CheckSat) → (xs : List Sexpr) (out rest : List ℕ) (entry : Entry) → IsEntryOf next.context entry → out ≡ line_of (entry_sexpr entry) ++ rest
+        → IsSplit script mid (settled (verdict_of entry) next) (k + 1) xs rest → IsSplit script place s k (x ∷ xs) out
     split_check next e xs out rest entry right same h = record {
       entries = entry ∷ h.entries;
       text = same ∙ ap (λ (t : List ℕ). line_of (entry_sexpr entry) ++ t) h.text ∙ sym (append_assoc (line_of (entry_sexpr entry)) (entries_text h.entries) (line_of end_sexpr));
       fits = All-cons EntryFits entry h.entries right.1 h.fits;
       accepted = λ n. (judged_ok s k n x xs (entry ∷ h.entries) (step_of next CheckSat) e
-          ∙ ap (λ (f : Option EntryFlaw). judged_entry n f (judged next (k + 1) (n + 1) xs h.entries)) (entry_right flaw next entry right.0)
+          ∙ ap (λ (f : Option EntryFlaw). judged_entry n f (judged (settled (verdict_of entry) next) (k + 1) (n + 1) xs h.entries)) (entry_right flaw next.context entry right.0)
           ∙ h.accepted (n + 1));
       last = h.last;
       exits = h.exits;
       within = h.within;
       closed = h.closed;
-      reads = reads_more (step_of next CheckSat) e check_apart xs rest h;
+      reads = reads_more (step_of next CheckSat) e check_apart (settled (verdict_of entry) next) xs rest h;
     }
 
     split_exit : (next : State) → after s x ≡ Ok (step_of next Exit) → (xs : List Sexpr) (out : List ℕ) → xs ≡ [] → out ≡ line_of end_sexpr → IsClosedGap (drop mid script) → IsSplit script place s k (x ∷ xs) out
     unfolding ScriptPart
-    split_exit next e xs out none same is = record {
+    split_exit next e xs out over same is = record {
       entries = [];
       text = same;
       fits = All-nil EntryFits;
@@ -274,7 +305,7 @@ module _ (one : OneOutcome) (on : ReadsOn) (within : ReadsWithin) (flaw : HasNoF
         mid,
         on_command (step_of next Exit) e added,
         carried_apart s x (step_of next Exit) e,
-        subst (λ (b : Bool). FollowsExit b (ExitEnds mid xs end behind) (ScriptPart (script ++ added) mid xs end behind)) (sym (exit_is s x (step_of next Exit) e refl)) (none, ends.0, ends.1),
+        subst (λ (b : Bool). FollowsExit b (ExitEnds mid xs end behind) (ScriptPart (script ++ added) mid xs end behind)) (sym (exit_is s x (step_of next Exit) e refl)) (over, ends.0, ends.1),
       );
     }
 
@@ -282,30 +313,43 @@ module _ (one : OneOutcome) (on : ReadsOn) (within : ReadsWithin) (flaw : HasNoF
     Others xs ys ending = (next : State) (rest : List ℕ) → mid ≤ length script → Follows Certificate next (k + 1) xs ending rest 0 → IsWholeFrom script mid ys → IsSplit script mid next (k + 1) xs rest
 
     abbrev FollowsEffect : Effect → State → List Sexpr → Ending → List ℕ → Type 0
-    FollowsEffect effect next xs ending out = GoesOn Certificate effect next xs ending out 0 (λ rest. Follows Certificate next (k + 1) xs ending rest 0)
+    FollowsEffect effect next xs ending out = GoesOn Certificate effect next xs ending out 0 (λ behind rest. Follows Certificate behind (k + 1) xs ending rest 0)
 
     abbrev IsWholeBehind : List Sexpr → Bool → Type 0
     IsWholeBehind ys exits = FollowsExit exits ((ys ≡ []) × IsClosedGap (drop mid script)) (IsWholeFrom script mid ys)
 
+    -- the text without a piece that is none
+    without : (out piece rest : List ℕ) → out ≡ piece ++ rest → piece ≡ [] → out ≡ rest
+    without out piece rest text silent = text ∙ ap (λ (t : List ℕ). t ++ rest) silent
+
     split_effect : (effect : Effect) (next : State) → after s x ≡ Ok (step_of next effect) → (xs ys : List Sexpr) (ending : Ending) (out : List ℕ) → FollowsEffect effect next xs ending out → IsWholeBehind ys (is_exit x) → Others xs ys ending
         → IsSplit script place s k (x ∷ xs) out
-    split_effect Silent next e xs ys ending out (piece, rest, silent, text, follows) is others =
+    split_effect Silent next e xs ys ending out (piece, rest, behind, (silent, same), text, follows) is others =
         let step = step_of next Silent in
-        let same : out ≡ rest = text ∙ ap (λ (t : List ℕ). t ++ rest) silent in
         let left : IsWholeFrom script mid ys = subst (IsWholeBehind ys) (not_exit s x step e silent_apart) is in
-        split_silent next e xs out rest same (others next rest (command_within step e) follows left)
-    split_effect CheckSat next e xs ys ending out (piece, rest, (entry, right, line), text, follows) is others =
+        let from : Follows Certificate next (k + 1) xs ending rest 0 = subst (λ (t : State). Follows Certificate t (k + 1) xs ending rest 0) same follows in
+        let h = others next rest (command_within step e) from left in
+        split_silent Silent next xs out rest h e silent_apart (λ n. judged_ok s k n x xs h.entries step e) (without out piece rest text silent)
+    split_effect Unsupported next e xs ys ending out (piece, rest, behind, (silent, same), text, follows) is others =
+        let step = step_of next Unsupported in
+        let left : IsWholeFrom script mid ys = subst (IsWholeBehind ys) (not_exit s x step e unsupported_apart) is in
+        let from : Follows Certificate next (k + 1) xs ending rest 0 = subst (λ (t : State). Follows Certificate t (k + 1) xs ending rest 0) same follows in
+        let h = others next rest (command_within step e) from left in
+        split_silent Unsupported next xs out rest h e unsupported_apart (λ n. judged_ok s k n x xs h.entries step e) (without out piece rest text silent)
+    split_effect CheckSat next e xs ys ending out (piece, rest, behind, (verdict, (entry, right, says, line), same), text, follows) is others =
         let step = step_of next CheckSat in
-        let same : out ≡ line_of (entry_sexpr entry) ++ rest = text ∙ ap (λ (t : List ℕ). t ++ rest) line in
+        let written : out ≡ line_of (entry_sexpr entry) ++ rest = text ∙ ap (λ (t : List ℕ). t ++ rest) line in
         let left : IsWholeFrom script mid ys = subst (IsWholeBehind ys) (not_exit s x step e check_apart) is in
-        split_check next e xs out rest entry right same (others next rest (command_within step e) follows left)
+        let there : behind ≡ settled (verdict_of entry) next = same ∙ ap (λ (v : Satisfiability). settled v next) says in
+        let from : Follows Certificate (settled (verdict_of entry) next) (k + 1) xs ending rest 0 = subst (λ (t : State). Follows Certificate t (k + 1) xs ending rest 0) there follows in
+        split_check next e xs out rest entry right written (others (settled (verdict_of entry) next) rest (command_within step e) from left)
     split_effect Exit next e xs ys ending out (stops, text, status) is others =
         let step = step_of next Exit in
         let left : (ys ≡ []) × IsClosedGap (drop mid script) = subst (IsWholeBehind ys) (exit_is s x step e refl) is in
         split_exit next e xs out stops.0 text left.1
 
-    split_by : (r : Result Step Kind) → after s x ≡ r → (xs ys : List Sexpr) (ending : Ending) (out : List ℕ) → FollowsBy s k xs ending out 0 r → IsWholeBehind ys (is_exit x) → Others xs ys ending → IsSplit script place s k (x ∷ xs) out
-    split_by (Err kind) e xs ys ending out (stops, text, status) is others = absurd (omega arith)
+    split_by : (r : Result Step Refusal) → after s x ≡ r → (xs ys : List Sexpr) (ending : Ending) (out : List ℕ) → FollowsBy s k xs ending out 0 r → IsWholeBehind ys (is_exit x) → Others xs ys ending → IsSplit script place s k (x ∷ xs) out
+    split_by (Err why) e xs ys ending out (stops, text, status) is others = absurd (omega arith)
     split_by (Ok step) e xs ys ending out follows is others = split_effect step.effect step.state e xs ys ending out follows is others
 
   split : (xs ys : List Sexpr) (script : List ℕ) (place here k : ℕ) (s : State) (ending : Ending) (out : List ℕ) → place ≤ length script → Commands script place xs here → EndsAs script here ending → Follows Certificate s k xs ending out 0 → IsWholeFrom script place ys

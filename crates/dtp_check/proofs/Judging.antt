@@ -1,36 +1,47 @@
 -- The judging of a script, command by command.
-use Rattle.std.proofs.Common.{refl, sym, ap, subst, arith, ◌∙◌, ◌≡◌, ◌<◌, ◌≤◌, ◌+◌, ◌==◌, inl, inr, ℕ, zero, suc, List, [], ◌∷◌, length, drop, Bool, true, false, Option, Some, None, Ok, Err, ℤ}
-use Rattle.std.specs.Prelude.{option_map}
+use Rattle.std.proofs.Common.{refl, sym, ap, subst, arith, ◌∙◌, ◌≡◌, ◌≢◌, ◌<◌, ◌≤◌, ◌+◌, ◌==◌, ℕ, zero, suc, List, [], ◌∷◌, length, drop, get_or, Bool, true, false, Option, Some, None, Result, Ok, Err}
+use Rattle.std.specs.Prelude.{if◌then◌else◌, option_map, slice_index_or}
 use Rattle.std.specs.List.{AllByRecursion}
 use Rattle.std.proofs.lemmas.Bool.Decides.{nat_tests}
+use Rattle.std.proofs.lemmas.List.{drop_more}
 use Rattle.smt_sexpr.specs.Tree.{Sexpr}
-use Rattle.stn_core.specs.Problem.{ClauseHolds}
+use Rattle.stn_core.specs.declared.literal.Literal.{Literal}
 use Rattle.stn_core.specs.declared.named.NamedValue.{NamedValue}
 use Rattle.stn_core.specs.declared.named.NamedValue.TheVariants.{Int, Truth}
+use Rattle.stn_core.specs.Literal.{IsOver}
 use Rattle.cert_text.specs.declared.entry.Entry.{Entry}
-use Rattle.idl_term.specs.ClauseForm.{clause_of_found, clause_at}
-use Rattle.idl_term.specs.Nodes.{NodeValue}
-use Rattle.idl_term.specs.Points.{point_values}
-use Rattle.idl_term.specs.Satisfiable.{IsWhole, IsScheduleFor}
-use Rattle.idl_term.specs.Tables.{IsTableOver, IsRoot, AreRoots}
-use Rattle.idl_term.specs.Values.{Value, value}
-use Rattle.idl_term.proofs.Meaning.{clause_is}
-use Rattle.dtp_session.specs.declared.kind.Kind.{Kind}
-use Rattle.dtp_session.specs.declared.state.Effect.{Effect}
-use Rattle.dtp_session.specs.declared.state.Effect.TheVariants.{Silent, CheckSat, Exit}
-use Rattle.dtp_session.specs.Commands.{Command, declaring, asserting, checking, exiting, another, command_of}
-use Rattle.dtp_session.specs.States.{State, Step, Kept, Steps, after, after_command}
-use Rattle.dtp_session.specs.Tables.{IsTabled}
+use Rattle.idl_node.specs.declared.sort.Sort.{Sort}
+use Rattle.idl_node.specs.declared.sort.Sort.TheVariants as sorts
+use Rattle.idl_node.specs.Nodes.{NodeValue}
+use Rattle.idl_node.specs.Sorts.{IsAtomFor, IsOfSort, AreOfSorts}
+use Rattle.idl_node.specs.Tables.{IsTableOver}
+use Rattle.idl_node.specs.Truth as node
+use Rattle.idl_node.proofs.Keeping.{table_of-better}
+use Rattle.idl_term.specs.Contexts.{Context, environment}
+use Rattle.idl_term.specs.Meanings.{AreRoots}
+use Rattle.idl_term.specs.Scopes.{Declaration, Scope, sorts_of}
+use Rattle.idl_term.specs.Values.{value}
+use Rattle.smt_script.specs.declared.error.Refusal.{Refusal}
+use Rattle.smt_script.specs.declared.state.Effect.{Effect}
+use Rattle.smt_script.specs.declared.state.Effect.TheVariants.{Silent, CheckSat, Unsupported, Exit}
+use Rattle.smt_script.specs.declared.state.Satisfiability.{Satisfiability}
+use Rattle.smt_script.specs.Commands
+use Rattle.smt_script.specs.Commands.{Command, command_of, is_exiting, is_exit}
+use Rattle.smt_script.specs.Kept.{Kept, StandsFor, Steps}
+use Rattle.smt_script.specs.States.{State, Step, IsMadeState, after, after_by, settled}
+use Rattle.smt_answer.specs.Kinds.{kind_of}
+use Rattle.dtp_session.specs.Entries.{verdict_of}
 use Rattle.dtp_session.specs.Turns.{Stands}
-use Rattle.dtp_session.proofs.Turning.{stands_after}
+use Rattle.dtp_session.proofs.Turning.{StepMade, SettledMade, stands_after}
+use Rattle.dtp_session.proofs.Verdicts.{ScopeLaw, RootsLaw, ExactLaw, sorts_count}
 use Rattle.dtp_check.specs.declared.judge.Turn.{Turn}
 use Rattle.dtp_check.specs.declared.judge.Turn.TheVariants.{Going, Judged}
 use Rattle.dtp_check.specs.Turns.{IsCheckTurn, IsJudgedTurn}
 use Rattle.dtp_check.specs.declared.judgement.EntryFlaw.{EntryFlaw}
-use Rattle.dtp_check.specs.declared.judgement.EntryFlaw.TheVariants.{WrongSort, FalseAssertion}
+use Rattle.dtp_check.specs.declared.judgement.EntryFlaw.TheVariants.{WrongCount, WrongSort, FalseAssertion}
 use Rattle.dtp_check.specs.declared.judgement.Judgement.TheVariants.{Script, Surplus}
-use Rattle.dtp_check.specs.Judged.{is_exiting, is_exit, schedule_of_named, first_of_wrong_sort, is_true, first_false, first_of_two, values_flaw, surplus_of, judged_effect, judged}
-use Rattle.dtp_check.specs.Roots.{IsFirstFalse}
+use Rattle.dtp_check.specs.Judged.{is_of_sort, first_of_wrong_sort, is_true, first_false, first_of_two, values_flaw, entry_flaw, surplus_of, judged_entry, judged_check, judged_effect, judged}
+use Rattle.dtp_check.specs.Roots.{first_unmarked}
 
 -- ---- entries that are left
 
@@ -43,144 +54,234 @@ entries_left n zero entries h = left_by n entries (omega arith)
 entries_left n (suc used) [] h = absurd (omega arith)
 entries_left n (suc used) (e ∷ entries) h = entries_left n used entries (omega arith)
 
--- ---- the values of a sat entry
+-- ---- the sorts of a sat entry's values
 
-pub points_count : (values : List NamedValue) → length (point_values (schedule_of_named values)) ≡ length values + 1
-points_count [] = refl
-points_count (v ∷ values) = let h = points_count values in omega (arith, h)
+of_sort : (s : Sort) (v : NamedValue) → is_of_sort s v ≡ true → IsOfSort s v
+of_sort sorts.Int (Int n) e = tt
+of_sort sorts.Bool (Truth b) e = tt
+of_sort sorts.Int (Truth b) e = absurd cc
+of_sort sorts.Bool (Int n) e = absurd cc
 
-all_whole : (k : ℕ) (values : List NamedValue) → first_of_wrong_sort k values ≡ None → AllByRecursion IsWhole (schedule_of_named values)
-all_whole k [] e = tt
-all_whole k (Int n ∷ values) e = ((n, refl), all_whole (k + 1) values e)
-all_whole k (Truth b ∷ values) e = absurd cc
+right_sort : (s : Sort) (v : NamedValue) → IsOfSort s v → is_of_sort s v ≡ true
+right_sort sorts.Int (Int n) h = refl
+right_sort sorts.Bool (Truth b) h = refl
+right_sort sorts.Int (Truth b) h = absurd h
+right_sort sorts.Bool (Int n) h = absurd h
 
-schedule_count : (values : List NamedValue) → length (schedule_of_named values) ≡ length values
-schedule_count [] = refl
-schedule_count (v ∷ values) = ap suc (schedule_count values)
+of_sorts_by : (k : ℕ) (s : Sort) (names : List Sort) (v : NamedValue) (values : List NamedValue) (b : Bool) → is_of_sort s v ≡ b → (if b then first_of_wrong_sort (k + 1) names values else Some k) ≡ None
+    → (first_of_wrong_sort (k + 1) names values ≡ None → AreOfSorts names values) → AreOfSorts (s ∷ names) (v ∷ values)
+of_sorts_by k s names v values true e f rest = (of_sort s v e, rest f)
+of_sorts_by k s names v values false e f rest = absurd cc
 
-pub schedule_fits : (names : List (List ℕ)) (values : List NamedValue) → length values ≡ length names → first_of_wrong_sort 1 values ≡ None → IsScheduleFor names (schedule_of_named values)
-schedule_fits names values e f = record { count = schedule_count values ∙ e; sorts = all_whole 1 values f }
+-- values are of their sorts where none is found that isn't
+pub are_of_sorts : (k : ℕ) (names : List Sort) (values : List NamedValue) → length values ≡ length names → first_of_wrong_sort k names values ≡ None → AreOfSorts names values
+are_of_sorts k [] [] e f = tt
+are_of_sorts k [] (v ∷ values) e f = absurd (omega arith)
+are_of_sorts k (s ∷ names) [] e f = absurd (omega arith)
+are_of_sorts k (s ∷ names) (v ∷ values) e f = of_sorts_by k s names v values (is_of_sort s v) refl f (λ g. are_of_sorts (k + 1) names values (omega arith) g)
 
--- the clause of an assertion's node says whether the assertion is true
-true_by : (names : List (List ℕ)) (schedule : List Value) (nodes : List NodeValue) (t : Sexpr) (root : ℕ) → IsScheduleFor names schedule → IsRoot names nodes t root → ClauseHolds (point_values schedule) (clause_at nodes root) → is_true (value names schedule t) ≡ true
-true_by names schedule nodes t root fits r holds =
-    let c = clause_is names schedule t r.clause fits r.made r.some in
-    let same : clause_at nodes root ≡ r.clause = ap (clause_of_found nodes) r.stands ∙ r.same in
-    ap is_true c.is ∙ c.decides.1 (subst (ClauseHolds (point_values schedule)) same holds)
+pub none_of_wrong_sort : (k : ℕ) (names : List Sort) (values : List NamedValue) → AreOfSorts names values → first_of_wrong_sort k names values ≡ None
+none_of_wrong_sort k [] [] h = refl
+none_of_wrong_sort k [] (v ∷ values) h = absurd h
+none_of_wrong_sort k (s ∷ names) [] h = absurd h
+none_of_wrong_sort k (s ∷ names) (v ∷ values) h =
+    ap (λ (b : Bool). if b then first_of_wrong_sort (k + 1) names values else Some k) (right_sort s v h.0) ∙ none_of_wrong_sort (k + 1) names values h.1
 
-false_by_test : (b : Bool) → (b ≡ true → ⊥) → b ≡ false
-false_by_test true h = absurd (h refl)
-false_by_test false h = refl
+pub of_sorts_count : (names : List Sort) (values : List NamedValue) → AreOfSorts names values → length values ≡ length names
+of_sorts_count [] [] h = refl
+of_sorts_count [] (v ∷ values) h = absurd h
+of_sorts_count (s ∷ names) [] h = absurd h
+of_sorts_count (s ∷ names) (v ∷ values) h = ap suc (of_sorts_count names values h.1)
 
-false_by : (names : List (List ℕ)) (schedule : List Value) (nodes : List NodeValue) (t : Sexpr) (root : ℕ) → IsScheduleFor names schedule → IsRoot names nodes t root → (ClauseHolds (point_values schedule) (clause_at nodes root) → ⊥) → is_true (value names schedule t) ≡ false
-false_by names schedule nodes t root fits r fails =
-    let c = clause_is names schedule t r.clause fits r.made r.some in
-    let same : clause_at nodes root ≡ r.clause = ap (clause_of_found nodes) r.stands ∙ r.same in
-    ap is_true c.is ∙ false_by_test c.holds (λ e. fails (subst (ClauseHolds (point_values schedule)) (sym same) (c.decides.0 e)))
+-- ---- its assertions
 
-first_true : (names : List (List ℕ)) (schedule : List Value) (k : ℕ) (t : Sexpr) (ts : List Sexpr) (found : Option ℕ) → is_true (value names schedule t) ≡ true → first_false names schedule (k + 1) ts ≡ found → first_false names schedule k (t ∷ ts) ≡ found
-first_true names schedule k t ts found e f = rw e f
+-- each node is marked as true exactly where it is
+abbrev pub AreMarked : Context → List NamedValue → List Bool → Type 0
+AreMarked c values marks = (k : ℕ) → k < length c.nodes → slice_index_or marks k false ≡ node.truth c.nodes (node.point_values values) k
 
-first_fails : (names : List (List ℕ)) (schedule : List Value) (k : ℕ) (t : Sexpr) (ts : List Sexpr) → is_true (value names schedule t) ≡ false → first_false names schedule k (t ∷ ts) ≡ Some k
-first_fails names schedule k t ts e = rw e refl
+-- the first false assertion is the first whose root isn't marked
+pub assertion_found : (c : Context) (values : List NamedValue) (marks : List Bool) → AreMarked c values marks → (k : ℕ) (ts : List Sexpr) (roots : List ℕ) → AreRoots c values ts roots → AllByRecursion (λ r. r < length c.nodes) roots
+    → first_false (environment c values) k ts ≡ first_unmarked marks k roots
+assertion_found c values marks marked k [] [] h range = refl
+assertion_found c values marks marked k [] (root ∷ roots) h range = absurd h
+assertion_found c values marks marked k (t ∷ ts) [] h range = absurd h
+assertion_found c values marks marked k (t ∷ ts) (root ∷ roots) h range =
+    let same : is_true (value (environment c values) t) ≡ slice_index_or marks root false = ap is_true h.0 ∙ sym (marked root range.0) in
+    ap (λ (b : Bool). if b then first_false (environment c values) (k + 1) ts else Some k) same
+    ∙ ap (λ (found : Option ℕ). if slice_index_or marks root false then found else Some k) (assertion_found c values marks marked (k + 1) ts roots h.1 range.1)
 
-pub assertion_found : (names : List (List ℕ)) (schedule : List Value) (nodes : List NodeValue) (k : ℕ) (ts : List Sexpr) (roots : List ℕ) (found : Option ℕ) → IsScheduleFor names schedule → AreRoots names nodes ts roots
-    → IsFirstFalse nodes (point_values schedule) k roots found → first_false names schedule k ts ≡ found
-assertion_found names schedule nodes k [] [] found fits h e = sym e
-assertion_found names schedule nodes k [] (root ∷ roots) found fits h e = absurd h
-assertion_found names schedule nodes k (t ∷ ts) [] found fits h e = absurd h
-assertion_found names schedule nodes k (t ∷ ts) (root ∷ roots) found fits h (inl p) =
-    first_true names schedule k t ts found (true_by names schedule nodes t root fits h.0 p.0) (assertion_found names schedule nodes (k + 1) ts roots found fits h.1 p.1)
-assertion_found names schedule nodes k (t ∷ ts) (root ∷ roots) found fits h (inr p) =
-    first_fails names schedule k t ts (false_by names schedule nodes t root fits h.0 p.0) ∙ sym p.1
+-- ---- what is wrong with the values
 
-pub values_flaw_is : (s : State) (values : List NamedValue) (found : Option ℕ) → length values ≡ length s.names → first_of_wrong_sort 1 values ≡ None → first_false s.names (schedule_of_named values) 1 s.assertions ≡ found
-    → values_flaw s values ≡ option_map FalseAssertion found
-values_flaw_is s values found e f g =
-    let test : (length values == length s.names) ≡ true = grind (arith, nat_tests) in
-    let sorts : option_map WrongSort (first_of_wrong_sort 1 values) ≡ None = ap (option_map WrongSort) f in
-    rw test (ap (λ (a : Option EntryFlaw). first_of_two a (option_map FalseAssertion (first_false s.names (schedule_of_named values) 1 s.assertions))) sorts ∙ ap (option_map FalseAssertion) g)
+abbrev flaws_of : Context → List NamedValue → Option EntryFlaw
+flaws_of c values = first_of_two (option_map WrongSort (first_of_wrong_sort 1 (sorts_of c.declared) values)) (option_map FalseAssertion (first_false (environment c values) 1 c.assertions))
+
+right_count : (c : Context) (values : List NamedValue) → length values ≡ length c.declared → values_flaw c values ≡ flaws_of c values
+right_count c values e =
+    let test : (length values == length c.declared) ≡ true = grind (arith, nat_tests) in
+    ap (λ (b : Bool). if b then flaws_of c values else Some WrongCount) test
+
+pub values_of_wrong_sort : (c : Context) (values : List NamedValue) (k : ℕ) → length values ≡ length c.declared → first_of_wrong_sort 1 (sorts_of c.declared) values ≡ Some k → values_flaw c values ≡ Some (WrongSort k)
+values_of_wrong_sort c values k e f =
+    right_count c values e
+    ∙ ap (λ (found : Option ℕ). first_of_two (option_map WrongSort found) (option_map FalseAssertion (first_false (environment c values) 1 c.assertions))) f
+
+pub values_flaw_is : (c : Context) (values : List NamedValue) (found : Option ℕ) → length values ≡ length c.declared → first_of_wrong_sort 1 (sorts_of c.declared) values ≡ None → first_false (environment c values) 1 c.assertions ≡ found
+    → values_flaw c values ≡ option_map FalseAssertion found
+values_flaw_is c values found e f g =
+    right_count c values e
+    ∙ ap (λ (sorts : Option ℕ). first_of_two (option_map WrongSort sorts) (option_map FalseAssertion (first_false (environment c values) 1 c.assertions))) f
+    ∙ ap (option_map FalseAssertion) g
+
+-- what the code reads of its names and of the values
+pub counted_by : (names declared : List Declaration) (given values : List NamedValue) (count : ℕ) → given ≡ values → length given ≡ count → count ≡ length names → names ≡ declared → length values ≡ length declared
+counted_by names declared given values count e f g h = ap (λ (vs : List NamedValue). length vs) (sym e) ∙ f ∙ g ∙ ap (λ (ds : List Declaration). length ds) h
+
+pub sorts_by : (names declared : List Declaration) (read : List Sort) (given values : List NamedValue) (found is : Option ℕ) → given ≡ values → read ≡ sorts_of names → names ≡ declared → found ≡ first_of_wrong_sort 1 read given → found ≡ is
+    → is ≡ first_of_wrong_sort 1 (sorts_of declared) values
+sorts_by names declared read given values found is e f g h i =
+    sym i ∙ h ∙ ap (λ (ss : List Sort). first_of_wrong_sort 1 ss given) (f ∙ ap sorts_of g) ∙ ap (first_of_wrong_sort 1 (sorts_of declared)) e
+
+-- what the code compares the values of a sat entry with: what it keeps
+module _ (kept : Kept) (s : State) (stands : Stands kept s) (values : List NamedValue) where
+  abbrev IsCounted : Type 0
+  IsCounted = length values ≡ length kept.scope.declared
+
+  declared_are : kept.scope.declared ≡ s.context.declared
+  declared_are = ap (λ (scope : Scope). scope.declared) stands.stands.scope
+
+  counted : IsCounted → length values ≡ length s.context.declared
+  counted e = e ∙ ap (λ (names : List Declaration). length names) declared_are
+
+  sorted : (found : Option ℕ) → found ≡ first_of_wrong_sort 1 (sorts_of kept.scope.declared) values → first_of_wrong_sort 1 (sorts_of s.context.declared) values ≡ found
+  sorted found e = sym (e ∙ ap (λ (names : List Declaration). first_of_wrong_sort 1 (sorts_of names) values) declared_are)
+
+  pub sorts_judged : (k : ℕ) → IsCounted → Some k ≡ first_of_wrong_sort 1 (sorts_of kept.scope.declared) values → values_flaw s.context values ≡ Some (WrongSort k)
+  sorts_judged k e f = values_of_wrong_sort s.context values k (counted e) (sorted (Some k) f)
+
+  pub table_over : ScopeLaw → IsCounted → IsTableOver (length values + 1) kept.nodes
+  table_over scope e =
+      let names = sorts_of s.context.declared in
+      let count : length names + 1 ≡ length values + 1 = ap (λ (n : ℕ). n + 1) (sorts_count s.context.declared ∙ sym (counted e)) in
+      let table = table_of-better (IsAtomFor names) (IsOver (length names + 1)) (λ (l : Literal) (h : IsAtomFor names l). h.over) s.context.nodes (scope s.context stands.made.context).table in
+      subst (λ (nodes : List NodeValue). IsTableOver (length values + 1) nodes) (sym stands.stands.nodes) (subst (λ (n : ℕ). IsTableOver n s.context.nodes) count table)
+
+  pub roots_within : RootsLaw → AllByRecursion (λ r. r < length kept.nodes) kept.roots
+  roots_within roots =
+      let there : AllByRecursion (λ r. r < length s.context.nodes) s.context.roots = roots s.context stands.made.context in
+      subst (λ (ks : List ℕ). AllByRecursion (λ r. r < length kept.nodes) ks) (sym stands.stands.roots)
+      (subst (λ (nodes : List NodeValue). AllByRecursion (λ r. r < length nodes) s.context.roots) (sym stands.stands.nodes) there)
+
+  pub values_judged : RootsLaw → ExactLaw → (marks : List Bool) (found : Option ℕ) → IsCounted → None ≡ first_of_wrong_sort 1 (sorts_of kept.scope.declared) values
+      → ((k : ℕ) → k < length kept.nodes → slice_index_or marks k false ≡ node.truth kept.nodes (node.point_values values) k) → found ≡ first_unmarked marks 1 kept.roots → values_flaw s.context values ≡ option_map FalseAssertion found
+  values_judged roots exact marks found e f marked h =
+      let none = sorted None f in
+      let fits = are_of_sorts 1 (sorts_of s.context.declared) values (counted e ∙ sym (sorts_count s.context.declared)) none in
+      let there : AreMarked s.context values marks =
+      subst (λ (nodes : List NodeValue). (k : ℕ) → k < length nodes → slice_index_or marks k false ≡ node.truth nodes (node.point_values values) k) stands.stands.nodes marked in
+      let same = assertion_found s.context values marks there 1 s.context.assertions s.context.roots (exact s.context values stands.made.context fits) (roots s.context stands.made.context) in
+      values_flaw_is s.context values found (counted e) none (same ∙ sym (h ∙ ap (first_unmarked marks 1) stands.stands.roots))
+
+-- ---- a check-sat
+
+-- an entry without a flaw: the script goes on behind its verdict
+pub check_right : SettledMade → (s : State) (used : ℕ) (entries : List Entry) (entry : Entry) (kept : Kept) (verdict : Satisfiability) (flaw : Option EntryFlaw) → IsMadeState s → StandsFor kept (settled verdict s) → verdict ≡ verdict_of entry
+    → used < length entries → entry ≡ get_or entries used entry → flaw ≡ entry_flaw s.context entry → flaw ≡ None → IsCheckTurn s used entries kept (Going (used + 1))
+check_right law s used entries entry kept verdict flaw made stands e within there f none = (
+  settled (verdict_of entry) s,
+  record { stands = subst (λ (v : Satisfiability). StandsFor kept (settled v s)) e stands; made = law s (verdict_of entry) made },
+  omega arith,
+  λ others.
+      let left : drop used entries ≡ entry ∷ drop (used + 1) entries = drop_more entries used entry within ∙ ap (λ (first : Entry). first ∷ drop (used + 1) entries) (sym there) in
+      ap (λ (es : List Entry). judged_check s (used + 1) es others) left
+      ∙ ap (λ (found : Option EntryFlaw). judged_entry (used + 1) found (others (settled (verdict_of entry) s) (drop (used + 1) entries))) (sym f ∙ none),
+  refl,
+)
 
 -- ---- a command
 
-pub judged_ok : (s : State) (k n : ℕ) (x : Sexpr) (xs : List Sexpr) (es : List Entry) (step : Step) → after s x ≡ Ok step → judged s k n (x ∷ xs) es ≡ judged_effect step.effect step.state n es (λ m rest. judged step.state (k + 1) m xs rest)
+pub judged_ok : (s : State) (k n : ℕ) (x : Sexpr) (xs : List Sexpr) (es : List Entry) (step : Step) → after s x ≡ Ok step → judged s k n (x ∷ xs) es ≡ judged_effect step.effect step.state n es (λ next m rest. judged next (k + 1) m xs rest)
 unfolding judged
-judged_ok s k n x xs es step e = ap (λ r. elim r [ Ok q ↦ judged_effect q.effect q.state n es (λ m rest. judged q.state (k + 1) m xs rest) | Err kind ↦ Script k kind ]) e
+judged_ok s k n x xs es step e = ap (λ r. elim r [ Ok q ↦ judged_effect q.effect q.state n es (λ next m rest. judged next (k + 1) m xs rest) | Err why ↦ Script k (kind_of why) ]) e
 
-pub judged_err : (s : State) (k n : ℕ) (x : Sexpr) (xs : List Sexpr) (es : List Entry) (kind : Kind) → after s x ≡ Err kind → judged s k n (x ∷ xs) es ≡ Script k kind
+pub judged_err : (s : State) (k n : ℕ) (x : Sexpr) (xs : List Sexpr) (es : List Entry) (why : Refusal) → after s x ≡ Err why → judged s k n (x ∷ xs) es ≡ Script k (kind_of why)
 unfolding judged
-judged_err s k n x xs es kind e = ap (λ r. elim r [ Ok q ↦ judged_effect q.effect q.state n es (λ m rest. judged q.state (k + 1) m xs rest) | Err why ↦ Script k why ]) e
+judged_err s k n x xs es why e = ap (λ r. elim r [ Ok q ↦ judged_effect q.effect q.state n es (λ next m rest. judged next (k + 1) m xs rest) | Err cause ↦ Script k (kind_of cause) ]) e
 
 pub judged_none : (s : State) (k n : ℕ) (es : List Entry) → judged s k n [] es ≡ surplus_of n es
 unfolding judged
 judged_none s k n es = refl
 
 -- an effect other than `Exit` is of a command other than `(exit)`
-exits_by : (s : State) (command : Command) (step : Step) → after_command s command ≡ Ok step → is_exiting command ≡ true → step.effect ≡ Exit
-exits_by s (declaring name) step e f = absurd cc
-exits_by s (asserting term) step e f = absurd cc
-exits_by s checking step e f = absurd cc
-exits_by s another step e f = absurd cc
-exits_by s exiting step e f = let is : record { state = s; effect = Exit } ≡ step = cc in sym (ap (λ (q : Step). q.effect) is)
+exits_by : (s : State) (found : Result Command Refusal) (step : Step) → after_by s found ≡ Ok step → is_exiting found ≡ true → step.effect ≡ Exit
+exits_by s (Err why) step e f = absurd cc
+exits_by s (Ok (Commands.setting_logic logic)) step e f = absurd cc
+exits_by s (Ok (Commands.setting_option keyword v)) step e f = absurd cc
+exits_by s (Ok Commands.informing) step e f = absurd cc
+exits_by s (Ok (Commands.declaring name parameters sort)) step e f = absurd cc
+exits_by s (Ok (Commands.defining name parameters sort term)) step e f = absurd cc
+exits_by s (Ok (Commands.asserting term)) step e f = absurd cc
+exits_by s (Ok (Commands.naming term name)) step e f = absurd cc
+exits_by s (Ok (Commands.pushing n)) step e f = absurd cc
+exits_by s (Ok (Commands.popping n)) step e f = absurd cc
+exits_by s (Ok Commands.checking) step e f = absurd cc
+exits_by s (Ok Commands.resetting_assertions) step e f = absurd cc
+exits_by s (Ok Commands.resetting) step e f = absurd cc
+exits_by s (Ok Commands.unsupported) step e f = absurd cc
+exits_by s (Ok Commands.exiting) step e f = let is : record { state = s; effect = Exit } ≡ step = cc in sym (ap (λ (q : Step). q.effect) is)
 
-pub not_exit : (s : State) (x : Sexpr) (step : Step) → after s x ≡ Ok step → (step.effect ≡ Exit → ⊥) → is_exit x ≡ false
+false_by_test : (b : Bool) → (b ≡ true → ⊥) → b ≡ false
+false_by_test true h = absurd (h refl)
+false_by_test false h = refl
+
+pub not_exit : (s : State) (x : Sexpr) (step : Step) → after s x ≡ Ok step → step.effect ≢ Exit → is_exit x ≡ false
 unfolding after
 not_exit s x step e apart = false_by_test (is_exit x) (λ f. apart (exits_by s (command_of x) step e f))
 
-silent_apart : Silent ≡ Exit → ⊥
+pub silent_apart : Silent ≢ Exit
 silent_apart e = absurd cc
 
-check_apart : CheckSat ≡ Exit → ⊥
+pub unsupported_apart : Unsupported ≢ Exit
+unsupported_apart e = absurd cc
+
+pub check_apart : CheckSat ≢ Exit
 check_apart e = absurd cc
 
-abbrev step_of : State → Effect → Step
+abbrev pub step_of : State → Effect → Step
 step_of state effect = record { state = state; effect = effect }
 
-pub silent_judged : (s : State) (k used : ℕ) (x : Sexpr) (entries : List Entry) (kept : Kept) → used ≤ length entries → IsTabled s → Steps s x Silent kept → IsJudgedTurn s k used entries x kept (Going used)
-silent_judged s k used x entries kept le tabled h = (
-  h.state,
-  stands_after s x Silent kept h tabled,
-  not_exit s x (step_of h.state Silent) h.leads silent_apart,
-  le,
-  λ xs. judged_ok s k (used + 1) x xs (drop used entries) (step_of h.state Silent) h.leads,
-)
+module _ (s : State) (k used : ℕ) (x : Sexpr) (entries : List Entry) (kept : Kept) where
+  pub silent_judged : StepMade → used ≤ length entries → IsMadeState s → Steps s x Silent kept → IsJudgedTurn s k used entries x kept (Going used)
+  silent_judged law le made h = (
+    h.state,
+    stands_after law s x Silent kept h made,
+    not_exit s x (step_of h.state Silent) h.leads silent_apart,
+    le,
+    λ xs. judged_ok s k (used + 1) x xs (drop used entries) (step_of h.state Silent) h.leads,
+  )
 
-pub exit_judged : (s : State) (k used : ℕ) (x : Sexpr) (xs : List Sexpr) (entries : List Entry) (kept : Kept) → Steps s x Exit kept → judged s k (used + 1) (x ∷ xs) (drop used entries) ≡ surplus_of (used + 1) (drop used entries)
-exit_judged s k used x xs entries kept h = judged_ok s k (used + 1) x xs (drop used entries) (step_of h.state Exit) h.leads
+  pub unsupported_judged : StepMade → used ≤ length entries → IsMadeState s → Steps s x Unsupported kept → IsJudgedTurn s k used entries x kept (Going used)
+  unsupported_judged law le made h = (
+    h.state,
+    stands_after law s x Unsupported kept h made,
+    not_exit s x (step_of h.state Unsupported) h.leads unsupported_apart,
+    le,
+    λ xs. judged_ok s k (used + 1) x xs (drop used entries) (step_of h.state Unsupported) h.leads,
+  )
 
-pub check_judged : (s : State) (k used : ℕ) (x : Sexpr) (entries : List Entry) (kept : Kept) (turn : Turn) → IsTabled s → (h : Steps s x CheckSat kept) → IsCheckTurn h.state used entries turn → IsJudgedTurn s k used entries x kept turn
-check_judged s k used x entries kept (Going now) tabled h check = (
-  h.state,
-  stands_after s x CheckSat kept h tabled,
-  not_exit s x (step_of h.state CheckSat) h.leads check_apart,
-  check.0,
-  λ xs.
-      judged_ok s k (used + 1) x xs (drop used entries) (step_of h.state CheckSat) h.leads
-      ∙ check.1 (λ rest. judged h.state (k + 1) ((used + 1) + 1) xs rest)
-      ∙ ap (λ (n : ℕ). judged h.state (k + 1) (n + 1) xs (drop now entries)) (sym check.2),
-)
-check_judged s k used x entries kept (Judged judgement) tabled h check = λ xs.
-    judged_ok s k (used + 1) x xs (drop used entries) (step_of h.state CheckSat) h.leads ∙ check (λ rest. judged h.state (k + 1) ((used + 1) + 1) xs rest)
+  pub exit_judged : (xs : List Sexpr) → Steps s x Exit kept → judged s k (used + 1) (x ∷ xs) (drop used entries) ≡ surplus_of (used + 1) (drop used entries)
+  exit_judged xs h = judged_ok s k (used + 1) x xs (drop used entries) (step_of h.state Exit) h.leads
 
--- what the code compares the values of a sat entry with
-module _ (kept : Kept) (s : State) (stands : Stands kept s) (values : List NamedValue) (points : List ℤ) (nodes : List NodeValue) (names_count : ℕ)
-    (counted : names_count ≡ length kept.names) (same_count : length values ≡ names_count) (lent : nodes ≡ kept.nodes) (made : points ≡ point_values (schedule_of_named values)) where
-  count_is : length values ≡ length s.names
-  count_is = same_count ∙ counted ∙ ap (λ (names : List (List ℕ)). length names) stands.stands.names
-
-  pub table_over : IsTableOver (length points) nodes
-  table_over =
-      let points_are : length points ≡ length s.names + 1 = ap (λ (ps : List ℤ). length ps) made ∙ points_count values ∙ ap (λ (n : ℕ). n + 1) count_is in
-      let nodes_are : nodes ≡ s.nodes = lent ∙ stands.stands.nodes in
-      subst (λ (n : ℕ). IsTableOver n nodes) (sym points_are) (subst (λ (ns : List NodeValue). IsTableOver (length s.names + 1) ns) (sym nodes_are) stands.tabled.over)
-
-  pub values_judged : (roots : List ℕ) (sorts found : Option ℕ) → roots ≡ kept.roots → sorts ≡ first_of_wrong_sort 1 values → sorts ≡ None → IsFirstFalse nodes points 1 roots found → values_flaw s values ≡ option_map FalseAssertion found
-  values_judged roots sorts found e f none h =
-      let roots_are : roots ≡ s.roots = e ∙ stands.stands.roots in
-      let nodes_are : nodes ≡ s.nodes = lent ∙ stands.stands.nodes in
-      let sorted : first_of_wrong_sort 1 values ≡ None = sym f ∙ none in
-      let fits = schedule_fits s.names values count_is sorted in
-      let on_roots : IsFirstFalse nodes points 1 s.roots found = subst (λ (ks : List ℕ). IsFirstFalse nodes points 1 ks found) roots_are h in
-      let on_nodes : IsFirstFalse s.nodes points 1 s.roots found = subst (λ (ns : List NodeValue). IsFirstFalse ns points 1 s.roots found) nodes_are on_roots in
-      let on_points : IsFirstFalse s.nodes (point_values (schedule_of_named values)) 1 s.roots found = subst (λ (ps : List ℤ). IsFirstFalse s.nodes ps 1 s.roots found) made on_nodes in
-      values_flaw_is s values found count_is sorted (assertion_found s.names (schedule_of_named values) s.nodes 1 s.assertions s.roots found fits stands.tabled.made on_points)
+  -- what is kept behind the verdict is `settled`
+  pub check_judged : (settled : Kept) (turn : Turn) (h : Steps s x CheckSat kept) → IsCheckTurn h.state used entries settled turn → IsJudgedTurn s k used entries x settled turn
+  check_judged settled (Going now) h (next, stands, le, same, one) = (
+    next,
+    stands,
+    not_exit s x (step_of h.state CheckSat) h.leads check_apart,
+    le,
+    λ xs.
+        judged_ok s k (used + 1) x xs (drop used entries) (step_of h.state CheckSat) h.leads
+        ∙ same (λ next rest. judged next (k + 1) ((used + 1) + 1) xs rest)
+        ∙ ap (λ (n : ℕ). judged next (k + 1) (n + 1) xs (drop now entries)) (sym one),
+  )
+  check_judged settled (Judged judgement) h check = λ xs.
+      judged_ok s k (used + 1) x xs (drop used entries) (step_of h.state CheckSat) h.leads ∙ check (λ next rest. judged next (k + 1) ((used + 1) + 1) xs rest)

@@ -4,18 +4,20 @@ use Rattle.smt_sexpr.specs.Tree.{Sexpr}
 use Rattle.smt_sexpr.specs.Reading.{Spells, Refusal, Outcome, expression, finished, refused, Outcomes}
 use Rattle.cert_text.specs.declared.entry.Entry.{Entry}
 use Rattle.cert_text.specs.Form.{header_sexpr}
-use Rattle.dtp_session.specs.declared.kind.Kind.{Kind}
-use Rattle.dtp_session.specs.States.{State, start_state, Kept}
+use Rattle.smt_answer.specs.declared.kind.Kind.{Kind}
+use Rattle.smt_answer.specs.Kinds.{kind_of_unreadable}
+use Rattle.smt_script.specs.Commands.{is_exit}
+use Rattle.smt_script.specs.declared.state.Mode.TheVariants as mode
+use Rattle.smt_script.specs.Kept.{Kept}
+use Rattle.smt_script.specs.States.{State, IsMadeState, start_state}
 use Rattle.dtp_session.specs.Turns.{Stands}
-use Rattle.idl_term.proofs.Rooting.{tabled_start}
 use Rattle.dtp_check.specs.declared.part.PartEnd.{PartEnd}
 use Rattle.dtp_check.specs.declared.part.PartEnd.TheVariants as part
 use Rattle.dtp_check.specs.declared.judge.Turn.{Turn}
 use Rattle.dtp_check.specs.declared.judge.Turn.TheVariants.{Going, Judged}
 use Rattle.dtp_check.specs.declared.judgement.Judgement.{Judgement}
 use Rattle.cert_read.specs.Certificates.{CertificateOutcome, ReadsEntries, ReadsCertificate}
-use Rattle.dtp_session.specs.Answers.{kind_of}
-use Rattle.dtp_check.specs.Judged.{CertificateBehind, judged_with, JudgedPart, IsJudged, is_exit, EndsPart, ExitEnds, FollowsExit, ScriptPart, surplus_of, judged}
+use Rattle.dtp_check.specs.Judged.{CertificateBehind, judged_with, JudgedPart, IsJudged, EndsPart, ExitEnds, FollowsExit, ScriptPart, surplus_of, judged}
 use Rattle.dtp_check.specs.Parts.{IsReadable}
 use Rattle.dtp_check.specs.Turns.{IsJudgedTurn}
 use Rattle.dtp_check.proofs.Judging.{judged_none}
@@ -40,10 +42,10 @@ module _ (bytes : List ℕ) (entries : List Entry) where
     pub stands : Stands kept s
     pub left : (xs : List Sexpr) (end : PartEnd) (behind : ℕ) → ScriptPart bytes 0 xs end behind → IsReadable end → IsLeft s place k used xs end behind
 
-  pub judging_starts : (kept : Kept) → kept ≡ record { names = []; nodes = []; roots = [] } → IsJudging 0 1 0 kept
-  judging_starts kept e = record {
+  pub judging_starts : (kept : Kept) → kept ≡ record { scope = record { declared = []; bound = [] }; nodes = []; roots = []; levels = []; mode = mode.Nothing; print_success = false } → IsMadeState start_state → IsJudging 0 1 0 kept
+  judging_starts kept e made = record {
     s = start_state;
-    stands = rw e (record { stands = record { names = refl; nodes = refl; roots = refl }; tabled = tabled_start });
+    stands = rw e (record { stands = record { scope = refl; nodes = refl; roots = refl; levels = tt; ascend = tt; mode = refl; print_success = refl }; made = made });
     left = λ xs end behind h r. record { rest = xs; stands_there = h; same = refl };
   }
 
@@ -123,7 +125,7 @@ module _ (one : (bytes : List ℕ) (place : ℕ) (o p : Outcome) (m n : ℕ) →
       let w = one bytes place (refused why) (refused how) m n h k in
       let first = w.0 in
       let same : why ≡ how = cc in
-      (ap part.Unread (sym is ∙ ap kind_of same ∙ too), w.1)
+      (ap part.Unread (sym is ∙ ap kind_of_unreadable same ∙ too), w.1)
 
   pub record IsSame (xs ys : List Sexpr) (e f : PartEnd) (m n : ℕ) : Type 0 where
     pub commands : xs ≡ ys

@@ -5,8 +5,8 @@ use Rattle.cert_text.specs.declared.entry.Entry.{Entry as Shown}
 use Rattle.cert_read.specs.Certificates.{CertificateRefusal, no_header, ill_formed, no_end, text_after_end, certificate, no_certificate, ErrorSays}
 use Rattle.cert_read.specs.declared.error.CertTextError.{CertTextError}
 use Rattle.cert_read.specs.declared.error.CertTextError.TheVariants as text
-use Rattle.dtp_session.specs.declared.kind.Kind.{Kind}
-use Rattle.dtp_session.specs.States.{start_state}
+use Rattle.smt_answer.specs.declared.kind.Kind.{Kind}
+use Rattle.smt_script.specs.States.{start_state}
 use Rattle.dtp_session.specs.Transcripts.{IsFront}
 use Rattle.dtp_session.specs.Written.{Writes}
 use Rattle.dtp_session.proofs.Turning.{appends_nothing}

@@ -9,7 +9,8 @@ use Rattle.dtp_check.specs.declared.part.PartEnd.TheVariants as part
 use Rattle.dtp_check.specs.declared.part.Next.{Next}
 use Rattle.dtp_check.specs.declared.part.Next.TheVariants.{Command, Ended}
 use Rattle.dtp_check.specs.Parts.{IsNext, GoesOn}
-use Rattle.dtp_check.specs.Judged.{is_exit, EndsPart, ExitEnds, FollowsExit, ScriptPart}
+use Rattle.smt_script.specs.Commands.{is_exit}
+use Rattle.dtp_check.specs.Judged.{EndsPart, ExitEnds, FollowsExit, ScriptPart}
 
 pub part_ends : (bytes : List ℕ) (place : ℕ) (end : PartEnd) (behind : ℕ) → EndsPart bytes place end behind → ScriptPart bytes place [] end behind
 unfolding ScriptPart

@@ -1,6 +1,6 @@
 -- What a script with its certificate comes to: accepted, or the first reason against it. The order of the reasons is this
 -- project's own. Sources: SMT-LIB 2.6, section 4.1 (a script), section 4.2.5 (check-sat).
-use Rattle.std.specs.Prelude.{◌≡◌, ◌≢◌, ℕ, ◌+◌, List, [], ◌∷◌, length, map, ◌==◌, Bool, true, false, if◌then◌else◌, Option, Some, None, option_map, Ok, Err}
+use Rattle.std.specs.Prelude.{◌≡◌, ◌≢◌, ℕ, ◌+◌, List, [], ◌∷◌, length, ◌==◌, Bool, true, false, if◌then◌else◌, Option, Some, None, option_map, Ok, Err}
 use Rattle.smt_sexpr.specs.Tree.{Sexpr}
 use Rattle.smt_sexpr.specs.Reading.{Spells, Refusal, Outcomes, finished, refused}
 use Rattle.stn_core.specs.declared.named.NamedValue.{NamedValue}
@@ -10,13 +10,17 @@ use Rattle.cert_text.specs.declared.entry.Entry.TheVariants.{Sat, Unsat}
 use Rattle.cert_text.specs.Form.{header_sexpr}
 use Rattle.cert_read.specs.Certificates.{CertificateRefusal, no_header, ill_formed, no_end, text_after_end, CertificateOutcome, certificate, no_certificate, ReadsEntries, ReadsCertificate}
 use Rattle.cert_check.specs.Flaws.{refutation_flaw}
-use Rattle.idl_term.specs.Values.{Value, whole, truth, value}
-use Rattle.dtp_session.specs.declared.state.Effect.{Effect}
-use Rattle.dtp_session.specs.declared.state.Effect.TheVariants.{Silent, CheckSat, Exit}
-use Rattle.dtp_session.specs.Answers.{kind_of}
-use Rattle.dtp_session.specs.Commands.{Command, exiting, command_of}
-use Rattle.dtp_session.specs.Entries.{points_of, problem_of}
-use Rattle.dtp_session.specs.States.{State, start_state, after}
+use Rattle.idl_node.specs.declared.sort.Sort.{Sort}
+use Rattle.idl_node.specs.declared.sort.Sort.TheVariants as sorts
+use Rattle.idl_term.specs.Contexts.{Context, environment}
+use Rattle.idl_term.specs.Scopes.{sorts_of}
+use Rattle.idl_term.specs.Values.{Value, truth, Named, value}
+use Rattle.smt_script.specs.declared.state.Effect.{Effect}
+use Rattle.smt_script.specs.declared.state.Effect.TheVariants.{Silent, CheckSat, Unsupported, Exit}
+use Rattle.smt_script.specs.Commands.{is_exit}
+use Rattle.smt_script.specs.States.{State, start_state, after, settled}
+use Rattle.smt_answer.specs.Kinds.{kind_of, kind_of_unreadable}
+use Rattle.dtp_session.specs.Entries.{points_of, problem_of, verdict_of}
 use Rattle.dtp_check.specs.declared.judgement.CertificateFlaw.{CertificateFlaw}
 use Rattle.dtp_check.specs.declared.judgement.CertificateFlaw.TheVariants as flaw
 use Rattle.dtp_check.specs.declared.judgement.EntryFlaw.{EntryFlaw}
@@ -28,20 +32,12 @@ use Rattle.dtp_check.specs.declared.part.PartEnd.TheVariants as part
 
 -- ---- the script's part of the source
 
-abbrev pub is_exiting : Command → Bool
-is_exiting exiting = true
-is_exiting _ = false
-
--- the command `(exit)`
-abbrev pub is_exit : Sexpr → Bool
-is_exit x = is_exiting (command_of x)
-
 -- what ends the script at the place, and the place behind it; an `(exit)` is the script's own last command
 abbrev pub EndsPart : List ℕ → ℕ → PartEnd → ℕ → Type 0
 EndsPart bytes place part.Exit behind = ⊥
 EndsPart bytes place part.Header behind = Spells bytes place header_sexpr behind
 EndsPart bytes place part.End behind = Outcomes bytes place finished behind
-EndsPart bytes place (part.Unread kind) behind = (why : Refusal) × Outcomes bytes place (refused why) behind × (kind_of why ≡ kind)
+EndsPart bytes place (part.Unread kind) behind = (why : Refusal) × Outcomes bytes place (refused why) behind × (kind_of_unreadable why ≡ kind)
 
 -- behind an `(exit)` nothing of the script follows
 abbrev pub ExitEnds : ℕ → List Sexpr → PartEnd → ℕ → Type 0
@@ -67,44 +63,40 @@ CertificateBehind bytes (part.Unread kind) behind outcome = ⊥
 
 -- ---- an entry
 
--- the schedule that an entry's values are
-abbrev pub value_of_named : NamedValue → Value
-value_of_named (Int n) = whole n
-value_of_named (Truth b) = truth b
+abbrev pub is_of_sort : Sort → NamedValue → Bool
+is_of_sort sorts.Int (Int n) = true
+is_of_sort sorts.Bool (Truth b) = true
+is_of_sort _ _ = false
 
-abbrev pub schedule_of_named : List NamedValue → List Value
-schedule_of_named values = map value_of_named values
-
--- the first value of another sort than Int, which all names have; the values are numbered from k on
-abbrev pub first_of_wrong_sort : ℕ → List NamedValue → Option ℕ
-first_of_wrong_sort k [] = None
-first_of_wrong_sort k (Int n ∷ values) = first_of_wrong_sort (k + 1) values
-first_of_wrong_sort k (Truth b ∷ values) = Some k
+-- the first value of another sort than its name's; the values are numbered from k on
+abbrev pub first_of_wrong_sort : ℕ → List Sort → List NamedValue → Option ℕ
+first_of_wrong_sort k (s ∷ names) (v ∷ values) = if is_of_sort s v then first_of_wrong_sort (k + 1) names values else Some k
+first_of_wrong_sort k _ _ = None
 
 abbrev pub is_true : Value → Bool
 is_true (truth b) = b
 is_true _ = false
 
--- the first assertion that isn't true on the schedule; the assertions are numbered from k on
-abbrev pub first_false : List (List ℕ) → List Value → ℕ → List Sexpr → Option ℕ
-first_false names schedule k [] = None
-first_false names schedule k (t ∷ assertions) = if is_true (value names schedule t) then first_false names schedule (k + 1) assertions else Some k
+-- the first assertion that isn't true where the names stand for these values; the assertions are numbered from k on
+abbrev pub first_false : List Named → ℕ → List Sexpr → Option ℕ
+first_false env k [] = None
+first_false env k (t ∷ assertions) = if is_true (value env t) then first_false env (k + 1) assertions else Some k
 
 abbrev pub first_of_two : Option EntryFlaw → Option EntryFlaw → Option EntryFlaw
 first_of_two (Some flaw) other = Some flaw
 first_of_two None other = other
 
 -- the values are no schedule that makes the assertions true
-abbrev pub values_flaw : State → List NamedValue → Option EntryFlaw
-values_flaw s values =
-    if length values == length s.names
-    then first_of_two (option_map WrongSort (first_of_wrong_sort 1 values)) (option_map FalseAssertion (first_false s.names (schedule_of_named values) 1 s.assertions))
+abbrev pub values_flaw : Context → List NamedValue → Option EntryFlaw
+values_flaw c values =
+    if length values == length c.declared
+    then first_of_two (option_map WrongSort (first_of_wrong_sort 1 (sorts_of c.declared) values)) (option_map FalseAssertion (first_false (environment c values) 1 c.assertions))
     else Some WrongCount
 
--- what is wrong with the entry of a check-sat in a state
-abbrev pub entry_flaw : State → Entry → Option EntryFlaw
-entry_flaw s (Sat values) = values_flaw s values
-entry_flaw s (Unsat lemmas) = option_map Flawed (refutation_flaw (points_of s) (problem_of s) lemmas)
+-- what is wrong with the entry of a check-sat where these assertions are active
+abbrev pub entry_flaw : Context → Entry → Option EntryFlaw
+entry_flaw c (Sat values) = values_flaw c values
+entry_flaw c (Unsat lemmas) = option_map Flawed (refutation_flaw (points_of c) (problem_of c) lemmas)
 
 -- ---- the whole
 
@@ -117,22 +109,23 @@ abbrev pub judged_entry : ℕ → Option EntryFlaw → Judgement → Judgement
 judged_entry n None others = others
 judged_entry n (Some flaw) others = BadEntry n flaw
 
--- at a check-sat its entry, and then what follows
-abbrev pub judged_check : State → ℕ → List Entry → (List Entry → Judgement) → Judgement
+-- at a check-sat its entry, and then what follows in the state behind the entry's verdict
+abbrev pub judged_check : State → ℕ → List Entry → (State → List Entry → Judgement) → Judgement
 judged_check s n [] others = Missing n
-judged_check s n (entry ∷ entries) others = judged_entry n (entry_flaw s entry) (others entries)
+judged_check s n (entry ∷ entries) others = judged_entry n (entry_flaw s.context entry) (others (settled (verdict_of entry) s) entries)
 
-abbrev pub judged_effect : Effect → State → ℕ → List Entry → (ℕ → List Entry → Judgement) → Judgement
-judged_effect Silent s n entries others = others n entries
-judged_effect CheckSat s n entries others = judged_check s n entries (others (n + 1))
+abbrev pub judged_effect : Effect → State → ℕ → List Entry → (State → ℕ → List Entry → Judgement) → Judgement
+judged_effect Silent s n entries others = others s n entries
+judged_effect Unsupported s n entries others = others s n entries
+judged_effect CheckSat s n entries others = judged_check s n entries (λ next rest. others next (n + 1) rest)
 judged_effect Exit s n entries others = surplus_of n entries
 
 -- command k and those behind it, in this state, with entry n and those behind it
 unfoldable pub judged : State → ℕ → ℕ → List Sexpr → List Entry → Judgement
 judged s k n [] entries = surplus_of n entries
 judged s k n (x ∷ xs) entries = elim (after s x) [
-  | Ok step ↦ judged_effect step.effect step.state n entries (λ m rest. judged step.state (k + 1) m xs rest)
-  | Err kind ↦ Script k kind
+  | Ok step ↦ judged_effect step.effect step.state n entries (λ next m rest. judged next (k + 1) m xs rest)
+  | Err why ↦ Script k (kind_of why)
 ]
 
 abbrev pub flaw_of_refusal : CertificateRefusal → CertificateFlaw

@@ -10,4 +10,4 @@ pub mod Roots
 pub mod Turns
 pub use Rattle.smt_sexpr.specs.Tree
 pub use Rattle.smt_sexpr.specs.Table
-pub use Rattle.dtp_session.specs.States
+pub use Rattle.smt_script.specs.States

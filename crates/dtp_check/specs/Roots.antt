@@ -1,12 +1,8 @@
--- How the code finds the first false assertion, by the nodes of the assertions.
+-- How the code finds the first false assertion, by the truth of the assertions' nodes.
 -- These are words of the code's inner contracts, and no part of the meaning.
-use Rattle.std.specs.Prelude.{◌≡◌, ◌⊎◌, ℕ, ◌+◌, List, [], ◌∷◌, Option, Some, None, ℤ}
-use Rattle.stn_core.specs.Problem.{ClauseHolds}
-use Rattle.idl_term.specs.ClauseForm.{clause_at}
-use Rattle.idl_term.specs.Nodes.{NodeValue}
+use Rattle.std.specs.Prelude.{ℕ, ◌+◌, List, [], ◌∷◌, Bool, false, if◌then◌else◌, Option, Some, None, slice_index_or}
 
--- the first root whose clause doesn't hold on the values; the roots are numbered from k on
-abbrev pub IsFirstFalse : List NodeValue → List ℤ → ℕ → List ℕ → Option ℕ → Type 0
-IsFirstFalse nodes values k [] found = found ≡ None
-IsFirstFalse nodes values k (root ∷ roots) found =
-    (ClauseHolds values (clause_at nodes root) × IsFirstFalse nodes values (k + 1) roots found) ⊎ ((ClauseHolds values (clause_at nodes root) → ⊥) × (found ≡ Some k))
+-- the first root that isn't marked; the roots are numbered from k on
+abbrev pub first_unmarked : List Bool → ℕ → List ℕ → Option ℕ
+first_unmarked marks k [] = None
+first_unmarked marks k (root ∷ roots) = if slice_index_or marks root false then first_unmarked marks (k + 1) roots else Some k

@@ -2,7 +2,7 @@
 use Rattle.std.specs.Prelude.{ℕ, List, ◌++◌, codes, decimal}
 use Rattle.cert_check.specs.declared.flaw.FlawKind.{FlawKind}
 use Rattle.cert_check.specs.declared.flaw.FlawKind.TheVariants.{NoSuchPoint, NoSuchClause, NotAssumed, NotACycle, StepsMissing, StepsLeftOver, LastLemmaNotEmpty}
-use Rattle.dtp_session.specs.Answers.{kind_text}
+use Rattle.smt_answer.specs.Texts.{kind_text}
 use Rattle.dtp_check.specs.declared.judgement.CertificateFlaw.{CertificateFlaw}
 use Rattle.dtp_check.specs.declared.judgement.CertificateFlaw.TheVariants.{NoHeader, IllFormed, NoEnd, TextAfterEnd}
 use Rattle.dtp_check.specs.declared.judgement.EntryFlaw.{EntryFlaw}

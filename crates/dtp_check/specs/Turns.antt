@@ -3,17 +3,20 @@
 use Rattle.std.specs.Prelude.{◌≡◌, ◌≤◌, ℕ, ◌+◌, List, ◌∷◌, length, drop, false}
 use Rattle.smt_sexpr.specs.Tree.{Sexpr}
 use Rattle.cert_text.specs.declared.entry.Entry.{Entry}
-use Rattle.dtp_session.specs.States.{State, Kept}
+use Rattle.smt_script.specs.Commands.{is_exit}
+use Rattle.smt_script.specs.Kept.{Kept}
+use Rattle.smt_script.specs.States.{State}
 use Rattle.dtp_session.specs.Turns.{Stands}
 use Rattle.dtp_check.specs.declared.judge.Turn.{Turn}
 use Rattle.dtp_check.specs.declared.judge.Turn.TheVariants.{Going, Judged}
 use Rattle.dtp_check.specs.declared.judgement.Judgement.{Judgement}
-use Rattle.dtp_check.specs.Judged.{is_exit, judged_check, judged}
+use Rattle.dtp_check.specs.Judged.{judged_check, judged}
 
--- a check-sat in a state, where so many entries were used before
-abbrev pub IsCheckTurn : State → ℕ → List Entry → Turn → Type 0
-IsCheckTurn s used entries (Going now) = (now ≤ length entries) × ((others : List Entry → Judgement) → judged_check s (used + 1) (drop used entries) others ≡ others (drop now entries)) × (now ≡ used + 1)
-IsCheckTurn s used entries (Judged judgement) = (others : List Entry → Judgement) → judged_check s (used + 1) (drop used entries) others ≡ judgement
+-- a check-sat in a state, where so many entries were used before, and what is kept behind its verdict
+abbrev pub IsCheckTurn : State → ℕ → List Entry → Kept → Turn → Type 0
+IsCheckTurn s used entries kept (Going now) =
+    (next : State) × Stands kept next × (now ≤ length entries) × ((others : State → List Entry → Judgement) → judged_check s (used + 1) (drop used entries) others ≡ others next (drop now entries)) × (now ≡ used + 1)
+IsCheckTurn s used entries kept (Judged judgement) = (others : State → List Entry → Judgement) → judged_check s (used + 1) (drop used entries) others ≡ judgement
 
 -- command k in a state, and what is kept behind it
 abbrev pub IsJudgedTurn : State → ℕ → ℕ → List Entry → Sexpr → Kept → Turn → Type 0

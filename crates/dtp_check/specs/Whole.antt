@@ -3,7 +3,8 @@ use Rattle.std.specs.Prelude.{◌≡◌, ℕ, List, [], ◌∷◌, drop}
 use Rattle.smt_sexpr.specs.Tree.{Sexpr}
 use Rattle.smt_sexpr.specs.Reading.{Spells}
 use Rattle.cert_read.specs.Written.{IsClosedGap}
-use Rattle.dtp_check.specs.Judged.{is_exit, FollowsExit}
+use Rattle.smt_script.specs.Commands.{is_exit}
+use Rattle.dtp_check.specs.Judged.{FollowsExit}
 
 -- From the place on there are these commands, up to the first `(exit)` or to the end of the script. Behind the last of them
 -- there is nothing but white space and comments, the last of which is ended by a line's end.

@@ -57,7 +57,7 @@ pub fn check_pair<K: Sink>(
 {
     let judgement = judgement_of(alloc, bytes)?;
     let line = judgement_line(alloc, judgement)?;
-    write_text(sink, line.as_bytes())?;
+    write_text(sink, &line)?;
     match judgement {
         Judgement::Accepted => Ok(Checked::Accepted),
         _ => Ok(Checked::NotAccepted),

@@ -1,89 +1,94 @@
 //! What is wrong with an entry.
-ghost use Rattle.std.specs.Prelude.{◌≡◌, IfOk, length, Option, Some, None, option_map};
+ghost use Rattle.std.specs.Prelude.{◌≡◌, ◌<◌, ◌+◌, ℕ, IfOk, length, false, option_map, slice_index_or};
+ghost use Rattle.std.specs.List.{AllByRecursion};
 ghost use Rattle.cert_check.specs.Flaws.{refutation_flaw};
+ghost use Rattle.idl_node.specs.Tables.{IsTableOver};
+ghost use Rattle.idl_node.specs.Truth.{point_values, truth};
+ghost use Rattle.smt_script.specs.States.{State as Meaning};
 ghost use Rattle.dtp_session.specs.Entries.{points_of, problem_of};
-ghost use Rattle.dtp_check.specs.declared.judgement.EntryFlaw.TheVariants.{Flawed};
-ghost use Rattle.stn_core.specs.declared.named.NamedValue.{NamedValue as Shown};
-ghost use Rattle.idl_term.specs.Points.{number_of, point_values};
-ghost use Rattle.idl_term.specs.Tables.{IsTableOver};
-ghost use Rattle.dtp_session.specs.States.{State as Meaning};
 ghost use Rattle.dtp_session.specs.Turns.{Stands};
-ghost use Rattle.dtp_check.specs.Judged.{first_of_wrong_sort, value_of_named, schedule_of_named, values_flaw, entry_flaw};
-ghost use Rattle.dtp_check.specs.Roots.{IsFirstFalse};
+ghost use Rattle.dtp_check.specs.declared.judgement.EntryFlaw.TheVariants.{Flawed};
+ghost use Rattle.dtp_check.specs.Judged.{is_of_sort, first_of_wrong_sort, values_flaw, entry_flaw};
+ghost use Rattle.dtp_check.specs.Roots.{first_unmarked};
 
 use crate::judgement::EntryFlaw;
 use cert_check::{CheckError, check_refutation};
 use cert_text::Entry;
-use dtp_session::State;
-use idl_term::{Nodes, is_true};
+use dtp_session::problem;
+use idl_node::{Nodes, Sort, mark_truths};
 use refute_tree::Refutation;
+use smt_script::State;
 use std::alloc::{AllocError, Global};
-use stn_core::NamedValue;
+use stn_core::{NamedValue, NamedValues};
 
-/// The number of the first value that isn't of the sort Int.
-fn wrong_sort(values: &[NamedValue]) -> Option<usize>
-    ensures { result ≡ first_of_wrong_sort 1 values.now }
+fn is_of_sort(sort: Sort, value: NamedValue) -> bool
+    ensures { result ≡ is_of_sort sort value }
+{
+    match (sort, value) {
+        (Sort::Int, NamedValue::Int(_)) => true,
+        (Sort::Bool, NamedValue::Truth(_)) => true,
+        _ => false,
+    }
+}
+
+/// The number of the first value of another sort than its name's.
+fn wrong_sort(sorts: &[Sort], values: &[NamedValue]) -> Option<usize>
+    requires { length values.now ≡ length sorts.now }
+    ensures { result ≡ first_of_wrong_sort 1 sorts.now values.now }
 {
     for (k, value) in values.iter().enumerate() {
-        match value {
-            NamedValue::Int(_) => {}
-            NamedValue::Truth(_) => return Some(k + 1),
-        }
-    }
-    None
-}
-
-fn number_of(value: NamedValue) -> i64
-    ensures { result ≡ number_of (value_of_named value) }
-{
-    match value {
-        NamedValue::Int(number) => number,
-        NamedValue::Truth(_) => 0,
-    }
-}
-
-/// The values of the time points: the zero point's, and then the names'.
-fn point_values(alloc: Global, values: &[NamedValue]) -> Result<Vec<i64>, AllocError>
-    ensures { IfOk result (λ points. points.items ≡ point_values (schedule_of_named values.now)) }
-{
-    let mut points = vec![in alloc; 0i64]?;
-    for value in values {
-        points.push(number_of(*value))?;
-    }
-    Ok(points)
-}
-
-/// The number, from 1, of the first root whose clause doesn't hold.
-fn first_false(nodes: &Nodes, roots: &[u32], points: &[i64]) -> Option<usize>
-    requires { IsTableOver (length points.now) nodes.now }
-    ensures { IsFirstFalse nodes.now points.now 1 roots.now result }
-{
-    for (k, root) in roots.iter().enumerate() {
-        if !is_true(nodes, *root, points) {
+        if !is_of_sort(sorts[k], *value) {
             return Some(k + 1);
         }
     }
     None
 }
 
+/// The number, from 1, of the first root whose node isn't marked as true.
+fn first_unmarked(marks: &[bool], roots: &[u32]) -> Option<usize>
+    requires { AllByRecursion (λ r. r < length marks.now) roots.now }
+    ensures { result ≡ first_unmarked marks.now 1 roots.now }
+{
+    for (k, root) in roots.iter().enumerate() {
+        if !marks[*root as usize] {
+            return Some(k + 1);
+        }
+    }
+    None
+}
+
+/// The truth of all nodes, where the names have these values.
+fn truths(alloc: Global, nodes: &Nodes, values: &NamedValues) -> Result<Vec<bool>, AllocError>
+    requires { IsTableOver (length values.now + 1) nodes.now }
+    ensures room { IfOk result (λ marks. length marks.items ≡ length nodes.now) }
+    ensures each { IfOk result (λ marks. (k : ℕ) → k < length nodes.now → slice_index_or marks.items k false ≡ truth nodes.now (point_values values.now) k) }
+{
+    let mut marks = vec![in alloc; false; nodes.len()]?;
+    mark_truths(nodes, values, &mut marks);
+    Ok(marks)
+}
+
 /// What is wrong with the values of a sat entry.
 fn values_flaw(
     alloc: Global,
     state: &State,
-    values: &[NamedValue],
+    values: &NamedValues,
 ) -> Result<Option<EntryFlaw>, AllocError>
     requires { (s : Meaning) × Stands state.now s }
-    ensures { IfOk result (λ flaw. (s : Meaning) → Stands state.now s → flaw ≡ values_flaw s values.now) }
+    ensures { IfOk result (λ flaw. (s : Meaning) → Stands state.now s → flaw ≡ values_flaw s.context values.now) }
 {
-    if values.len() != state.names().len() {
+    idl_term::context_law();
+    let names = state.names();
+    let given = values.as_slice();
+    if given.len() != names.len() {
         return Ok(Some(EntryFlaw::WrongCount));
     }
-    match wrong_sort(values) {
+    match wrong_sort(names.sorts(), given) {
         Some(k) => return Ok(Some(EntryFlaw::WrongSort(k))),
         None => {}
     }
-    let points = point_values(alloc, values)?;
-    match first_false(state.nodes(), state.roots(), &points) {
+    let marks = truths(alloc, state.nodes(), values)?;
+    match first_unmarked(&marks, state.roots()) {
         Some(k) => Ok(Some(EntryFlaw::FalseAssertion(k))),
         None => Ok(None),
     }
@@ -96,11 +101,11 @@ pub fn entry_flaw(
     entry: &Entry,
 ) -> Result<Option<EntryFlaw>, AllocError>
     requires { (s : Meaning) × Stands state.now s }
-    ensures { IfOk result (λ flaw. (s : Meaning) → Stands state.now s → flaw ≡ entry_flaw s entry.now) }
+    ensures { IfOk result (λ flaw. (s : Meaning) → Stands state.now s → flaw ≡ entry_flaw s.context entry.now) }
 {
     match entry {
         Entry::Sat(values) => {
-            let flaw = values_flaw(alloc, state, values.as_slice())?;
+            let flaw = values_flaw(alloc, state, values)?;
             Ok(flaw)
         }
         Entry::Unsat(refutation) => {
@@ -117,9 +122,9 @@ fn lemmas_flaw(
     refutation: &Refutation,
 ) -> Result<Option<EntryFlaw>, AllocError>
     requires { (s : Meaning) × Stands state.now s }
-    ensures { IfOk result (λ flaw. (s : Meaning) → Stands state.now s → flaw ≡ option_map Flawed (refutation_flaw (points_of s) (problem_of s) refutation.now)) }
+    ensures { IfOk result (λ flaw. (s : Meaning) → Stands state.now s → flaw ≡ option_map Flawed (refutation_flaw (points_of s.context) (problem_of s.context) refutation.now)) }
 {
-    let problem = state.problem()?;
+    let problem = problem(alloc, state)?;
     match check_refutation(alloc, &problem, refutation) {
         Ok(()) => Ok(None),
         Err(CheckError::Flawed(flaw)) => Ok(Some(EntryFlaw::Flawed(flaw))),

@@ -2,7 +2,9 @@
 ghost use Rattle.std.specs.Prelude.{◌≡◌, ◌≢◌, ◌+◌, ◌<◌, ◌≤◌, ℕ, List, length, drop, IfOk, None};
 ghost use Rattle.smt_sexpr.specs.Tree.{Sexpr};
 ghost use Rattle.smt_sexpr.specs.Table.{Means, HasMeaning};
-ghost use Rattle.dtp_session.specs.States.{State as Meaning, start_state};
+ghost use Rattle.smt_answer.specs.Kinds.{kind_of};
+ghost use Rattle.smt_script.specs.States.{State as Meaning, start_state};
+ghost use Rattle.dtp_session.specs.Entries.{verdict_of};
 ghost use Rattle.dtp_session.specs.Turns.{Stands};
 ghost use Rattle.dtp_check.specs.declared.part.PartEnd.{PartEnd as End};
 ghost use Rattle.dtp_check.specs.Judged.{surplus_of, judged, ScriptPart};
@@ -13,8 +15,9 @@ use crate::entry::entry_flaw;
 use crate::judgement::Judgement;
 use crate::part::{Next, PartEnd, next_command};
 use cert_text::Entry;
-use dtp_session::{Effect, Kind, ScriptError, State};
+use smt_answer::Kind;
 use smt_lex::Lexer;
+use smt_script::{Effect, Refusal, Satisfiability, ScriptError, State};
 use smt_sexpr::{SexprId, Sexprs};
 use std::alloc::{AllocError, Global};
 
@@ -38,24 +41,45 @@ fn surplus(entries: &[Entry], used: usize) -> Judgement
     }
 }
 
+/// What an entry says.
+fn verdict_of(entry: &Entry) -> Satisfiability
+    ensures { result ≡ verdict_of entry.now }
+{
+    match entry {
+        Entry::Sat(_) => Satisfiability::Sat,
+        Entry::Unsat(_) => Satisfiability::Unsat,
+    }
+}
+
 /// A check-sat, with its entry.
 fn judge_check(
     alloc: Global,
-    state: &State,
+    state: &mut State,
     entries: &[Entry],
     used: usize,
 ) -> Result<Turn, AllocError>
-    requires stands { (s : Meaning) × Stands state.now s }
+    requires stands { (s : Meaning) × Stands state.old s }
     requires used { used ≤ length entries.now }
-    ensures { IfOk result (λ turn. (s : Meaning) → Stands state.now s → IsCheckTurn s used entries.now turn) }
+    ensures { IfOk result (λ turn. (s : Meaning) → Stands state.old s → IsCheckTurn s used entries.now state.new turn) }
 {
+    smt_script::state_law();
     match entries.get(used) {
         Some(entry) => match entry_flaw(alloc, state, entry)? {
             Some(flaw) => Ok(Turn::Judged(Judgement::Entry(used + 1, flaw))),
-            None => Ok(Turn::Going(used + 1)),
+            None => {
+                state.settle(verdict_of(entry));
+                Ok(Turn::Going(used + 1))
+            }
         },
         None => Ok(Turn::Judged(Judgement::Missing(used + 1))),
     }
+}
+
+/// Why a command is refused, of all that may refuse it.
+fn kind(why: Refusal) -> Kind
+    ensures { result ≡ kind_of why }
+{
+    Kind::from(why)
 }
 
 /// A command, with the entry of its check-sat.
@@ -73,14 +97,16 @@ fn judge_command<'a>(
     requires used { used ≤ length entries.now }
     ensures { IfOk result (λ turn. (s : Meaning) (x : Sexpr) → Stands state.old s → Means sexprs.now id x → IsJudgedTurn s command used entries.now x state.new turn) }
 {
+    smt_script::state_law();
     match state.step(sexprs, id) {
         Ok(Effect::Silent) => Ok(Turn::Going(used)),
+        Ok(Effect::Unsupported) => Ok(Turn::Going(used)),
         Ok(Effect::CheckSat) => {
             let turn = judge_check(alloc, state, entries, used)?;
             Ok(turn)
         }
         Ok(Effect::Exit) => Ok(Turn::Judged(surplus(entries, used))),
-        Err(ScriptError::NotYet) => Ok(Turn::Judged(Judgement::Script(command, Kind::NotYet))),
+        Err(ScriptError::Refused(why)) => Ok(Turn::Judged(Judgement::Script(command, kind(why)))),
         Err(ScriptError::OutOfMemory) => Err(AllocError),
     }
 }
@@ -90,6 +116,7 @@ pub fn judge(alloc: Global, bytes: &[u8], entries: &[Entry]) -> Result<Judgement
     ensures { IfOk result (λ judgement. (xs : List Sexpr) (end : End) (behind : ℕ) → ScriptPart bytes.now 0 xs end behind → IsReadable end → judgement ≡ judged start_state 1 1 xs entries.now) }
 {
     smt_sexpr::one_outcome();
+    smt_script::state_law();
     let mut lexer = Lexer::new(bytes);
     let mut sexprs = Sexprs::new(alloc, bytes);
     let mut state = State::new(alloc);

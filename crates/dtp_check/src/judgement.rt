@@ -1,5 +1,5 @@
 use cert_check::Flaw;
-use dtp_session::Kind;
+use smt_answer::Kind;
 
 /// Why the text behind a script is no certificate.
 #[derive(Clone, Copy, Debug, PartialEq, Eq)]

@@ -3,7 +3,7 @@ ghost use Rattle.std.specs.Prelude.{◌≡◌, ◌++◌, List, ℕ};
 ghost use Rattle.smt_sexpr.specs.Tree.{Sexpr};
 ghost use Rattle.cert_text.specs.declared.entry.Entry.{Entry};
 ghost use Rattle.dtp_session.specs.declared.report.Report.TheVariants as report;
-ghost use Rattle.dtp_session.specs.States.{start_state};
+ghost use Rattle.smt_script.specs.States.{start_state};
 ghost use Rattle.dtp_session.specs.Transcripts.{IsReport};
 ghost use Rattle.dtp_check.specs.declared.judgement.Judgement.{Judgement};
 ghost use Rattle.dtp_check.specs.declared.judgement.Judgement.TheVariants.{Accepted};
@@ -26,7 +26,11 @@ pub fn one_judgement()
 pub fn nothing_false_is_accepted()
     ensures { (bytes : List ℕ) → IsJudged bytes Accepted → (xs : List Sexpr) × (end : PartEnd) × (behind : ℕ) × (entries : List Entry) × ScriptPart bytes 0 xs end behind × IsTold start_state xs entries }
 {
-    cert_check::accepted_law();
+    idl_term::context_law();
+    clause_form::clause_form_law();
+    refute_tree::refutation_law();
+    cert_check::flaw_law();
+    smt_script::state_law();
 }
 
 /// A script is accepted with the certificate that was written of it without an error. The script is cut behind its

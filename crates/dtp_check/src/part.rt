@@ -1,13 +1,13 @@
 //! The script's part of a source.
-ghost use Rattle.std.specs.Prelude.{◌≡◌, ◌<◌, ◌≤◌, ◌+◌, length, List, IfOk, Ok, None, IsTrue};
+ghost use Rattle.std.specs.Prelude.{◌≡◌, ◌<◌, ◌≤◌, length, List, IfOk, None};
 ghost use Rattle.smt_sexpr.specs.Tree.{Sexpr};
-ghost use Rattle.smt_sexpr.specs.Table.{Means, HasMeaning};
-ghost use Rattle.dtp_check.specs.Judged.{is_exit, ScriptPart};
+ghost use Rattle.dtp_check.specs.Judged.{ScriptPart};
 ghost use Rattle.dtp_check.specs.Parts.{IsNext, GoesOn, IsBefore};
 
 use cert_read::is_header;
-use dtp_session::{Kind, Request, kind_of_error, request_of};
+use smt_answer::{Kind, kind_of_error};
 use smt_lex::Lexer;
+use smt_script::is_exit;
 use smt_sexpr::{SexprId, Sexprs};
 use std::alloc::{AllocError, Global};
 
@@ -56,17 +56,6 @@ pub fn next_command(sexprs: &mut Sexprs, lexer: &mut Lexer) -> Result<Next, Allo
             Some(kind) => Ok(Next::Ended(PartEnd::Unread(kind))),
             None => Err(AllocError),
         },
-    }
-}
-
-/// Whether the command is `(exit)`.
-pub fn is_exit(sexprs: &Sexprs, id: SexprId) -> bool
-    requires { HasMeaning sexprs.now id }
-    ensures { (x : Sexpr) → Means sexprs.now id x → result ≡ is_exit x }
-{
-    match request_of(sexprs, id) {
-        Some(Request::Exit) => true,
-        _ => false,
     }
 }
 

@@ -1,10 +1,13 @@
 //! The line that answers a script with its certificate.
 ghost use Rattle.std.specs.Prelude.{◌≡◌, string_bytes, codes, IfOk};
+ghost use Rattle.dtp_check.specs.declared.judgement.Judgement.TheVariants.{Script};
 ghost use Rattle.dtp_check.specs.Texts.{flaw_text, certificate_line, entry_line, judgement_line};
 
 use crate::judgement::{CertificateFlaw, EntryFlaw, Judgement};
+use bstr::ByteVec;
 use cert_check::FlawKind;
-use dtp_session::kind_text;
+use itoa::Buffer;
+use smt_answer::{Kind, kind_text};
 use std::alloc::{AllocError, Global};
 
 /// What a flaw's line says of its kind. The last kind is written without the numbers of a lemma and a step.
@@ -68,19 +71,33 @@ fn entry_line(alloc: Global, entry: usize, flaw: EntryFlaw) -> Result<String, Al
     }
 }
 
+/// The line for a command that can't be read, or is refused.
+#[tactic(auto, unfolding(crate::specs::Texts::judgement_line))]
+fn script_line(alloc: Global, command: u64, kind: Kind) -> Result<Vec<u8>, AllocError>
+    ensures { IfOk result (λ line. line.items ≡ judgement_line (Script command kind)) }
+{
+    let mut buffer = Buffer::new();
+    let mut line = Vec::new(alloc);
+    line.push_str(b"refused: script: command ")?;
+    line.push_str(buffer.format(command).as_bytes())?;
+    line.push_str(b": ")?;
+    kind_text(kind, &mut line)?;
+    line.push_str(b"\n")?;
+    Ok(line)
+}
+
 /// The line of the answer.
 #[tactic(auto, unfolding(crate::specs::Texts::judgement_line))]
-pub fn judgement_line(alloc: Global, judgement: Judgement) -> Result<String, AllocError>
-    ensures { IfOk result (λ line. string_bytes line ≡ judgement_line judgement) }
+pub fn judgement_line(alloc: Global, judgement: Judgement) -> Result<Vec<u8>, AllocError>
+    ensures { IfOk result (λ line. line.items ≡ judgement_line judgement) }
 {
-    match judgement {
-        Judgement::Accepted => format!(in alloc; "accepted\n"),
-        Judgement::Script(command, kind) => {
-            format!(in alloc; "refused: script: command {command}: {}\n", kind_text(kind))
-        }
-        Judgement::Certificate(flaw) => certificate_line(alloc, flaw),
-        Judgement::Missing(entry) => format!(in alloc; "refused: entry {entry}: missing\n"),
-        Judgement::Entry(entry, flaw) => entry_line(alloc, entry, flaw),
-        Judgement::Surplus(entry) => format!(in alloc; "refused: entry {entry}: surplus\n"),
-    }
+    let line = match judgement {
+        Judgement::Script(command, kind) => return script_line(alloc, command, kind),
+        Judgement::Accepted => format!(in alloc; "accepted\n")?,
+        Judgement::Certificate(flaw) => certificate_line(alloc, flaw)?,
+        Judgement::Missing(entry) => format!(in alloc; "refused: entry {entry}: missing\n")?,
+        Judgement::Entry(entry, flaw) => entry_line(alloc, entry, flaw)?,
+        Judgement::Surplus(entry) => format!(in alloc; "refused: entry {entry}: surplus\n")?,
+    };
+    Ok(line.into_bytes())
 }

@@ -20,6 +20,19 @@ const TWO_WEAK_ORDERS: &str =
 /// x below 0 or above 5.
 const OUTSIDE: &str = "(declare-const x Int) (assert (or (< x 0) (> x 5))) (check-sat)\n";
 
+/// Of these nodes the `and` is inner: its fresh point is 4.
+const WORKED: &str =
+    "(declare-const p Bool) (declare-const q Bool) (declare-const x Int) (assert (or (and p q) (< x 0))) (assert (not p)) \
+     (assert (>= x 0)) (check-sat)\n";
+
+const WORKED_ENTRY: &str =
+    "(unsat (lemma () (input 4) (input 5) (input 3) (input 0) (cycle (4 0 0) (0 4 (- 1))) \
+     (cycle (1 0 0) (0 1 (- 1))) (cycle (3 0 (- 1)) (0 3 0))))";
+
+/// p or x below 0.
+const EITHER: &str =
+    "(declare-const p Bool) (declare-const x Int) (assert (xor p (< x 0))) (check-sat)\n";
+
 const ENTRY: &str = "(unsat (lemma () (input 0) (input 1) (cycle (1 2 (- 1)) (2 1 (- 1)))))";
 
 fn joined(alloc: Global, texts: &[&str]) -> Result<Vec<u8>, AllocError> {
@@ -56,172 +69,152 @@ fn answers<R: Threads + Wait + Sync + Abort + AllocGlobal>(
 }
 
 // The script with a certificate of these entries.
-fn judges<R: Threads + Wait + Sync + Abort + AllocGlobal>(
+fn certified(alloc: Global, script: &str, entries: &str) -> Result<Vec<u8>, AllocError> {
+    joined(
+        alloc,
+        &[script, "(dtp-certificate 1)\n", entries, "\n(end)\n"],
+    )
+}
+
+// It is accepted.
+fn accepts<R: Threads + Wait + Sync + Abort + AllocGlobal>(
     rt: &R,
     script: &str,
     entries: &str,
-    answer: &str,
-    status: u8,
 ) -> Result<(), Fail> {
-    let source = joined(
-        rt.alloc(),
-        &[script, "(dtp-certificate 1)\n", entries, "\n(end)\n"],
-    )?;
-    answers(rt, &source, answer, status)
+    let source = certified(rt.alloc(), script, entries)?;
+    answers(rt, &source, "accepted\n", 0)
+}
+
+// It is refused for this reason.
+fn refuses<R: Threads + Wait + Sync + Abort + AllocGlobal>(
+    rt: &R,
+    script: &str,
+    entries: &str,
+    reason: &str,
+) -> Result<(), Fail> {
+    let source = certified(rt.alloc(), script, entries)?;
+    let answer = format!(in rt.alloc(); "refused: {reason}\n")?;
+    answers(rt, &source, &answer, 6)
+}
+
+#[test]
+fn accepted(rt: HostRuntime) -> Result<(), Fail> {
+    for (script, entries) in [
+        (TWO_ORDERS, ENTRY),
+        (
+            TWO_ORDERS,
+            "(unsat (lemma ((1 2 (- 1))) (input 0) (cycle (1 2 (- 1)) (2 1 0))) (lemma () (lemma 0) (input 1) (cycle (1 2 (- 1)) (2 1 (- 1)))))",
+        ),
+        (OUTSIDE, "(sat 6)"),
+        (WORKED, WORKED_ENTRY),
+        (EITHER, "(sat false (- 3))"),
+        (
+            "(push) (assert false) (check-sat) (pop) (check-sat)",
+            "(unsat (lemma () (input 0) (cycle (0 0 (- 1))))) (sat)",
+        ),
+        ("", ""),
+        ("(check-sat)", "(sat)"),
+        // behind `(exit)` the certificate begins
+        ("(check-sat) (exit)\n", "(sat)"),
+    ] {
+        accepts(&rt, script, entries)?;
+    }
+    Ok(())
 }
 
 #[test]
 fn entries(rt: HostRuntime) -> Result<(), Fail> {
-    for (script, entries, answer, status) in [
-        (TWO_ORDERS, ENTRY, "accepted\n", 0u8),
-        (
-            TWO_ORDERS,
-            "(unsat (lemma () (input 0) (input 1) (cycle (1 2 (- 1)) (2 1 0))))",
-            "refused: entry 1: lemma 0: step 2: not assumed\n",
-            6,
-        ),
+    let twice = "(unsat (lemma () (input 0) (input 1) (cycle (1 2 (- 1)) (2 1 (- 1))))) (unsat)";
+    for (script, entries, reason) in [
         (
             TWO_WEAK_ORDERS,
             "(unsat (lemma () (input 0) (input 1) (cycle (1 2 0) (2 1 0))))",
-            "refused: entry 1: lemma 0: step 2: not a cycle\n",
-            6,
+            "entry 1: lemma 0: step 2: not a cycle",
+        ),
+        (TWO_ORDERS, "", "entry 1: missing"),
+        (TWO_ORDERS, twice, "entry 2: surplus"),
+        (OUTSIDE, "(sat 3)", "entry 1: assertion 1 is false"),
+        (OUTSIDE, "(sat true)", "entry 1: value 1 has the wrong sort"),
+        (EITHER, "(sat true (- 3))", "entry 1: assertion 1 is false"),
+        (
+            EITHER,
+            "(sat 1 (- 3))",
+            "entry 1: value 1 has the wrong sort",
         ),
         (
-            TWO_ORDERS,
-            "(unsat (lemma () (lemma 0)))",
-            "refused: entry 1: lemma 0: step 0: no such clause\n",
-            6,
+            EITHER,
+            "(sat true false)",
+            "entry 1: value 2 has the wrong sort",
         ),
-        (TWO_ORDERS, "", "refused: entry 1: missing\n", 6),
-        (
-            TWO_ORDERS,
-            "(unsat (lemma () (input 0) (input 1) (cycle (1 2 (- 1)) (2 1 (- 1))))) (unsat)",
-            "refused: entry 2: surplus\n",
-            6,
-        ),
-        (
-            TWO_ORDERS,
-            "(unsat (lemma () (input 0) (input 1) (cycle (4294967296 2 0))))",
-            "refused: entry 1: lemma 0: step 2: not assumed\n",
-            6,
-        ),
-        (
-            OUTSIDE,
-            "(sat 3)",
-            "refused: entry 1: assertion 1 is false\n",
-            6,
-        ),
-        (OUTSIDE, "(sat 6)", "accepted\n", 0),
-        (
-            OUTSIDE,
-            "(sat true)",
-            "refused: entry 1: value 1 has the wrong sort\n",
-            6,
-        ),
-        (
-            OUTSIDE,
-            "(sat)",
-            "refused: entry 1: wrong count of values\n",
-            6,
-        ),
-        (
-            OUTSIDE,
-            "(sat 1 2)",
-            "refused: entry 1: wrong count of values\n",
-            6,
-        ),
+        (OUTSIDE, "(sat)", "entry 1: wrong count of values"),
+        (OUTSIDE, "(sat 1 2)", "entry 1: wrong count of values"),
         // a schedule of the wrong kind of entry: the refutation of nothing
-        (
-            OUTSIDE,
-            "(unsat)",
-            "refused: entry 1: last lemma not empty\n",
-            6,
-        ),
-        ("", "", "accepted\n", 0),
-        ("(check-sat)", "(sat)", "accepted\n", 0),
-        ("(push 1)", "", "refused: script: command 1: not yet\n", 6),
+        (OUTSIDE, "(unsat)", "entry 1: last lemma not empty"),
+        ("(pop 1)", "", "script: command 1: pop below the bottom"),
         (
             "(check-sat) (push 1)",
             "(sat 1)",
-            "refused: entry 1: wrong count of values\n",
-            6,
+            "entry 1: wrong count of values",
         ),
-        // behind `(exit)` the certificate begins
-        ("(check-sat) (exit)\n", "(sat)", "accepted\n", 0),
     ] {
-        judges(&rt, script, entries, answer, status)?;
+        refuses(&rt, script, entries, reason)?;
     }
     Ok(())
 }
 
+// Refutations of the two orders.
 #[test]
 fn flaws(rt: HostRuntime) -> Result<(), Fail> {
-    for (entry, answer, status) in [
-        ("(unsat)", "refused: entry 1: last lemma not empty\n", 6u8),
+    let no_sum = "(unsat (lemma () (input 0) (input 1) (cycle (1 2 (- 1)) (2 1 0))))";
+    let no_point = "(unsat (lemma () (input 0) (input 1) (cycle (4294967296 2 0))))";
+    let no_end = "(unsat (lemma () (input 0) (input 1) (cycle (1 2 (- 1)) (2 1 (- 1))) (input 0)))";
+    let not_empty = "(unsat (lemma ((1 2 (- 1))) (input 0) (cycle (1 2 (- 1)) (2 1 0))))";
+    let of_later = "(unsat (lemma () (lemma 1)) (lemma () (lemma 0)))";
+    for (entry, flaw) in [
+        ("(unsat)", "last lemma not empty"),
+        (not_empty, "last lemma not empty"),
         (
             "(unsat (lemma ((9 0 0)) (input 0)))",
-            "refused: entry 1: lemma 0: step 0: no such point\n",
-            6,
+            "lemma 0: step 0: no such point",
         ),
         (
             "(unsat (lemma () (either 3 0 0)))",
-            "refused: entry 1: lemma 0: step 0: no such point\n",
-            6,
+            "lemma 0: step 0: no such point",
         ),
         (
             "(unsat (lemma () (input 2)))",
-            "refused: entry 1: lemma 0: step 0: no such clause\n",
-            6,
+            "lemma 0: step 0: no such clause",
         ),
+        (
+            "(unsat (lemma () (lemma 0)))",
+            "lemma 0: step 0: no such clause",
+        ),
+        (of_later, "lemma 0: step 0: no such clause"),
         (
             "(unsat (lemma () (input 0)))",
-            "refused: entry 1: lemma 0: step 1: steps missing\n",
-            6,
+            "lemma 0: step 1: steps missing",
         ),
-        (
-            "(unsat (lemma ()))",
-            "refused: entry 1: lemma 0: step 0: steps missing\n",
-            6,
-        ),
-        (
-            "(unsat (lemma () (cycle)))",
-            "refused: entry 1: lemma 0: step 0: not a cycle\n",
-            6,
-        ),
+        ("(unsat (lemma ()))", "lemma 0: step 0: steps missing"),
+        ("(unsat (lemma () (cycle)))", "lemma 0: step 0: not a cycle"),
         (
             "(unsat (lemma () (cycle (0 0 (- 1)))))",
-            "refused: entry 1: lemma 0: step 0: not assumed\n",
-            6,
+            "lemma 0: step 0: not assumed",
         ),
-        (
-            "(unsat (lemma () (lemma 1)) (lemma () (lemma 0)))",
-            "refused: entry 1: lemma 0: step 0: no such clause\n",
-            6,
-        ),
-        (
-            "(unsat (lemma () (input 0) (input 1) (cycle (1 2 (- 1)) (2 1 (- 1))) (input 0)))",
-            "refused: entry 1: lemma 0: step 3: steps left over\n",
-            6,
-        ),
-        (
-            "(unsat (lemma ((1 2 (- 1))) (input 0) (cycle (1 2 (- 1)) (2 1 0))))",
-            "refused: entry 1: last lemma not empty\n",
-            6,
-        ),
-        (
-            "(unsat (lemma ((1 2 (- 1))) (input 0) (cycle (1 2 (- 1)) (2 1 0))) (lemma () (lemma 0) (input 1) (cycle (1 2 (- 1)) (2 1 (- 1)))))",
-            "accepted\n",
-            0,
-        ),
-        (
-            "(unsat (lemma () (input 18446744073709551616)))",
-            "refused: certificate: entry 1 is ill-formed\n",
-            6,
-        ),
+        (no_sum, "lemma 0: step 2: not assumed"),
+        (no_point, "lemma 0: step 2: not assumed"),
+        (no_end, "lemma 0: step 3: steps left over"),
     ] {
-        judges(&rt, TWO_ORDERS, entry, answer, status)?;
+        let reason = format!(in rt.alloc(); "entry 1: {flaw}")?;
+        refuses(&rt, TWO_ORDERS, entry, &reason)?;
     }
-    Ok(())
+    let too_long = "(unsat (lemma () (input 18446744073709551616)))";
+    refuses(
+        &rt,
+        TWO_ORDERS,
+        too_long,
+        "certificate: entry 1 is ill-formed",
+    )
 }
 
 #[test]
@@ -275,6 +268,10 @@ fn what_certify_writes(rt: HostRuntime) -> Result<(), Fail> {
         TWO_ORDERS,
         OUTSIDE,
         THREE_IN_TWO,
+        WORKED,
+        EITHER,
+        "(set-logic QF_IDL) (declare-fun p () Bool) (declare-fun x () Int) (push 1) (assert (! (ite p (= x 3) (distinct x 3 4)) :named n)) \
+         (check-sat) (assert (not n)) (check-sat) (pop 1) (assert (=> p (< x x))) (check-sat) (assert p) (check-sat) (exit)",
         "(declare-const x Int) (assert (> x 1099511627776)) (check-sat) (exit)",
         "(declare-const x Int) (check-sat) (assert (< x x)) (check-sat) (check-sat)",
         "(declare-const |a| Int) (assert (< a 0)) (check-sat) ; ends\n",

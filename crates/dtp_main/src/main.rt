@@ -3,6 +3,10 @@
 
 #[cfg(test)]
 mod check_tests;
+#[cfg(test)]
+mod command_tests;
+#[cfg(test)]
+mod formula_tests;
 mod run;
 mod status;
 #[cfg(test)]

@@ -1,6 +1,6 @@
 //! The top call: from the words and the source to the sink and a status.
 ghost use Rattle.std.specs.Prelude.{◌≡◌, ◌≤◌};
-ghost use Rattle.dtp_session.specs.declared.report.Report.TheVariants.{Verdicts, Certificate};
+ghost use Rattle.dtp_session.specs.Solving.{IsSolved};
 ghost use Rattle.command_line.specs.Lines.{IsSearchInRange, line_of};
 ghost use Rattle.dtp_main.specs.Outcomes.{IsRun, IsOutcome, IsReported, IsChecked, WritesUsage, texts};
 
@@ -8,7 +8,7 @@ use crate::status::Status;
 use command_line::{Line, NoLine, Search, read_line};
 use dtp_check::{Checked, check_pair};
 use dtp_io::{ReadError, Sink, Source, read_all, write_all_of};
-use dtp_session::{Gate, SessionError, Solved, certify_script, solve_script};
+use dtp_session::{Gate, Report, SessionError, Solved, certify_script, solve_script};
 use std::alloc::Global;
 use std::sync::Wait;
 use std::thread::Threads;
@@ -53,8 +53,18 @@ fn perform<R: Wait, S: Source, K: Sink, G: Gate>(
     ensures write_later { K.faults sink.old ≤ K.faults sink.new }
 {
     match read_line(alloc, words) {
-        Ok(Line::Solve(search)) => solve(rt, alloc, source, sink, search, gate),
-        Ok(Line::Certify(search)) => certify(rt, alloc, source, sink, search, gate),
+        Ok(Line::Solve(search)) => report_on(
+            rt,
+            alloc,
+            source,
+            sink,
+            Report::Verdicts,
+            search,
+            gate,
+        ),
+        Ok(Line::Certify(search)) => {
+            report_on(rt, alloc, source, sink, Report::Certificate, search, gate)
+        }
         Ok(Line::Check) => check(alloc, source, sink),
         Err(NoLine::Usage) => usage(sink),
         Err(NoLine::OutOfMemory) => Status::OutOfMemory,
@@ -74,17 +84,18 @@ fn usage<K: Sink>(sink: &mut K) -> Status
     }
 }
 
-/// Reads the script whole, and writes its transcript.
-fn solve<R: Wait, S: Source, K: Sink, G: Gate>(
+/// Reads the script whole, and writes this report of it.
+fn report_on<R: Wait, S: Source, K: Sink, G: Gate>(
     rt: &R,
     alloc: Global,
     source: &mut S,
     sink: &mut K,
+    report: Report,
     search: Search,
     gate: &G,
 ) -> Status
     requires range { IsSearchInRange search }
-    ensures reported { IsReported Verdicts
+    ensures reported { IsReported report
         (record { left = S.left source.old; read_faults = S.faults source.old; holds = K.holds sink.old; write_faults = K.faults sink.old })
         (record { left = S.left source.new; read_faults = S.faults source.new; holds = K.holds sink.new; write_faults = K.faults sink.new })
         result }
@@ -97,15 +108,7 @@ fn solve<R: Wait, S: Source, K: Sink, G: Gate>(
         Err(ReadError::ReadFault) => return Status::ReadFault,
         Err(ReadError::TooLong) => return Status::TooLong,
     };
-    match solve_script(
-        rt,
-        alloc,
-        &script,
-        sink,
-        search.workers,
-        u64::from(search.slice),
-        gate,
-    ) {
+    match write_report(rt, alloc, &script, sink, report, search, gate) {
         Ok(Solved::Done) => Status::Done,
         Ok(Solved::ScriptStopped) => Status::Refused,
         Err(SessionError::WriteFault) => Status::WriteFault,
@@ -113,42 +116,23 @@ fn solve<R: Wait, S: Source, K: Sink, G: Gate>(
     }
 }
 
-/// Reads the script whole, and writes its certificate.
-fn certify<R: Wait, S: Source, K: Sink, G: Gate>(
+/// Writes this report of the script.
+fn write_report<R: Wait, K: Sink, G: Gate>(
     rt: &R,
     alloc: Global,
-    source: &mut S,
+    script: &[u8],
     sink: &mut K,
+    report: Report,
     search: Search,
     gate: &G,
-) -> Status
+) -> Result<Solved, SessionError>
     requires range { IsSearchInRange search }
-    ensures reported { IsReported Certificate
-        (record { left = S.left source.old; read_faults = S.faults source.old; holds = K.holds sink.old; write_faults = K.faults sink.old })
-        (record { left = S.left source.new; read_faults = S.faults source.new; holds = K.holds sink.new; write_faults = K.faults sink.new })
-        result }
-    ensures read_later { S.faults source.old ≤ S.faults source.new }
-    ensures write_later { K.faults sink.old ≤ K.faults sink.new }
+    ensures solved { IsSolved report script.now (K.holds sink.old) (K.holds sink.new) (K.faults sink.old) (K.faults sink.new) result }
 {
-    let script = match read_all(alloc, source, INPUT_LIMIT) {
-        Ok(script) => script,
-        Err(ReadError::OutOfMemory) => return Status::OutOfMemory,
-        Err(ReadError::ReadFault) => return Status::ReadFault,
-        Err(ReadError::TooLong) => return Status::TooLong,
-    };
-    match certify_script(
-        rt,
-        alloc,
-        &script,
-        sink,
-        search.workers,
-        u64::from(search.slice),
-        gate,
-    ) {
-        Ok(Solved::Done) => Status::Done,
-        Ok(Solved::ScriptStopped) => Status::Refused,
-        Err(SessionError::WriteFault) => Status::WriteFault,
-        Err(SessionError::OutOfMemory) => Status::OutOfMemory,
+    let slice = u64::from(search.slice);
+    match report {
+        Report::Verdicts => solve_script(rt, alloc, script, sink, search.workers, slice, gate),
+        Report::Certificate => certify_script(rt, alloc, script, sink, search.workers, slice, gate),
     }
 }
 

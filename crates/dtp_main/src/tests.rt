@@ -17,7 +17,7 @@ pub const THREE_IN_TWO: &str = "(declare-const x Int) (declare-const y Int) (dec
 
 /// A run, and what it must write.
 #[derive(Clone, Copy)]
-struct Row {
+pub struct Row {
     words: &'static [&'static str],
     script: &'static str,
     failing_reads: &'static [u64],
@@ -26,7 +26,7 @@ struct Row {
     status: u8,
 }
 
-const fn solves(script: &'static str, output: &'static str, status: u8) -> Row {
+pub const fn solves(script: &'static str, output: &'static str, status: u8) -> Row {
     Row {
         words: &["solve"],
         script,
@@ -37,7 +37,7 @@ const fn solves(script: &'static str, output: &'static str, status: u8) -> Row {
     }
 }
 
-const fn certifies(script: &'static str, output: &'static str, status: u8) -> Row {
+pub const fn certifies(script: &'static str, output: &'static str, status: u8) -> Row {
     Row {
         words: &["certify"],
         ..solves(script, output, status)
@@ -68,7 +68,7 @@ fn check<R: Threads + Wait + Sync + Abort + AllocGlobal>(rt: &R, row: &Row) -> R
     Ok(())
 }
 
-fn check_all<R: Threads + Wait + Sync + Abort + AllocGlobal>(
+pub fn check_all<R: Threads + Wait + Sync + Abort + AllocGlobal>(
     rt: &R,
     rows: &[Row],
 ) -> Result<(), Fail> {
@@ -126,10 +126,10 @@ fn refusals(rt: HostRuntime) -> Result<(), Fail> {
     let rows = [
         solves(
             "(declare-const x Int) (assert (> x 1099511627777)) (check-sat)",
-            "(error \"command 2: not yet\")\n",
+            "(error \"command 2: bound too large\")\n",
             1,
         ),
-        solves("(push 1)", "(error \"command 1: not yet\")\n", 1),
+        solves("(get-model)", "(error \"command 1: not yet\")\n", 1),
         solves(
             "(declare-const x Int) (check-sat) (check-sat",
             "sat\n(error \"command 3: unclosed list\")\n",
@@ -137,15 +137,15 @@ fn refusals(rt: HostRuntime) -> Result<(), Fail> {
         ),
         solves(
             "(declare-const x Int) (declare-const |x| Int)",
-            "(error \"command 2: not yet\")\n",
+            "(error \"command 2: already declared\")\n",
             1,
         ),
         solves(
             "(declare-const and Int)",
-            "(error \"command 1: not yet\")\n",
+            "(error \"command 1: already declared\")\n",
             1,
         ),
-        solves("(exit 1)", "(error \"command 1: not yet\")\n", 1),
+        solves("(exit 1)", "(error \"command 1: ill-formed command\")\n", 1),
         solves(
             "(check-sat) )",
             "sat\n(error \"command 2: stray close\")\n",
@@ -248,13 +248,13 @@ fn certificates_of_refused_scripts(rt: HostRuntime) -> Result<(), Fail> {
     };
     let rows = [
         certifies(
-            "(check-sat) (push 1)",
-            "(dtp-certificate 1)\n(sat)\n(error \"command 2: not yet\")\n",
+            "(check-sat) (pop 1)",
+            "(dtp-certificate 1)\n(sat)\n(error \"command 2: pop below the bottom\")\n",
             1,
         ),
         certifies(
             "(declare-const x Int) (assert (> x 1099511627777)) (check-sat)",
-            "(dtp-certificate 1)\n(error \"command 2: not yet\")\n",
+            "(dtp-certificate 1)\n(error \"command 2: bound too large\")\n",
             1,
         ),
         certifies(
@@ -287,18 +287,18 @@ fn disjunctions(rt: HostRuntime) -> Result<(), Fail> {
         ),
         solves(
             "(declare-const x Int) (assert (or)) (check-sat)",
-            "(error \"command 2: not yet\")\n",
+            "(error \"command 2: wrong count of arguments\")\n",
             1,
         ),
         solves(
             "(declare-const x Int) (assert (or (< x 0) (or (< x 0)))) (check-sat)",
-            "(error \"command 2: not yet\")\n",
-            1,
+            "sat\n",
+            0,
         ),
         // a name that is called `or` by nobody: it is reserved
         solves(
             "(declare-const or Int)",
-            "(error \"command 1: not yet\")\n",
+            "(error \"command 1: already declared\")\n",
             1,
         ),
         // an `or` of one is its comparison, and an atom that is asserted twice is one clause

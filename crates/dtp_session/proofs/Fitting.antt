@@ -15,7 +15,9 @@ use Rattle.refute_tree.specs.declared.step.Step.TheVariants.{Cycle, Input, Lemma
 use Rattle.refute_tree.specs.declared.lemma.Lemma.{Lemma}
 use Rattle.refute_tree.specs.Trees.{Tree, Forest, leaf, cases, none, more, stated, IsRefutation}
 use Rattle.cert_text.specs.Limits.{limit, NumberFits, LiteralWithin, StepWithin, LemmaWithin, ValueFits}
-use Rattle.idl_term.specs.Points.{named_values, shifted, schedule_of}
+use Rattle.clause_form.specs.Restricting.{named_value, restricted_by, restricted}
+use Rattle.idl_node.specs.declared.sort.Sort.{Sort}
+use Rattle.idl_node.specs.declared.sort.Sort.TheVariants as sorts
 use Rattle.plain_search.specs.Base.{IsPlain}
 use Rattle.plain_search.specs.Verdicts.{IsOfInputs}
 
@@ -43,16 +45,22 @@ literal_within points l few h =
 
 -- ---- values
 
-shifted_within : (zero_value : ℤ) (values : List ℤ) → IsInRange zero_value → AllByRecursion IsInRange values → AllByRecursion ValueFits (named_values (shifted zero_value values))
-shifted_within zero_value [] h all = tt
-shifted_within zero_value (v ∷ vs) h all = (difference_within v zero_value all.0 h, shifted_within zero_value vs h all.1)
+named_within : (sort : Sort) (n : ℤ) → NumberFits n → ValueFits (named_value sort n)
+named_within sorts.Int n h = h
+named_within sorts.Bool n h = tt
 
-by_recursion : (values : List ℤ) → AllByRecursion IsInRange values → AllByRecursion ValueFits (named_values (schedule_of values))
-by_recursion [] all = tt
-by_recursion (v ∷ vs) all = shifted_within v vs all.0 all.1
+restricted_within : (zero_value : ℤ) (names : List Sort) (values : List ℤ) → IsInRange zero_value → AllByRecursion IsInRange values → AllByRecursion ValueFits (restricted_by zero_value names values)
+restricted_within zero_value [] [] h all = tt
+restricted_within zero_value [] (v ∷ vs) h all = tt
+restricted_within zero_value (s ∷ names) [] h all = tt
+restricted_within zero_value (s ∷ names) (v ∷ vs) h all = (named_within s (v -ℤ zero_value) (difference_within v zero_value all.0 h), restricted_within zero_value names vs h all.1)
 
-pub values_within : (values : List ℤ) → All IsInRange values → All ValueFits (named_values (schedule_of values))
-values_within values all = All-from_recursion ValueFits (named_values (schedule_of values)) (by_recursion values (recursion_from_All IsInRange values all))
+by_recursion : (names : List Sort) (values : List ℤ) → AllByRecursion IsInRange values → AllByRecursion ValueFits (restricted names values)
+by_recursion names [] all = tt
+by_recursion names (v ∷ vs) all = restricted_within v names vs all.0 all.1
+
+pub values_within : (names : List Sort) (values : List ℤ) → All IsInRange values → All ValueFits (restricted names values)
+values_within names values all = All-from_recursion ValueFits (restricted names values) (by_recursion names values (recursion_from_All IsInRange values all))
 
 -- ---- refutations
 

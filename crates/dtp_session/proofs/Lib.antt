@@ -1,5 +1,5 @@
-pub mod Stepping
+pub mod Fitting
+pub mod Roots
 pub mod Verdicts
 pub mod Turning
 pub mod OneTranscript
-pub mod Fitting

@@ -1,15 +1,19 @@
 -- A script has one transcript at most.
-use Rattle.std.proofs.Common.{sym, ap, subst, ◌∙◌, ◌≡◌, inl, inr, ◌+◌, ℕ, List, [], ◌∷◌, ◌++◌, Result, Ok, Err}
+use Rattle.std.proofs.Common.{refl, sym, ap, subst, ◌∙◌, ◌≡◌, ◌+◌, ℕ, List, [], ◌∷◌, ◌++◌, Result, Ok, Err}
 use Rattle.smt_sexpr.specs.Tree.{Sexpr}
 use Rattle.smt_sexpr.specs.Reading.{Spells, Refusal, Outcome, expression, finished, refused, Outcomes}
 use Rattle.smt_sexpr.specs.Commands.{Commands, Ending, ended, stopped, unread, EndsAs}
 use Rattle.dtp_session.specs.declared.report.Report.TheVariants.{Verdicts}
-use Rattle.dtp_session.specs.declared.kind.Kind.{Kind}
-use Rattle.dtp_session.specs.declared.state.Effect.{Effect}
-use Rattle.dtp_session.specs.declared.state.Effect.TheVariants.{Silent, CheckSat, Exit}
-use Rattle.dtp_session.specs.Answers.{error_line, kind_of}
-use Rattle.dtp_session.specs.States.{State, Step, start_state, after}
 use Rattle.dtp_session.specs.Transcripts.{IsVerdict, Answers, Closes, Stops, GoesOn, Follows, IsTranscript}
+use Rattle.idl_term.specs.Contexts.{Context}
+use Rattle.smt_answer.specs.Kinds.{kind_of, kind_of_unreadable}
+use Rattle.smt_answer.specs.Texts.{error_line}
+use Rattle.smt_script.specs.declared.error.Refusal.{Refusal as Why}
+use Rattle.smt_script.specs.declared.state.Effect.{Effect}
+use Rattle.smt_script.specs.declared.state.Effect.TheVariants.{Silent, CheckSat, Unsupported, Exit}
+use Rattle.smt_script.specs.declared.state.Satisfiability.{Satisfiability}
+use Rattle.smt_script.specs.declared.state.Satisfiability.TheVariants as verdict
+use Rattle.smt_script.specs.States.{State, Step, start_state, after, settled}
 
 -- at each place there is one outcome at most
 abbrev pub OneOutcome : Type 0
@@ -33,41 +37,55 @@ refusal_no_expression why x h = cc
 -- ---- the answers
 
 -- `sat` and `unsat` exclude each other
-verdict_one : (s : State) (a b : List ℕ) → IsVerdict s a → IsVerdict s b → a ≡ b
-verdict_one s a b (inl h) (inl k) = h.0 ∙ sym k.0
-verdict_one s a b (inl h) (inr k) = absurd (k.1 h.1)
-verdict_one s a b (inr h) (inl k) = absurd (h.1 k.1)
-verdict_one s a b (inr h) (inr k) = h.0 ∙ sym k.0
+verdict_one : (c : Context) (v w : Satisfiability) (a b : List ℕ) → IsVerdict c v a → IsVerdict c w b → (a ≡ b) × (v ≡ w)
+verdict_one c verdict.Sat verdict.Sat a b h k = (h.0 ∙ sym k.0, refl)
+verdict_one c verdict.Sat verdict.Unsat a b h k = absurd (k.1 h.1)
+verdict_one c verdict.Unsat verdict.Sat a b h k = absurd (h.1 k.1)
+verdict_one c verdict.Unsat verdict.Unsat a b h k = (h.0 ∙ sym k.0, refl)
 
-answer_one : (s : State) (effect : Effect) (a b : List ℕ) → Answers Verdicts s effect a → Answers Verdicts s effect b → a ≡ b
-answer_one s Silent a b h k = h ∙ sym k
-answer_one s CheckSat a b h k = verdict_one s a b h k
-answer_one s Exit a b h k = h ∙ sym k
+check_one : (s : State) (v w : Satisfiability) (m n : State) → v ≡ w → m ≡ settled v s → n ≡ settled w s → m ≡ n
+check_one s v w m n e f g = f ∙ ap (λ (u : Satisfiability). settled u s) e ∙ sym g
+
+answer_one : (s : State) (effect : Effect) (a b : List ℕ) (m n : State) → Answers Verdicts s effect a m → Answers Verdicts s effect b n → (a ≡ b) × (m ≡ n)
+answer_one s Silent a b m n h k = (h.0 ∙ sym k.0, h.1 ∙ sym k.1)
+answer_one s CheckSat a b m n h k =
+    let same = verdict_one s.context h.0 k.0 a b h.1 k.1 in
+    (same.0, check_one s h.0 k.0 m n same.1 h.2 k.2)
+answer_one s Unsupported a b m n h k = (h.0 ∙ sym k.0, h.1 ∙ sym k.1)
+answer_one s Exit a b m n h k = (h.0 ∙ sym k.0, h.1 ∙ sym k.1)
 
 joined_one : (a b p q rest others : List ℕ) → a ≡ p ++ rest → b ≡ q ++ others → p ≡ q → rest ≡ others → a ≡ b
 joined_one a b p q rest others e f g h = e ∙ ap (λ (piece : List ℕ). piece ++ rest) g ∙ ap (λ (more : List ℕ). q ++ more) h ∙ sym f
 
-goes_on_one : (effect : Effect) (st : State) (xs ys : List Sexpr) (e f : Ending) (a b : List ℕ) (s t : ℕ) (P Q : List ℕ → Type 0) → ((p q : List ℕ) → P p → Q q → (p ≡ q) × (s ≡ t))
+abbrev OneRest : (State → List ℕ → Type 0) → (State → List ℕ → Type 0) → ℕ → ℕ → Type 0
+OneRest P Q s t = (next : State) (p q : List ℕ) → P next p → Q next q → (p ≡ q) × (s ≡ t)
+
+answered_one : (effect : Effect) (st : State) (a b : List ℕ) (s t : ℕ) (P Q : State → List ℕ → Type 0) → OneRest P Q s t
+    → (p rest : List ℕ) (m : State) → Answers Verdicts st effect p m → a ≡ p ++ rest → P m rest
+    → (q others : List ℕ) (n : State) → Answers Verdicts st effect q n → b ≡ q ++ others → Q n others → (a ≡ b) × (s ≡ t)
+answered_one effect st a b s t P Q one p rest m h is follows q others n k same behind =
+    let first = answer_one st effect p q m n h k in
+    let r = one n rest others (subst (λ (u : State). P u rest) first.1 follows) behind in
+    (joined_one a b p q rest others is same first.0 r.0, r.1)
+
+goes_on_one : (effect : Effect) (st : State) (xs ys : List Sexpr) (e f : Ending) (a b : List ℕ) (s t : ℕ) (P Q : State → List ℕ → Type 0) → OneRest P Q s t
     → GoesOn Verdicts effect st xs e a s P → GoesOn Verdicts effect st ys f b t Q → (a ≡ b) × (s ≡ t)
-goes_on_one Silent st xs ys e f a b s t P Q one (p, rest, h, is, follows) (q, others, k, same, behind) =
-    let r = one rest others follows behind in
-    (joined_one a b p q rest others is same (answer_one st Silent p q h k) r.0, r.1)
-goes_on_one CheckSat st xs ys e f a b s t P Q one (p, rest, h, is, follows) (q, others, k, same, behind) =
-    let r = one rest others follows behind in
-    (joined_one a b p q rest others is same (answer_one st CheckSat p q h k) r.0, r.1)
+goes_on_one Silent st xs ys e f a b s t P Q one (p, rest, m, h, is, follows) (q, others, n, k, same, behind) = answered_one Silent st a b s t P Q one p rest m h is follows q others n k same behind
+goes_on_one CheckSat st xs ys e f a b s t P Q one (p, rest, m, h, is, follows) (q, others, n, k, same, behind) = answered_one CheckSat st a b s t P Q one p rest m h is follows q others n k same behind
+goes_on_one Unsupported st xs ys e f a b s t P Q one (p, rest, m, h, is, follows) (q, others, n, k, same, behind) = answered_one Unsupported st a b s t P Q one p rest m h is follows q others n k same behind
 goes_on_one Exit st xs ys e f a b s t P Q one h k = (h.1 ∙ sym k.1, h.2 ∙ sym k.2)
 
 -- a command's answer and what is behind it, by what the command leads to
-abbrev Continues : Result Step Kind → ℕ → List Sexpr → Ending → List ℕ → ℕ → (Step → List ℕ → Type 0) → Type 0
+abbrev Continues : Result Step Why → ℕ → List Sexpr → Ending → List ℕ → ℕ → (State → List ℕ → Type 0) → Type 0
 Continues found k xs ending out status Rest = elim found [
-  | Ok step ↦ GoesOn Verdicts step.effect step.state xs ending out status (Rest step)
-  | Err kind ↦ Stops xs ending × (out ≡ error_line k kind) × (status ≡ 1)
+  | Ok step ↦ GoesOn Verdicts step.effect step.state xs ending out status Rest
+  | Err why ↦ Stops xs ending × (out ≡ error_line k (kind_of why)) × (status ≡ 1)
 ]
 
-continues_one : (found : Result Step Kind) (k : ℕ) (xs ys : List Sexpr) (e f : Ending) (a b : List ℕ) (s t : ℕ) (P Q : Step → List ℕ → Type 0) → ((step : Step) (p q : List ℕ) → P step p → Q step q → (p ≡ q) × (s ≡ t))
+continues_one : (found : Result Step Why) (k : ℕ) (xs ys : List Sexpr) (e f : Ending) (a b : List ℕ) (s t : ℕ) (P Q : State → List ℕ → Type 0) → OneRest P Q s t
     → Continues found k xs e a s P → Continues found k ys f b t Q → (a ≡ b) × (s ≡ t)
-continues_one (Ok step) k xs ys e f a b s t P Q one h j = goes_on_one step.effect step.state xs ys e f a b s t (P step) (Q step) (one step) h j
-continues_one (Err kind) k xs ys e f a b s t P Q one h j = (h.1 ∙ sym j.1, h.2 ∙ sym j.2)
+continues_one (Ok step) k xs ys e f a b s t P Q one h j = goes_on_one step.effect step.state xs ys e f a b s t P Q one h j
+continues_one (Err why) k xs ys e f a b s t P Q one h j = (h.1 ∙ sym j.1, h.2 ∙ sym j.2)
 
 module _ (one : OneOutcome) (bytes : List ℕ) where
   closes_one : (k place : ℕ) (e f : Ending) (a b : List ℕ) (s t : ℕ) → EndsAs bytes place e → EndsAs bytes place f → Closes Verdicts k e a s → Closes Verdicts k f b t → (a ≡ b) × (s ≡ t)
@@ -77,7 +95,7 @@ module _ (one : OneOutcome) (bytes : List ℕ) where
   closes_one k place (unread why) ended a b s t p q c d = absurd (end_no_refusal why (one bytes place finished (refused why) q.0 p.0 q.1 p.1).0)
   closes_one k place (unread why) (unread other) a b s t p q c d =
       let same = same_refusal why other (one bytes place (refused why) (refused other) p.0 q.0 p.1 q.1).0 in
-      (c.0 ∙ ap (λ (w : Refusal). error_line k (kind_of w)) same ∙ sym d.0, c.1 ∙ sym d.1)
+      (c.0 ∙ ap (λ (w : Refusal). error_line k (kind_of_unreadable w)) same ∙ sym d.0, c.1 ∙ sym d.1)
   closes_one k place (unread why) stopped a b s t p q c d = absurd d
   closes_one k place stopped f a b s t p q c d = absurd c
 
@@ -100,8 +118,8 @@ module _ (one : OneOutcome) (bytes : List ℕ) where
       let same = one bytes place (expression x) (expression y) reads.0 others.0 reads.1 others.1 in
       let first : Follows Verdicts st k (x ∷ ys) f b t = subst (λ (z : Sexpr). Follows Verdicts st k (z ∷ ys) f b t) (sym (same_expression x y same.0)) d in
       let behind : Commands bytes reads.0 ys j = subst (λ (p : ℕ). Commands bytes p ys j) (sym same.1) others.2 in
-      continues_one (after st x) k xs ys e f a b s t (λ step p. Follows Verdicts step.state (k + 1) xs e p s) (λ step q. Follows Verdicts step.state (k + 1) ys f q t)
-      (λ step p q u v. follows_one xs ys step.state (k + 1) reads.0 h j e f p q s t reads.2 ends u behind others_end v) c first
+      continues_one (after st x) k xs ys e f a b s t (λ next p. Follows Verdicts next (k + 1) xs e p s) (λ next q. Follows Verdicts next (k + 1) ys f q t)
+      (λ next p q u v. follows_one xs ys next (k + 1) reads.0 h j e f p q s t reads.2 ends u behind others_end v) c first
 
 pub transcript_one : OneOutcome → (script a b : List ℕ) (s t : ℕ) → IsTranscript script a s → IsTranscript script b t → (a ≡ b) × (s ≡ t)
 transcript_one one script a b s t (p, e, h) (q, f, k) =

@@ -1,5 +1,5 @@
 -- What a turn of the session does.
-use Rattle.std.proofs.Common.{refl, sym, ap, subst, inl, inr, ◌⊎◌, ◌≡◌, ◌≢◌, ℕ, ◌+◌, List, [], ◌∷◌, ◌++◌, Bool, true, false, Option, Some, None, Result, Ok, Err}
+use Rattle.std.proofs.Common.{refl, sym, ap, subst, inl, inr, ◌∙◌, ◌⊎◌, ◌≡◌, ◌≢◌, ℕ, ◌+◌, List, [], ◌∷◌, ◌++◌, Bool, true, false, Option, Some, None, Result, Ok, Err}
 use Rattle.std.specs.Prelude.{if◌then◌else◌, OnErr}
 use Rattle.std.specs.Io.KnownBytes.{Appends}
 use Rattle.std.proofs.KnownBytes.{Appends-trans}
@@ -10,21 +10,20 @@ use Rattle.smt_sexpr.specs.Reading.{Finds, Spells, Outcomes, finished, refused, 
 use Rattle.smt_sexpr.specs.Commands.{Ending, ended, stopped, unread}
 use Rattle.smt_sexpr.specs.declared.error.SexprError.{SexprError}
 use Rattle.smt_sexpr.specs.declared.error.SexprError.TheVariants.{OutOfMemory, Lex, UnclosedList as OpenList, StrayClose as Stray}
-use Rattle.dtp_session.specs.declared.kind.Kind.{Kind}
-use Rattle.dtp_session.specs.declared.kind.Kind.TheVariants.{NotYet}
 use Rattle.dtp_session.specs.declared.report.Report.{Report}
 use Rattle.dtp_session.specs.declared.session.Turn.{Turn}
 use Rattle.dtp_session.specs.declared.session.Turn.TheVariants.{Going, Ended, Stopped}
-use Rattle.dtp_session.specs.declared.state.Effect.{Effect}
-use Rattle.dtp_session.specs.declared.state.Effect.TheVariants.{Silent, CheckSat, Exit}
-use Rattle.dtp_session.specs.Answers.{error_line, kind_of, kind_of_error}
-use Rattle.dtp_session.specs.Commands.{Command, declaring, asserting, checking, exiting, another, command_of}
-use Rattle.idl_term.specs.Lowered.{lowered}
-use Rattle.idl_term.specs.Nodes.{Placed}
-use Rattle.idl_term.proofs.Rooting.{tabled_start, tabled_declares, tabled_asserts}
-use Rattle.dtp_session.specs.States.{State, start_state, Step, Kept, Steps, after, after_command, after_assertion, may_be_declared}
-use Rattle.dtp_session.specs.Tables.{IsTabled}
-use Rattle.dtp_session.specs.Transcripts.{IsDecided, Answers, opening, closing, Closes, GoesOn, GoesOnPart, Follows, FollowsPart, IsFront, IsPartOf, TranscribesFrom, TranscribesPartFrom, IsReport, IsReportPart}
+use Rattle.smt_answer.specs.declared.kind.Kind.{Kind}
+use Rattle.smt_answer.specs.Kinds.{kind_of, kind_of_unreadable, kind_of_error}
+use Rattle.smt_answer.specs.Texts.{error_line}
+use Rattle.smt_script.specs.declared.error.Refusal.{Refusal as Why}
+use Rattle.smt_script.specs.declared.state.Effect.{Effect}
+use Rattle.smt_script.specs.declared.state.Effect.TheVariants.{Silent, CheckSat, Unsupported, Exit}
+use Rattle.smt_script.specs.declared.state.Mode.TheVariants as mode
+use Rattle.smt_script.specs.declared.state.Satisfiability.{Satisfiability}
+use Rattle.smt_script.specs.Kept.{Kept, StandsFor, Steps}
+use Rattle.smt_script.specs.States.{State, start_state, Step, IsMadeState, after, settled}
+use Rattle.dtp_session.specs.Transcripts.{IsDecided, IsDecidedSome, IsAnswer, Answers, silent_answer, unsupported_answer, opening, closing, Closes, GoesOn, GoesOnPart, Follows, FollowsPart, IsFront, IsPartOf, TranscribesFrom, TranscribesPartFrom, IsReport, IsReportPart}
 use Rattle.dtp_session.specs.Turns.{Stands, IsAnswered, IsCarriedOut, IsCutShort, IsTurn}
 use Rattle.dtp_session.specs.Written.{Writes}
 
@@ -53,103 +52,113 @@ pub appends_nothing : (held : Option (List ℕ)) → Appends held held []
 appends_nothing None = tt
 appends_nothing (Some bytes) = sym (append-nil bytes)
 
--- ---- the node table goes on being that of the assertions
+-- ---- what is active goes on coming about by declarations, definitions and assertions
 
-tabled_declared : (s : State) (name : List ℕ) (step : Step) (test : Bool) → IsTabled s → (if test then Ok (record { state = record s { names = s.names ++ name ∷ [] }; effect = Silent }) else Err NotYet) ≡ Ok step → IsTabled step.state
-tabled_declared s name step false h e = absurd cc
-tabled_declared s name step true h e =
-    let same : record { state = record s { names = s.names ++ name ∷ [] }; effect = Silent } ≡ step = cc in
-    subst (λ (q : Step). IsTabled q.state) same (tabled_declares s.names (name ∷ []) s.assertions s.nodes s.roots h)
+abbrev pub StepMade : Type 0
+StepMade = (s : State) (x : Sexpr) (step : Step) → IsMadeState s → after s x ≡ Ok step → IsMadeState step.state
 
-tabled_asserted : (s : State) (term : Sexpr) (found : Option Placed) (step : Step) → IsTabled s → lowered s.names s.nodes term ≡ found → after_assertion s term found ≡ Ok step → IsTabled step.state
-tabled_asserted s term None step h e f = absurd cc
-tabled_asserted s term (Some p) step h e f =
-    let same : record { state = record s { assertions = s.assertions ++ term ∷ []; nodes = p.nodes; roots = s.roots ++ p.number ∷ [] }; effect = Silent } ≡ step = cc in
-    subst (λ (q : Step). IsTabled q.state) same (tabled_asserts s.names s.assertions s.nodes s.roots term p h e)
+abbrev pub SettledMade : Type 0
+SettledMade = (s : State) (verdict : Satisfiability) → IsMadeState s → IsMadeState (settled verdict s)
 
-tabled_command : (s : State) (command : Command) (step : Step) → IsTabled s → after_command s command ≡ Ok step → IsTabled step.state
-tabled_command s (declaring name) step h e = tabled_declared s name step (may_be_declared s.names name) h e
-tabled_command s (asserting term) step h e = tabled_asserted s term (lowered s.names s.nodes term) step h refl e
-tabled_command s checking step h e =
-    let same : record { state = s; effect = CheckSat } ≡ step = cc in
-    subst (λ (q : Step). IsTabled q.state) same h
-tabled_command s exiting step h e =
-    let same : record { state = s; effect = Exit } ≡ step = cc in
-    subst (λ (q : Step). IsTabled q.state) same h
-tabled_command s another step h e = absurd cc
-
-pub tabled_after : (s : State) (x : Sexpr) (step : Step) → IsTabled s → after s x ≡ Ok step → IsTabled step.state
-unfolding after
-tabled_after s x step h e = tabled_command s (command_of x) step h e
-
-pub stands_after : (s : State) (x : Sexpr) (effect : Effect) (kept : Kept) (h : Steps s x effect kept) → IsTabled s → Stands kept h.state
-stands_after s x effect kept h tabled = record { stands = h.stands; tabled = tabled_after s x (record { state = h.state; effect = effect }) tabled h.leads }
+pub stands_after : StepMade → (s : State) (x : Sexpr) (effect : Effect) (kept : Kept) (h : Steps s x effect kept) → IsMadeState s → Stands kept h.state
+stands_after law s x effect kept h made = record { stands = h.stands; made = law s x (record { state = h.state; effect = effect }) made h.leads }
 
 -- ---- one command more
 
 silent_apart : Silent ≢ Exit
 silent_apart e = absurd cc
 
+unsupported_apart : Unsupported ≢ Exit
+unsupported_apart e = absurd cc
+
 check_apart : CheckSat ≢ Exit
 check_apart e = absurd cc
 
-pub silent_done : (report : Report) (s : State) (k : ℕ) (x : Sexpr) (kept : Kept) → IsTabled s → Steps s x Silent kept → IsCarriedOut report s k x [] kept Going
-silent_done report s k x kept tabled h = (h.state, stands_after s x Silent kept h tabled, record { effect = Silent; leads = h.leads; goes_on = silent_apart; answers = refl })
+module _ (law : StepMade) (report : Report) (s : State) (k : ℕ) (x : Sexpr) (added : List ℕ) (kept : Kept) (made : IsMadeState s) where
+  pub silent_done : (h : Steps s x Silent kept) → added ≡ silent_answer report kept.print_success → IsCarriedOut report s k x added kept Going
+  silent_done h e =
+      (h.state, stands_after law s x Silent kept h made, record { effect = Silent; behind = h.state; leads = h.leads; goes_on = silent_apart; answers = (e ∙ ap (silent_answer report) h.stands.print_success, refl) })
 
-pub check_done : (report : Report) (s : State) (k : ℕ) (x : Sexpr) (added : List ℕ) (kept : Kept) → IsTabled s → (h : Steps s x CheckSat kept) → IsDecided report h.state added → IsCarriedOut report s k x added kept Going
-check_done report s k x added kept tabled h answers = (h.state, stands_after s x CheckSat kept h tabled, record { effect = CheckSat; leads = h.leads; goes_on = check_apart; answers = answers })
+  pub unsupported_done : (h : Steps s x Unsupported kept) → added ≡ unsupported_answer report → IsCarriedOut report s k x added kept Going
+  unsupported_done h e = (h.state, stands_after law s x Unsupported kept h made, record { effect = Unsupported; behind = h.state; leads = h.leads; goes_on = unsupported_apart; answers = (e, refl) })
+
+  pub check_done : SettledMade → (next : Kept) (verdict : Satisfiability) (h : Steps s x CheckSat kept) → IsDecided report h.state.context verdict added → StandsFor next (settled verdict h.state) → IsCarriedOut report s k x added next Going
+  check_done settles next verdict h answers stands = (
+    settled verdict h.state,
+    record { stands = stands; made = settles h.state verdict (stands_after law s x CheckSat kept h made).made },
+    record { effect = CheckSat; behind = h.state; leads = h.leads; goes_on = check_apart; answers = (verdict, answers, refl) },
+  )
 
 pub exit_done : (report : Report) (s : State) (k : ℕ) (x : Sexpr) (added : List ℕ) (kept : Kept) → Steps s x Exit kept → added ≡ closing report → IsCarriedOut report s k x added kept Ended
 exit_done report s k x added kept h e = (h.state, h.leads, e)
+
+pub refusal_done : (report : Report) (s : State) (k : ℕ) (x : Sexpr) (added : List ℕ) (kept : Kept) (why : Why) → after s x ≡ Err why → added ≡ error_line k (kind_of why) → IsCarriedOut report s k x added kept Stopped
+refusal_done report s k x added kept why leads e = (why, leads, e)
 
 -- ---- one command whose answer is cut short
 
 pub part_of : (Legal : List ℕ → Type 0) (whole added : List ℕ) → Legal whole → IsFront added whole → IsPartOf Legal added
 part_of Legal whole added legal front = inr (whole, legal, front)
 
-pub check_cut : (report : Report) (s : State) (k : ℕ) (x : Sexpr) (added : List ℕ) (kept : Kept) (h : Steps s x CheckSat kept) → IsPartOf (IsDecided report h.state) added → IsCutShort report s k x added
+-- a decision is an answer
+decided_part : (report : Report) (s : State) (added : List ℕ) → IsPartOf (IsDecidedSome report s.context) added → IsPartOf (IsAnswer report s CheckSat) added
+decided_part report s added (inl e) = inl e
+decided_part report s added (inr (whole, decided, front)) = inr (whole, (settled decided.0 s, (decided.0, decided.1, refl)), front)
+
+pub check_cut : (report : Report) (s : State) (k : ℕ) (x : Sexpr) (added : List ℕ) (kept : Kept) (h : Steps s x CheckSat kept) → IsPartOf (IsDecidedSome report h.state.context) added → IsCutShort report s k x added
 unfolding FollowsPart
-check_cut report s k x added kept h part = inl (rw (h.leads, FollowsPart) (inl ((refl, refl), part)))
+check_cut report s k x added kept h part = inl (rw (h.leads, FollowsPart) (inl ((refl, refl), decided_part report h.state added part)))
+
+pub silent_cut : (report : Report) (s : State) (k : ℕ) (x : Sexpr) (added : List ℕ) (kept : Kept) (h : Steps s x Silent kept) → IsFront added (silent_answer report kept.print_success) → IsCutShort report s k x added
+unfolding FollowsPart
+silent_cut report s k x added kept h front =
+    inl (rw (h.leads, FollowsPart) (inl ((refl, refl), inr (silent_answer report kept.print_success, (h.state, (ap (silent_answer report) h.stands.print_success, refl)), front))))
+
+pub unsupported_cut : (report : Report) (s : State) (k : ℕ) (x : Sexpr) (added : List ℕ) (kept : Kept) (h : Steps s x Unsupported kept) → IsFront added (unsupported_answer report) → IsCutShort report s k x added
+unfolding FollowsPart
+unsupported_cut report s k x added kept h front = inl (rw (h.leads, FollowsPart) (inl ((refl, refl), inr (unsupported_answer report, (h.state, (refl, refl)), front))))
 
 pub exit_cut : (report : Report) (s : State) (k : ℕ) (x : Sexpr) (added : List ℕ) (kept : Kept) → Steps s x Exit kept → IsFront added (closing report) → IsCutShort report s k x added
 unfolding FollowsPart
 exit_cut report s k x added kept h front = inl (rw (h.leads, FollowsPart) ((refl, refl), inr (closing report, refl, front)))
 
-pub refusal_cut : (report : Report) (s : State) (k : ℕ) (x : Sexpr) (kind : Kind) (added : List ℕ) → after s x ≡ Err kind → IsFront added (error_line k kind) → IsCutShort report s k x added
+pub refusal_cut : (report : Report) (s : State) (k : ℕ) (x : Sexpr) (why : Why) (added : List ℕ) → after s x ≡ Err why → IsFront added (error_line k (kind_of why)) → IsCutShort report s k x added
 unfolding FollowsPart
-refusal_cut report s k x kind added leads front = inl (rw (leads, FollowsPart) ((refl, refl), inr (error_line k kind, refl, front)))
+refusal_cut report s k x why added leads front = inl (rw (leads, FollowsPart) ((refl, refl), inr (error_line k (kind_of why), refl, front)))
 
 -- ---- a turn
 
-goes_on_with : (report : Report) (effect : Effect) (next : State) (k : ℕ) (xs : List Sexpr) (ending : Ending) (added rest : List ℕ) (status : ℕ) → effect ≢ Exit → Answers report next effect added → Follows report next (k + 1) xs ending rest status
-    → GoesOn report effect next xs ending (added ++ rest) status (λ out. Follows report next (k + 1) xs ending out status)
-goes_on_with report Silent next k xs ending added rest status apart answers follows = (added, rest, answers, refl, follows)
-goes_on_with report CheckSat next k xs ending added rest status apart answers follows = (added, rest, answers, refl, follows)
-goes_on_with report Exit next k xs ending added rest status apart answers follows = absurd (apart refl)
+goes_on_with : (report : Report) (effect : Effect) (s next : State) (k : ℕ) (xs : List Sexpr) (ending : Ending) (added rest : List ℕ) (status : ℕ) → effect ≢ Exit → Answers report s effect added next → Follows report next (k + 1) xs ending rest status
+    → GoesOn report effect s xs ending (added ++ rest) status (λ behind out. Follows report behind (k + 1) xs ending out status)
+goes_on_with report Silent s next k xs ending added rest status apart answers follows = (added, rest, next, answers, refl, follows)
+goes_on_with report CheckSat s next k xs ending added rest status apart answers follows = (added, rest, next, answers, refl, follows)
+goes_on_with report Unsupported s next k xs ending added rest status apart answers follows = (added, rest, next, answers, refl, follows)
+goes_on_with report Exit s next k xs ending added rest status apart answers follows = absurd (apart refl)
 
-goes_on_part : (report : Report) (effect : Effect) (next : State) (k : ℕ) (xs : List Sexpr) (ending : Ending) (added rest : List ℕ) → effect ≢ Exit → Answers report next effect added → FollowsPart report next (k + 1) xs ending rest
-    → GoesOnPart report effect next xs ending (added ++ rest) (λ out. FollowsPart report next (k + 1) xs ending out)
-goes_on_part report Silent next k xs ending added rest apart answers follows = inr (added, rest, answers, refl, follows)
-goes_on_part report CheckSat next k xs ending added rest apart answers follows = inr (added, rest, answers, refl, follows)
-goes_on_part report Exit next k xs ending added rest apart answers follows = absurd (apart refl)
+goes_on_part : (report : Report) (effect : Effect) (s next : State) (k : ℕ) (xs : List Sexpr) (ending : Ending) (added rest : List ℕ) → effect ≢ Exit → Answers report s effect added next → FollowsPart report next (k + 1) xs ending rest
+    → GoesOnPart report effect s xs ending (added ++ rest) (λ behind out. FollowsPart report behind (k + 1) xs ending out)
+goes_on_part report Silent s next k xs ending added rest apart answers follows = inr (added, rest, next, answers, refl, follows)
+goes_on_part report CheckSat s next k xs ending added rest apart answers follows = inr (added, rest, next, answers, refl, follows)
+goes_on_part report Unsupported s next k xs ending added rest apart answers follows = inr (added, rest, next, answers, refl, follows)
+goes_on_part report Exit s next k xs ending added rest apart answers follows = absurd (apart refl)
 
 follows_answer : (report : Report) (s next : State) (k : ℕ) (x : Sexpr) (xs : List Sexpr) (ending : Ending) (added rest : List ℕ) (status : ℕ) → IsAnswered report s x added next → Follows report next (k + 1) xs ending rest status
     → Follows report s k (x ∷ xs) ending (added ++ rest) status
 unfolding Follows
-follows_answer report s next k x xs ending added rest status a follows = rw (a.leads, Follows) (goes_on_with report a.effect next k xs ending added rest status a.goes_on a.answers follows)
+follows_answer report s next k x xs ending added rest status a follows = rw (a.leads, Follows) (goes_on_with report a.effect a.behind next k xs ending added rest status a.goes_on a.answers follows)
 
 part_answer : (report : Report) (s next : State) (k : ℕ) (x : Sexpr) (xs : List Sexpr) (ending : Ending) (added rest : List ℕ) → IsAnswered report s x added next → FollowsPart report next (k + 1) xs ending rest
     → FollowsPart report s k (x ∷ xs) ending (added ++ rest)
 unfolding FollowsPart
-part_answer report s next k x xs ending added rest a follows = rw (a.leads, FollowsPart) (goes_on_part report a.effect next k xs ending added rest a.goes_on a.answers follows)
+part_answer report s next k x xs ending added rest a follows = rw (a.leads, FollowsPart) (goes_on_part report a.effect a.behind next k xs ending added rest a.goes_on a.answers follows)
 
 follows_exit : (report : Report) (s next : State) (k : ℕ) (x : Sexpr) (out : List ℕ) → after s x ≡ Ok (record { state = next; effect = Exit }) → out ≡ closing report → Follows report s k (x ∷ []) stopped out 0
 unfolding Follows
 follows_exit report s next k x out leads e = rw (leads, Follows) ((refl, refl), e, refl)
 
-follows_refusal : (report : Report) (s : State) (k : ℕ) (x : Sexpr) (kind : Kind) (out : List ℕ) → after s x ≡ Err kind → out ≡ error_line k kind → Follows report s k (x ∷ []) stopped out 1
+follows_refusal : (report : Report) (s : State) (k : ℕ) (x : Sexpr) (why : Why) (out : List ℕ) → after s x ≡ Err why → out ≡ error_line k (kind_of why) → Follows report s k (x ∷ []) stopped out 1
 unfolding Follows
-follows_refusal report s k x kind out leads e = rw (leads, Follows) ((refl, refl), e, refl)
+follows_refusal report s k x why out leads e = rw (leads, Follows) ((refl, refl), e, refl)
 
 follows_end : (report : Report) (s : State) (k : ℕ) (ending : Ending) (out : List ℕ) (status : ℕ) → Closes report k ending out status → Follows report s k [] ending out status
 unfolding Follows
@@ -194,13 +203,13 @@ module _ (report : Report) (bytes : List ℕ) (place mid : ℕ) (s : State) (k :
     ends = tt;
     answers = follows_exit report s next k x added leads e;
   }
-  turn_done added kept Stopped (kind, leads, e) = record {
+  turn_done added kept Stopped (why, leads, e) = record {
     commands = x ∷ [];
     here = mid;
     ending = stopped;
     reads = (mid, spells, refl);
     ends = tt;
-    answers = follows_refusal report s k x kind added leads e;
+    answers = follows_refusal report s k x why added leads e;
   }
 
   pub turn_cut : (added : List ℕ) → IsCutShort report s k x added → TranscribesPartFrom report bytes place s k added
@@ -220,7 +229,7 @@ end_cut report bytes place behind s k added h front = record {
   answers = part_end report s k ended added (inr (closing report, (0, (refl, refl)), front));
 }
 
-refused_by : (report : Report) (bytes : List ℕ) (place behind : ℕ) (s : State) (k : ℕ) (why : Refusal) (kind : Kind) → Outcomes bytes place (refused why) behind → kind_of why ≡ kind → TranscribesFrom report bytes place s k (error_line k kind) 1
+refused_by : (report : Report) (bytes : List ℕ) (place behind : ℕ) (s : State) (k : ℕ) (why : Refusal) (kind : Kind) → Outcomes bytes place (refused why) behind → kind_of_unreadable why ≡ kind → TranscribesFrom report bytes place s k (error_line k kind) 1
 refused_by report bytes place behind s k why kind h e = record {
   commands = [];
   here = place;
@@ -230,7 +239,7 @@ refused_by report bytes place behind s k why kind h e = record {
   answers = follows_end report s k (unread why) (error_line k kind) 1 (ap (error_line k) (sym e), refl);
 }
 
-cut_by : (report : Report) (bytes : List ℕ) (place behind : ℕ) (s : State) (k : ℕ) (why : Refusal) (kind : Kind) (added : List ℕ) → Outcomes bytes place (refused why) behind → kind_of why ≡ kind → IsFront added (error_line k kind)
+cut_by : (report : Report) (bytes : List ℕ) (place behind : ℕ) (s : State) (k : ℕ) (why : Refusal) (kind : Kind) (added : List ℕ) → Outcomes bytes place (refused why) behind → kind_of_unreadable why ≡ kind → IsFront added (error_line k kind)
     → TranscribesPartFrom report bytes place s k added
 cut_by report bytes place behind s k why kind added h e front = record {
   commands = [];
@@ -242,11 +251,11 @@ cut_by report bytes place behind s k why kind added h e front = record {
 }
 
 -- what the reader refuses, by the kind that its error line has
-pub explained : (bytes : List ℕ) (place behind : ℕ) (error : SexprError) (kind : Kind) → Explains bytes place error behind → kind_of_error error ≡ Some kind → (why : Refusal) × Outcomes bytes place (refused why) behind × (kind_of why ≡ kind)
+pub explained : (bytes : List ℕ) (place behind : ℕ) (error : SexprError) (kind : Kind) → Explains bytes place error behind → kind_of_error error ≡ Some kind → (why : Refusal) × Outcomes bytes place (refused why) behind × (kind_of_unreadable why ≡ kind)
 explained bytes place behind OutOfMemory kind h e = absurd cc
-explained bytes place behind (Lex error) kind h e = let same : kind_of (lexical error) ≡ kind = cc in (lexical error, h, same)
-explained bytes place behind (OpenList outer) kind h e = let same : kind_of (unclosed outer) ≡ kind = cc in (unclosed outer, h, same)
-explained bytes place behind (Stray start) kind h e = let same : kind_of (stray start) ≡ kind = cc in (stray start, h, same)
+explained bytes place behind (Lex error) kind h e = let same : kind_of_unreadable (lexical error) ≡ kind = cc in (lexical error, h, same)
+explained bytes place behind (OpenList outer) kind h e = let same : kind_of_unreadable (unclosed outer) ≡ kind = cc in (unclosed outer, h, same)
+explained bytes place behind (Stray start) kind h e = let same : kind_of_unreadable (stray start) ≡ kind = cc in (stray start, h, same)
 
 pub turn_refused : (report : Report) (bytes : List ℕ) (place behind : ℕ) (s : State) (k : ℕ) (error : SexprError) (kind : Kind) → Explains bytes place error behind → kind_of_error error ≡ Some kind
     → TranscribesFrom report bytes place s k (error_line k kind) 1
@@ -288,10 +297,10 @@ pub record IsSoFar (report : Report) (bytes : List ℕ) (place : ℕ) (kept : Ke
   pub goes_on : (rest : List ℕ) (status : ℕ) → TranscribesFrom report bytes place s k rest status → TranscribesFrom report bytes 0 start_state 1 (written ++ rest) status
   pub part : (rest : List ℕ) → TranscribesPartFrom report bytes place s k rest → TranscribesPartFrom report bytes 0 start_state 1 (written ++ rest)
 
-pub so_far_starts : (report : Report) (bytes : List ℕ) (kept : Kept) (held : Option (List ℕ)) → kept ≡ record { names = []; nodes = []; roots = [] } → IsSoFar report bytes 0 kept 1 held held
-so_far_starts report bytes kept held e = record {
+pub so_far_starts : (report : Report) (bytes : List ℕ) (kept : Kept) (held : Option (List ℕ)) → kept ≡ record { scope = record { declared = []; bound = [] }; nodes = []; roots = []; levels = []; mode = mode.Nothing; print_success = false } → IsMadeState start_state → IsSoFar report bytes 0 kept 1 held held
+so_far_starts report bytes kept held e made = record {
   s = start_state;
-  stands = rw e (record { stands = record { names = refl; nodes = refl; roots = refl }; tabled = tabled_start });
+  stands = rw e (record { stands = record { scope = refl; nodes = refl; roots = refl; levels = tt; ascend = tt; mode = refl; print_success = refl }; made = made });
   written = [];
   adds = appends_nothing held;
   goes_on = λ rest status t. t;

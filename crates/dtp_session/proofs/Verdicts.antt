@@ -1,70 +1,125 @@
--- The two verdicts, on what is kept.
-use Rattle.std.proofs.Common.{arith, refl, sym, ap, subst, ◌∙◌, ◌≡◌, ◌+◌, ◌≤◌, ◌^◌, ℕ, List, length, true, false, ℤ}
-use Rattle.std.specs.Prelude.{All, Contains, Decides}
+-- The two verdicts.
+use Rattle.std.proofs.Common.{arith, refl, sym, ap, subst, ◌∙◌, ◌≡◌, ◌+◌, ◌<◌, ◌≤◌, ◌^◌, ℕ, suc, List, [], ◌∷◌, length, true, ℤ}
+use Rattle.std.specs.Prelude.{All}
 use Rattle.std.specs.List.{AllByRecursion}
 use Rattle.stn_core.specs.declared.literal.Literal.{Literal}
+use Rattle.stn_core.specs.declared.named.NamedValue.{NamedValue}
 use Rattle.stn_core.specs.Literal.{IsOver}
 use Rattle.stn_core.specs.Problem.{ProblemHolds}
-use Rattle.stn_core.specs.declared.named.NamedValue.{NamedValue}
 use Rattle.refute_tree.specs.declared.lemma.Lemma.{Lemma}
 use Rattle.refute_tree.specs.Trees.{IsRefutation}
 use Rattle.cert_text.specs.declared.entry.Entry.TheVariants.{Sat, Unsat}
-use Rattle.idl_term.specs.ClauseForm.{clauses_of}
-use Rattle.idl_term.specs.Limits.{names_limit, nodes_limit}
-use Rattle.idl_term.specs.Nodes.{NodeValue}
-use Rattle.idl_term.specs.Points.{named_values, schedule_of, point_values}
-use Rattle.idl_term.specs.Satisfiable.{IsScheduleFor, IsTrueOn, IsSatisfiable}
-use Rattle.idl_term.specs.Values.{Value}
-use Rattle.idl_term.proofs.Meaning.{clauses_hold, satisfied}
+use Rattle.cert_text.specs.Limits.{limit, ValueFits}
+use Rattle.clause_form.specs.ClauseForm as clause_form
+use Rattle.clause_form.specs.Restricting.{restricted}
+use Rattle.idl_node.specs.declared.sort.Sort.{Sort}
+use Rattle.idl_node.specs.Limits.{nodes_limit}
+use Rattle.idl_node.specs.Nodes.{NodeValue}
+use Rattle.idl_node.specs.Sorts.{AreOfSorts, IsAtomFor}
+use Rattle.idl_node.specs.Tables.{IsTableOf}
+use Rattle.idl_node.specs.Truth.{truth, point_values}
+use Rattle.idl_term.specs.Contexts.{Context, IsContext, IsScheduleFor, IsTrueOn, IsSatisfiable, scope_of}
+use Rattle.idl_term.specs.Limits.{names_limit}
+use Rattle.idl_term.specs.Meanings.{IsScopeOver, AreRoots}
+use Rattle.idl_term.specs.Scopes.{sorts_of, Declaration}
 use Rattle.plain_search.specs.declared.verdict.Verdict.{Verdict}
-use Rattle.plain_search.specs.declared.verdict.Verdict.TheVariants as found
 use Rattle.plain_search.specs.Verdicts.{IsSolution, IsOfInputs, IsVerdict}
 use Rattle.dtp_session.specs.Entries.{points_of, problem_of, IsEntryOf}
-use Rattle.dtp_session.specs.States.{State, Kept, StandsFor}
-use Rattle.dtp_session.specs.Tables.{IsTabled}
-use Rattle.cert_text.specs.Limits.{limit, ValueFits}
 use Rattle.dtp_session.proofs.Fitting.{NegationKept, values_within, refutation_within}
+use Rattle.dtp_session.proofs.Roots.{IsRootTrue, roots_true, assertions_true}
 
--- there are few clauses where the kept table has few nodes
-pub few_of_kept : (kept : Kept) (s : State) → StandsFor kept s → length (clauses_of kept.nodes kept.roots) ≤ nodes_limit → length (problem_of s) ≤ limit
-few_of_kept kept s stands few =
-    let same : clauses_of kept.nodes kept.roots ≡ clauses_of s.nodes s.roots = ap (λ (nodes : List NodeValue). clauses_of nodes kept.roots) stands.nodes ∙ ap (λ (roots : List ℕ). clauses_of s.nodes roots) stands.roots in
-    omega (arith, few, ap (λ (clauses : List (List Literal)). length clauses) same)
+-- ---- the laws that verdicts rest on
 
-pub few_points_of_kept : (kept : Kept) (s : State) → StandsFor kept s → length kept.names ≤ names_limit → points_of s ≤ 2 ^ 32
-few_points_of_kept kept s stands few = omega (arith, few, ap (λ (names : List (List ℕ)). length names) stands.names)
+abbrev pub AreInRange : List NodeValue → List ℕ → Type 0
+AreInRange nodes roots = AllByRecursion (λ r. r < length nodes) roots
 
--- a solution of the problem is a schedule that satisfies the assertions
-pub record Satisfies (s : State) (schedule : List Value) : Type 0 where
-  pub fits : IsScheduleFor s.names schedule
-  pub true_all : AllByRecursion (IsTrueOn s.names schedule) s.assertions
+abbrev pub AreTrue : List NodeValue → List NamedValue → List ℕ → Type 0
+AreTrue nodes schedule roots = AllByRecursion (λ r. truth nodes (point_values schedule) r ≡ true) roots
 
-pub solution_satisfies : (s : State) (values : List ℤ) → IsTabled s → IsSolution (points_of s) (problem_of s) values → Satisfies s (schedule_of values)
-solution_satisfies s values h v =
-    let w = satisfied s.names s.assertions s.nodes s.roots h values v.count v.holds in
-    record { fits = w.0; true_all = w.1 }
+abbrev pub ScopeLaw : Type 0
+ScopeLaw = (c : Context) → IsContext c → IsScopeOver (scope_of c) c.nodes
 
-module _ (s : State) (verdict : Verdict) (h : IsTabled s) (v : IsVerdict (points_of s) (problem_of s) verdict) where
-  pub as_found : (other : Verdict) → verdict ≡ other → IsVerdict (points_of s) (problem_of s) other
-  as_found other is = subst (λ (w : Verdict). IsVerdict (points_of s) (problem_of s) w) is v
+abbrev pub RootsLaw : Type 0
+RootsLaw = (c : Context) → IsContext c → AreInRange c.nodes c.roots
 
-  pub sat_decides : (values : List ℤ) → verdict ≡ found.Sat values → Decides true (IsSatisfiable s.names s.assertions)
-  sat_decides values is =
-      let w = solution_satisfies s values h (as_found (found.Sat values) is) in
-      (λ t. (schedule_of values, w.fits, w.true_all), λ t. refl)
+abbrev pub ExactLaw : Type 0
+ExactLaw = (c : Context) (schedule : List NamedValue) → IsContext c → IsScheduleFor c schedule → AreRoots c schedule c.assertions c.roots
 
-  pub unsat_decides : ((points : ℕ) (clauses : List (List Literal)) (lemmas : List Lemma) → IsRefutation points clauses lemmas → (values : List ℤ) → ProblemHolds values clauses → ⊥) → (lemmas : List Lemma) → verdict ≡ found.Unsat lemmas
-      → Decides false (IsSatisfiable s.names s.assertions)
-  unsat_decides law lemmas is =
-      (λ t. absurd cc, λ sat. absurd (law (points_of s) (problem_of s) lemmas (as_found (found.Unsat lemmas) is).0 (point_values sat.0) (clauses_hold s.names s.assertions s.nodes s.roots h sat.0 sat.1 sat.2)))
+abbrev pub HoldsLaw : Type 0
+HoldsLaw = (sorts : List Sort) (nodes : List NodeValue) (roots : List ℕ) (schedule : List NamedValue) → IsTableOf (IsAtomFor sorts) nodes → AreInRange nodes roots → AreOfSorts sorts schedule → AreTrue nodes schedule roots
+    → (values : List ℤ) × (length values ≡ clause_form.points_of (length sorts + 1) nodes roots) × (restricted sorts values ≡ schedule) × ProblemHolds values (clause_form.clauses_of (length sorts + 1) nodes roots)
 
-  pub sat_entry : (values : List ℤ) (named : List NamedValue) → verdict ≡ found.Sat values → named ≡ named_values (schedule_of values) → IsEntryOf s (Sat named)
-  sat_entry values named is e =
-      let solution : IsSolution (points_of s) (problem_of s) values = as_found (found.Sat values) is in
-      let w = solution_satisfies s values h solution in
-      ((schedule_of values, w.fits, w.true_all, e), subst (λ (shown : List NamedValue). All ValueFits shown) (sym e) (values_within values solution.range))
+abbrev pub ScheduleLaw : Type 0
+ScheduleLaw = (sorts : List Sort) (nodes : List NodeValue) (roots : List ℕ) (values : List ℤ) → IsTableOf (IsAtomFor sorts) nodes → AreInRange nodes roots → length values ≡ clause_form.points_of (length sorts + 1) nodes roots
+    → ProblemHolds values (clause_form.clauses_of (length sorts + 1) nodes roots) → AreOfSorts sorts (restricted sorts values) × AreTrue nodes (restricted sorts values) roots
 
-  pub unsat_entry : NegationKept → points_of s ≤ 2 ^ 32 → length (problem_of s) ≤ limit → All (λ (clause : List Literal). All (IsOver (points_of s)) clause) (problem_of s) → (lemmas : List Lemma) → verdict ≡ found.Unsat lemmas → IsEntryOf s (Unsat lemmas)
-  unsat_entry kept few_points few over lemmas is =
-      let both : IsRefutation (points_of s) (problem_of s) lemmas × IsOfInputs lemmas = as_found (found.Unsat lemmas) is in
-      (both.0, refutation_within kept (points_of s) few_points (problem_of s) few over lemmas both.0 both.1)
+abbrev pub OverLaw : Type 0
+OverLaw = (sorts : List Sort) (nodes : List NodeValue) (roots : List ℕ) → IsTableOf (IsAtomFor sorts) nodes → AreInRange nodes roots
+    → All (λ (clause : List Literal). All (IsOver (clause_form.points_of (length sorts + 1) nodes roots)) clause) (clause_form.clauses_of (length sorts + 1) nodes roots)
+
+-- the literals of a problem are within the limits and over its points
+abbrev pub AreOver : ℕ → List NodeValue → List ℕ → Type 0
+AreOver points nodes roots = All (λ (clause : List Literal). All (IsOver (clause_form.points_of points nodes roots)) clause) (clause_form.clauses_of points nodes roots)
+
+pub over_same : (m n : ℕ) (lent nodes : List NodeValue) (given roots : List ℕ) → m ≡ n → lent ≡ nodes → given ≡ roots → AreOver n nodes roots → AreOver m lent given
+over_same m n lent nodes given roots e f g h =
+    subst (λ (k : ℕ). AreOver k lent given) (sym e) (subst (λ (ns : List NodeValue). AreOver n ns given) (sym f) (subst (λ (rs : List ℕ). AreOver n nodes rs) (sym g) h))
+
+abbrev pub FewLaw : Type 0
+FewLaw = (points : ℕ) (nodes : List NodeValue) (roots : List ℕ) → clause_form.points_of points nodes roots ≤ points + length nodes
+
+abbrev pub RefutationLaw : Type 0
+RefutationLaw = (points : ℕ) (clauses : List (List Literal)) (lemmas : List Lemma) → IsRefutation points clauses lemmas → (values : List ℤ) → ProblemHolds values clauses → ⊥
+
+-- what was found, of the assertions' problem
+pub as_found : (points p : ℕ) (clauses q : List (List Literal)) (found other : Verdict) → points ≡ p → clauses ≡ q → found ≡ other → IsVerdict points clauses found → IsVerdict p q other
+as_found points p clauses q found other e f g h =
+    subst (λ (n : ℕ). IsVerdict n q other) e (subst (λ (cs : List (List Literal)). IsVerdict points cs other) f (subst (λ (v : Verdict). IsVerdict points clauses v) g h))
+
+-- as many sorts as names
+pub sorts_count : (declared : List Declaration) → length (sorts_of declared) ≡ length declared
+sorts_count [] = refl
+sorts_count (d ∷ declared) = ap suc (sorts_count declared)
+
+module _ (c : Context) (context : IsContext c) where
+  -- a solution of the problem is a schedule that satisfies the assertions
+  pub solution_schedule : ScopeLaw → RootsLaw → ExactLaw → ScheduleLaw → (values : List ℤ) → IsSolution (points_of c) (problem_of c) values
+      → IsScheduleFor c (restricted (sorts_of c.declared) values) × AllByRecursion (IsTrueOn c (restricted (sorts_of c.declared) values)) c.assertions
+  solution_schedule scope roots exact law values h =
+      let sorts = sorts_of c.declared in
+      let count = sorts_count c.declared in
+      let w = law sorts c.nodes c.roots values (scope c context).table (roots c context) (h.count ∙ ap (λ (n : ℕ). clause_form.points_of (n + 1) c.nodes c.roots) (sym count))
+      (subst (λ (n : ℕ). ProblemHolds values (clause_form.clauses_of (n + 1) c.nodes c.roots)) (sym count) h.holds) in
+      (w.0, assertions_true c (restricted sorts values) c.assertions c.roots (exact c (restricted sorts values) context w.0) w.1)
+
+  pub solution_satisfies : ScopeLaw → RootsLaw → ExactLaw → ScheduleLaw → (values : List ℤ) → IsSolution (points_of c) (problem_of c) values → IsSatisfiable c
+  solution_satisfies scope roots exact law values h =
+      let w = solution_schedule scope roots exact law values h in
+      (restricted (sorts_of c.declared) values, w.0, w.1)
+
+  -- where the problem is refuted, no schedule satisfies the assertions
+  pub refuted_unsatisfiable : ScopeLaw → RootsLaw → ExactLaw → HoldsLaw → RefutationLaw → (lemmas : List Lemma) → IsRefutation (points_of c) (problem_of c) lemmas → IsSatisfiable c → ⊥
+  refuted_unsatisfiable scope roots exact law refutes lemmas h sat =
+      let sorts = sorts_of c.declared in
+      let w = law sorts c.nodes c.roots sat.0 (scope c context).table (roots c context) sat.1 (roots_true c sat.0 c.assertions c.roots (exact c sat.0 context sat.1) sat.2) in
+      refutes (points_of c) (problem_of c) lemmas h w.0 (subst (λ (n : ℕ). ProblemHolds w.0 (clause_form.clauses_of (n + 1) c.nodes c.roots)) (sorts_count c.declared) w.3)
+
+  pub sat_entry : ScopeLaw → RootsLaw → ExactLaw → ScheduleLaw → (values : List ℤ) (named : List NamedValue) → IsSolution (points_of c) (problem_of c) values → named ≡ restricted (sorts_of c.declared) values → IsEntryOf c (Sat named)
+  sat_entry scope roots exact law values named h e =
+      let w = solution_schedule scope roots exact law values h in
+      subst (λ (shown : List NamedValue). IsEntryOf c (Sat shown)) (sym e) ((w.0, w.1), values_within (sorts_of c.declared) values h.range)
+
+  pub few_points : ScopeLaw → FewLaw → points_of c ≤ 2 ^ 32
+  few_points scope few =
+      let over = scope c context in
+      let names : length c.declared ≤ names_limit = over.few in
+      let nodes : length c.nodes ≤ nodes_limit = over.room in
+      let points = few (length c.declared + 1) c.nodes c.roots in
+      omega (arith, names, nodes, points)
+
+  pub unsat_entry : ScopeLaw → RootsLaw → OverLaw → FewLaw → NegationKept → length (problem_of c) ≤ limit → (lemmas : List Lemma) → IsRefutation (points_of c) (problem_of c) lemmas → IsOfInputs lemmas → IsEntryOf c (Unsat lemmas)
+  unsat_entry scope roots law few kept few_clauses lemmas h inputs =
+      let over = law (sorts_of c.declared) c.nodes c.roots (scope c context).table (roots c context) in
+      let named : All (λ (clause : List Literal). All (IsOver (points_of c)) clause) (problem_of c) =
+      subst (λ (n : ℕ). All (λ (clause : List Literal). All (IsOver (clause_form.points_of (n + 1) c.nodes c.roots)) clause) (clause_form.clauses_of (n + 1) c.nodes c.roots)) (sorts_count c.declared) over in
+      (h, refutation_within kept (points_of c) (few_points scope few) (problem_of c) few_clauses named lemmas h inputs)

@@ -8,29 +8,33 @@ use Rattle.cert_text.specs.declared.entry.Entry.{Entry}
 use Rattle.cert_text.specs.declared.entry.Entry.TheVariants.{Sat, Unsat}
 use Rattle.cert_text.specs.Limits.{EntryFits}
 use Rattle.cert_text.specs.Form.{entry_sexpr, line_of}
-use Rattle.dtp_session.specs.States.{State}
-use Rattle.idl_term.specs.ClauseForm.{clauses_of}
-use Rattle.idl_term.specs.Points.{named_values}
-use Rattle.idl_term.specs.Satisfiable.{IsScheduleFor, IsTrueOn}
-use Rattle.idl_term.specs.Values.{Value}
+use Rattle.clause_form.specs.ClauseForm as clause_form
+use Rattle.idl_term.specs.Contexts.{Context, IsScheduleFor, IsTrueOn}
+use Rattle.smt_script.specs.declared.state.Satisfiability.{Satisfiability}
+use Rattle.smt_script.specs.declared.state.Satisfiability.TheVariants as verdict
 
--- the time points of a state's problem: the zero point, and one for each declared name
-abbrev pub points_of : State → ℕ
-points_of s = length s.names + 1
+-- the time points of the assertions' problem: the zero point, one for each declared name, and the fresh ones
+abbrev pub points_of : Context → ℕ
+points_of c = clause_form.points_of (length c.declared + 1) c.nodes c.roots
 
 -- the clause form of the assertions
-abbrev pub problem_of : State → List (List Literal)
-problem_of s = clauses_of s.nodes s.roots
+abbrev pub problem_of : Context → List (List Literal)
+problem_of c = clause_form.clauses_of (length c.declared + 1) c.nodes c.roots
 
 -- an entry that shows what the assertions come to
-abbrev pub IsRight : State → Entry → Type 0
-IsRight s (Sat values) = (schedule : List Value) × IsScheduleFor s.names schedule × AllByRecursion (IsTrueOn s.names schedule) s.assertions × (values ≡ named_values schedule)
-IsRight s (Unsat lemmas) = IsRefutation (points_of s) (problem_of s) lemmas
+abbrev pub IsRight : Context → Entry → Type 0
+IsRight c (Sat schedule) = IsScheduleFor c schedule × AllByRecursion (IsTrueOn c schedule) c.assertions
+IsRight c (Unsat lemmas) = IsRefutation (points_of c) (problem_of c) lemmas
 
 -- such an entry, whose numbers are within the limits of the format
-abbrev pub IsEntryOf : State → Entry → Type 0
-IsEntryOf s entry = IsRight s entry × EntryFits entry
+abbrev pub IsEntryOf : Context → Entry → Type 0
+IsEntryOf c entry = IsRight c entry × EntryFits entry
 
--- the line of a right entry
-abbrev pub IsEntry : State → List ℕ → Type 0
-IsEntry s line = (entry : Entry) × IsEntryOf s entry × (line ≡ line_of (entry_sexpr entry))
+-- what an entry says
+abbrev pub verdict_of : Entry → Satisfiability
+verdict_of (Sat schedule) = verdict.Sat
+verdict_of (Unsat lemmas) = verdict.Unsat
+
+-- the line of a right entry with this verdict
+abbrev pub IsEntry : Context → Satisfiability → List ℕ → Type 0
+IsEntry c verdict line = (entry : Entry) × IsEntryOf c entry × (verdict ≡ verdict_of entry) × (line ≡ line_of (entry_sexpr entry))

@@ -3,34 +3,36 @@
 use Rattle.std.specs.Prelude.{◌≡◌, ◌≢◌, ℕ, ◌+◌, List, [], ◌∷◌, ◌++◌, ◌⊎◌, Ok, Err}
 use Rattle.smt_sexpr.specs.Tree.{Sexpr}
 use Rattle.smt_sexpr.specs.Commands.{stopped}
-use Rattle.dtp_session.specs.declared.kind.Kind.{Kind}
 use Rattle.dtp_session.specs.declared.report.Report.{Report}
 use Rattle.dtp_session.specs.declared.session.Turn.{Turn}
 use Rattle.dtp_session.specs.declared.session.Turn.TheVariants.{Going, Ended, Stopped}
-use Rattle.dtp_session.specs.declared.state.Effect.{Effect}
-use Rattle.dtp_session.specs.declared.state.Effect.TheVariants.{Exit}
-use Rattle.dtp_session.specs.Answers.{error_line}
-use Rattle.dtp_session.specs.States.{State, Kept, StandsFor, after}
-use Rattle.dtp_session.specs.Tables.{IsTabled}
 use Rattle.dtp_session.specs.Transcripts.{Answers, closing, FollowsPart, TranscribesFrom, TranscribesPartFrom}
+use Rattle.smt_script.specs.declared.error.Refusal.{Refusal}
+use Rattle.smt_script.specs.declared.state.Effect.{Effect}
+use Rattle.smt_script.specs.declared.state.Effect.TheVariants.{Exit}
+use Rattle.smt_script.specs.Kept.{Kept, StandsFor}
+use Rattle.smt_script.specs.States.{State, IsMadeState, after}
+use Rattle.smt_answer.specs.Kinds.{kind_of}
+use Rattle.smt_answer.specs.Texts.{error_line}
 
--- what is kept stands for a state whose node table is that of its assertions
+-- what is kept stands for a state that came about by declarations, definitions and assertions
 pub record Stands (kept : Kept) (s : State) : Type 0 where
   pub stands : StandsFor kept s
-  pub tabled : IsTabled s
+  pub made : IsMadeState s
 
--- the command is answered, and the script goes on in this state
+-- the command is answered, and the script goes on in the next state
 pub record IsAnswered (report : Report) (s : State) (x : Sexpr) (added : List ℕ) (next : State) : Type 0 where
   pub effect : Effect
-  pub leads : after s x ≡ Ok (record { state = next; effect = effect })
+  pub behind : State
+  pub leads : after s x ≡ Ok (record { state = behind; effect = effect })
   pub goes_on : effect ≢ Exit
-  pub answers : Answers report next effect added
+  pub answers : Answers report behind effect added next
 
 -- what was done with command k
 abbrev pub IsCarriedOut : Report → State → ℕ → Sexpr → List ℕ → Kept → Turn → Type 0
 IsCarriedOut report s k x added kept Going = (next : State) × Stands kept next × IsAnswered report s x added next
 IsCarriedOut report s k x added kept Ended = (next : State) × (after s x ≡ Ok (record { state = next; effect = Exit })) × (added ≡ closing report)
-IsCarriedOut report s k x added kept Stopped = (kind : Kind) × (after s x ≡ Err kind) × (added ≡ error_line k kind)
+IsCarriedOut report s k x added kept Stopped = (why : Refusal) × (after s x ≡ Err why) × (added ≡ error_line k (kind_of why))
 
 -- what was written of command k where its answer was cut short
 abbrev pub IsCutShort : Report → State → ℕ → Sexpr → List ℕ → Type 0

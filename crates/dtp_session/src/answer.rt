@@ -1,19 +1,19 @@
 //! The answers, each written as a line.
-ghost use Rattle.std.specs.Prelude.{◌≡◌, ◌≤◌, OnOk, OnErr, Err};
+ghost use Rattle.std.specs.Prelude.{◌≡◌, ◌≤◌, IfOk, OnOk, OnErr, Err};
 ghost use Rattle.std.specs.Io.KnownBytes.{Appends};
 ghost use Rattle.dtp_io.specs.Faults.{Rose};
-ghost use Rattle.dtp_session.specs.Answers.{error_line};
-ghost use Rattle.dtp_session.specs.States.{State as Meaning};
-ghost use Rattle.dtp_session.specs.Transcripts.{opening, closing, IsDecided, IsFront, IsPartOf};
+ghost use Rattle.smt_answer.specs.Texts.{error_line};
+ghost use Rattle.smt_script.specs.States.{State as Meaning};
+ghost use Rattle.dtp_session.specs.Transcripts.{opening, closing, silent_answer, unsupported_answer, IsDecided, IsDecidedSome, IsFront, IsPartOf};
 ghost use Rattle.dtp_session.specs.Turns.{Stands};
 ghost use Rattle.dtp_session.specs.Written.{Writes};
 
 use crate::decision::decision_line;
-use crate::kind::Kind;
 use crate::report::Report;
-use crate::state::State;
-use crate::text::{closing, error_line, opening};
+use crate::text::{closing, error_line, opening, silent_answer, unsupported_answer};
 use dtp_io::{Sink, WriteFault, write_all_of};
+use smt_answer::Kind;
+use smt_script::{Satisfiability, State};
 use std::alloc::{AllocError, Global};
 
 /// Why a script isn't answered to its end.
@@ -103,7 +103,38 @@ pub fn write_error<K: Sink>(
     ensures later { K.faults sink.old ≤ K.faults sink.new }
 {
     let line = error_line(alloc, command, kind)?;
-    write_text(sink, line.as_bytes())
+    write_text(sink, &line)
+}
+
+/// Writes what answers a command without another answer.
+pub fn write_silent<K: Sink>(
+    alloc: Global,
+    sink: &mut K,
+    report: Report,
+    print_success: bool,
+) -> Result<(), SessionError>
+    ensures ok { OnOk result (Appends (K.holds sink.old) (K.holds sink.new) (silent_answer report print_success)) }
+    ensures err { OnErr result (Writes (K.holds sink.old) (K.holds sink.new) (λ added. IsFront added (silent_answer report print_success))) }
+    ensures fault { result ≡ Err SessionError.WriteFault → Rose (K.faults sink.old) (K.faults sink.new) }
+    ensures later { K.faults sink.old ≤ K.faults sink.new }
+{
+    let text = silent_answer(alloc, report, print_success)?;
+    write_text(sink, &text)
+}
+
+/// Writes what answers a command that isn't supported.
+pub fn write_unsupported<K: Sink>(
+    alloc: Global,
+    sink: &mut K,
+    report: Report,
+) -> Result<(), SessionError>
+    ensures ok { OnOk result (Appends (K.holds sink.old) (K.holds sink.new) (unsupported_answer report)) }
+    ensures err { OnErr result (Writes (K.holds sink.old) (K.holds sink.new) (λ added. IsFront added (unsupported_answer report))) }
+    ensures fault { result ≡ Err SessionError.WriteFault → Rose (K.faults sink.old) (K.faults sink.new) }
+    ensures later { K.faults sink.old ≤ K.faults sink.new }
+{
+    let text = unsupported_answer(alloc, report)?;
+    write_text(sink, &text)
 }
 
 /// Decides, and writes the verdict or the entry.
@@ -112,13 +143,14 @@ pub fn write_decision<K: Sink>(
     sink: &mut K,
     state: &State,
     report: Report,
-) -> Result<(), SessionError>
+) -> Result<Satisfiability, SessionError>
     requires { (s : Meaning) × Stands state.now s }
-    ensures ok { OnOk result ((s : Meaning) → Stands state.now s → Writes (K.holds sink.old) (K.holds sink.new) (IsDecided report s)) }
-    ensures err { OnErr result ((s : Meaning) → Stands state.now s → Writes (K.holds sink.old) (K.holds sink.new) (IsPartOf (IsDecided report s))) }
+    ensures ok { IfOk result (λ verdict. (s : Meaning) → Stands state.now s → Writes (K.holds sink.old) (K.holds sink.new) (IsDecided report s.context verdict)) }
+    ensures err { OnErr result ((s : Meaning) → Stands state.now s → Writes (K.holds sink.old) (K.holds sink.new) (IsPartOf (IsDecidedSome report s.context))) }
     ensures fault { result ≡ Err SessionError.WriteFault → Rose (K.faults sink.old) (K.faults sink.new) }
     ensures later { K.faults sink.old ≤ K.faults sink.new }
 {
-    let line = decision_line(alloc, state, report)?;
-    write_text(sink, &line)
+    let (line, verdict) = decision_line(alloc, state, report)?;
+    write_text(sink, &line)?;
+    Ok(verdict)
 }

@@ -5,20 +5,24 @@ ghost use Rattle.dtp_io.specs.Faults.{Rose};
 ghost use Rattle.smt_sexpr.specs.Tree.{Sexpr};
 ghost use Rattle.smt_sexpr.specs.Table.{Means, HasMeaning};
 ghost use Rattle.smt_sexpr.specs.Reading.{Explains};
-ghost use Rattle.dtp_session.specs.Answers.{kind_of_error, error_line};
-ghost use Rattle.dtp_session.specs.declared.kind.Kind.{Kind as Cause};
-ghost use Rattle.dtp_session.specs.States.{State as Meaning, start_state};
+ghost use Rattle.smt_answer.specs.Kinds.{kind_of, kind_of_error};
+ghost use Rattle.smt_answer.specs.Texts.{error_line};
+ghost use Rattle.smt_answer.specs.declared.kind.Kind.{Kind as Cause};
+ghost use Rattle.smt_script.specs.States.{State as Meaning, start_state};
 ghost use Rattle.dtp_session.specs.Transcripts.{IsFront, IsReport, IsReportPart, TranscribesFrom, TranscribesPartFrom};
 ghost use Rattle.dtp_session.specs.Ends.{status_of};
 ghost use Rattle.dtp_session.specs.Turns.{Stands, IsCarriedOut, IsCutShort, IsTurn};
 ghost use Rattle.dtp_session.specs.Written.{Writes};
 
-use crate::answer::{SessionError, write_closing, write_decision, write_error, write_opening};
-use crate::kind::Kind;
+use crate::answer::{
+    SessionError, write_closing, write_decision, write_error, write_opening, write_silent,
+    write_unsupported,
+};
 use crate::report::Report;
-use crate::state::{Effect, ScriptError, State};
 use dtp_io::Sink;
-use smt_lex::{LexErrorKind, Lexer};
+use smt_answer::{Kind, kind_of_error};
+use smt_lex::Lexer;
+use smt_script::{Effect, Refusal, ScriptError, State};
 use smt_sexpr::{SexprError, SexprId, Sexprs};
 use std::alloc::Global;
 
@@ -31,6 +35,13 @@ pub enum Turn {
     Ended,
     /// A command was refused, and the error is written.
     Stopped,
+}
+
+/// Why a command was refused, of all that may refuse it.
+fn kind(why: Refusal) -> Kind
+    ensures { result ≡ kind_of why }
+{
+    Kind::from(why)
 }
 
 /// Carries out a command, and answers it.
@@ -52,38 +63,30 @@ fn carry_out<'a, K: Sink>(
     ensures fault { result ≡ Err SessionError.WriteFault → Rose (K.faults sink.old) (K.faults sink.new) }
     ensures later { K.faults sink.old ≤ K.faults sink.new }
 {
+    smt_script::state_law();
     match state.step(sexprs, id) {
-        Ok(Effect::Silent) => Ok(Turn::Going),
+        Ok(Effect::Silent) => {
+            write_silent(alloc, sink, report, state.print_success())?;
+            Ok(Turn::Going)
+        }
+        Ok(Effect::Unsupported) => {
+            write_unsupported(alloc, sink, report)?;
+            Ok(Turn::Going)
+        }
         Ok(Effect::CheckSat) => {
-            write_decision(alloc, sink, state, report)?;
+            let verdict = write_decision(alloc, sink, state, report)?;
+            state.settle(verdict);
             Ok(Turn::Going)
         }
         Ok(Effect::Exit) => {
             write_closing(alloc, sink, report)?;
             Ok(Turn::Ended)
         }
-        Err(ScriptError::NotYet) => {
-            write_error(alloc, sink, command, Kind::NotYet)?;
+        Err(ScriptError::Refused(why)) => {
+            write_error(alloc, sink, command, kind(why))?;
             Ok(Turn::Stopped)
         }
         Err(ScriptError::OutOfMemory) => Err(SessionError::OutOfMemory),
-    }
-}
-
-/// The kind of a reader's error, or `None` for want of memory.
-pub fn kind_of_error(error: SexprError) -> Option<Kind>
-    ensures { result ≡ kind_of_error error }
-{
-    match error {
-        SexprError::OutOfMemory => None,
-        SexprError::Lex(error) => Some(match error.kind {
-            LexErrorKind::BadByte => Kind::BadByte,
-            LexErrorKind::UnclosedText => Kind::UnclosedString,
-            LexErrorKind::UnclosedSymbol => Kind::UnclosedQuotedSymbol,
-            LexErrorKind::LeadingZero => Kind::LeadingZero,
-        }),
-        SexprError::UnclosedList(_) => Some(Kind::UnclosedList),
-        SexprError::StrayClose(_) => Some(Kind::StrayClose),
     }
 }
 
@@ -172,6 +175,7 @@ fn answer_commands<K: Sink>(
     ensures fault { result ≡ Err SessionError.WriteFault → Rose (K.faults sink.old) (K.faults sink.new) }
     ensures later { K.faults sink.old ≤ K.faults sink.new }
 {
+    smt_script::state_law();
     let mut lexer = Lexer::new(bytes);
     let mut sexprs = Sexprs::new(alloc, bytes);
     let mut state = State::new(alloc);

@@ -1,10 +1,7 @@
 //! The call that decides a script.
-ghost use Rattle.std.specs.Prelude.{◌≡◌, ◌≤◌, Err, IfOk, OnErr};
-ghost use Rattle.dtp_io.specs.Faults.{Rose};
+ghost use Rattle.std.specs.Prelude.{◌≤◌};
 ghost use Rattle.dtp_session.specs.declared.report.Report.TheVariants.{Verdicts, Certificate};
-ghost use Rattle.dtp_session.specs.Ends.{status_of};
-ghost use Rattle.dtp_session.specs.Transcripts.{IsReport, IsReportPart};
-ghost use Rattle.dtp_session.specs.Written.{Writes};
+ghost use Rattle.dtp_session.specs.Solving.{IsSolved};
 
 use crate::answer::SessionError;
 use crate::gate::Gate;
@@ -30,10 +27,7 @@ pub fn solve_script<R: Wait, K: Sink, G: Gate>(
 ) -> Result<Solved, SessionError>
     requires workers { (1 ≤ workers) × (workers ≤ 64) }
     requires budget { (1 ≤ budget) × (budget ≤ 1000000) }
-    ensures whole { IfOk result (λ end. Writes (K.holds sink.old) (K.holds sink.new) (λ added. IsReport Verdicts bytes.now added (status_of end))) }
-    ensures part { OnErr result (Writes (K.holds sink.old) (K.holds sink.new) (λ added. IsReportPart Verdicts bytes.now added)) }
-    ensures fault { result ≡ Err SessionError.WriteFault → Rose (K.faults sink.old) (K.faults sink.new) }
-    ensures later { K.faults sink.old ≤ K.faults sink.new }
+    ensures solved { IsSolved Verdicts bytes.now (K.holds sink.old) (K.holds sink.new) (K.faults sink.old) (K.faults sink.new) result }
 {
     answer_script(alloc, bytes, sink, Report::Verdicts)
 }
@@ -53,10 +47,7 @@ pub fn certify_script<R: Wait, K: Sink, G: Gate>(
 ) -> Result<Solved, SessionError>
     requires workers { (1 ≤ workers) × (workers ≤ 64) }
     requires budget { (1 ≤ budget) × (budget ≤ 1000000) }
-    ensures whole { IfOk result (λ end. Writes (K.holds sink.old) (K.holds sink.new) (λ added. IsReport Certificate bytes.now added (status_of end))) }
-    ensures part { OnErr result (Writes (K.holds sink.old) (K.holds sink.new) (λ added. IsReportPart Certificate bytes.now added)) }
-    ensures fault { result ≡ Err SessionError.WriteFault → Rose (K.faults sink.old) (K.faults sink.new) }
-    ensures later { K.faults sink.old ≤ K.faults sink.new }
+    ensures solved { IsSolved Certificate bytes.now (K.holds sink.old) (K.holds sink.new) (K.faults sink.old) (K.faults sink.new) result }
 {
     answer_script(alloc, bytes, sink, Report::Certificate)
 }

@@ -15,9 +15,9 @@ fn answers_scripts(rt: HostRuntime) {
             b"sat\n",
         ),
         (
-            b"(check-sat) (push 1) (check-sat)",
+            b"(set-option :print-success true) (check-sat) (pop 1) (check-sat)",
             Ok(Solved::ScriptStopped),
-            b"sat\n(error \"command 2: not yet\")\n",
+            b"success\nsat\n(error \"command 3: pop below the bottom\")\n",
         ),
     ] {
         let mut sink = MemSink::new(rt.alloc(), &[]);

@@ -1,34 +1,20 @@
-//! The texts of the answers.
-ghost use Rattle.std.specs.Prelude.{◌≡◌, string_bytes, codes, IfOk};
-ghost use Rattle.dtp_session.specs.Transcripts.{opening, closing};
-ghost use Rattle.dtp_session.specs.Answers.{kind_text, error_line};
+//! The texts that open and close a report, and those of its answers.
+ghost use Rattle.std.specs.Prelude.{◌≡◌, IfOk};
+ghost use Rattle.smt_answer.specs.Texts.{error_line};
+ghost use Rattle.dtp_session.specs.Transcripts.{opening, closing, silent_answer, unsupported_answer};
 
-use crate::kind::Kind;
 use crate::report::Report;
 use cert_text::{write_end, write_header};
+use smt_answer::{Kind, error_text, success_text, unsupported_text};
 use std::alloc::{AllocError, Global};
 
-/// What an error's line says of it.
-pub fn kind_text(kind: Kind) -> &'static str
-    ensures { result.now ≡ kind_text kind }
-{
-    match kind {
-        Kind::BadByte => "bad byte",
-        Kind::UnclosedString => "unclosed string",
-        Kind::UnclosedQuotedSymbol => "unclosed quoted symbol",
-        Kind::LeadingZero => "leading zero",
-        Kind::UnclosedList => "unclosed list",
-        Kind::StrayClose => "stray close",
-        Kind::NotYet => "not yet",
-    }
-}
-
 /// The line of an error. Commands are counted from 1.
-#[tactic(auto, unfolding(crate::specs::Answers::error_line))]
-pub fn error_line(alloc: Global, command: u64, kind: Kind) -> Result<String, AllocError>
-    ensures { IfOk result (λ line. string_bytes line ≡ error_line command kind) }
+pub fn error_line(alloc: Global, command: u64, kind: Kind) -> Result<Vec<u8>, AllocError>
+    ensures { IfOk result (λ text. text.items ≡ error_line command kind) }
 {
-    format!(in alloc; "(error \"command {command}: {}\")\n", kind_text(kind))
+    let mut text = Vec::new(alloc);
+    error_text(command, kind, &mut text)?;
+    Ok(text)
 }
 
 /// What stands before the first command's answer.
@@ -51,6 +37,34 @@ pub fn closing(alloc: Global, report: Report) -> Result<Vec<u8>, AllocError>
     match report {
         Report::Verdicts => {}
         Report::Certificate => write_end(&mut text)?,
+    }
+    Ok(text)
+}
+
+/// What is written for a command without another answer.
+pub fn silent_answer(
+    alloc: Global,
+    report: Report,
+    print_success: bool,
+) -> Result<Vec<u8>, AllocError>
+    ensures { IfOk result (λ text. text.items ≡ silent_answer report print_success) }
+{
+    let mut text = Vec::new(alloc);
+    match report {
+        Report::Verdicts if print_success => success_text(&mut text)?,
+        _ => {}
+    }
+    Ok(text)
+}
+
+/// What is written for a command that isn't supported.
+pub fn unsupported_answer(alloc: Global, report: Report) -> Result<Vec<u8>, AllocError>
+    ensures { IfOk result (λ text. text.items ≡ unsupported_answer report) }
+{
+    let mut text = Vec::new(alloc);
+    match report {
+        Report::Verdicts => unsupported_text(&mut text)?,
+        Report::Certificate => {}
     }
     Ok(text)
 }

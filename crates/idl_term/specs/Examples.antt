@@ -1,9 +1,11 @@
--- The s-expressions, schedules and tables of the worked examples.
-use Rattle.std.specs.Prelude.{ℕ, List, [], ◌∷◌, codes, ℤ, pos}
+-- The s-expressions, schedules and scopes of the worked examples.
+use Rattle.std.specs.Prelude.{ℕ, List, [], ◌∷◌, codes, ℤ, pos, true}
 use Rattle.smt_lex.specs.declared.token.TokenKind.TheVariants.{Numeral, Symbol}
-use Rattle.smt_sexpr.specs.Tree.{Sexpr, leaf, list, none, more}
+use Rattle.smt_sexpr.specs.Tree.{Sexpr, Items, leaf, list, none, more}
 use Rattle.stn_core.specs.declared.literal.Literal.{Literal}
-use Rattle.idl_term.specs.Values.{Value, whole}
+use Rattle.idl_node.specs.declared.sort.Sort.TheVariants as sort
+use Rattle.idl_term.specs.Scopes.{Scope}
+use Rattle.idl_term.specs.Values.{Named, whole, truth}
 
 abbrev pub symbol : List ℕ → Sexpr
 symbol text = leaf Symbol text
@@ -17,41 +19,36 @@ x = symbol (codes "x")
 abbrev pub y : Sexpr
 y = symbol (codes "y")
 
+abbrev pub p : Sexpr
+p = symbol (codes "p")
+
 -- declared by nobody
 abbrev pub z : Sexpr
 z = symbol (codes "z")
 
-abbrev pub list_of_one : Sexpr → Sexpr
-list_of_one a = list (more a none)
+abbrev pub items_of : List Sexpr → Items
+items_of [] = none
+items_of (t ∷ ts) = more t (items_of ts)
 
-abbrev pub list_of_two : Sexpr → Sexpr → Sexpr
-list_of_two a b = list (more a (more b none))
+-- (head t ..)
+abbrev pub apply : List ℕ → List Sexpr → Sexpr
+apply head ts = list (items_of (symbol head ∷ ts))
 
-abbrev pub list_of_three : Sexpr → Sexpr → Sexpr → Sexpr
-list_of_three a b c = list (more a (more b (more c none)))
+-- (v t)
+abbrev pub binding : Sexpr → Sexpr → Sexpr
+binding v t = list (items_of (v ∷ t ∷ []))
 
--- (< a b), where the head is "<"
-abbrev pub pair : List ℕ → Sexpr → Sexpr → Sexpr
-pair head a b = list_of_three (symbol head) a b
+-- (let (b ..) body)
+abbrev pub let_of : List Sexpr → Sexpr → Sexpr
+let_of bindings body = list (items_of (symbol (codes "let") ∷ list (items_of bindings) ∷ body ∷ []))
 
--- (- x y)
-abbrev pub x_less_y : Sexpr
-x_less_y = list (more (leaf Symbol (codes "-")) (more (leaf Symbol (codes "x")) (more (leaf Symbol (codes "y")) none)))
+-- x is 4, y is 7 and p is true
+abbrev pub names : List Named
+names = record { name = codes "x"; value = whole (pos 4) } ∷ record { name = codes "y"; value = whole (pos 7) } ∷ record { name = codes "p"; value = truth true } ∷ []
 
--- (- n)
-abbrev pub negative : List ℕ → Sexpr
-negative digits = list (more (leaf Symbol (codes "-")) (more (leaf Numeral digits) none))
-
--- (< x 5)
-abbrev pub x_below_5 : Sexpr
-x_below_5 = list (more (leaf Symbol (codes "<")) (more (leaf Symbol (codes "x")) (more (leaf Numeral (codes "5")) none)))
-
-abbrev pub names : List (List ℕ)
-names = codes "x" ∷ codes "y" ∷ []
-
--- x is 4 and y is 7
-abbrev pub schedule : List Value
-schedule = whole (pos 4) ∷ whole (pos 7) ∷ []
+-- the time points of x, y and p are 1, 2 and 3
+abbrev pub scope : Scope
+scope = record { declared = record { name = codes "x"; sort = sort.Int } ∷ record { name = codes "y"; sort = sort.Int } ∷ record { name = codes "p"; sort = sort.Bool } ∷ []; bound = [] }
 
 abbrev pub literal : ℕ → ℕ → ℤ → Literal
 literal from to bound = record { x = from; y = to; c = bound }

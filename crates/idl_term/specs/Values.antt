@@ -1,79 +1,172 @@
--- The value of a term on a schedule, by recursion on the term: of names, numerals, `-` of one and of two arguments,
--- comparisons of two, and `or` of one or more. Other terms of the theories, such as `true` and `(+ x y)`, have no value
--- here yet.
--- Sources: SMT-LIB 2.6, section 3.6 (terms are s-expressions) and the theories Core and Ints.
-use Rattle.std.specs.Prelude.{ℕ, List, [], ◌∷◌, Bool, false, ◌||◌, codes, if◌then◌else◌, slice_index_or, ℤ, pos, neg_ℤ, ◌-ℤ◌, Option, Some, None}
-use Rattle.std.specs.List.{position}
+-- The value of a term, by recursion on the term (SMT-LIB 2.6, section 3.6, and the theories Core and Ints).
+use Rattle.std.specs.Prelude.{ℕ, List, [], ◌∷◌, ◌++◌, Bool, true, false, not, ◌&&◌, ◌||◌, codes, if◌then◌else◌, ℤ, pos, neg_ℤ, ◌+ℤ◌, ◌-ℤ◌, int_lt, int_le, Option, Some, None}
+use Rattle.std.specs.Ordering.{int_eq}
 use Rattle.std.specs.Str.{bytes_eq}
 use Rattle.smt_lex.specs.declared.token.TokenKind.{TokenKind}
 use Rattle.smt_lex.specs.declared.token.TokenKind.TheVariants.{Numeral, Symbol}
 use Rattle.smt_lex.specs.Numbers.{value_of}
 use Rattle.smt_sexpr.specs.Tree.{Sexpr, Items, leaf, list, none, more, symbol_of}
-use Rattle.idl_term.specs.Operators.{relation_of, stands}
+use Rattle.idl_node.specs.Truth.{equal_truth, different_truth, exclusive_truth, implied_truth, chain, all_pairs}
+use Rattle.idl_term.specs.declared.operator.Operator.{Operator}
+use Rattle.idl_term.specs.declared.operator.Operator.TheVariants as op
+use Rattle.idl_term.specs.Operators.{is_symbol, operator_of}
 
--- what a term stands for: a whole number, a truth value, or nothing where it is of no form above or ill-sorted
+-- what a term stands for: a whole number, a truth value, or nothing where it is of no form that is read, or ill-sorted
 pub data Value : Type 0 where
   whole : (number : ℤ) → Value
   truth : (holds : Bool) → Value
   nothing : Value
 
--- the place of a name among the declared ones, which stand in order of declaration
-abbrev pub place_of : List ℕ → List (List ℕ) → Option ℕ
-place_of name names = position (bytes_eq name) names
+-- what names stand for
+pub record Named : Type 0 where
+  pub name : List ℕ
+  pub value : Value
 
--- a schedule has one value for each declared name; a name stands for its own
-abbrev pub at_place : List Value → Option ℕ → Value
-at_place schedule None = nothing
-at_place schedule (Some k) = slice_index_or schedule k nothing
+-- a name's value: the first of that name counts
+abbrev pub looked_up : List ℕ → List Named → Value
+looked_up name [] = nothing
+looked_up name (n ∷ rest) = if bytes_eq name n.name then n.value else looked_up name rest
 
--- a numeral stands for its number, a declared symbol for its value
-abbrev pub leaf_value : List (List ℕ) → List Value → TokenKind → List ℕ → Value
-leaf_value names schedule Numeral text = whole (pos (value_of text))
-leaf_value names schedule Symbol text = at_place schedule (place_of text names)
-leaf_value names schedule _ text = nothing
+abbrev pub symbol_value : List Named → List ℕ → Value
+symbol_value env name =
+    if bytes_eq name (codes "true") then truth true
+    else (if bytes_eq name (codes "false") then truth false
+    else looked_up name env)
 
--- a relation of two numbers is true or false
-abbrev pub compared : (ℤ → ℤ → Bool) → List Value → Value
-compared test (whole a ∷ whole b ∷ []) = truth (test a b)
-compared test _ = nothing
+abbrev pub leaf_value : List Named → TokenKind → List ℕ → Value
+leaf_value env Numeral text = whole (pos (value_of text))
+leaf_value env Symbol text = symbol_value env text
+leaf_value env _ text = nothing
 
--- `-` of one number is its negative, of two their difference
-abbrev pub subtracted : List Value → Value
-subtracted (whole a ∷ []) = whole (neg_ℤ a)
-subtracted (whole a ∷ whole b ∷ []) = whole (a -ℤ b)
-subtracted _ = nothing
+-- ---- operators
 
--- true where one of the two is
-abbrev pub either_of : Value → Value → Value
-either_of (truth a) (truth b) = truth (a || b)
-either_of _ _ = nothing
+abbrev pub any_true : List Bool → Bool
+any_true [] = false
+any_true (a ∷ rest) = a || any_true rest
 
-abbrev pub any_of : List Value → Value
-any_of [] = truth false
-any_of (v ∷ vs) = either_of v (any_of vs)
+abbrev pub all_true : List Bool → Bool
+all_true [] = true
+all_true (a ∷ rest) = a && all_true rest
 
--- `or` is true where one of its arguments is. The standard's has two or more; here it may have one.
-abbrev pub disjoined : List Value → Value
-disjoined [] = nothing
-disjoined (v ∷ vs) = any_of (v ∷ vs)
+-- an operator on truth values: `xor` goes from the left, `=>` from the right
+abbrev pub truth_of : Operator → List Bool → Value
+truth_of op.Not (a ∷ []) = truth (not a)
+truth_of op.Implies truths = truth (implied_truth truths)
+truth_of op.And truths = truth (all_true truths)
+truth_of op.Or truths = truth (any_true truths)
+truth_of op.Xor (a ∷ rest) = truth (exclusive_truth a rest)
+truth_of op.Equal truths = truth (chain equal_truth truths)
+truth_of op.Distinct truths = truth (all_pairs different_truth truths)
+truth_of op.Ite (c ∷ a ∷ b ∷ []) = truth (if c then a else b)
+truth_of _ truths = nothing
 
--- an operator's value on its arguments' values
-abbrev pub applied : List ℕ → List Value → Value
-applied name arguments = elim (relation_of name) [
-  | Some relation ↦ compared (stands relation) arguments
-  | None ↦ if bytes_eq name (codes "-") then subtracted arguments else (if bytes_eq name (codes "or") then disjoined arguments else nothing)
+abbrev pub total : List ℤ → ℤ
+total [] = pos 0
+total (n ∷ ns) = n +ℤ total ns
+
+-- `-` of one number is its negative, of more the first less the others
+abbrev pub remainder : List ℤ → Value
+remainder [] = nothing
+remainder (n ∷ []) = whole (neg_ℤ n)
+remainder (n ∷ m ∷ ms) = whole (n -ℤ total (m ∷ ms))
+
+abbrev pub other_number : ℤ → ℤ → Bool
+other_number a b = not (int_eq a b)
+
+-- an operator on whole numbers; a relation holds of all neighbours, `distinct` of all pairs
+abbrev pub number_of : Operator → List ℤ → Value
+number_of op.Plus ns = whole (total ns)
+number_of op.Minus ns = remainder ns
+number_of op.Equal ns = truth (chain int_eq ns)
+number_of op.Distinct ns = truth (all_pairs other_number ns)
+number_of op.AtMost ns = truth (chain int_le ns)
+number_of op.Less ns = truth (chain int_lt ns)
+number_of op.AtLeast ns = truth (chain (λ a b. int_le b a) ns)
+number_of op.Greater ns = truth (chain (λ a b. int_lt b a) ns)
+number_of _ ns = nothing
+
+abbrev pub truth_before : Value → Option (List Bool) → Option (List Bool)
+truth_before (truth b) (Some bs) = Some (b ∷ bs)
+truth_before _ _ = None
+
+abbrev pub whole_before : Value → Option (List ℤ) → Option (List ℤ)
+whole_before (whole n) (Some ns) = Some (n ∷ ns)
+whole_before _ _ = None
+
+-- values that are all truth values, or all whole numbers
+abbrev pub truths_in : List Value → Option (List Bool)
+truths_in [] = Some []
+truths_in (v ∷ vs) = truth_before v (truths_in vs)
+
+abbrev pub wholes_in : List Value → Option (List ℤ)
+wholes_in [] = Some []
+wholes_in (v ∷ vs) = whole_before v (wholes_in vs)
+
+abbrev pub applied_to : Operator → Option (List Bool) → Option (List ℤ) → Value
+applied_to o (Some truths) ns = truth_of o truths
+applied_to o None (Some ns) = number_of o ns
+applied_to o None None = nothing
+
+-- an operator on values of one sort
+abbrev pub operator_value : Operator → List Value → Value
+operator_value o vs = applied_to o (truths_in vs) (wholes_in vs)
+
+abbrev pub value_by : Option Operator → List Value → Value
+value_by (Some o) vs = operator_value o vs
+value_by None vs = nothing
+
+-- the operator that a head names
+abbrev pub operator_at : Sexpr → Option Operator
+operator_at head = elim (symbol_of head) [
+  | None ↦ None
+  | Some name ↦ operator_of name
 ]
 
-abbrev pub applied_by : Option (List ℕ) → List Value → Value
-applied_by None arguments = nothing
-applied_by (Some name) arguments = applied name arguments
+-- the variable of a binding
+abbrev pub variable_of : Sexpr → List ℕ
+variable_of head = elim (symbol_of head) [
+  | None ↦ []
+  | Some name ↦ name
+]
+
+-- ---- terms
 
 abbrev mutual
-  pub value : List (List ℕ) → List Value → Sexpr → Value
-  value names schedule (leaf kind text) = leaf_value names schedule kind text
-  value names schedule (list none) = nothing
-  value names schedule (list (more head arguments)) = applied_by (symbol_of head) (values names schedule arguments)
+  -- a term where these names stand for these values
+  pub value : List Named → Sexpr → Value
+  value env (leaf kind text) = leaf_value env kind text
+  value env (list items) = list_value env items
 
-  pub values : List (List ℕ) → List Value → Items → List Value
-  values names schedule none = []
-  values names schedule (more x xs) = value names schedule x ∷ values names schedule xs
+  pub list_value : List Named → Items → Value
+  list_value env none = nothing
+  list_value env (more head arguments) = if is_symbol (codes "let") head then let_value env arguments else value_by (operator_at head) (values env arguments)
+
+  pub values : List Named → Items → List Value
+  values env none = []
+  values env (more x xs) = value env x ∷ values env xs
+
+  -- (let ((v t) ..) u): u where each v has its t's value, and each t is read outside
+  pub let_value : List Named → Items → Value
+  let_value env none = nothing
+  let_value env (more bindings rest) = first_value (bound env bindings ++ env) rest
+
+  -- the first of some terms
+  pub first_value : List Named → Items → Value
+  first_value env none = nothing
+  first_value env (more t rest) = value env t
+
+  pub bound : List Named → Sexpr → List Named
+  bound env (leaf kind text) = []
+  bound env (list items) = bound_each env items
+
+  pub bound_each : List Named → Items → List Named
+  bound_each env none = []
+  bound_each env (more binding rest) = bound_one env binding ∷ bound_each env rest
+
+  pub bound_one : List Named → Sexpr → Named
+  bound_one env (leaf kind text) = record { name = []; value = nothing }
+  bound_one env (list items) = bound_pair env items
+
+  pub bound_pair : List Named → Items → Named
+  bound_pair env none = record { name = []; value = nothing }
+  bound_pair env (more v rest) = record { name = variable_of v; value = first_value env rest }

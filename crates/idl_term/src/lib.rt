@@ -1,33 +1,33 @@
-//! Terms of difference logic: their values, the nodes that they are made into, and the clauses of asserted nodes.
-//!
-//! A term is read here where it is a comparison, `(op x y)`, `(op x k)` or `(op (- x y) k)` with `op` one of `<`, `<=`,
-//! `>`, `>=`, or `(or a ..)` of one or more comparisons.
+//! Terms of difference logic: their values, what they are made into, and the names that they use.
 #![tactic(auto)]
 
-mod clause_form;
-mod comparison;
-mod difference;
+mod applied;
+mod arithmetic;
+mod binding;
+mod comparing;
 mod error;
+mod eval;
 mod examples;
+mod head;
 mod laws;
-mod named;
+mod leaf;
+mod locals;
+mod lowered;
+mod lowering;
+mod machine;
 mod names;
-mod nodes;
-mod relation;
-mod shape;
-mod term;
-mod truth;
+mod operator;
+mod scope;
 
-pub use clause_form::problem_of;
-pub use comparison::{atom, is_symbol};
-pub use difference::Difference;
-pub use error::TermError;
-pub use examples::{worked_comparisons, worked_disjunctions, worked_nodes, worked_values};
-pub use laws::{clause_form_law, literal_of_a_comparison, table_law};
-pub use named::named_values;
+pub use error::{LeftOutTerm, TermError, TermRefusal};
+pub use eval::eval_int;
+pub use examples::{worked_terms, worked_values};
+pub use laws::{context_law, lowered_law};
+pub use lowered::Lowered;
+pub use lowering::lower;
 pub use names::Names;
-pub use nodes::{Node, Nodes};
-pub use relation::Relation;
-pub use shape::{pair, triple};
-pub use term::lower;
-pub use truth::is_true;
+pub use operator::{Operator, Relation, is_reserved, left_out_of, operator_of};
+pub use scope::{FoundName, Scope};
+
+#[cfg(test)]
+mod apply_tests;

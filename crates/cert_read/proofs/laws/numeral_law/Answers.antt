@@ -1,4 +1,4 @@
-use Rattle.cert_read.proofs.EntryBack.{numeral_value}
+use Rattle.cert_text.proofs.OneEntry.{numeral_value}
 use Rattle.cert_read.proofs.NumeralTexts.{text_of_value}
 use Rattle.cert_read.proofs.laws.numeral_law.Goals as goal
 

@@ -8,4 +8,4 @@ returns-in_err-line-clause-part g c = on_err _ _ (nothing_written c.args.bytes.n
 
 pub returns-in_err-write_text-clause-part : goal.returns-in_err-write_text-clause-part
 returns-in_err-write_text-clause-part g c =
-    on_err _ _ (line_cut c.args.bytes.now _ (g.K.Sink.holds c.args.sink.now) (g.K.Sink.holds c.write_text.new.sink) c.in_ok-judgement.judgement c.in_ok-judgement.ensures (c.as_bytes.ensures.value ∙ c.in_ok-line.ensures) c.in_err-write_text.ensures.err)
+    on_err _ _ (line_cut c.args.bytes.now _ (g.K.Sink.holds c.args.sink.now) (g.K.Sink.holds c.write_text.new.sink) c.in_ok-judgement.judgement c.in_ok-judgement.ensures (c.deref.ensures.value ∙ c.in_ok-line.ensures) c.in_err-write_text.ensures.err)

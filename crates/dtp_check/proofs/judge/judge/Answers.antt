@@ -17,7 +17,7 @@ script-init c =
       within = omega (arith, start);
       counted = omega (arith, start);
       used = omega arith;
-      judging = subst (λ (p : ℕ). IsJudging c.args.bytes.now c.args.entries.now p 1 0 c.new-state.result) (sym start) (judging_starts c.args.bytes.now c.args.entries.now c.new-state.result c.new-state.ensures);
+      judging = subst (λ (p : ℕ). IsJudging c.args.bytes.now c.args.entries.now p 1 0 c.new-state.result) (sym start) (judging_starts c.args.bytes.now c.args.entries.now c.new-state.result c.new-state.ensures c.state_law.ensures.start);
     }
 
 pub returns-in-Ended-Unread : goal.returns-in-Ended-Unread

@@ -2,4 +2,7 @@ use Rattle.dtp_check.proofs.Truths.{accepted_told}
 use Rattle.dtp_check.proofs.laws.nothing_false_is_accepted.Goals as goal
 
 pub returns : goal.returns
-returns c = accepted_told c.accepted_law.ensures
+returns c =
+    let contexts = c.context_law.ensures in
+    let states = c.state_law.ensures in
+    accepted_told c.flaw_law.ensures c.refutation_law.ensures contexts.scope contexts.roots contexts.exact c.clause_form_law.ensures.holds states.step states.settled states.start

@@ -15,7 +15,7 @@ commands-init g c =
       within = omega (arith, place);
       counted = omega (arith, place);
       later = omega arith;
-      so_far = subst (λ (p : ℕ). IsSoFar c.args.report c.args.bytes.now p c.new-state.result 1 held held) (sym place) (so_far_starts c.args.report c.args.bytes.now c.new-state.result held c.new-state.ensures);
+      so_far = subst (λ (p : ℕ). IsSoFar c.args.report c.args.bytes.now p c.new-state.result 1 held held) (sym place) (so_far_starts c.args.report c.args.bytes.now c.new-state.result held c.new-state.ensures c.state_law.ensures.start);
     }
 
 pub commands-preserved : goal.commands-preserved

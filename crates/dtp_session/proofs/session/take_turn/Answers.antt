@@ -1,7 +1,7 @@
 use Rattle.std.proofs.Common.{◌≡◌, ◌∙◌, sym, ap, subst}
 use Rattle.smt_sexpr.specs.Table.{Table}
 use Rattle.dtp_session.specs.declared.session.Turn.{Turn}
-use Rattle.dtp_session.specs.Answers.{error_line}
+use Rattle.smt_answer.specs.Texts.{error_line}
 use Rattle.dtp_session.specs.Transcripts.{closing}
 use Rattle.dtp_session.specs.Turns.{IsTurn}
 use Rattle.dtp_session.proofs.Turning.{on_cut_turn, turn_done, turn_cut, turn_ends, end_cut, turn_refused, refused_cut, found_one, found_none, found_error}

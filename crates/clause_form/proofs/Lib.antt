@@ -1,0 +1,15 @@
+pub mod Among
+pub mod Truths
+pub mod Spreading
+pub mod Inner
+pub mod Least
+pub mod Literals
+pub mod ClauseTruths
+pub mod Both
+pub mod Points
+pub mod Schedules
+pub mod Means
+pub mod Passes
+pub mod Pieces
+pub mod Problems
+pub mod Small

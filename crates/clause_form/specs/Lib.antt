@@ -1,0 +1,13 @@
+pub mod Polarity
+pub mod Sets
+pub mod ClauseForm
+pub mod Restricting
+pub mod Marking
+pub mod Marked
+pub mod Examples
+pub use Rattle.stn_core.specs.Literal
+pub use Rattle.stn_core.specs.Problem
+pub use Rattle.idl_node.specs.Nodes
+pub use Rattle.idl_node.specs.Sorts
+pub use Rattle.idl_node.specs.Truth
+pub use Rattle.idl_node.specs.Tables

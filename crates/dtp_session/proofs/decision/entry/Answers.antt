@@ -1,0 +1,52 @@
+use Rattle.std.proofs.Common.{arith, ◌∙◌, ◌≡◌, ◌+◌, ◌≤◌, sym, ap, subst, ℕ, List, length, ℤ}
+use Rattle.std.specs.Prelude.{All}
+use Rattle.stn_core.specs.Schedule.{IsInRange}
+use Rattle.stn_core.specs.declared.literal.Literal.{Literal}
+use Rattle.cert_text.specs.Limits.{limit}
+use Rattle.clause_form.specs.Restricting.{restricted}
+use Rattle.idl_node.specs.declared.sort.Sort.{Sort}
+use Rattle.idl_term.specs.Scopes.{Declaration, Scope, sorts_of}
+use Rattle.plain_search.specs.Verdicts.{IsSolution, IsOfInputs}
+use Rattle.refute_tree.specs.Trees.{IsRefutation}
+use Rattle.dtp_session.specs.Entries.{points_of, problem_of}
+use Rattle.dtp_session.proofs.Verdicts.{as_found, sorts_count, sat_entry, unsat_entry}
+use Rattle.dtp_session.proofs.decision.entry.Goals as goal
+
+pub restrict-requires-clause-some : goal.restrict-requires-clause-some
+restrict-requires-clause-some c =
+    let s = c.requires.0 in
+    let stands = c.requires.1 in
+    let e = c.in_ok-problem.ensures s stands in
+    let found : IsSolution (points_of s.context) (problem_of s.context) c.in-Sat.schedule = as_found _ _ _ _ _ _ e.0 e.1 c.in-Sat.is c.in_ok-schedule.ensures in
+    let count : length c.as_slice-in-Sat.result.now ≡ points_of s.context = ap (λ (values : List ℤ). length values) c.as_slice-in-Sat.ensures ∙ found.count in
+    let names : length c.sorts.result.now ≡ length s.context.declared =
+    ap (λ (sorts : List Sort). length sorts) (c.sorts.ensures ∙ ap sorts_of (c.names.ensures.names ∙ ap (λ (t : Scope). t.declared) stands.stands.scope)) ∙ sorts_count s.context.declared in
+    let some = c.clause_form_law.ensures.some (length s.context.declared + 1) s.context.nodes s.context.roots in
+    omega (arith, count, names, some)
+
+pub restrict-requires-clause-range : goal.restrict-requires-clause-range
+restrict-requires-clause-range c =
+    let s = c.requires.0 in
+    let e = c.in_ok-problem.ensures s c.requires.1 in
+    let found : IsSolution (points_of s.context) (problem_of s.context) c.in-Sat.schedule = as_found _ _ _ _ _ _ e.0 e.1 c.in-Sat.is c.in_ok-schedule.ensures in
+    subst (λ (values : List ℤ). All IsInRange values) (sym c.as_slice-in-Sat.ensures) found.range
+
+pub returns-in-Sat : goal.returns-in-Sat
+returns-in-Sat c = λ s stands.
+    let e = c.in_ok-problem.ensures s stands in
+    let found : IsSolution (points_of s.context) (problem_of s.context) c.in-Sat.schedule = as_found _ _ _ _ _ _ e.0 e.1 c.in-Sat.is c.in_ok-schedule.ensures in
+    let laws = c.context_law.ensures in
+    let names : c.sorts.result.now ≡ sorts_of s.context.declared = c.sorts.ensures ∙ ap sorts_of (c.names.ensures.names ∙ ap (λ (t : Scope). t.declared) stands.stands.scope) in
+    let values : c.in_ok-values-in-Sat.values ≡ restricted (sorts_of s.context.declared) c.in-Sat.schedule =
+    c.in_ok-values-in-Sat.ensures ∙ ap (restricted c.sorts.result.now) c.as_slice-in-Sat.ensures ∙ ap (λ (sorts : List Sort). restricted sorts c.in-Sat.schedule) names in
+    sat_entry s.context stands.made.context laws.scope laws.roots laws.exact c.clause_form_law.ensures.schedule c.in-Sat.schedule c.in_ok-values-in-Sat.values found values
+
+pub returns : goal.returns
+returns c = λ s stands.
+    let e = c.in_ok-problem.ensures s stands in
+    let found : IsRefutation (points_of s.context) (problem_of s.context) c.in-Unsat.refutation × IsOfInputs c.in-Unsat.refutation = as_found _ _ _ _ _ _ e.0 e.1 c.in-Unsat.is c.in_ok-schedule.ensures in
+    let laws = c.context_law.ensures in
+    let count : length c.as_slice.result.now ≡ length (problem_of s.context) = ap (λ (clauses : List (List Literal)). length clauses) (c.as_slice.ensures ∙ e.1) in
+    let within : length c.as_slice.result.now ≤ 2305843009213693952 = omega arith in
+    let few : length (problem_of s.context) ≤ limit = omega (arith, count, within) in
+    unsat_entry s.context stands.made.context laws.scope laws.roots c.clause_form_law.ensures.over c.clause_form_law.ensures.few c.negation_kept.ensures few c.in-Unsat.refutation found.0 found.1

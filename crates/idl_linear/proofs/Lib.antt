@@ -1,0 +1,11 @@
+pub mod Products
+pub mod Coefficients
+pub mod Collecting
+pub mod Valued
+pub mod Comparing
+pub mod Merging
+pub mod Ends
+pub mod Outcomes
+pub mod Running
+pub mod Sorting
+pub mod Summing

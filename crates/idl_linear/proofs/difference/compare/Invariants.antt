@@ -1,0 +1,17 @@
+use Rattle.std.proofs.Common.{◌≡◌, ◌<◌, ◌+◌, Some, length}
+use Rattle.idl_linear.specs.Limits.{points_limit}
+use Rattle.idl_linear.specs.Differences.{ends_of}
+use Rattle.idl_linear.specs.Steps.{IsRest, less, ends_through}
+use Rattle.idl_linear.proofs.difference.compare.Given as goal
+
+abbrev pub invariant-loop-summand : goal.invariant-loop-summand
+invariant-loop-summand l = record {
+  left : IsRest l.merge.left.now;
+  right : IsRest l.merge.right.now;
+  same : ends_through (Some l.ends) (less l.merge.left.now l.merge.right.now) ≡ ends_of (less l.a.summands l.b.summands);
+  x : l.ends.x < points_limit;
+  y : l.ends.y < points_limit;
+}
+
+abbrev pub decreases-loop-summand : goal.decreases-loop-summand
+decreases-loop-summand l = length l.merge.left.now + length l.merge.right.now

@@ -1,0 +1,35 @@
+-- What holds of every linear term that the code makes.
+use Rattle.std.specs.Prelude.{◌≡◌, ◌≢◌, ℕ, ◌<◌, ◌*◌, List, [], ◌∷◌, true, ℤ, pos, neg_ℤ, ◌≤ℤ◌}
+use Rattle.std.specs.List.{AllByRecursion}
+use Rattle.idl_linear.specs.declared.summand.Summand.{Summand}
+use Rattle.idl_linear.specs.Limits.{coefficient_limit, constant_limit, points_limit}
+use Rattle.idl_linear.specs.Linear.{LinearValue, is_limited, is_within}
+
+-- time points ascend above this one, and coefficients aren't 0
+abbrev pub AscendAbove : ℕ → List Summand → Type 0
+AscendAbove least [] = Unit {0}
+AscendAbove least (s ∷ rest) = (least < s.point) × (s.coefficient ≢ pos 0) × AscendAbove s.point rest
+
+-- collected, over names' time points, and within the limits
+pub record IsLinear (l : LinearValue) : Type 0 where
+  pub ascends : AscendAbove 0 l.summands
+  pub over : AllByRecursion (λ (s : Summand). s.point < points_limit) l.summands
+  pub limited : is_limited l ≡ true
+
+-- a sum that is being made: its summands in any order, its constant, and of how many terms it is
+pub record SumValue : Type 0 where
+  pub summands : List Summand
+  pub constant : ℤ
+  pub terms : ℕ
+
+-- what terms give to a sum
+pub record IsSummand (s : Summand) : Type 0 where
+  pub above : 0 < s.point
+  pub below : s.point < points_limit
+  pub limited : is_within coefficient_limit s.coefficient ≡ true
+
+-- the constants of its terms are each within their limit
+pub record IsSum (s : SumValue) : Type 0 where
+  pub each : AllByRecursion IsSummand s.summands
+  pub low : neg_ℤ (pos (constant_limit * s.terms)) ≤ℤ s.constant
+  pub high : s.constant ≤ℤ pos (constant_limit * s.terms)

@@ -1,0 +1,7 @@
+pub mod Limits
+pub mod Linear
+pub mod Forms
+pub mod Differences
+pub mod Values
+pub mod Steps
+pub mod Examples

@@ -1,0 +1,93 @@
+//! Linear terms.
+ghost use Rattle.std.specs.Prelude.{◌≡◌, ◌<◌, ◌≤◌, true, IfOk};
+ghost use Rattle.idl_linear.specs.Limits.{points_limit, constant_limit};
+ghost use Rattle.idl_linear.specs.Linear.{number_alone, point_alone, is_within};
+ghost use Rattle.idl_linear.specs.Forms.{IsLinear};
+
+use crate::summand::Summand;
+use std::alloc::{AllocError, Global};
+use std::marker::Model;
+
+/// A linear term: time points with coefficients, and a constant. Coefficients are within 2^20 and the constant within 2^62.
+#[derive(Drop)]
+pub struct Linear {
+    // by ascending time points, none with the coefficient 0
+    summands: Vec<Summand>,
+    constant: i64,
+}
+
+impl Model for Linear {
+    ghost use Rattle.idl_linear.specs.Linear.{LinearValue};
+    ghost use Rattle.idl_linear.specs.Forms.{IsLinear};
+
+    ghost Value = { LinearValue };
+
+    ghost view = { λ l. record { summands = l.summands.items; constant = l.constant } };
+
+    ghost invariant = { λ l. IsLinear (record { summands = l.summands.items; constant = l.constant }) };
+}
+
+impl Linear {
+    /// A whole number. It takes no memory.
+    pub fn number(alloc: Global, number: i64) -> Self
+        requires { is_within constant_limit number ≡ true }
+        ensures { result ≡ number_alone number }
+    {
+        Linear {
+            summands: Vec::new(alloc),
+            constant: number,
+        }
+    }
+
+    /// The value of a name's time point.
+    pub fn point(alloc: Global, point: u32) -> Result<Self, AllocError>
+        requires some { 0 < point }
+        requires few { point < points_limit }
+        ensures { IfOk result (λ l. l ≡ point_alone point) }
+    {
+        let mut summands = Vec::new(alloc);
+        summands.push(Summand {
+            point,
+            coefficient: 1,
+        })?;
+        Ok(Linear {
+            summands,
+            constant: 0,
+        })
+    }
+
+    /// An equal term in memory of its own.
+    pub fn copy(&self) -> Result<Self, AllocError>
+        ensures { IfOk result (λ l. l ≡ self.now) }
+    {
+        let summands = self.summands.clone()?;
+        Ok(Linear {
+            summands,
+            constant: self.constant,
+        })
+    }
+
+    pub(crate) fn from_parts(summands: Vec<Summand>, constant: i64) -> Self
+        requires { IsLinear (record { summands = summands.items; constant = constant }) }
+        ensures { result ≡ record { summands = summands.items; constant = constant } }
+    {
+        Linear { summands, constant }
+    }
+
+    /// The names' time points with their coefficients, by ascending time points: above 0, the zero point, and below 65,537. No
+    /// coefficient is 0.
+    pub fn summands(&self) -> &[Summand]
+        ensures items { result.now ≡ self.now.summands }
+        ensures linear { IsLinear self.now }
+    {
+        self.summands.as_slice()
+    }
+
+    /// What is added to the summands. It is within 2^62.
+    pub fn constant(&self) -> i64
+        ensures number { result ≡ self.now.constant }
+        ensures linear { IsLinear self.now }
+    {
+        self.constant
+    }
+}

@@ -1,0 +1,70 @@
+//! Runs of equal time points in sorted summands.
+ghost use Rattle.std.specs.Prelude.{◌≡◌, ◌<◌, ◌≤◌, length, drop, true, false, OnOk, OnErr, IfErr};
+ghost use Rattle.std.specs.List.{AllByRecursion, list_all};
+ghost use Rattle.idl_linear.specs.declared.error.LinearError.TheVariants.{BoundTooLarge};
+ghost use Rattle.idl_linear.specs.declared.summand.Summand.{Summand};
+ghost use Rattle.idl_linear.specs.Limits.{coefficient_limit};
+ghost use Rattle.idl_linear.specs.Linear.{collected, put_before, is_within};
+ghost use Rattle.idl_linear.specs.Forms.{IsSummand};
+ghost use Rattle.idl_linear.specs.Steps.{RiseFrom};
+
+use crate::error::LinearError;
+use crate::limits::{COEFFICIENT_LIMIT, within};
+use crate::summand::Summand;
+
+// The first so many summands, which have one time point, and the sum of their coefficients.
+#[derive(Clone, Copy)]
+struct Run {
+    len: usize,
+    point: u32,
+    sum: i128,
+}
+
+fn first_run(summands: &[Summand]) -> Run
+    requires some { 0 < length summands.now }
+    requires each { AllByRecursion IsSummand summands.now }
+    requires rises { RiseFrom 1 summands.now }
+    ensures some { 0 < result.len }
+    ensures len { result.len ≤ length summands.now }
+    ensures sum { collected summands.now ≡ put_before (record { point = result.point; coefficient = result.sum }) (collected (drop result.len summands.now)) }
+{
+    let point = summands[0].point;
+    let mut len = 0;
+    let mut sum = 0i128;
+    while len < summands.len() && summands[len].point == point {
+        sum += i128::from(summands[len].coefficient);
+        len += 1;
+    }
+    Run { len, point, sum }
+}
+
+/// Collects summands that are sorted by time points, in place. Where a coefficient is beyond its limit, what is left of
+/// them says nothing.
+pub(crate) fn combine(summands: &mut Vec<Summand>) -> Result<(), LinearError>
+    requires each { AllByRecursion IsSummand summands.old.items }
+    requires rises { RiseFrom 1 summands.old.items }
+    ensures collected { OnOk result (summands.new.items ≡ collected summands.old.items) }
+    ensures limited { OnOk result (list_all (λ (s : Summand). is_within coefficient_limit s.coefficient) (collected summands.old.items) ≡ true) }
+    ensures refused { OnErr result (list_all (λ (s : Summand). is_within coefficient_limit s.coefficient) (collected summands.old.items) ≡ false) }
+    ensures error { IfErr result (λ e. e ≡ BoundTooLarge) }
+{
+    let mut kept = 0;
+    let mut start = 0;
+    while start < summands.len() {
+        let run = first_run(&summands[start..]);
+        let coefficient = match within(COEFFICIENT_LIMIT, run.sum) {
+            Some(coefficient) => coefficient,
+            None => return Err(LinearError::BoundTooLarge),
+        };
+        if coefficient != 0 {
+            summands[kept] = Summand {
+                point: run.point,
+                coefficient,
+            };
+            kept += 1;
+        }
+        start += run.len;
+    }
+    summands.truncate(kept);
+    Ok(())
+}

@@ -1,0 +1,10 @@
+pub mod Sharing
+pub mod Truths
+pub mod Keeping
+pub mod Growing
+pub mod Makers
+pub mod Pairs
+pub mod Steps
+pub mod Denying
+pub mod Marking
+pub mod Lengths

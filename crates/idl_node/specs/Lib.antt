@@ -1,0 +1,10 @@
+pub mod Limits
+pub mod Nodes
+pub mod Making
+pub mod Made
+pub mod Truth
+pub mod Tables
+pub mod Sorts
+pub mod Meaning
+pub mod Examples
+pub use Rattle.stn_core.specs.Literal

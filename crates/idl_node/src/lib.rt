@@ -1,0 +1,23 @@
+//! The node table of difference logic: formulas over bounds on differences of time points, each node by the numbers of the
+//! nodes that it is made of. Equal nodes are one.
+#![tactic(auto)]
+
+mod error;
+mod examples;
+mod laws;
+mod making;
+mod node;
+mod nodes;
+mod sort;
+mod truth;
+
+pub use error::NodeError;
+pub use examples::{worked_formulas, worked_truths};
+pub use laws::{list_making_law, making_law, truth_law};
+pub use node::Node;
+pub use nodes::Nodes;
+pub use sort::Sort;
+pub use truth::{eval, mark_truths, point_value};
+
+#[cfg(test)]
+mod tests;

@@ -1,0 +1,207 @@
+//! The nodes of formulas over nodes that are there (SMT-LIB 2.6, theory Core). Each call takes numbers of nodes of the table
+//! and gives the number of a node, which may have been there before. There is an error where memory is wanting, or where the
+//! table is full on the way. After an error the table may be longer than before it: the caller cuts it.
+ghost use Rattle.std.specs.Prelude.{◌≡◌, ◌∷◌, [], length, take, if◌then◌else◌};
+ghost use Rattle.idl_node.specs.Made.{Makes};
+ghost use Rattle.idl_node.specs.Making.{denied, conjoined, disjoined, equal, different, chosen, exclusive, implied, all_equal, all_different, constant, falsehood, not_or, or_not, and_not, not_and};
+ghost use Rattle.idl_node.specs.Nodes.{placed, conjunction, disjunction};
+
+use crate::error::NodeError;
+use crate::node::Node;
+use crate::nodes::Nodes;
+use std::alloc::Global;
+
+impl Nodes {
+    /// `true`, or `false` as the node that denies it. It adds two nodes at most.
+    pub fn constant(&mut self, value: bool) -> Result<u32, NodeError>
+        ensures makes { Makes self.new (if value then constant self.old else falsehood self.old) result }
+        ensures front { take (length self.old) self.new ≡ self.old }
+    {
+        let yes = self.place(Node::True)?;
+        if value { Ok(yes) } else { self.negate(yes) }
+    }
+
+    /// `not`: of an atom the atom of the negation, of a `not` its member. It adds one node at most.
+    pub fn negate(&mut self, number: u32) -> Result<u32, NodeError>
+        ensures makes { Makes self.new (denied self.old number) result }
+        ensures front { take (length self.old) self.new ≡ self.old }
+    {
+        let Some(node) = self.as_slice().get(number as usize) else {
+            return self.place(Node::Not(number));
+        };
+        match node {
+            Node::Atom(literal) => {
+                let opposite = stn_core::negate(*literal);
+                self.place(Node::Atom(opposite))
+            }
+            Node::Not(member) => Ok(*member),
+            _ => self.place(Node::Not(number)),
+        }
+    }
+
+    /// `and`; of one node that node, of none a node that is true.
+    pub fn conjoin(&mut self, members: Vec<u32>) -> Result<u32, NodeError>
+        ensures makes { Makes self.new (conjoined self.old members.items) result }
+        ensures front { take (length self.old) self.new ≡ self.old }
+    {
+        if members.len() != 1 {
+            return self.place(Node::And(members));
+        }
+        Ok(members[0])
+    }
+
+    /// `or`; of one node that node, of none a node that is false.
+    pub fn disjoin(&mut self, members: Vec<u32>) -> Result<u32, NodeError>
+        ensures makes { Makes self.new (disjoined self.old members.items) result }
+        ensures front { take (length self.old) self.new ≡ self.old }
+    {
+        if members.len() != 1 {
+            return self.place(Node::Or(members));
+        }
+        Ok(members[0])
+    }
+
+    /// `and` of two nodes.
+    fn both(&mut self, alloc: Global, a: u32, b: u32) -> Result<u32, NodeError>
+        ensures makes { Makes self.new (placed self.old (conjunction (a ∷ b ∷ []))) result }
+        ensures front { take (length self.old) self.new ≡ self.old }
+    {
+        let members = vec![in alloc; a, b]?;
+        self.place(Node::And(members))
+    }
+
+    /// `or` of two nodes.
+    fn either(&mut self, alloc: Global, a: u32, b: u32) -> Result<u32, NodeError>
+        ensures makes { Makes self.new (placed self.old (disjunction (a ∷ b ∷ []))) result }
+        ensures front { take (length self.old) self.new ≡ self.old }
+    {
+        let members = vec![in alloc; a, b]?;
+        self.place(Node::Or(members))
+    }
+
+    /// `(or (not a) b)`.
+    fn not_or(&mut self, alloc: Global, a: u32, b: u32) -> Result<u32, NodeError>
+        ensures makes { Makes self.new (not_or self.old a b) result }
+        ensures front { take (length self.old) self.new ≡ self.old }
+    {
+        let not_a = self.negate(a)?;
+        self.either(alloc, not_a, b)
+    }
+
+    /// `(or a (not b))`.
+    fn or_not(&mut self, alloc: Global, a: u32, b: u32) -> Result<u32, NodeError>
+        ensures makes { Makes self.new (or_not self.old a b) result }
+        ensures front { take (length self.old) self.new ≡ self.old }
+    {
+        let not_b = self.negate(b)?;
+        self.either(alloc, a, not_b)
+    }
+
+    /// `(and a (not b))`.
+    fn and_not(&mut self, alloc: Global, a: u32, b: u32) -> Result<u32, NodeError>
+        ensures makes { Makes self.new (and_not self.old a b) result }
+        ensures front { take (length self.old) self.new ≡ self.old }
+    {
+        let not_b = self.negate(b)?;
+        self.both(alloc, a, not_b)
+    }
+
+    /// `(and (not a) b)`.
+    fn not_and(&mut self, alloc: Global, a: u32, b: u32) -> Result<u32, NodeError>
+        ensures makes { Makes self.new (not_and self.old a b) result }
+        ensures front { take (length self.old) self.new ≡ self.old }
+    {
+        let not_a = self.negate(a)?;
+        self.both(alloc, not_a, b)
+    }
+
+    /// Two formulas are equal.
+    fn equal(&mut self, alloc: Global, a: u32, b: u32) -> Result<u32, NodeError>
+        ensures makes { Makes self.new (equal self.old a b) result }
+        ensures front { take (length self.old) self.new ≡ self.old }
+    {
+        let forth = self.not_or(alloc, a, b)?;
+        let back = self.or_not(alloc, a, b)?;
+        self.both(alloc, forth, back)
+    }
+
+    /// Two formulas differ.
+    fn different(&mut self, alloc: Global, a: u32, b: u32) -> Result<u32, NodeError>
+        ensures makes { Makes self.new (different self.old a b) result }
+        ensures front { take (length self.old) self.new ≡ self.old }
+    {
+        let first = self.and_not(alloc, a, b)?;
+        let second = self.not_and(alloc, a, b)?;
+        self.either(alloc, first, second)
+    }
+
+    /// `ite` of three formulas: `yes` where the condition is true, else `no`. It adds four nodes at most.
+    pub fn choose(
+        &mut self,
+        alloc: Global,
+        condition: u32,
+        yes: u32,
+        no: u32,
+    ) -> Result<u32, NodeError>
+        ensures makes { Makes self.new (chosen self.old condition yes no) result }
+        ensures front { take (length self.old) self.new ≡ self.old }
+    {
+        let then = self.not_or(alloc, condition, yes)?;
+        let otherwise = self.either(alloc, condition, no)?;
+        self.both(alloc, then, otherwise)
+    }
+
+    /// `xor` of the first and the others, from the left. It adds at most five nodes for each of the others.
+    pub fn exclude(&mut self, alloc: Global, first: u32, others: &[u32]) -> Result<u32, NodeError>
+        ensures makes { Makes self.new (exclusive self.old first others.now) result }
+        ensures front { take (length self.old) self.new ≡ self.old }
+    {
+        let mut number = first;
+        for other in others {
+            number = self.different(alloc, number, *other)?;
+        }
+        Ok(number)
+    }
+
+    /// `=>`: an `or` in which each but the last is denied. Of no member it is false.
+    pub fn imply(&mut self, alloc: Global, members: &[u32]) -> Result<u32, NodeError>
+        ensures makes { Makes self.new (implied self.old [] members.now) result }
+        ensures front { take (length self.old) self.new ≡ self.old }
+    {
+        let Some((last, premises)) = members.split_last() else {
+            return self.disjoin(Vec::new(alloc));
+        };
+        let mut alternatives = Vec::new(alloc);
+        for premise in premises {
+            alternatives.push(self.negate(*premise)?)?;
+        }
+        alternatives.push(*last)?;
+        self.disjoin(alternatives)
+    }
+
+    /// `=` of formulas: each equals its neighbour. It adds at most five nodes for each two neighbours, and one.
+    pub fn equate(&mut self, alloc: Global, members: &[u32]) -> Result<u32, NodeError>
+        ensures makes { Makes self.new (all_equal self.old members.now) result }
+        ensures front { take (length self.old) self.new ≡ self.old }
+    {
+        let mut parts = Vec::new(alloc);
+        for i in 1..members.len() {
+            parts.push(self.equal(alloc, members[i - 1], members[i])?)?;
+        }
+        self.conjoin(parts)
+    }
+
+    /// `distinct` of formulas: all pairs differ. It adds at most five nodes for each pair, and one.
+    pub fn tell_apart(&mut self, alloc: Global, members: &[u32]) -> Result<u32, NodeError>
+        ensures makes { Makes self.new (all_different self.old members.now) result }
+        ensures front { take (length self.old) self.new ≡ self.old }
+    {
+        let mut parts = Vec::new(alloc);
+        for (i, first) in members.iter().enumerate() {
+            for second in &members[i + 1..] {
+                parts.push(self.different(alloc, *first, *second)?)?;
+            }
+        }
+        self.conjoin(parts)
+    }
+}

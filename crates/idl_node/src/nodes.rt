@@ -1,0 +1,93 @@
+//! The node table.
+ghost use Rattle.std.specs.Prelude.{◌≡◌, ◌≤◌, [], ◌<◌, length, take, IfOk, OnErr, Err, Some, None, Option};
+ghost use Rattle.idl_node.specs.Limits.{nodes_limit};
+ghost use Rattle.idl_node.specs.Made.{Makes};
+ghost use Rattle.idl_node.specs.Nodes.{node_value, number_in, placed, shown};
+
+use crate::error::NodeError;
+use crate::node::Node;
+use indexmap::IndexSet;
+use std::alloc::Global;
+use std::marker::Model;
+
+/// The greatest number of nodes.
+const NODES_LIMIT: usize = 1_048_576;
+
+/// Different nodes, found by hash. A node's number is its place, from 0. There are 2^20 at most.
+#[derive(Drop)]
+pub struct Nodes {
+    set: IndexSet<Node>,
+}
+
+impl Model for Nodes {
+    ghost use Rattle.std.specs.Prelude.{List, length, ◌≤◌};
+    ghost use Rattle.idl_node.specs.Nodes.{NodeValue, shown};
+    ghost use Rattle.idl_node.specs.Limits.{nodes_limit};
+
+    ghost Value = { List NodeValue };
+
+    ghost view = { λ n. shown n.set.keys };
+
+    ghost invariant = { λ n. length n.set.keys ≤ nodes_limit };
+}
+
+impl Nodes {
+    /// An empty table, which takes no memory yet.
+    pub fn new(alloc: Global) -> Self
+        ensures { result ≡ [] }
+    {
+        Nodes {
+            set: IndexSet::new(alloc),
+        }
+    }
+
+    pub fn len(&self) -> usize
+        ensures count { result ≡ length self.now }
+        ensures few { result ≤ nodes_limit }
+    {
+        self.set.len()
+    }
+
+    pub fn as_slice(&self) -> &[Node]
+        ensures nodes { shown result.now ≡ self.now }
+        ensures few { length result.now ≤ nodes_limit }
+    {
+        self.set.as_slice()
+    }
+
+    /// The number of the node that equals this one.
+    fn number(&self, node: &Node) -> Option<u32>
+        ensures { result ≡ number_in self.now (node_value node.now) }
+    {
+        match self.set.get_index_of(node) {
+            Some(place) => Some(place as u32),
+            None => None,
+        }
+    }
+
+    /// The number of the node that equals this one, which may be new.
+    pub fn place(&mut self, node: Node) -> Result<u32, NodeError>
+        ensures makes { Makes self.new (placed self.old (node_value node)) result }
+        ensures err { OnErr result (self.new ≡ self.old) }
+        ensures front { take (length self.old) self.new ≡ self.old }
+    {
+        match self.number(&node) {
+            Some(number) => return Ok(number),
+            None => {}
+        }
+        let number = self.set.len();
+        if number >= NODES_LIMIT {
+            return Err(NodeError::TooLarge);
+        }
+        self.set.insert(node)?;
+        Ok(number as u32)
+    }
+
+    /// The table is cut to its first nodes.
+    pub fn cut(&mut self, count: usize)
+        requires { count ≤ length self.old }
+        ensures { self.new ≡ take count self.old }
+    {
+        self.set.truncate(count);
+    }
+}

@@ -1,0 +1,111 @@
+//! The truth of a node.
+ghost use Rattle.std.specs.Prelude.{◌≡◌, ◌<◌, ◌+◌, ℕ, List, length, slice_index_or, false};
+ghost use Rattle.std.specs.List.{AllByRecursion, list_all, list_any};
+ghost use Rattle.idl_node.specs.Nodes.{NodeValue, node_value};
+ghost use Rattle.idl_node.specs.Tables.{IsTableOver, IsNodeOf};
+ghost use Rattle.idl_node.specs.Truth.{point_values, literal_truth, node_truth, truth};
+ghost use Rattle.stn_core.specs.Literal.{IsOver, value_at};
+
+use crate::node::Node;
+use crate::nodes::Nodes;
+use stn_core::{Literal, NamedValue, NamedValues};
+
+/// The value of a time point: 0 of the zero point, and then each name's. An Int name's is its number; a Bool name's is 0 where
+/// the name is true, else 1.
+pub fn point_value(values: &[NamedValue], point: u32) -> i64
+    requires { point < length values.now + 1 }
+    ensures { result ≡ value_at (point_values values.now) point }
+{
+    if point == 0 {
+        return 0;
+    }
+    match values[point as usize - 1] {
+        NamedValue::Int(number) => number,
+        NamedValue::Truth(true) => 0,
+        NamedValue::Truth(false) => 1,
+    }
+}
+
+/// Whether the literal holds.
+fn literal_holds(literal: Literal, values: &[NamedValue]) -> bool
+    requires x { literal.x < length values.now + 1 }
+    requires y { literal.y < length values.now + 1 }
+    ensures { result ≡ literal_truth (point_values values.now) literal }
+{
+    let x = i128::from(point_value(values, literal.x));
+    let y = i128::from(point_value(values, literal.y));
+    x - y <= i128::from(literal.c)
+}
+
+/// Whether all of the members are true.
+fn all_hold(members: &[u32], marks: &[bool]) -> bool
+    requires { AllByRecursion (λ m. m < length marks.now) members.now }
+    ensures { result ≡ list_all (λ j. slice_index_or marks.now j false) members.now }
+{
+    for member in members {
+        if !marks[*member as usize] {
+            return false;
+        }
+    }
+    true
+}
+
+/// Whether one of the members is true.
+fn any_holds(members: &[u32], marks: &[bool]) -> bool
+    requires { AllByRecursion (λ m. m < length marks.now) members.now }
+    ensures { result ≡ list_any (λ j. slice_index_or marks.now j false) members.now }
+{
+    for member in members {
+        if marks[*member as usize] {
+            return true;
+        }
+    }
+    false
+}
+
+/// The truth of a node by the marks of the nodes before it.
+fn node_holds(node: &Node, values: &NamedValues, marks: &[bool]) -> bool
+    requires { (nodes : List NodeValue) × IsNodeOf (IsOver (length values.now + 1)) nodes (length marks.now) (node_value node.now) }
+    ensures { result ≡ node_truth (point_values values.now) (λ j. slice_index_or marks.now j false) (node_value node.now) }
+{
+    match node {
+        Node::True => true,
+        Node::Atom(literal) => literal_holds(*literal, values.as_slice()),
+        Node::Not(member) => !marks[*member as usize],
+        Node::And(members) => all_hold(members, marks),
+        Node::Or(members) => any_holds(members, marks),
+    }
+}
+
+/// Whether the node is true where the names have these values. `marks` is the caller's buffer, as long as the table, for the
+/// truth of the nodes up to it. It takes time of the order of these nodes and their members, and no memory.
+pub fn eval(nodes: &Nodes, number: u32, values: &NamedValues, marks: &mut [bool]) -> bool
+    requires table { IsTableOver (length values.now + 1) nodes.now }
+    requires number { number < length nodes.now }
+    requires room { length marks.old ≡ length nodes.now }
+    ensures { result ≡ truth nodes.now (point_values values.now) number }
+{
+    let slice = nodes.as_slice();
+    let end = number as usize + 1;
+    for i in 0..end {
+        let value = node_holds(&slice[i], values, &marks[..i]);
+        marks[i] = value;
+    }
+    marks[number as usize]
+}
+
+/// The truth of all nodes, where the names have these values: `marks` is the caller's buffer, as long as the table. It takes
+/// time of the order of the nodes and their members, and no memory.
+pub fn mark_truths(nodes: &Nodes, values: &NamedValues, marks: &mut [bool])
+    requires table { IsTableOver (length values.now + 1) nodes.now }
+    requires room { length marks.old ≡ length nodes.now }
+    ensures room { length marks.new ≡ length nodes.now }
+    ensures each { (k : ℕ) → k < length nodes.now → slice_index_or marks.new k false ≡ truth nodes.now (point_values values.now) k }
+{
+    let slice = nodes.as_slice();
+    let end = nodes.len();
+    for i in 0..end {
+        let value = node_holds(&slice[i], values, &marks[..i]);
+        marks[i] = value;
+    }
+}

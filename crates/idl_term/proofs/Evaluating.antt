@@ -1,0 +1,118 @@
+-- The value of a linear term, summand by summand, and how large it may be; and values of the names' sorts.
+use Rattle.std.proofs.Common.{refl, ap, ◌∙◌, arith, ◌≡◌, ◌<◌, ◌≤◌, ◌+◌, ◌*◌, ◌^◌, ℕ, zero, suc, List, [], ◌∷◌, length, drop, get_or, true, ℤ, pos, negsuc, neg_ℤ, ◌+ℤ◌, ◌*ℤ◌, ◌≤ℤ◌, FitsSigned, w64, to_z, of_z}
+use Rattle.std.proofs.lemmas.Int.{ints, unsigned_abs-mul, fits_signed_mul, to_z-of_z}
+use Rattle.std.specs.Int.{w128}
+use Rattle.std.proofs.Common.{unsigned_abs}
+use Rattle.idl_linear.proofs.Merging.{within_low, within_high}
+use Rattle.std.proofs.lemmas.Nat.{mul-le}
+use Rattle.std.proofs.lemmas.List.{at_drop_more}
+use Rattle.std.specs.List.{AllByRecursion}
+use Rattle.stn_core.specs.Literal.{IsOver, value_at}
+use Rattle.stn_core.specs.declared.named.NamedValue.{NamedValue}
+use Rattle.std.proofs.lemmas.Option.{slice_get_within}
+use Rattle.idl_node.specs.declared.sort.Sort.{Sort}
+use Rattle.idl_node.specs.declared.sort.Sort.TheVariants as sort
+use Rattle.idl_node.specs.Nodes.{NodeValue}
+use Rattle.idl_node.specs.Sorts.{IsIntPoint, IsAtomFor, AreOfSorts}
+use Rattle.idl_node.specs.Tables.{IsTableOf, IsTableOver}
+use Rattle.idl_node.proofs.Keeping.{table_of-better}
+use Rattle.idl_term.specs.Meanings.{IsTermIn}
+use Rattle.idl_term.specs.Scopes.{linear_term}
+use Rattle.idl_linear.specs.declared.summand.Summand.{Summand}
+use Rattle.idl_linear.specs.Forms.{AscendAbove, IsLinear}
+use Rattle.idl_linear.specs.Limits.{points_limit, coefficient_limit}
+use Rattle.idl_linear.specs.Linear.{LinearValue, is_within}
+use Rattle.idl_linear.specs.Values.{summands_value}
+
+abbrev pub no_summand : Summand
+no_summand = record { point = 0; coefficient = pos 0 }
+
+-- ---- how many summands there are
+
+pub count_ascending : (least limit : ℕ) (xs : List Summand) → least < limit → AscendAbove least xs → AllByRecursion (λ (s : Summand). s.point < limit) xs → length xs + least < limit
+count_ascending least limit [] lt h all = omega (arith, lt)
+count_ascending least limit (x ∷ xs) lt h all =
+    let more = count_ascending x.point limit xs all.0 h.2 all.1 in
+    let above = h.0 in
+    omega (arith, more, above)
+
+pub count_linear : (l : LinearValue) → IsLinear l → length l.summands < points_limit
+count_linear l is =
+    let few = count_ascending 0 points_limit l.summands (omega arith) is.ascends is.over in
+    omega (arith, few)
+
+-- ---- one more summand
+
+pub summand_taken : (values : List ℤ) (xs : List Summand) (i : ℕ) (sum p : ℤ) → i < length xs → p ≡ ((get_or xs i no_summand).coefficient *ℤ value_at values (get_or xs i no_summand).point)
+    → summands_value values (drop (i + 1) xs) +ℤ (sum +ℤ p) ≡ summands_value values (drop i xs) +ℤ sum
+summand_taken values xs i sum p within e =
+    let next : summands_value values (drop i xs) ≡ ((get_or xs i no_summand).coefficient *ℤ value_at values (get_or xs i no_summand).point) +ℤ summands_value values (drop (i + 1) xs) = at_drop_more (summands_value values) xs i no_summand within in
+    omega (arith, ints, next, e)
+
+pub sum_low : (i : ℕ) (sum p : ℤ) → neg_ℤ (pos (2 ^ 62 + 2 ^ 83 * i)) ≤ℤ sum → neg_ℤ (pos (2 ^ 83)) ≤ℤ p → neg_ℤ (pos (2 ^ 62 + 2 ^ 83 * (i + 1))) ≤ℤ (sum +ℤ p)
+sum_low i sum p h k = omega (arith, ints)
+
+pub sum_high : (i : ℕ) (sum p : ℤ) → sum ≤ℤ pos (2 ^ 62 + 2 ^ 83 * i) → p ≤ℤ pos (2 ^ 83) → (sum +ℤ p) ≤ℤ pos (2 ^ 62 + 2 ^ 83 * (i + 1))
+sum_high i sum p h k = omega (arith, ints)
+
+-- what the code's sum is
+pub sum_is : (sum p : ℤ) → FitsSigned w128 p → FitsSigned w128 (sum +ℤ to_z w128 (of_z w128 p)) → to_z w128 (of_z w128 (sum +ℤ to_z w128 (of_z w128 p))) ≡ sum +ℤ p
+sum_is sum p fits whole = to_z-of_z w128 (sum +ℤ to_z w128 (of_z w128 p)) whole ∙ ap (λ (z : ℤ). sum +ℤ z) (to_z-of_z w128 p fits)
+
+-- ---- how large a product is
+
+abs_within : (z : ℤ) (n : ℕ) → neg_ℤ (pos n) ≤ℤ z → z ≤ℤ pos n → unsigned_abs z ≤ n
+abs_within (pos m) n low high = omega (arith, ints)
+abs_within (negsuc m) n low high = omega (arith, ints)
+
+within_abs : (z : ℤ) (n : ℕ) → unsigned_abs z ≤ n → z ≤ℤ pos n
+within_abs (pos m) n h = omega (arith, ints)
+within_abs (negsuc m) n h = omega (arith, ints)
+
+product_high : (a b : ℤ) → is_within coefficient_limit a ≡ true → FitsSigned w64 b → (a *ℤ b) ≤ℤ pos (2 ^ 83)
+product_high a b limited fits =
+    let few : unsigned_abs a ≤ 2 ^ 20 = abs_within a (2 ^ 20) (within_low coefficient_limit a limited) (within_high coefficient_limit a limited) in
+    let near : unsigned_abs b ≤ 2 ^ 63 = abs_within b (2 ^ 63) (omega (arith, ints)) (omega (arith, ints)) in
+    within_abs (a *ℤ b) (2 ^ 83) (rw (unsigned_abs-mul a b) (mul-le (unsigned_abs a) (unsigned_abs b) (2 ^ 20) (2 ^ 63) few near))
+
+product_fits : (a b : ℤ) → is_within coefficient_limit a ≡ true → FitsSigned w64 b → FitsSigned w128 (a *ℤ b)
+product_fits a b limited fits =
+    let few : unsigned_abs a ≤ 2 ^ 20 = abs_within a (2 ^ 20) (within_low coefficient_limit a limited) (within_high coefficient_limit a limited) in
+    let near : unsigned_abs b ≤ 2 ^ 63 = abs_within b (2 ^ 63) (omega (arith, ints)) (omega (arith, ints)) in
+    fits_signed_mul w128 a b (2 ^ 20) (2 ^ 63) few near (omega arith)
+
+-- what the code's product is
+pub product_bounded : (a b p q : ℤ) → is_within coefficient_limit a ≡ true → FitsSigned w64 b → p ≡ to_z w64 (of_z w64 a) → q ≡ to_z w64 (of_z w64 b)
+    → to_z w128 (of_z w128 (to_z w128 (of_z w128 p) *ℤ to_z w128 (of_z w128 q))) ≤ℤ pos (2 ^ 83)
+product_bounded a b p q limited fits e f =
+    let low = within_low coefficient_limit a limited in
+    let high = within_high coefficient_limit a limited in
+    let first : to_z w128 (of_z w128 p) ≡ a = omega (arith, ints, low, high, e) in
+    let second : to_z w128 (of_z w128 q) ≡ b = omega (arith, ints, f) in
+    rw (first, second, to_z-of_z w128 (a *ℤ b) (product_fits a b limited fits)) (product_high a b limited fits)
+
+-- ---- values of the names' sorts
+
+pub values_count : (sorts : List Sort) (values : List NamedValue) → AreOfSorts sorts values → length values ≡ length sorts
+values_count [] [] h = refl
+values_count [] (v ∷ values) h = absurd h
+values_count (s ∷ sorts) [] h = absurd h
+values_count (s ∷ sorts) (v ∷ values) h = ap suc (values_count sorts values h.1)
+
+int_point_within : (sorts : List Sort) (p : ℕ) → IsIntPoint sorts p → p < length sorts + 1
+int_point_within sorts zero h = omega arith
+int_point_within sorts (suc k) h = let within : k < length sorts = slice_get_within sorts k sort.Int h in omega (arith, within)
+
+module _ (sorts : List Sort) (values : List NamedValue) (fits : AreOfSorts sorts values) where
+  -- the time points of a linear term over Int names have values
+  points_valued : (xs : List Summand) → AllByRecursion (λ (s : Summand). IsIntPoint sorts s.point) xs → AllByRecursion (λ (s : Summand). s.point < length values + 1) xs
+  points_valued [] h = tt
+  points_valued (x ∷ xs) h = (rw (values_count sorts values fits) (int_point_within sorts x.point h.0), points_valued xs h.1)
+
+  pub linear_valued : (nodes : List NodeValue) (linear : LinearValue) → IsTermIn sorts nodes (linear_term linear) → AllByRecursion (λ (s : Summand). s.point < length values + 1) linear.summands
+  linear_valued nodes linear h = points_valued linear.summands h.1.points
+
+  -- and so do those of a table of atoms over the names
+  pub table_valued : (nodes : List NodeValue) → IsTableOf (IsAtomFor sorts) nodes → IsTableOver (length values + 1) nodes
+  table_valued nodes table =
+      rw (values_count sorts values fits) (table_of-better (IsAtomFor sorts) (IsOver (length sorts + 1)) (λ l is. is.over) nodes table)

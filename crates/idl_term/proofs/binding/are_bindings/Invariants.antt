@@ -1,0 +1,7 @@
+use Rattle.std.proofs.Common.{take}
+use Rattle.idl_term.proofs.NamesKept.{texts}
+use Rattle.idl_term.proofs.Differing.{SoFar}
+use Rattle.idl_term.proofs.binding.are_bindings.Given as goal
+
+abbrev pub invariant-loop-binding : goal.invariant-loop-binding
+invariant-loop-binding l = SoFar l.sexprs (take l.binding-index l.bindings) (texts l.variables.keys)

@@ -1,0 +1,40 @@
+-- What the code's own calls give on the way to an application. These are words of the code, and no part of the meaning.
+use Rattle.std.specs.Prelude.{◌≡◌, List, [], ◌∷◌, true, false, Option, Result, Ok, Err}
+use Rattle.stn_core.specs.declared.literal.Literal.{Literal}
+use Rattle.idl_linear.specs.declared.error.DifferenceRefusal.{DifferenceRefusal}
+use Rattle.idl_linear.specs.declared.error.LinearError.{LinearError}
+use Rattle.idl_linear.specs.declared.error.LinearError.TheVariants as linear
+use Rattle.idl_linear.specs.Linear.{LinearValue, is_limited}
+use Rattle.idl_node.specs.declared.error.NodeError.{NodeError}
+use Rattle.idl_node.specs.declared.error.NodeError.TheVariants as node
+use Rattle.idl_node.specs.Making.{then}
+use Rattle.idl_node.specs.Nodes.{NodeValue, atom, conjunction, disjunction, Placed, placed}
+use Rattle.idl_term.specs.Comparing.{refusal_of}
+use Rattle.idl_term.specs.declared.error.TermError.{TermError}
+use Rattle.idl_term.specs.declared.error.TermError.TheVariants.{OutOfMemory, Refused}
+use Rattle.idl_term.specs.declared.error.TermRefusal.TheVariants.{TooLarge, BoundTooLarge}
+
+-- the errors of what terms are made of, as errors of terms
+abbrev pub of_node : NodeError → TermError
+of_node node.OutOfMemory = OutOfMemory
+of_node node.TooLarge = Refused TooLarge
+
+abbrev pub of_linear : LinearError → TermError
+of_linear linear.OutOfMemory = OutOfMemory
+of_linear linear.BoundTooLarge = Refused BoundTooLarge
+
+abbrev pub of_difference : DifferenceRefusal → TermError
+of_difference why = Refused (refusal_of why)
+
+-- the sum, where it is within the limits; want of memory says nothing
+abbrev pub Sums : LinearValue → Result LinearValue LinearError → Type 0
+Sums sum (Ok l) = (l ≡ sum) × (is_limited sum ≡ true)
+Sums sum (Err linear.BoundTooLarge) = is_limited sum ≡ false
+Sums sum (Err linear.OutOfMemory) = Unit {0}
+
+-- both of two bounds, and one of them
+abbrev pub both_atoms : List NodeValue → Literal → Literal → Option Placed
+both_atoms nodes l m = then (placed nodes (atom l)) (λ p. then (placed p.nodes (atom m)) (λ q. placed q.nodes (conjunction (p.number ∷ q.number ∷ []))))
+
+abbrev pub either_atom : List NodeValue → Literal → Literal → Option Placed
+either_atom nodes l m = then (placed nodes (atom l)) (λ p. then (placed p.nodes (atom m)) (λ q. placed q.nodes (disjunction (p.number ∷ q.number ∷ []))))

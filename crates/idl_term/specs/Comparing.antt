@@ -1,0 +1,72 @@
+-- The nodes of comparisons of whole numbers (SMT-LIB 2.6, theory Ints), as bounds on differences of time points
+-- (Dechter, Meiri, Pearl 1991, section 3).
+use Rattle.std.specs.Prelude.{ℕ, List, [], ◌∷◌, ◌++◌, Option, Some, None, Result, Ok, Err, pos, neg_ℤ, ◌-ℤ◌}
+use Rattle.stn_core.specs.declared.literal.Literal.{Literal}
+use Rattle.idl_linear.specs.declared.difference.Difference.{Difference}
+use Rattle.idl_linear.specs.declared.error.DifferenceRefusal.{DifferenceRefusal}
+use Rattle.idl_linear.specs.declared.error.DifferenceRefusal.TheVariants as difference
+use Rattle.idl_linear.specs.Differences.{difference_of}
+use Rattle.idl_linear.specs.Linear.{LinearValue}
+use Rattle.idl_node.specs.Making.{then, conjoined, neighbours, pairs}
+use Rattle.idl_node.specs.Nodes.{NodeValue, atom, conjunction, disjunction, Placed, placed}
+use Rattle.idl_term.specs.declared.operator.Relation.{Relation}
+use Rattle.idl_term.specs.declared.operator.Relation.TheVariants.{AtMost, Less, AtLeast, Greater, Equal, Distinct}
+use Rattle.idl_term.specs.declared.error.TermRefusal.{TermRefusal}
+use Rattle.idl_term.specs.declared.error.TermRefusal.TheVariants.{TooLarge, NotADifference, BoundTooLarge}
+
+-- one result, and what follows from it; the first refusal counts
+abbrev pub follows : {A B : Type 0} → Result A TermRefusal → (A → Result B TermRefusal) → Result B TermRefusal
+follows (Ok a) next = next a
+follows (Err why) next = Err why
+
+-- there is no room in the table
+abbrev pub or_too_large : Option Placed → Result Placed TermRefusal
+or_too_large (Some p) = Ok p
+or_too_large None = Err TooLarge
+
+-- x - y is at most n, or at least n; both also strictly
+abbrev pub at_most : Difference → Literal
+at_most d = record { x = d.x; y = d.y; c = d.n }
+
+abbrev pub below : Difference → Literal
+below d = record { x = d.x; y = d.y; c = d.n -ℤ pos 1 }
+
+abbrev pub at_least : Difference → Literal
+at_least d = record { x = d.y; y = d.x; c = neg_ℤ d.n }
+
+abbrev pub above : Difference → Literal
+above d = record { x = d.y; y = d.x; c = neg_ℤ d.n -ℤ pos 1 }
+
+-- the difference d.x - d.y stands in the relation to the number d.n
+abbrev pub related : List NodeValue → Relation → Difference → Option Placed
+related nodes AtMost d = placed nodes (atom (at_most d))
+related nodes Less d = placed nodes (atom (below d))
+related nodes AtLeast d = placed nodes (atom (at_least d))
+related nodes Greater d = placed nodes (atom (above d))
+related nodes Equal d = then (placed nodes (atom (at_most d))) (λ p. then (placed p.nodes (atom (at_least d))) (λ q. placed q.nodes (conjunction (p.number ∷ q.number ∷ []))))
+related nodes Distinct d = then (placed nodes (atom (below d))) (λ p. then (placed p.nodes (atom (above d))) (λ q. placed q.nodes (disjunction (p.number ∷ q.number ∷ []))))
+
+abbrev pub refusal_of : DifferenceRefusal → TermRefusal
+refusal_of difference.NotADifference = NotADifference
+refusal_of difference.BoundTooLarge = BoundTooLarge
+
+abbrev pub related_by : Relation → List NodeValue → Result Difference DifferenceRefusal → Result Placed TermRefusal
+related_by relation nodes (Ok d) = or_too_large (related nodes relation d)
+related_by relation nodes (Err why) = Err (refusal_of why)
+
+-- a pair of Int terms
+abbrev pub compared : Relation → List NodeValue → LinearValue → LinearValue → Result Placed TermRefusal
+compared relation nodes a b = related_by relation nodes (difference_of a b)
+
+-- `and` of what is made of each pair, in order, where these are the members so far
+abbrev pub each_compared : Relation → List NodeValue → List ℕ → List (LinearValue × LinearValue) → Result Placed TermRefusal
+each_compared relation nodes members [] = or_too_large (conjoined nodes members)
+each_compared relation nodes members (p ∷ rest) = follows (compared relation nodes p.0 p.1) (λ q. each_compared relation q.nodes (members ++ q.number ∷ []) rest)
+
+-- `distinct` compares all pairs, the others compare neighbours
+abbrev pub compared_pairs : Relation → List LinearValue → List (LinearValue × LinearValue)
+compared_pairs Distinct ls = pairs ls
+compared_pairs _ ls = neighbours ls
+
+abbrev pub all_compared : Relation → List NodeValue → List LinearValue → Result Placed TermRefusal
+all_compared relation nodes ls = each_compared relation nodes [] (compared_pairs relation ls)

@@ -1,0 +1,36 @@
+//! Sums and differences of Int terms (SMT-LIB 2.6, theory Ints).
+ghost use Rattle.std.specs.Prelude.{map};
+ghost use Rattle.idl_linear.specs.Linear.{sum_of, less_others};
+ghost use Rattle.idl_term.specs.Applying.{Sums};
+
+use idl_linear::{Linear, LinearError, LinearSum};
+use std::alloc::Global;
+
+/// `+` of any number of terms. The limits hold of the sum, and not of its parts.
+pub fn add(alloc: Global, terms: &[&Linear]) -> Result<Linear, LinearError>
+    ensures { Sums (sum_of (map (λ l. l.now) terms.now)) result }
+{
+    let mut sum = LinearSum::new(alloc);
+    for term in terms {
+        sum.add(term)?;
+    }
+    sum.finish()
+}
+
+/// `-`: of one term its negative, of more the others are taken from the first.
+pub fn subtract(alloc: Global, terms: &[&Linear]) -> Result<Linear, LinearError>
+    ensures { Sums (less_others (map (λ l. l.now) terms.now)) result }
+{
+    let mut sum = LinearSum::new(alloc);
+    let others = match terms {
+        [first, rest @ ..] if !rest.is_empty() => {
+            sum.add(first)?;
+            rest
+        }
+        _ => terms,
+    };
+    for term in others {
+        sum.subtract(term)?;
+    }
+    sum.finish()
+}

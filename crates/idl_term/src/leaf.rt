@@ -1,0 +1,123 @@
+//! What a term of one token is made into.
+ghost use Rattle.std.specs.Prelude.{◌≡◌, ◌≢◌, List, IsTrue, Err, Option, length, take};
+ghost use Rattle.std.specs.Char.{is_ascii_digit};
+ghost use Rattle.std.specs.List.{list_all, list_any};
+ghost use Rattle.std.specs.Str.{bytes_eq};
+ghost use Rattle.idl_node.specs.Made.{Makes};
+ghost use Rattle.idl_node.specs.Nodes.{NodeValue, Placed};
+ghost use Rattle.idl_term.specs.Applied.{as_formula};
+ghost use Rattle.smt_lex.specs.declared.token.TokenKind.TheVariants.{Symbol};
+ghost use Rattle.smt_lex.specs.Numbers.{value_of};
+ghost use Rattle.smt_sexpr.specs.Tree.{IsLeaf};
+ghost use Rattle.idl_term.specs.Lowered.{lowered_leaf, lowered_found, lowered_numeral};
+ghost use Rattle.idl_term.specs.Operators.{is_reserved, theory_symbols, reserved_words};
+ghost use Rattle.idl_term.specs.Scopes.{Scope as Meaning, Found, found};
+ghost use Rattle.idl_term.specs.declared.error.TermError.TheVariants.{Refused};
+ghost use Rattle.idl_term.specs.declared.error.TermRefusal.TheVariants.{LeftOut};
+ghost use Rattle.idl_term.specs.Shapes.{FoundIs, IsNearPlace, Lowers};
+
+use crate::error::{LeftOutTerm, TermError, TermRefusal};
+use crate::lowered::Lowered;
+use crate::operator::is_reserved;
+use crate::scope::FoundName;
+use idl_linear::Linear;
+use idl_node::{Node, NodeError, Nodes, Sort};
+use smt_lex::{TokenKind, numeral_value};
+use std::alloc::Global;
+use stn_core::Literal;
+
+/// The greatest numeral.
+const CONSTANT_LIMIT: u64 = 1 << 62;
+
+/// A node that was made, as a term.
+fn as_formula(made: Result<u32, NodeError>) -> Result<Lowered, TermError>
+    ensures { (nodes : List NodeValue) (place : Option Placed) → Makes nodes place made → Lowers nodes (as_formula place) result }
+{
+    let number = made?;
+    Ok(Lowered::Truth(number))
+}
+
+/// What a name stands for.
+fn lower_found(alloc: Global, meaning: FoundName, nodes: &mut Nodes) -> Result<Lowered, TermError>
+    requires near { IsNearPlace meaning }
+    ensures makes { (found : Found) → FoundIs found meaning.entry → Lowers nodes.new (lowered_found nodes.old found) result }
+    ensures front { take (length nodes.old) nodes.new ≡ nodes.old }
+{
+    match meaning {
+        FoundName::Declared(place, sort) => {
+            let point = place as u32 + 1;
+            match sort {
+                Sort::Int => Ok(Lowered::Number(Linear::point(alloc, point)?)),
+                Sort::Bool => as_formula(nodes.place(Node::Atom(Literal {
+                    x: point,
+                    y: 0,
+                    c: 0,
+                }))),
+            }
+        }
+        FoundName::Bound(term) => Ok(term.copy()?),
+        FoundName::Unknown => Err(TermError::Refused(TermRefusal::UnknownSymbol)),
+    }
+}
+
+/// A symbol, with what it was found to be. After an error the table may be longer.
+pub fn lower_symbol(
+    alloc: Global,
+    name: &[u8],
+    meaning: FoundName,
+    nodes: &mut Nodes,
+) -> Result<Lowered, TermError>
+    requires near { IsNearPlace meaning }
+    ensures makes { (scope : Meaning) → FoundIs (found scope name.now) meaning.entry → Lowers nodes.new (lowered_leaf scope nodes.old Symbol name.now) result }
+    ensures front { take (length nodes.old) nodes.new ≡ nodes.old }
+{
+    if name == b"true".as_slice() {
+        return as_formula(nodes.constant(true));
+    }
+    if name == b"false".as_slice() {
+        return as_formula(nodes.constant(false));
+    }
+    if is_reserved(name) {
+        return Err(TermError::Refused(TermRefusal::IllFormedTerm));
+    }
+    lower_found(alloc, meaning, nodes)
+}
+
+/// The number that digits stand for.
+fn lower_numeral(alloc: Global, digits: &[u8]) -> Result<Lowered, TermError>
+    requires { IsTrue (list_all is_ascii_digit digits.now) }
+    ensures { (nodes : List NodeValue) → Lowers nodes (lowered_numeral nodes (value_of digits.now)) result }
+{
+    match numeral_value(digits) {
+        Some(value) if value <= CONSTANT_LIMIT => {
+            Ok(Lowered::Number(Linear::number(alloc, value as i64)))
+        }
+        _ => Err(TermError::Refused(TermRefusal::BoundTooLarge)),
+    }
+}
+
+fn left_out(term: LeftOutTerm) -> Result<Lowered, TermError>
+    ensures { result ≡ Err (Refused (LeftOut term)) }
+{
+    Err(TermError::Refused(TermRefusal::LeftOut(term)))
+}
+
+/// A token that is no symbol.
+#[tactic(auto, unfolding(crate::specs::Lowered::lowered_leaf))]
+pub fn lower_token(alloc: Global, kind: TokenKind, text: &[u8]) -> Result<Lowered, TermError>
+    requires leaf { IsLeaf kind text.now }
+    requires other { kind ≢ Symbol }
+    ensures { (scope : Meaning) (nodes : List NodeValue) → Lowers nodes (lowered_leaf scope nodes kind text.now) result }
+{
+    match kind {
+        TokenKind::Numeral => {
+            smt_lex::numeral_digits();
+            lower_numeral(alloc, text)
+        }
+        TokenKind::Decimal => left_out(LeftOutTerm::Decimal),
+        TokenKind::Hex => left_out(LeftOutTerm::Hexadecimal),
+        TokenKind::Binary => left_out(LeftOutTerm::Binary),
+        TokenKind::Text => left_out(LeftOutTerm::String),
+        _ => Err(TermError::Refused(TermRefusal::IllFormedTerm)),
+    }
+}

@@ -1,0 +1,8 @@
+use Rattle.std.proofs.Common.{ap, ◌∙◌, ◌≡◌, ℕ, List, ◌++◌}
+use Rattle.smt_answer.specs.Texts.{error_line}
+use Rattle.smt_answer.proofs.Pieces.{five}
+use Rattle.smt_answer.proofs.text.write_error.Goals as goal
+
+pub returns-clause-ok : goal.returns-clause-ok
+unfolding error_line
+returns-clause-ok c = five _ _ _ _ _ _ _ _ _ _ _ c.in_ok-push_str.ensures.ok (c.in_ok-push_str-2.ensures.ok ∙ ap (λ (t : List ℕ). c.push_str.new.self.items ++ t) (c.as_bytes.ensures.value ∙ c.format.ensures.text)) c.in_ok-push_str-3.ensures.ok c.in_ok-kind_text.ensures.ok c.in_ok-push_str-4.ensures.ok

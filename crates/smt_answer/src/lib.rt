@@ -1,0 +1,11 @@
+//! The texts of answers to commands.
+#![tactic(auto)]
+
+mod kind;
+mod text;
+
+pub use kind::{Kind, LeftOut, kind_of_error};
+pub use text::{error_text, kind_text, success_text, unsupported_text, verdict_text};
+
+#[cfg(test)]
+mod tests;

@@ -1,0 +1,158 @@
+//! The texts of answers, appended to what is there. After an error what is there is as before.
+ghost use Rattle.std.specs.Prelude.{◌≡◌, ◌++◌, ◌<◌, ◌^◌, codes, take, OnOk, OnErr, IfOk};
+ghost use Rattle.std.specs.Vec.{vec_len};
+ghost use Rattle.smt_answer.specs.Texts.{fixed_text, kind_text, left_out_text, term_text, command_text, error_line, verdict_line, success_line, unsupported_line};
+
+use crate::kind::{Kind, LeftOut};
+use bstr::ByteVec;
+use idl_term::LeftOutTerm;
+use itoa::Buffer;
+use smt_script::LeftOutCommand;
+use std::alloc::AllocError;
+
+/// What the error's line names of what is left out of terms.
+fn term_text(construct: LeftOutTerm) -> &'static str
+    ensures { result.now ≡ term_text construct }
+{
+    match construct {
+        LeftOutTerm::Forall => "forall",
+        LeftOutTerm::Exists => "exists",
+        LeftOutTerm::Match => "match",
+        LeftOutTerm::As => "as",
+        LeftOutTerm::Underscore => "_",
+        LeftOutTerm::Annotation => "!",
+        LeftOutTerm::Times => "*",
+        LeftOutTerm::Div => "div",
+        LeftOutTerm::Mod => "mod",
+        LeftOutTerm::Abs => "abs",
+        LeftOutTerm::Ite => "ite",
+        LeftOutTerm::Decimal => "decimal",
+        LeftOutTerm::Hexadecimal => "hexadecimal",
+        LeftOutTerm::Binary => "binary",
+        LeftOutTerm::String => "string",
+    }
+}
+
+fn command_text(construct: LeftOutCommand) -> &'static str
+    ensures { result.now ≡ command_text construct }
+{
+    match construct {
+        LeftOutCommand::Parameters => "parameters",
+        LeftOutCommand::Sort => "sort",
+        LeftOutCommand::DefineFunRec => "define-fun-rec",
+        LeftOutCommand::DefineFunsRec => "define-funs-rec",
+        LeftOutCommand::DefineSort => "define-sort",
+        LeftOutCommand::DeclareSort => "declare-sort",
+        LeftOutCommand::DeclareDatatype => "declare-datatype",
+        LeftOutCommand::DeclareDatatypes => "declare-datatypes",
+    }
+}
+
+fn left_out_text(construct: LeftOut) -> &'static str
+    ensures { result.now ≡ left_out_text construct }
+{
+    match construct {
+        LeftOut::Term(construct) => term_text(construct),
+        LeftOut::Command(construct) => command_text(construct),
+    }
+}
+
+/// What stands before the construct that is left out, and all of the text of another kind.
+fn fixed_text(kind: Kind) -> &'static str
+    ensures { result.now ≡ fixed_text kind }
+{
+    match kind {
+        Kind::BadByte => "bad byte",
+        Kind::UnclosedString => "unclosed string",
+        Kind::UnclosedQuotedSymbol => "unclosed quoted symbol",
+        Kind::LeadingZero => "leading zero",
+        Kind::UnclosedList => "unclosed list",
+        Kind::StrayClose => "stray close",
+        Kind::UnknownCommand => "unknown command",
+        Kind::IllFormedCommand => "ill-formed command",
+        Kind::LogicNotSupported => "logic not supported",
+        Kind::AlreadyDeclared => "already declared",
+        Kind::TooManyNames => "too many names",
+        Kind::TooManyLevels => "too many levels",
+        Kind::PopBelowTheBottom => "pop below the bottom",
+        Kind::UnknownSymbol => "unknown symbol",
+        Kind::IllFormedTerm => "ill-formed term",
+        Kind::WrongCount => "wrong count of arguments",
+        Kind::WrongSort => "wrong sort",
+        Kind::NotADifference => "not a difference",
+        Kind::BoundTooLarge => "bound too large",
+        Kind::TooLarge => "too large",
+        Kind::LeftOut(_) => "left out: ",
+        Kind::NotYet => "not yet",
+    }
+}
+
+/// Appends what an error's line says of it; when memory ends, perhaps a part.
+pub fn kind_text(kind: Kind, out: &mut Vec<u8>) -> Result<(), AllocError>
+    ensures ok { OnOk result (out.new.items ≡ out.old.items ++ kind_text kind) }
+    ensures front { take (vec_len out.old) out.new.items ≡ out.old.items }
+{
+    out.push_str(fixed_text(kind).as_bytes())?;
+    match kind {
+        Kind::LeftOut(construct) => out.push_str(left_out_text(construct).as_bytes())?,
+        _ => {}
+    }
+    Ok(())
+}
+
+#[tactic(auto, unfolding(crate::specs::Texts::error_line))]
+fn write_error(command: u64, kind: Kind, out: &mut Vec<u8>) -> Result<(), AllocError>
+    ensures ok { OnOk result (out.new.items ≡ out.old.items ++ error_line command kind) }
+    ensures front { take (vec_len out.old) out.new.items ≡ out.old.items }
+{
+    let mut buffer = Buffer::new();
+    out.push_str(b"(error \"command ")?;
+    out.push_str(buffer.format(command).as_bytes())?;
+    out.push_str(b": ")?;
+    kind_text(kind, out)?;
+    out.push_str(b"\")\n")?;
+    Ok(())
+}
+
+/// Appends the line of an error. Commands are counted from 1.
+pub fn error_text(command: u64, kind: Kind, out: &mut Vec<u8>) -> Result<(), AllocError>
+    ensures ok { OnOk result (out.new.items ≡ out.old.items ++ error_line command kind) }
+    ensures err { OnErr result (out.new.items ≡ out.old.items) }
+{
+    let before = out.len();
+    match write_error(command, kind, out) {
+        Ok(()) => Ok(()),
+        Err(error) => {
+            out.truncate(before);
+            Err(error)
+        }
+    }
+}
+
+/// Appends the line of a verdict.
+pub fn verdict_text(sat: bool, out: &mut Vec<u8>) -> Result<(), AllocError>
+    ensures ok { OnOk result (out.new.items ≡ out.old.items ++ verdict_line sat) }
+    ensures err { OnErr result (out.new.items ≡ out.old.items) }
+{
+    if sat {
+        out.push_str(b"sat\n")
+    } else {
+        out.push_str(b"unsat\n")
+    }
+}
+
+/// Appends `success`.
+pub fn success_text(out: &mut Vec<u8>) -> Result<(), AllocError>
+    ensures ok { OnOk result (out.new.items ≡ out.old.items ++ success_line) }
+    ensures err { OnErr result (out.new.items ≡ out.old.items) }
+{
+    out.push_str(b"success\n")
+}
+
+/// Appends `unsupported`.
+pub fn unsupported_text(out: &mut Vec<u8>) -> Result<(), AllocError>
+    ensures ok { OnOk result (out.new.items ≡ out.old.items ++ unsupported_line) }
+    ensures err { OnErr result (out.new.items ≡ out.old.items) }
+{
+    out.push_str(b"unsupported\n")
+}

@@ -1,0 +1,9 @@
+use Rattle.std.proofs.Common.{ap}
+use Rattle.smt_script.specs.Commands.{logic_command}
+use Rattle.smt_script.proofs.Arguments.{one_of}
+use Rattle.smt_script.proofs.command.logic_command.Goals as goal
+
+pub returns-in-len1 : goal.returns-in-len1
+returns-in-len1 c = λ t xs means.
+    let p = one_of t c.args.arguments.now xs means c.in-len1.len_at_least c.in-len1.len_below in
+    (p.first, p.first_means, ap logic_command p.is)

@@ -1,0 +1,9 @@
+use Rattle.std.proofs.Common.{subst}
+use Rattle.smt_script.specs.Shapes.{CommandIs}
+use Rattle.smt_script.specs.declared.command.Request.{Request}
+use Rattle.smt_script.proofs.state.State.carry_out.Goals as goal
+
+pub returns-in-SetOption-clause-agrees : goal.returns-in-SetOption-clause-agrees
+returns-in-SetOption-clause-agrees c = λ s meant stands is.
+    let h = subst (λ (r : Request). CommandIs c.args.sexprs.now r meant) c.in-SetOption.is is in
+    rw h.2 (c.set_option.ensures.agrees s h.0 stands h.1)

@@ -1,0 +1,27 @@
+use Rattle.std.proofs.Common.{sym, subst, ◌∙◌}
+use Rattle.idl_term.specs.Applied.{Made}
+use Rattle.idl_term.specs.Contexts.{scope_of, environment}
+use Rattle.idl_term.specs.Scopes.{shown_term, sorts_of}
+use Rattle.smt_script.specs.Kept.{Kept, StandsFor}
+use Rattle.smt_script.proofs.Stepping.{term_same}
+use Rattle.smt_script.proofs.state.State.value.Goals as goal
+
+pub term_value-value-requires : goal.term_value-value-requires
+term_value-value-requires c =
+    let s = c.requires.state.0 in
+    let t = c.requires.meaning.0 in
+    let h = subst (λ (k : Kept). StandsFor k s) (sym c.self.view_is) c.requires.state.1 in
+    let m : Made = record { nodes = c.lower.new.nodes; is = shown_term c.in_ok-term.term } in
+    let over = c.context_law.ensures.scope s.context c.requires.state.2.context in
+    let is = c.lowered_law.ensures.made (scope_of s.context) s.context.nodes t m over (term_same _ s h t ∙ c.in_ok-term.ensures.lowers t c.requires.meaning.1) in
+    (sorts_of s.context.declared, c.requires.state.3, is.table, is.term)
+
+pub returns-clause-ok : goal.returns-clause-ok
+returns-clause-ok c = λ s t stands made fits means.
+    let values = c.args.values.now in
+    let h = subst (λ (k : Kept). StandsFor k s) (sym c.self.view_is) stands in
+    let m : Made = record { nodes = c.lower.new.nodes; is = shown_term c.in_ok-term.term } in
+    let over = c.context_law.ensures.scope s.context made.context in
+    let agrees = c.context_law.ensures.agrees s.context values made.context fits in
+    c.lowered_law.ensures.value (scope_of s.context) s.context.nodes t m values (environment s.context values) over fits agrees (term_same _ s h t ∙ c.in_ok-term.ensures.lowers t means)
+    ∙ c.in_ok-value.ensures

@@ -1,0 +1,225 @@
+-- What a command asks for (SMT-LIB 2.6, section 3.9). First its name is looked at, then its shape.
+use Rattle.std.specs.Prelude.{ℕ, List, [], ◌∷◌, codes, Bool, true, false, if◌then◌else◌, Option, None, Some, Result, Ok, Err}
+use Rattle.std.specs.Str.{bytes_eq}
+use Rattle.smt_lex.specs.declared.token.TokenKind.TheVariants.{Keyword}
+use Rattle.smt_lex.specs.Numbers.{value_of}
+use Rattle.smt_sexpr.specs.Tree.{Sexpr, Items, leaf, list, none, more, symbol_of, numeral_of}
+use Rattle.smt_script.specs.declared.command_name.CommandName.{CommandName}
+use Rattle.smt_script.specs.declared.command_name.CommandName.TheVariants as name
+use Rattle.smt_script.specs.declared.error.LeftOutCommand.{LeftOutCommand}
+use Rattle.smt_script.specs.declared.error.LeftOutCommand.TheVariants as left_out
+use Rattle.smt_script.specs.declared.error.Refusal.{Refusal}
+use Rattle.smt_script.specs.declared.error.Refusal.TheVariants.{UnknownCommand, IllFormedCommand, LeftOut, NotYet}
+use Rattle.smt_script.specs.Attributes.{Named, named_in}
+
+pub data Command : Type 0 where
+  -- (set-logic s)
+  setting_logic : (logic : Sexpr) → Command
+  -- (set-option k v), (set-option k)
+  setting_option : (keyword : List ℕ) (value : Option Sexpr) → Command
+  -- (set-info k v), (set-info k)
+  informing : Command
+  -- (declare-fun n (..) S), and (declare-const n S) without parameters
+  declaring : (name : List ℕ) (parameters : Items) (sort : Sexpr) → Command
+  -- (define-fun n (..) S t)
+  defining : (name : List ℕ) (parameters : Items) (sort term : Sexpr) → Command
+  -- (assert t)
+  asserting : (term : Sexpr) → Command
+  -- (assert (! t :named n ..)), where n is there
+  naming : (term : Sexpr) (name : List ℕ) → Command
+  -- (push n), (pop n)
+  pushing : (count : ℕ) → Command
+  popping : (count : ℕ) → Command
+  checking : Command
+  -- (reset-assertions), (reset)
+  resetting_assertions : Command
+  resetting : Command
+  exiting : Command
+  -- a command that answers `unsupported` whatever follows its name
+  unsupported : Command
+
+-- the commands that there are
+unfoldable pub command_name : List ℕ → Option CommandName
+command_name text =
+    if bytes_eq text (codes "set-logic") then Some name.SetLogic
+    else (if bytes_eq text (codes "set-option") then Some name.SetOption
+    else (if bytes_eq text (codes "set-info") then Some name.SetInfo
+    else (if bytes_eq text (codes "declare-const") then Some name.DeclareConst
+    else (if bytes_eq text (codes "declare-fun") then Some name.DeclareFun
+    else (if bytes_eq text (codes "define-fun") then Some name.DefineFun
+    else (if bytes_eq text (codes "assert") then Some name.Assert
+    else (if bytes_eq text (codes "push") then Some name.Push
+    else (if bytes_eq text (codes "pop") then Some name.Pop
+    else (if bytes_eq text (codes "check-sat") then Some name.CheckSat
+    else (if bytes_eq text (codes "get-model") then Some name.GetModel
+    else (if bytes_eq text (codes "get-value") then Some name.GetValue
+    else (if bytes_eq text (codes "get-proof") then Some name.GetProof
+    else (if bytes_eq text (codes "get-info") then Some name.GetInfo
+    else (if bytes_eq text (codes "echo") then Some name.Echo
+    else (if bytes_eq text (codes "reset-assertions") then Some name.ResetAssertions
+    else (if bytes_eq text (codes "reset") then Some name.Reset
+    else (if bytes_eq text (codes "exit") then Some name.Exit
+    else None)))))))))))))))))
+
+-- the commands that answer `unsupported`
+unfoldable pub is_unsupported : List ℕ → Bool
+is_unsupported text =
+    if bytes_eq text (codes "get-assertions") then true
+    else (if bytes_eq text (codes "get-assignment") then true
+    else (if bytes_eq text (codes "get-option") then true
+    else (if bytes_eq text (codes "check-sat-assuming") then true
+    else (if bytes_eq text (codes "get-unsat-assumptions") then true
+    else bytes_eq text (codes "get-unsat-core")))))
+
+-- the commands that are left out
+unfoldable pub left_out_of : List ℕ → Option LeftOutCommand
+left_out_of text =
+    if bytes_eq text (codes "define-fun-rec") then Some left_out.DefineFunRec
+    else (if bytes_eq text (codes "define-funs-rec") then Some left_out.DefineFunsRec
+    else (if bytes_eq text (codes "define-sort") then Some left_out.DefineSort
+    else (if bytes_eq text (codes "declare-sort") then Some left_out.DeclareSort
+    else (if bytes_eq text (codes "declare-datatype") then Some left_out.DeclareDatatype
+    else (if bytes_eq text (codes "declare-datatypes") then Some left_out.DeclareDatatypes
+    else None)))))
+
+abbrev pub ill_formed : Result Command Refusal
+ill_formed = Err IllFormedCommand
+
+-- ---- shapes, behind the command's name
+
+-- a keyword's text
+abbrev pub keyword_of : Sexpr → Option (List ℕ)
+keyword_of (leaf Keyword text) = Some text
+keyword_of x = None
+
+-- a command without arguments
+abbrev pub alone : Command → Items → Result Command Refusal
+alone command none = Ok command
+alone command (more _ _) = ill_formed
+
+abbrev pub logic_command : Items → Result Command Refusal
+logic_command (more logic none) = Ok (setting_logic logic)
+logic_command _ = ill_formed
+
+abbrev pub with_keyword : Option (List ℕ) → (List ℕ → Command) → Result Command Refusal
+with_keyword (Some keyword) make = Ok (make keyword)
+with_keyword None make = ill_formed
+
+-- k, or k v
+abbrev pub option_command : Items → Result Command Refusal
+option_command (more k none) = with_keyword (keyword_of k) (λ keyword. setting_option keyword None)
+option_command (more k (more v none)) = with_keyword (keyword_of k) (λ keyword. setting_option keyword (Some v))
+option_command _ = ill_formed
+
+abbrev pub info_command : Items → Result Command Refusal
+info_command (more k none) = with_keyword (keyword_of k) (λ keyword. informing)
+info_command (more k (more v none)) = with_keyword (keyword_of k) (λ keyword. informing)
+info_command _ = ill_formed
+
+abbrev pub with_name : Option (List ℕ) → (List ℕ → Command) → Result Command Refusal
+with_name (Some text) make = Ok (make text)
+with_name None make = ill_formed
+
+-- n S
+abbrev pub constant_command : Items → Result Command Refusal
+constant_command (more n (more sort none)) = with_name (symbol_of n) (λ text. declaring text none sort)
+constant_command _ = ill_formed
+
+-- n (..) S
+abbrev pub function_command : Items → Result Command Refusal
+function_command (more n (more (list parameters) (more sort none))) = with_name (symbol_of n) (λ text. declaring text parameters sort)
+function_command _ = ill_formed
+
+-- n (..) S t
+abbrev pub definition_command : Items → Result Command Refusal
+definition_command (more n (more (list parameters) (more sort (more term none)))) = with_name (symbol_of n) (λ text. defining text parameters sort term)
+definition_command _ = ill_formed
+
+-- an annotated term: its name, where it has one
+abbrev pub annotated : Sexpr → Option Named → Result Command Refusal
+annotated term None = ill_formed
+annotated term (Some named) = Ok (elim named.name [
+  | None ↦ asserting term
+  | Some text ↦ naming term text
+])
+
+-- what stands behind a `!`: a term, and one or more attributes
+abbrev pub annotation_command : Items → Result Command Refusal
+annotation_command (more term (more first rest)) = annotated term (named_in (more first rest))
+annotation_command _ = ill_formed
+
+-- (! ..)
+abbrev pub annotation_in : Sexpr → Option Items
+annotation_in (list (more head rest)) = elim (symbol_of head) [
+  | None ↦ None
+  | Some text ↦ if bytes_eq text (codes "!") then Some rest else None
+]
+annotation_in _ = None
+
+abbrev pub assertion_by : Sexpr → Option Items → Result Command Refusal
+assertion_by term (Some rest) = annotation_command rest
+assertion_by term None = Ok (asserting term)
+
+abbrev pub assertion_command : Items → Result Command Refusal
+assertion_command (more term none) = assertion_by term (annotation_in term)
+assertion_command _ = ill_formed
+
+abbrev pub with_count : Option (List ℕ) → (ℕ → Command) → Result Command Refusal
+with_count (Some digits) make = Ok (make (value_of digits))
+with_count None make = ill_formed
+
+-- a numeral of any size, or 1 where none is given
+abbrev pub level_command : (ℕ → Command) → Items → Result Command Refusal
+level_command make none = Ok (make 1)
+level_command make (more n none) = with_count (numeral_of n) make
+level_command make _ = ill_formed
+
+-- ---- commands
+
+abbrev pub command_by : CommandName → Items → Result Command Refusal
+command_by name.SetLogic arguments = logic_command arguments
+command_by name.SetOption arguments = option_command arguments
+command_by name.SetInfo arguments = info_command arguments
+command_by name.DeclareConst arguments = constant_command arguments
+command_by name.DeclareFun arguments = function_command arguments
+command_by name.DefineFun arguments = definition_command arguments
+command_by name.Assert arguments = assertion_command arguments
+command_by name.Push arguments = level_command pushing arguments
+command_by name.Pop arguments = level_command popping arguments
+command_by name.CheckSat arguments = alone checking arguments
+command_by name.ResetAssertions arguments = alone resetting_assertions arguments
+command_by name.Reset arguments = alone resetting arguments
+command_by name.Exit arguments = alone exiting arguments
+-- models, values, proofs, information and echoes aren't there yet
+command_by _ arguments = Err NotYet
+
+abbrev pub without_name : List ℕ → Result Command Refusal
+without_name text =
+    if is_unsupported text then Ok unsupported
+    else elim (left_out_of text) [
+      | Some c ↦ Err (LeftOut c)
+      | None ↦ Err UnknownCommand
+    ]
+
+abbrev pub named_command : List ℕ → Items → Result Command Refusal
+named_command text arguments = elim (command_name text) [
+  | Some c ↦ command_by c arguments
+  | None ↦ without_name text
+]
+
+abbrev pub headed_by : Option (List ℕ) → Items → Result Command Refusal
+headed_by (Some text) arguments = named_command text arguments
+headed_by None arguments = ill_formed
+
+-- a command is a list whose first item is a symbol
+unfoldable pub command_of : Sexpr → Result Command Refusal
+command_of (list (more head arguments)) = headed_by (symbol_of head) arguments
+command_of _ = ill_formed
+
+abbrev pub is_exiting : Result Command Refusal → Bool
+is_exiting (Ok exiting) = true
+is_exiting _ = false
+
+-- the command `(exit)`
+abbrev pub is_exit : Sexpr → Bool
+is_exit x = is_exiting (command_of x)

@@ -1,0 +1,62 @@
+-- The commands and states of the worked examples.
+use Rattle.std.specs.Prelude.{ℕ, List, [], ◌∷◌, codes, pos}
+use Rattle.smt_lex.specs.Symbols.{symbol_content}
+use Rattle.smt_lex.specs.declared.token.TokenKind.TheVariants.{Keyword}
+use Rattle.smt_sexpr.specs.Tree.{Sexpr, leaf, list}
+use Rattle.idl_node.specs.Nodes.{atom}
+use Rattle.idl_node.specs.declared.sort.Sort.TheVariants as sort
+use Rattle.idl_term.specs.Contexts.{Context, start_context}
+use Rattle.idl_term.specs.Examples.{symbol, numeral, p, items_of, apply, literal}
+use Rattle.idl_term.specs.Scopes.{formula}
+use Rattle.smt_script.specs.States.{State, start_state}
+
+abbrev pub keyword : List ℕ → Sexpr
+keyword text = leaf Keyword text
+
+-- the symbol with these bytes, bars and all
+abbrev pub written : List ℕ → Sexpr
+written raw = symbol (symbol_content raw)
+
+abbrev pub no_parameters : Sexpr
+no_parameters = list (items_of [])
+
+-- (declare-const name sort)
+abbrev pub declares : Sexpr → List ℕ → Sexpr
+declares name sort_name = apply (codes "declare-const") (name ∷ symbol sort_name ∷ [])
+
+-- (assert (! p ..))
+abbrev pub asserts_p : List Sexpr → Sexpr
+asserts_p attributes = apply (codes "assert") (apply (codes "!") (p ∷ attributes) ∷ [])
+
+-- :named name
+abbrev pub named : List ℕ → List Sexpr
+named name = keyword (codes ":named") ∷ symbol name ∷ []
+
+abbrev pub in_context : Context → State
+in_context c = record start_state { context = c }
+
+-- (declare-const x Int)
+abbrev pub with_x : State
+with_x = in_context (record start_context { declared = record { name = codes "x"; sort = sort.Int } ∷ [] })
+
+abbrev pub context_p : Context
+context_p = record start_context { declared = record { name = codes "p"; sort = sort.Bool } ∷ [] }
+
+-- (declare-const p Bool)
+abbrev pub with_p : State
+with_p = in_context context_p
+
+-- and (assert (! p :named n))
+abbrev pub context_n : Context
+context_n = record context_p { defined = record { name = codes "n"; term = p; stands = formula 0 } ∷ []; assertions = p ∷ []; nodes = atom (literal 1 0 (pos 0)) ∷ []; roots = 0 ∷ [] }
+
+abbrev pub with_n : State
+with_n = in_context context_n
+
+-- (declare-const p Bool) and (push 2)
+abbrev pub with_levels : State
+with_levels = record with_p { below = context_p ∷ context_p ∷ [] }
+
+-- and (assert (! p :named n)) on top
+abbrev pub with_n_on_top : State
+with_n_on_top = record with_n { below = context_p ∷ context_p ∷ [] }

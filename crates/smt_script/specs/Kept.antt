@@ -1,0 +1,85 @@
+-- What the code keeps of a state, which has no terms. These are words of the code's contracts, and no part of the meaning.
+use Rattle.std.specs.Prelude.{◌≡◌, ℕ, ◌≤◌, List, [], ◌∷◌, ◌++◌, length, take, Bool, Ok}
+use Rattle.smt_sexpr.specs.Tree.{Sexpr}
+use Rattle.idl_node.specs.Nodes.{NodeValue}
+use Rattle.idl_term.specs.Contexts.{Context, scope_of}
+use Rattle.idl_term.specs.Limits.{names_limit}
+use Rattle.idl_term.specs.Scopes.{Scope}
+use Rattle.smt_script.specs.declared.state.Effect.{Effect}
+use Rattle.smt_script.specs.declared.state.Level.{Level}
+use Rattle.smt_script.specs.declared.state.Mode.{Mode}
+use Rattle.smt_script.specs.declared.state.Mode.TheVariants as mode
+use Rattle.smt_script.specs.States.{State, after}
+
+pub record Kept : Type 0 where
+  pub scope : Scope
+  pub nodes : List NodeValue
+  -- the numbers of the assertions' nodes
+  pub roots : List ℕ
+  -- how much there was of each at each push, the first push first
+  pub levels : List Level
+  pub mode : Mode
+  pub print_success : Bool
+
+-- what there was at a push is a front of what there is now
+pub record IsLevelOf (kept : Kept) (level : Level) (c : Context) : Type 0 where
+  pub names : level.names ≤ length kept.scope.declared
+  pub defined : level.defined ≤ length kept.scope.bound
+  pub table : level.nodes ≤ length kept.nodes
+  pub asserted : level.roots ≤ length kept.roots
+  pub scope : scope_of c ≡ record { declared = take level.names kept.scope.declared; bound = take level.defined kept.scope.bound }
+  pub nodes : c.nodes ≡ take level.nodes kept.nodes
+  pub roots : c.roots ≡ take level.roots kept.roots
+
+abbrev pub AreLevels : Kept → List Level → List Context → Type 0
+AreLevels kept [] [] = Unit {0}
+AreLevels kept (level ∷ levels) (c ∷ below) = IsLevelOf kept level c × AreLevels kept levels below
+AreLevels kept _ _ = ⊥
+
+-- no less at a later push
+pub record IsNoLess (first second : Level) : Type 0 where
+  pub names : first.names ≤ second.names
+  pub defined : first.defined ≤ second.defined
+  pub nodes : first.nodes ≤ second.nodes
+  pub roots : first.roots ≤ second.roots
+
+abbrev pub Ascend : List Level → Type 0
+Ascend [] = Unit {0}
+Ascend (a ∷ []) = Unit {0}
+Ascend (a ∷ b ∷ rest) = IsNoLess a b × Ascend (b ∷ rest)
+
+-- how much there is now
+abbrev pub amount_of : Kept → Level
+amount_of kept = record { names = length kept.scope.declared; defined = length kept.scope.bound; nodes = length kept.nodes; roots = length kept.roots }
+
+-- what holds of what is kept whatever the commands were: there is no less now than at the last push
+pub record IsKept (kept : Kept) : Type 0 where
+  pub few : length kept.scope.declared ≤ names_limit
+  pub ascend : Ascend (kept.levels ++ amount_of kept ∷ [])
+
+-- back to what there was at a push, with so many levels left
+abbrev pub cut_to : Kept → ℕ → Level → Kept
+cut_to kept left level = record {
+  scope = record { declared = take level.names kept.scope.declared; bound = take level.defined kept.scope.bound };
+  nodes = take level.nodes kept.nodes;
+  roots = take level.roots kept.roots;
+  levels = take left kept.levels;
+  mode = mode.Nothing;
+  print_success = kept.print_success;
+}
+
+-- what is kept stands for the state
+pub record StandsFor (kept : Kept) (s : State) : Type 0 where
+  pub scope : kept.scope ≡ scope_of s.context
+  pub nodes : kept.nodes ≡ s.context.nodes
+  pub roots : kept.roots ≡ s.context.roots
+  pub levels : AreLevels kept kept.levels s.below
+  pub ascend : Ascend kept.levels
+  pub mode : kept.mode ≡ s.mode
+  pub print_success : kept.print_success ≡ s.print_success
+
+-- the command leads from the state to one that the new one stands for
+pub record Steps (s : State) (x : Sexpr) (effect : Effect) (kept : Kept) : Type 0 where
+  pub state : State
+  pub leads : after s x ≡ Ok (record { state = state; effect = effect })
+  pub stands : StandsFor kept state

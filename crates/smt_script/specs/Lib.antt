@@ -1,0 +1,14 @@
+pub mod Limits
+pub mod Commands
+pub mod Options
+pub mod Attributes
+pub mod States
+pub mod Kept
+pub mod Shapes
+pub mod TermValues
+pub use Rattle.smt_sexpr.specs.Tree
+pub use Rattle.smt_sexpr.specs.Table
+pub use Rattle.idl_node.specs.Nodes
+pub use Rattle.idl_term.specs.Scopes
+pub use Rattle.idl_term.specs.Contexts
+pub mod Examples

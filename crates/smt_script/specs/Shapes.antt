@@ -1,0 +1,185 @@
+-- How the code sees commands: by the ids of their parts. These are words of the code's inner contracts, and no part of the
+-- meaning.
+use Rattle.std.specs.Prelude.{◌≡◌, ℕ, ◌≤◌, ◌^◌, List, [], Bool, true, false, if◌then◌else◌, Option, Some, None, option_map, Result, Ok, Err}
+use Rattle.std.specs.Borrow.{Bor}
+use Rattle.smt_sexpr.specs.Tree.{Sexpr, Items, list, none, more, symbol_of}
+use Rattle.smt_sexpr.specs.Table.{Table, Means, MeansEach}
+use Rattle.idl_node.specs.Nodes.{NodeValue}
+use Rattle.idl_node.specs.declared.sort.Sort.{Sort}
+use Rattle.idl_term.specs.Applied.{Made}
+use Rattle.idl_term.specs.Scopes.{formula, numeric, shown_term}
+use Rattle.idl_term.specs.declared.lowered.Lowered.{Lowered}
+use Rattle.idl_term.specs.declared.error.TermRefusal.{TermRefusal}
+use Rattle.idl_term.specs.declared.error.TermRefusal.TheVariants.{WrongSort}
+use Rattle.idl_term.specs.declared.error.TermError.{TermError}
+use Rattle.idl_term.specs.declared.error.TermError.TheVariants as term
+use Rattle.smt_script.specs.Attributes
+use Rattle.smt_script.specs.Attributes.{Before, Named}
+use Rattle.smt_script.specs.Commands.{Command, ill_formed, setting_logic, setting_option, informing, declaring, defining, asserting, naming, pushing, popping, checking, resetting_assertions, resetting, exiting, unsupported, function_command, definition_command, annotation_in, command_of}
+use Rattle.smt_script.specs.Kept.{Kept, StandsFor}
+use Rattle.smt_script.specs.Options
+use Rattle.smt_script.specs.States.{State, Step, is_of_sort}
+use Rattle.smt_script.specs.declared.attribute.Attributes.{Attributes as AttributesRead}
+use Rattle.smt_script.specs.declared.attribute.Awaited.{Awaited}
+use Rattle.smt_script.specs.declared.attribute.Awaited.TheVariants as awaited
+use Rattle.smt_script.specs.declared.command.Request.{Request}
+use Rattle.smt_script.specs.declared.command.Request.TheVariants.{SetLogic, SetOption, SetInfo, Declare, Define, Assert, AssertNamed, Push, Pop, CheckSat, ResetAssertions, Reset, Exit, Unsupported}
+use Rattle.smt_script.specs.declared.command.Signature.{Signature}
+use Rattle.smt_script.specs.declared.error.Refusal.{Refusal}
+use Rattle.smt_script.specs.declared.error.Refusal.TheVariants.{IllFormedCommand, LeftOut, Term}
+use Rattle.smt_script.specs.declared.error.LeftOutCommand.TheVariants.{Parameters, Sort as SortLeftOut}
+use Rattle.smt_script.specs.declared.error.ScriptError.{ScriptError}
+use Rattle.smt_script.specs.declared.error.ScriptError.TheVariants.{OutOfMemory, Refused}
+use Rattle.smt_script.specs.declared.state.Effect.{Effect}
+use Rattle.smt_script.specs.declared.option.OptionEffect.{OptionEffect}
+use Rattle.smt_script.specs.declared.option.OptionEffect.TheVariants.{PrintSuccess, Nothing, Unsupported as NotSupported, IllFormed}
+
+abbrev pub error_of_term : TermError → ScriptError
+error_of_term term.OutOfMemory = OutOfMemory
+error_of_term (term.Refused why) = Refused (Term why)
+
+-- ids that stand for s-expressions
+abbrev pub HaveMeaning : Table → List ℕ → Type 0
+HaveMeaning t ids = (xs : Items) × MeansEach t ids xs
+
+-- ---- options
+
+-- the id of a value, where there is one
+abbrev pub ValueIs : Table → Option ℕ → Option Sexpr → Type 0
+ValueIs t None None = Unit {0}
+ValueIs t (Some id) (Some v) = Means t id v
+ValueIs t _ _ = ⊥
+
+abbrev pub HasValue : Table → Option ℕ → Type 0
+HasValue t value = (v : Option Sexpr) × ValueIs t value v
+
+abbrev pub shown_effect : OptionEffect → Options.OptionEffect
+shown_effect (PrintSuccess on) = Options.printing_success on
+shown_effect Nothing = Options.no_effect
+shown_effect NotSupported = Options.not_supported
+shown_effect IllFormed = Options.ill_formed_value
+
+-- ---- attributes
+
+abbrev pub shown_awaited : Awaited → Before
+shown_awaited awaited.Name = Attributes.wants_name
+shown_awaited awaited.Value = Attributes.may_have_value
+shown_awaited awaited.Keyword = Attributes.whole
+
+abbrev pub shown_name : Option (Bor (List ℕ)) → Option (List ℕ)
+shown_name name = option_map (λ (text : Bor (List ℕ)). text.now) name
+
+-- one more item leads from these attributes to those
+abbrev pub AttributeIs : AttributesRead → Sexpr → Result AttributesRead Refusal → Type 0
+AttributeIs before x (Ok after) = (xs : Items) → Attributes.named_after (shown_awaited before.awaited) (shown_name before.name) (more x xs) ≡ Attributes.named_after (shown_awaited after.awaited) (shown_name after.name) xs
+AttributeIs before x (Err why) = (why ≡ IllFormedCommand) × ((xs : Items) → Attributes.named_after (shown_awaited before.awaited) (shown_name before.name) (more x xs) ≡ None)
+
+abbrev pub AttributesAre : Option Named → Result (Option (Bor (List ℕ))) Refusal → Type 0
+AttributesAre named (Ok name) = named ≡ Some (record { name = shown_name name })
+AttributesAre named (Err why) = (why ≡ IllFormedCommand) × (named ≡ None)
+
+-- ---- commands
+
+-- a list that begins with a symbol, and the ids of what follows it
+pub record IsHeaded (t : Table) (x : Sexpr) (text ids : List ℕ) : Type 0 where
+  pub head : Sexpr
+  pub arguments : Items
+  pub is : x ≡ list (more head arguments)
+  pub symbol : symbol_of head ≡ Some text
+  pub means : MeansEach t ids arguments
+
+abbrev pub HeadIs : Table → Sexpr → Option (Bor (List ℕ) × Bor (List ℕ)) → Type 0
+HeadIs t x (Some p) = IsHeaded t x p.0.now p.1.now
+HeadIs t x None = (command_of x ≡ ill_formed) × (annotation_in x ≡ None)
+
+abbrev pub AnnotationIs : Table → Option Items → Option (Bor (List ℕ)) → Type 0
+AnnotationIs t None None = Unit {0}
+AnnotationIs t (Some xs) (Some ids) = MeansEach t ids.now xs
+AnnotationIs t _ _ = ⊥
+
+abbrev pub are_any : Items → Bool
+are_any none = false
+are_any (more _ _) = true
+
+pub record IsSignature (t : Table) (signature : Signature) (parameters : Items) (s : Sexpr) : Type 0 where
+  pub has_parameters : signature.has_parameters ≡ are_any parameters
+  pub sort_means : Means t signature.sort s
+
+-- n (..) S
+abbrev pub SignatureIs : Table → Sexpr → Sexpr → Sexpr → Result Signature Refusal → Type 0
+SignatureIs t n p s (Ok signature) = (parameters : Items) × (p ≡ list parameters) × (symbol_of n ≡ Some signature.name.now) × IsSignature t signature parameters s
+SignatureIs t n p s (Err why) = (function_command (more n (more p (more s none))) ≡ Err why) × ((x : Sexpr) → definition_command (more n (more p (more s (more x none)))) ≡ Err why)
+
+-- a number of levels; from 2^64 on it isn't known
+abbrev pub CountIs : Option ℕ → ℕ → Type 0
+CountIs (Some n) m = m ≡ n
+CountIs None m = 2 ^ 64 ≤ m
+
+abbrev pub LevelsAre : (ℕ → Command) → Result Command Refusal → Result (Option ℕ) Refusal → Type 0
+LevelsAre make meant (Ok count) = (n : ℕ) × CountIs count n × (meant ≡ Ok (make n))
+LevelsAre make meant (Err why) = meant ≡ Err why
+
+-- a command, with the ids of its parts
+abbrev pub CommandIs : Table → Request → Result Command Refusal → Type 0
+CommandIs t (SetLogic id) meant = (logic : Sexpr) × Means t id logic × (meant ≡ Ok (setting_logic logic))
+CommandIs t (SetOption keyword value) meant = (v : Option Sexpr) × ValueIs t value v × (meant ≡ Ok (setting_option keyword.now v))
+CommandIs t SetInfo meant = meant ≡ Ok informing
+CommandIs t (Declare signature) meant = (parameters : Items) × (sort : Sexpr) × IsSignature t signature parameters sort × (meant ≡ Ok (declaring signature.name.now parameters sort))
+CommandIs t (Define signature id) meant = (parameters : Items) × (sort : Sexpr) × (x : Sexpr) × IsSignature t signature parameters sort × Means t id x × (meant ≡ Ok (defining signature.name.now parameters sort x))
+CommandIs t (Assert id) meant = (x : Sexpr) × Means t id x × (meant ≡ Ok (asserting x))
+CommandIs t (AssertNamed id name) meant = (x : Sexpr) × Means t id x × (meant ≡ Ok (naming x name.now))
+CommandIs t (Push count) meant = (n : ℕ) × CountIs count n × (meant ≡ Ok (pushing n))
+CommandIs t (Pop count) meant = (n : ℕ) × CountIs count n × (meant ≡ Ok (popping n))
+CommandIs t CheckSat meant = meant ≡ Ok checking
+CommandIs t ResetAssertions meant = meant ≡ Ok resetting_assertions
+CommandIs t Reset meant = meant ≡ Ok resetting
+CommandIs t Exit meant = meant ≡ Ok exiting
+CommandIs t Unsupported meant = meant ≡ Ok unsupported
+
+abbrev pub RequestIs : Table → Result Request Refusal → Result Command Refusal → Type 0
+RequestIs t (Ok request) meant = CommandIs t request meant
+RequestIs t (Err why) meant = meant ≡ Err why
+
+abbrev pub HasSignature : Table → Signature → Type 0
+HasSignature t signature = (parameters : Items) × (sort : Sexpr) × IsSignature t signature parameters sort
+
+-- ---- steps
+
+-- a call's result, and what is kept behind it, are those of the step
+abbrev pub Agrees : Result Step Refusal → Kept → Result Effect ScriptError → Type 0
+Agrees step kept (Ok effect) = (state : State) × (step ≡ Ok (record { state = state; effect = effect })) × StandsFor kept state
+Agrees step kept (Err (Refused why)) = step ≡ Err why
+Agrees step kept (Err OutOfMemory) = Unit {0}
+
+-- the sort of a function without parameters
+abbrev pub signature_sort : Items → Option Sort → Result Sort Refusal
+signature_sort (more _ _) found = Err (LeftOut Parameters)
+signature_sort none None = Err (LeftOut SortLeftOut)
+signature_sort none (Some found) = Ok found
+
+-- a term of the sort, or a formula
+abbrev pub only_of_sort : Sort → Result Made TermRefusal → Result Made Refusal
+only_of_sort found (Err why) = Err (Term why)
+only_of_sort found (Ok made) = if is_of_sort found made.is then Ok made else Err (Term WrongSort)
+
+abbrev pub only_formula : Result Made TermRefusal → Result Made Refusal
+only_formula (Err why) = Err (Term why)
+only_formula (Ok made) = elim made.is [
+  | formula root ↦ Ok made
+  | numeric cases ↦ Err (Term WrongSort)
+]
+
+abbrev pub TermIs : List NodeValue → Result Made Refusal → Result Lowered ScriptError → Type 0
+TermIs now made (Ok term) = made ≡ Ok (record { nodes = now; is = shown_term term })
+TermIs now made (Err (Refused why)) = made ≡ Err why
+TermIs now made (Err OutOfMemory) = Unit {0}
+
+abbrev pub FormulaIs : List NodeValue → Result Made Refusal → Result ℕ ScriptError → Type 0
+FormulaIs now made (Ok root) = made ≡ Ok (record { nodes = now; is = formula root })
+FormulaIs now made (Err (Refused why)) = made ≡ Err why
+FormulaIs now made (Err OutOfMemory) = Unit {0}
+
+-- the request is that of `(exit)`
+abbrev pub asks_exit : Result Request Refusal → Bool
+asks_exit (Ok Exit) = true
+asks_exit _ = false

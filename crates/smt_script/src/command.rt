@@ -1,0 +1,298 @@
+//! What a command asks for, by the ids of its parts.
+ghost use Rattle.std.specs.Prelude.{◌≡◌, Ok, ℕ};
+ghost use Rattle.smt_sexpr.specs.Tree.{Sexpr, Items};
+ghost use Rattle.smt_sexpr.specs.Table.{Table, Means, MeansEach, HasMeaning};
+ghost use Rattle.smt_script.specs.Commands.{Command, alone, logic_command, option_command, info_command, constant_command, function_command, definition_command, annotation_in, annotation_command, assertion_command, level_command, command_by, without_name, command_of};
+ghost use Rattle.smt_script.specs.Shapes.{HaveMeaning, HeadIs, SignatureIs, AnnotationIs, CommandIs, LevelsAre, RequestIs};
+
+use crate::attribute::{keyword, named_in};
+use crate::command_name::{CommandName, command_name, is_unsupported, left_out_of};
+use crate::error::Refusal;
+use smt_lex::numeral_value;
+use smt_sexpr::{SexprId, Sexprs};
+
+/// The name and the sort of a new function.
+#[derive(Clone, Copy)]
+pub struct Signature<'a> {
+    pub name: &'a [u8],
+    pub has_parameters: bool,
+    pub sort: SexprId,
+}
+
+/// What a command asks for. A number of levels is `None` from 2^64 on.
+#[derive(Clone, Copy)]
+pub enum Request<'a> {
+    SetLogic(SexprId),
+    /// A keyword, and a value.
+    SetOption(&'a [u8], Option<SexprId>),
+    SetInfo,
+    Declare(Signature<'a>),
+    /// A signature, and a term.
+    Define(Signature<'a>, SexprId),
+    Assert(SexprId),
+    /// A term, and its name.
+    AssertNamed(SexprId, &'a [u8]),
+    Push(Option<u64>),
+    Pop(Option<u64>),
+    CheckSat,
+    ResetAssertions,
+    Reset,
+    Exit,
+    Unsupported,
+}
+
+/// Of a list that begins with a symbol: the symbol, and what follows it.
+fn headed<'s, 'a>(sexprs: &'s Sexprs<'a>, id: SexprId) -> Option<(&'a [u8], &'s [SexprId])>
+    requires { HasMeaning sexprs.now id }
+    ensures { (x : Sexpr) → Means sexprs.now id x → HeadIs sexprs.now x result }
+{
+    match sexprs.items(id)? {
+        [head, arguments @ ..] => {
+            let name = sexprs.symbol(*head)?;
+            Some((name, arguments))
+        }
+        [] => None,
+    }
+}
+
+/// A command without arguments.
+fn alone<'a>(request: Request<'a>, arguments: &[SexprId]) -> Result<Request<'a>, Refusal>
+    ensures { (t : Table) (command : Command) (xs : Items) → MeansEach t arguments.now xs → CommandIs t request.entry (Ok command) → RequestIs t result (alone command xs) }
+{
+    if arguments.is_empty() {
+        Ok(request)
+    } else {
+        Err(Refusal::IllFormedCommand)
+    }
+}
+
+/// `(set-logic s)`, behind its name.
+fn logic_command<'a>(arguments: &[SexprId]) -> Result<Request<'a>, Refusal>
+    ensures { (t : Table) (xs : Items) → MeansEach t arguments.now xs → RequestIs t result (logic_command xs) }
+{
+    match arguments {
+        [logic] => Ok(Request::SetLogic(*logic)),
+        _ => Err(Refusal::IllFormedCommand),
+    }
+}
+
+/// `(set-option k)` or `(set-option k v)`, behind its name.
+fn option_command<'a>(sexprs: &Sexprs<'a>, arguments: &[SexprId]) -> Result<Request<'a>, Refusal>
+    requires { HaveMeaning sexprs.now arguments.now }
+    ensures { (xs : Items) → MeansEach sexprs.now arguments.now xs → RequestIs sexprs.now result (option_command xs) }
+{
+    match arguments {
+        [option] => match keyword(sexprs, *option) {
+            Some(text) => Ok(Request::SetOption(text, None)),
+            None => Err(Refusal::IllFormedCommand),
+        },
+        [option, value] => match keyword(sexprs, *option) {
+            Some(text) => Ok(Request::SetOption(text, Some(*value))),
+            None => Err(Refusal::IllFormedCommand),
+        },
+        _ => Err(Refusal::IllFormedCommand),
+    }
+}
+
+/// `(set-info k)` or `(set-info k v)`, behind its name.
+fn info_command<'a>(sexprs: &Sexprs<'a>, arguments: &[SexprId]) -> Result<Request<'a>, Refusal>
+    requires { HaveMeaning sexprs.now arguments.now }
+    ensures { (xs : Items) → MeansEach sexprs.now arguments.now xs → RequestIs sexprs.now result (info_command xs) }
+{
+    match arguments {
+        [kind, values @ ..] if values.len() <= 1 => match keyword(sexprs, *kind) {
+            Some(_) => Ok(Request::SetInfo),
+            None => Err(Refusal::IllFormedCommand),
+        },
+        _ => Err(Refusal::IllFormedCommand),
+    }
+}
+
+/// `(declare-const n S)`, behind its name.
+fn constant_command<'a>(sexprs: &Sexprs<'a>, arguments: &[SexprId]) -> Result<Request<'a>, Refusal>
+    requires { HaveMeaning sexprs.now arguments.now }
+    ensures { (xs : Items) → MeansEach sexprs.now arguments.now xs → RequestIs sexprs.now result (constant_command xs) }
+{
+    match arguments {
+        [name, sort] => match sexprs.symbol(*name) {
+            Some(name) => Ok(Request::Declare(Signature {
+                name,
+                has_parameters: false,
+                sort: *sort,
+            })),
+            None => Err(Refusal::IllFormedCommand),
+        },
+        _ => Err(Refusal::IllFormedCommand),
+    }
+}
+
+/// `n (..) S`.
+fn signature_of<'a>(
+    sexprs: &Sexprs<'a>,
+    name: SexprId,
+    parameters: SexprId,
+    sort: SexprId,
+) -> Result<Signature<'a>, Refusal>
+    requires name { HasMeaning sexprs.now name }
+    requires parameters { HasMeaning sexprs.now parameters }
+    ensures { (n p s : Sexpr) → Means sexprs.now name n → Means sexprs.now parameters p → Means sexprs.now sort s → SignatureIs sexprs.now n p s result }
+{
+    match (sexprs.symbol(name), sexprs.items(parameters)) {
+        (Some(name), Some(parameters)) => Ok(Signature {
+            name,
+            has_parameters: !parameters.is_empty(),
+            sort,
+        }),
+        _ => Err(Refusal::IllFormedCommand),
+    }
+}
+
+/// `(declare-fun n (..) S)`, behind its name.
+fn function_command<'a>(sexprs: &Sexprs<'a>, arguments: &[SexprId]) -> Result<Request<'a>, Refusal>
+    requires { HaveMeaning sexprs.now arguments.now }
+    ensures { (xs : Items) → MeansEach sexprs.now arguments.now xs → RequestIs sexprs.now result (function_command xs) }
+{
+    match arguments {
+        [name, parameters, sort] => {
+            let signature = signature_of(sexprs, *name, *parameters, *sort)?;
+            Ok(Request::Declare(signature))
+        }
+        _ => Err(Refusal::IllFormedCommand),
+    }
+}
+
+/// `(define-fun n (..) S t)`, behind its name.
+fn definition_command<'a>(
+    sexprs: &Sexprs<'a>,
+    arguments: &[SexprId],
+) -> Result<Request<'a>, Refusal>
+    requires { HaveMeaning sexprs.now arguments.now }
+    ensures { (xs : Items) → MeansEach sexprs.now arguments.now xs → RequestIs sexprs.now result (definition_command xs) }
+{
+    match arguments {
+        [name, parameters, sort, term] => {
+            let signature = signature_of(sexprs, *name, *parameters, *sort)?;
+            Ok(Request::Define(signature, *term))
+        }
+        _ => Err(Refusal::IllFormedCommand),
+    }
+}
+
+/// What follows the `!` of an annotated term.
+fn annotation<'s>(sexprs: &'s Sexprs, id: SexprId) -> Option<&'s [SexprId]>
+    requires { HasMeaning sexprs.now id }
+    ensures { (x : Sexpr) → Means sexprs.now id x → AnnotationIs sexprs.now (annotation_in x) result }
+{
+    match headed(sexprs, id) {
+        Some((name, rest)) if name == b"!".as_slice() => Some(rest),
+        _ => None,
+    }
+}
+
+/// What follows the `!` of an asserted term: a term, and its attributes.
+fn annotated_command<'a>(
+    sexprs: &Sexprs<'a>,
+    annotation: &[SexprId],
+) -> Result<Request<'a>, Refusal>
+    requires { HaveMeaning sexprs.now annotation.now }
+    ensures { (xs : Items) → MeansEach sexprs.now annotation.now xs → RequestIs sexprs.now result (annotation_command xs) }
+{
+    match annotation {
+        [term, attributes @ ..] if !attributes.is_empty() => match named_in(sexprs, attributes)? {
+            Some(name) => Ok(Request::AssertNamed(*term, name)),
+            None => Ok(Request::Assert(*term)),
+        },
+        _ => Err(Refusal::IllFormedCommand),
+    }
+}
+
+/// `(assert t)`, behind its name.
+fn assertion_command<'a>(sexprs: &Sexprs<'a>, arguments: &[SexprId]) -> Result<Request<'a>, Refusal>
+    requires { HaveMeaning sexprs.now arguments.now }
+    ensures { (xs : Items) → MeansEach sexprs.now arguments.now xs → RequestIs sexprs.now result (assertion_command xs) }
+{
+    match arguments {
+        [term] => match annotation(sexprs, *term) {
+            Some(rest) => annotated_command(sexprs, rest),
+            None => Ok(Request::Assert(*term)),
+        },
+        _ => Err(Refusal::IllFormedCommand),
+    }
+}
+
+/// `(push n)` or `(pop n)`, behind its name; 1 where no number is given.
+fn levels(sexprs: &Sexprs, arguments: &[SexprId]) -> Result<Option<u64>, Refusal>
+    requires { HaveMeaning sexprs.now arguments.now }
+    ensures { (make : ℕ → Command) (xs : Items) → MeansEach sexprs.now arguments.now xs → LevelsAre make (level_command make xs) result }
+{
+    smt_lex::numeral_digits();
+    match arguments {
+        [] => Ok(Some(1)),
+        [count] => match sexprs.numeral(*count) {
+            Some(digits) => Ok(numeral_value(digits)),
+            None => Err(Refusal::IllFormedCommand),
+        },
+        _ => Err(Refusal::IllFormedCommand),
+    }
+}
+
+/// A command that there is, by what follows its name.
+fn command_by<'a>(
+    sexprs: &Sexprs<'a>,
+    name: CommandName,
+    arguments: &[SexprId],
+) -> Result<Request<'a>, Refusal>
+    requires { HaveMeaning sexprs.now arguments.now }
+    ensures { (xs : Items) → MeansEach sexprs.now arguments.now xs → RequestIs sexprs.now result (command_by name xs) }
+{
+    match name {
+        CommandName::SetLogic => logic_command(arguments),
+        CommandName::SetOption => option_command(sexprs, arguments),
+        CommandName::SetInfo => info_command(sexprs, arguments),
+        CommandName::DeclareConst => constant_command(sexprs, arguments),
+        CommandName::DeclareFun => function_command(sexprs, arguments),
+        CommandName::DefineFun => definition_command(sexprs, arguments),
+        CommandName::Assert => assertion_command(sexprs, arguments),
+        CommandName::Push => {
+            let count = levels(sexprs, arguments)?;
+            Ok(Request::Push(count))
+        }
+        CommandName::Pop => {
+            let count = levels(sexprs, arguments)?;
+            Ok(Request::Pop(count))
+        }
+        CommandName::CheckSat => alone(Request::CheckSat, arguments),
+        CommandName::ResetAssertions => alone(Request::ResetAssertions, arguments),
+        CommandName::Reset => alone(Request::Reset, arguments),
+        CommandName::Exit => alone(Request::Exit, arguments),
+        _ => Err(Refusal::NotYet),
+    }
+}
+
+/// A command that there isn't, by its name.
+fn without_name<'a>(name: &[u8]) -> Result<Request<'a>, Refusal>
+    ensures { (t : Table) → RequestIs t result (without_name name.now) }
+{
+    if is_unsupported(name) {
+        return Ok(Request::Unsupported);
+    }
+    match left_out_of(name) {
+        Some(command) => Err(Refusal::LeftOut(command)),
+        None => Err(Refusal::UnknownCommand),
+    }
+}
+
+/// What the s-expression asks for.
+#[tactic(auto, unfolding(crate::specs::Commands::command_of))]
+pub fn request_of<'a>(sexprs: &Sexprs<'a>, id: SexprId) -> Result<Request<'a>, Refusal>
+    requires { HasMeaning sexprs.now id }
+    ensures { (x : Sexpr) → Means sexprs.now id x → RequestIs sexprs.now result (command_of x) }
+{
+    match headed(sexprs, id) {
+        Some((text, arguments)) => match command_name(text) {
+            Some(name) => command_by(sexprs, name, arguments),
+            None => without_name(text),
+        },
+        None => Err(Refusal::IllFormedCommand),
+    }
+}

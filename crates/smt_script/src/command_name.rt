@@ -1,0 +1,109 @@
+//! The names of commands.
+ghost use Rattle.std.specs.Prelude.{◌≡◌};
+ghost use Rattle.smt_script.specs.Commands.{command_name, is_unsupported, left_out_of};
+
+use crate::error::LeftOutCommand;
+
+/// The commands that there are, but for those that answer `unsupported`.
+#[derive(Clone, Copy, Debug, PartialEq, Eq)]
+pub enum CommandName {
+    SetLogic,
+    SetOption,
+    SetInfo,
+    DeclareConst,
+    DeclareFun,
+    DefineFun,
+    Assert,
+    Push,
+    Pop,
+    CheckSat,
+    GetModel,
+    GetValue,
+    GetProof,
+    GetInfo,
+    Echo,
+    ResetAssertions,
+    Reset,
+    Exit,
+}
+
+/// The command that the symbol names.
+#[tactic(auto, unfolding(crate::specs::Commands::command_name))]
+pub fn command_name(name: &[u8]) -> Option<CommandName>
+    ensures { result ≡ command_name name.now }
+{
+    if name == b"set-logic".as_slice() {
+        Some(CommandName::SetLogic)
+    } else if name == b"set-option".as_slice() {
+        Some(CommandName::SetOption)
+    } else if name == b"set-info".as_slice() {
+        Some(CommandName::SetInfo)
+    } else if name == b"declare-const".as_slice() {
+        Some(CommandName::DeclareConst)
+    } else if name == b"declare-fun".as_slice() {
+        Some(CommandName::DeclareFun)
+    } else if name == b"define-fun".as_slice() {
+        Some(CommandName::DefineFun)
+    } else if name == b"assert".as_slice() {
+        Some(CommandName::Assert)
+    } else if name == b"push".as_slice() {
+        Some(CommandName::Push)
+    } else if name == b"pop".as_slice() {
+        Some(CommandName::Pop)
+    } else if name == b"check-sat".as_slice() {
+        Some(CommandName::CheckSat)
+    } else if name == b"get-model".as_slice() {
+        Some(CommandName::GetModel)
+    } else if name == b"get-value".as_slice() {
+        Some(CommandName::GetValue)
+    } else if name == b"get-proof".as_slice() {
+        Some(CommandName::GetProof)
+    } else if name == b"get-info".as_slice() {
+        Some(CommandName::GetInfo)
+    } else if name == b"echo".as_slice() {
+        Some(CommandName::Echo)
+    } else if name == b"reset-assertions".as_slice() {
+        Some(CommandName::ResetAssertions)
+    } else if name == b"reset".as_slice() {
+        Some(CommandName::Reset)
+    } else if name == b"exit".as_slice() {
+        Some(CommandName::Exit)
+    } else {
+        None
+    }
+}
+
+/// Whether the symbol names a command that answers `unsupported`.
+#[tactic(auto, unfolding(crate::specs::Commands::is_unsupported))]
+pub fn is_unsupported(name: &[u8]) -> bool
+    ensures { result ≡ is_unsupported name.now }
+{
+    name == b"get-assertions".as_slice()
+        || name == b"get-assignment".as_slice()
+        || name == b"get-option".as_slice()
+        || name == b"check-sat-assuming".as_slice()
+        || name == b"get-unsat-assumptions".as_slice()
+        || name == b"get-unsat-core".as_slice()
+}
+
+/// The command that is left out, where the symbol names one.
+#[tactic(auto, unfolding(crate::specs::Commands::left_out_of))]
+pub fn left_out_of(name: &[u8]) -> Option<LeftOutCommand>
+    ensures { result ≡ left_out_of name.now }
+{
+    if name == b"define-fun-rec".as_slice() {
+        Some(LeftOutCommand::DefineFunRec)
+    } else if name == b"define-funs-rec".as_slice() {
+        Some(LeftOutCommand::DefineFunsRec)
+    } else if name == b"define-sort".as_slice() {
+        Some(LeftOutCommand::DefineSort)
+    } else if name == b"declare-sort".as_slice() {
+        Some(LeftOutCommand::DeclareSort)
+    } else if name == b"declare-datatype".as_slice() {
+        Some(LeftOutCommand::DeclareDatatype)
+    } else if name == b"declare-datatypes".as_slice() {
+        Some(LeftOutCommand::DeclareDatatypes)
+    } else {
+        None
+    }
+}

@@ -1,0 +1,25 @@
+//! The commands of scripts, and the state that they lead to (SMT-LIB 2.6, section 4).
+#![tactic(auto)]
+
+mod attribute;
+mod command;
+mod command_name;
+mod error;
+mod examples;
+mod exit;
+mod laws;
+mod option;
+mod parts;
+mod state;
+mod value;
+
+pub use command_name::CommandName;
+pub use error::{LeftOutCommand, Refusal, ScriptError};
+pub use examples::{worked_commands, worked_names};
+pub use exit::is_exit;
+pub use laws::state_law;
+pub use state::{Effect, Level, Mode, Satisfiability, State};
+pub use value::TermValue;
+
+#[cfg(test)]
+mod tests;

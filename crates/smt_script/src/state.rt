@@ -1,0 +1,430 @@
+//! The state after the commands.
+ghost use Rattle.std.specs.Prelude.{◌≡◌, ◌≤◌, ◌<◌, ℕ, length, [], false, Some, slice_get, IfOk, OnErr, Err, Option, Result};
+ghost use Rattle.smt_sexpr.specs.Tree.{Sexpr, Items};
+ghost use Rattle.smt_sexpr.specs.Table.{Means, HasMeaning};
+ghost use Rattle.idl_term.specs.Contexts.{IsScheduleFor, environment, scope_of};
+ghost use Rattle.idl_term.specs.Limits.{names_limit};
+ghost use Rattle.idl_term.specs.Lowered.{lowered};
+ghost use Rattle.idl_term.specs.Values.{value as value_of};
+ghost use Rattle.idl_term.specs.declared.error.TermRefusal.{TermRefusal};
+ghost use Rattle.smt_script.specs.Commands.{Command};
+ghost use Rattle.smt_script.specs.Kept.{StandsFor, Steps, cut_to};
+ghost use Rattle.smt_script.specs.Options.{option_effect};
+ghost use Rattle.smt_script.specs.Shapes.{ValueIs, HasValue, IsSignature, HasSignature, CountIs, CommandIs, Agrees};
+ghost use Rattle.smt_script.specs.States.{State as Meaning, start_state, after_logic, after_option, sort_of, after_declaration, after_definition, asserted_by, named_by, after_push, after_pop, after_by, after, settled, IsMadeState};
+ghost use Rattle.smt_script.specs.TermValues.{value_shown};
+ghost use Rattle.smt_script.specs.declared.error.Refusal.{Refusal as Why};
+ghost use Rattle.smt_script.specs.declared.state.Level.{Level as Before};
+
+use crate::command::{Request, Signature, request_of};
+use crate::error::{Refusal, ScriptError};
+use crate::option::{OptionEffect, option_effect};
+use crate::parts::{is_taken, lower_formula, lower_of_sort, signature_sort};
+use crate::value::{TermValue, term_value};
+use idl_node::Nodes;
+use idl_term::{Lowered, Names, Scope, TermError, context_law, lower, lowered_law};
+use smt_sexpr::{SexprId, Sexprs};
+use std::alloc::Global;
+use std::marker::Model;
+use stn_core::NamedValues;
+
+/// The greatest number of declared names.
+const NAMES_LIMIT: usize = 65_536;
+
+/// The greatest number of levels above the bottom.
+const LEVELS_LIMIT: u64 = 65_536;
+
+/// What a command is to be answered.
+#[derive(Clone, Copy, Debug, PartialEq, Eq)]
+pub enum Effect {
+    /// Nothing but `success`, where that is to be printed.
+    Silent,
+    /// A verdict on the state behind it.
+    CheckSat,
+    /// `unsupported`.
+    Unsupported,
+    /// Nothing, and the script ends.
+    Exit,
+}
+
+/// What the last check-sat was answered, where nothing was changed since (SMT-LIB 2.6, section 4.1.1).
+#[derive(Clone, Copy, Debug, PartialEq, Eq)]
+pub enum Mode {
+    Nothing,
+    Sat,
+    Unsat,
+}
+
+/// A verdict.
+#[derive(Clone, Copy, Debug, PartialEq, Eq)]
+pub enum Satisfiability {
+    Sat,
+    Unsat,
+}
+
+/// How much there was at a push.
+#[derive(Clone, Copy, Debug, PartialEq, Eq)]
+pub struct Level {
+    pub names: usize,
+    pub defined: usize,
+    pub nodes: usize,
+    pub roots: usize,
+}
+
+/// What is declared, defined and asserted, with the node table of the terms, and where each level begins. The names are
+/// borrowed from the script; terms aren't kept.
+#[derive(Drop)]
+pub struct State<'a> {
+    alloc: Global,
+    scope: Scope<'a>,
+    nodes: Nodes,
+    // the number of each assertion's node, in order
+    roots: Vec<u32>,
+    levels: Vec<Level>,
+    mode: Mode,
+    print_success: bool,
+}
+
+impl<'a> Model for State<'a> {
+    ghost use Rattle.smt_script.specs.Kept.{Kept, IsKept};
+
+    ghost Value = { Kept };
+
+    ghost view = { λ s. record { scope = s.scope; nodes = s.nodes; roots = s.roots.items; levels = s.levels.items; mode = s.mode; print_success = s.print_success } };
+
+    ghost invariant = { λ s. IsKept (record { scope = s.scope; nodes = s.nodes; roots = s.roots.items; levels = s.levels.items; mode = s.mode; print_success = s.print_success }) };
+}
+
+impl<'a> State<'a> {
+    /// The state before the first command. It takes no memory yet.
+    pub fn new(alloc: Global) -> Self
+        ensures { result ≡ record { scope = record { declared = []; bound = [] }; nodes = []; roots = []; levels = []; mode = Mode.Nothing; print_success = false } }
+    {
+        State {
+            alloc,
+            scope: Scope::new(alloc),
+            nodes: Nodes::new(alloc),
+            roots: Vec::new(alloc),
+            levels: Vec::new(alloc),
+            mode: Mode::Nothing,
+            print_success: false,
+        }
+    }
+
+    /// `set-logic`.
+    fn set_logic(&self, sexprs: &Sexprs<'a>, logic: SexprId) -> Result<Effect, ScriptError>
+        requires { HasMeaning sexprs.now logic }
+        ensures { (s : Meaning) (x : Sexpr) → StandsFor self.now s → Means sexprs.now logic x → Agrees (after_logic s x) self.now result }
+    {
+        match sexprs.symbol(logic) {
+            Some(name) if name == b"QF_IDL".as_slice() => Ok(Effect::Silent),
+            _ => Err(ScriptError::Refused(Refusal::LogicNotSupported)),
+        }
+    }
+
+    /// `set-option`.
+    fn set_option(
+        &mut self,
+        sexprs: &Sexprs<'a>,
+        keyword: &[u8],
+        value: Option<SexprId>,
+    ) -> Result<Effect, ScriptError>
+        requires { HasValue sexprs.now value }
+        ensures agrees { (s : Meaning) (v : Option Sexpr) → StandsFor self.old s → ValueIs sexprs.now value v → Agrees (after_option s (option_effect keyword.now v)) self.new result }
+        ensures err { OnErr result (self.new ≡ self.old) }
+    {
+        match option_effect(sexprs, keyword, value) {
+            OptionEffect::PrintSuccess(on) => {
+                self.print_success = on;
+                Ok(Effect::Silent)
+            }
+            OptionEffect::Nothing => Ok(Effect::Silent),
+            OptionEffect::Unsupported => Ok(Effect::Unsupported),
+            OptionEffect::IllFormed => Err(ScriptError::Refused(Refusal::IllFormedCommand)),
+        }
+    }
+
+    /// `declare-const` and `declare-fun`.
+    fn declare(
+        &mut self,
+        sexprs: &Sexprs<'a>,
+        signature: Signature<'a>,
+    ) -> Result<Effect, ScriptError>
+        requires { HasSignature sexprs.now signature }
+        ensures agrees { (s : Meaning) (parameters : Items) (x : Sexpr) → StandsFor self.old s → IsSignature sexprs.now signature.entry parameters x → Agrees (after_declaration s signature.entry.name.now parameters (sort_of x)) self.new result }
+        ensures err { OnErr result (self.new ≡ self.old) }
+    {
+        let sort = signature_sort(sexprs, signature)?;
+        if is_taken(&self.scope, signature.name) {
+            return Err(ScriptError::Refused(Refusal::AlreadyDeclared));
+        }
+        if self.scope.names().len() >= NAMES_LIMIT {
+            return Err(ScriptError::Refused(Refusal::TooManyNames));
+        }
+        self.scope.declare(signature.name, sort)?;
+        self.mode = Mode::Nothing;
+        Ok(Effect::Silent)
+    }
+
+    /// `define-fun`.
+    fn define(
+        &mut self,
+        sexprs: &Sexprs<'a>,
+        signature: Signature<'a>,
+        term: SexprId,
+    ) -> Result<Effect, ScriptError>
+        requires signature { HasSignature sexprs.now signature }
+        requires term { HasMeaning sexprs.now term }
+        ensures agrees { (s : Meaning) (parameters : Items) (x t : Sexpr) → StandsFor self.old s → IsSignature sexprs.now signature.entry parameters x → Means sexprs.now term t → Agrees (after_definition s signature.entry.name.now parameters (sort_of x) t) self.new result }
+        ensures err { OnErr result (self.new ≡ self.old) }
+    {
+        let sort = signature_sort(sexprs, signature)?;
+        if is_taken(&self.scope, signature.name) {
+            return Err(ScriptError::Refused(Refusal::AlreadyDeclared));
+        }
+        let before = self.nodes.len();
+        let stands = lower_of_sort(self.alloc, sexprs, term, sort, &self.scope, &mut self.nodes)?;
+        match self.scope.define(signature.name, stands) {
+            Ok(()) => {
+                self.mode = Mode::Nothing;
+                Ok(Effect::Silent)
+            }
+            Err(_) => {
+                self.nodes.cut(before);
+                Err(ScriptError::OutOfMemory)
+            }
+        }
+    }
+
+    /// `assert`.
+    fn assert_term(&mut self, sexprs: &Sexprs<'a>, term: SexprId) -> Result<Effect, ScriptError>
+        requires { HasMeaning sexprs.now term }
+        ensures agrees { (s : Meaning) (t : Sexpr) → StandsFor self.old s → Means sexprs.now term t → Agrees (asserted_by s t (lowered (scope_of s.context) s.context.nodes t)) self.new result }
+        ensures err { OnErr result (self.new ≡ self.old) }
+    {
+        self.roots.reserve(1)?;
+        let root = lower_formula(self.alloc, sexprs, term, &self.scope, &mut self.nodes)?;
+        self.roots.push_reserved(root);
+        self.mode = Mode::Nothing;
+        Ok(Effect::Silent)
+    }
+
+    /// `assert` of a term that is named.
+    fn assert_named(
+        &mut self,
+        sexprs: &Sexprs<'a>,
+        term: SexprId,
+        name: &'a [u8],
+    ) -> Result<Effect, ScriptError>
+        requires { HasMeaning sexprs.now term }
+        ensures agrees { (s : Meaning) (t : Sexpr) → StandsFor self.old s → Means sexprs.now term t → Agrees (named_by s t name.now (lowered (scope_of s.context) s.context.nodes t)) self.new result }
+        ensures err { OnErr result (self.new ≡ self.old) }
+    {
+        self.roots.reserve(1)?;
+        let before = self.nodes.len();
+        let root = lower_formula(self.alloc, sexprs, term, &self.scope, &mut self.nodes)?;
+        if is_taken(&self.scope, name) {
+            self.nodes.cut(before);
+            return Err(ScriptError::Refused(Refusal::AlreadyDeclared));
+        }
+        match self.scope.define(name, Lowered::Truth(root)) {
+            Ok(()) => {
+                self.roots.push_reserved(root);
+                self.mode = Mode::Nothing;
+                Ok(Effect::Silent)
+            }
+            Err(_) => {
+                self.nodes.cut(before);
+                Err(ScriptError::OutOfMemory)
+            }
+        }
+    }
+
+    /// `push`: so many levels on top.
+    fn push(&mut self, count: Option<u64>) -> Result<Effect, ScriptError>
+        ensures agrees { (s : Meaning) (n : ℕ) → StandsFor self.old s → CountIs count n → Agrees (after_push s n) self.new result }
+        ensures err { OnErr result (self.new ≡ self.old) }
+    {
+        let Some(count) = count else {
+            return Err(ScriptError::Refused(Refusal::TooManyLevels));
+        };
+        let depth = count.saturating_add(self.levels.len() as u64);
+        if depth > LEVELS_LIMIT {
+            return Err(ScriptError::Refused(Refusal::TooManyLevels));
+        }
+        let level = Level {
+            names: self.scope.names().len(),
+            defined: self.scope.defined(),
+            nodes: self.nodes.len(),
+            roots: self.roots.len(),
+        };
+        self.levels.resize(depth as usize, level)?;
+        self.mode = Mode::Nothing;
+        Ok(Effect::Silent)
+    }
+
+    /// Back to what there was at a push. It takes time in proportion to what goes.
+    fn cut(&mut self, left: usize)
+        requires { left < length self.old.levels }
+        ensures { (level : Before) → slice_get self.old.levels left ≡ Some level → self.new ≡ cut_to self.old left level }
+    {
+        let level = self.levels[left];
+        self.scope.cut(level.names, level.defined);
+        self.nodes.cut(level.nodes);
+        self.roots.truncate(level.roots);
+        self.levels.truncate(left);
+        self.mode = Mode::Nothing;
+    }
+
+    /// `pop`: back to what there was so many levels below.
+    fn pop(&mut self, count: Option<u64>) -> Result<Effect, ScriptError>
+        ensures agrees { (s : Meaning) (n : ℕ) → StandsFor self.old s → CountIs count n → Agrees (after_pop s n) self.new result }
+        ensures err { OnErr result (self.new ≡ self.old) }
+    {
+        let depth = self.levels.len();
+        match count {
+            Some(0) => {
+                self.mode = Mode::Nothing;
+                Ok(Effect::Silent)
+            }
+            Some(count) if count <= depth as u64 => {
+                self.cut(depth - count as usize);
+                Ok(Effect::Silent)
+            }
+            _ => Err(ScriptError::Refused(Refusal::PopBelowTheBottom)),
+        }
+    }
+
+    /// `reset-assertions`: the options stay.
+    fn reset_assertions(&mut self)
+        ensures { (s : Meaning) → StandsFor self.old s → StandsFor self.new (record start_state { print_success = s.print_success }) }
+    {
+        self.scope.cut(0, 0);
+        self.nodes.cut(0);
+        self.roots.truncate(0);
+        self.levels.truncate(0);
+        self.mode = Mode::Nothing;
+    }
+
+    /// `reset`.
+    fn reset(&mut self)
+        ensures { StandsFor self.new start_state }
+    {
+        *self = State::new(self.alloc);
+    }
+
+    /// What a command asks for.
+    fn carry_out(
+        &mut self,
+        sexprs: &Sexprs<'a>,
+        request: Request<'a>,
+    ) -> Result<Effect, ScriptError>
+        requires { (meant : Result Command Why) × CommandIs sexprs.now request meant }
+        ensures agrees { (s : Meaning) (meant : Result Command Why) → StandsFor self.old s → CommandIs sexprs.now request.entry meant → Agrees (after_by s meant) self.new result }
+        ensures err { OnErr result (self.new ≡ self.old) }
+    {
+        match request {
+            Request::SetLogic(logic) => self.set_logic(sexprs, logic),
+            Request::SetOption(keyword, value) => self.set_option(sexprs, keyword, value),
+            Request::SetInfo => Ok(Effect::Silent),
+            Request::Declare(signature) => self.declare(sexprs, signature),
+            Request::Define(signature, term) => self.define(sexprs, signature, term),
+            Request::Assert(term) => self.assert_term(sexprs, term),
+            Request::AssertNamed(term, name) => self.assert_named(sexprs, term, name),
+            Request::Push(count) => self.push(count),
+            Request::Pop(count) => self.pop(count),
+            Request::CheckSat => Ok(Effect::CheckSat),
+            Request::ResetAssertions => {
+                self.reset_assertions();
+                Ok(Effect::Silent)
+            }
+            Request::Reset => {
+                self.reset();
+                Ok(Effect::Silent)
+            }
+            Request::Exit => Ok(Effect::Exit),
+            Request::Unsupported => Ok(Effect::Unsupported),
+        }
+    }
+
+    /// One command, whose s-expression is in the table. The table may be cleared afterwards.
+    pub fn step(&mut self, sexprs: &Sexprs<'a>, id: SexprId) -> Result<Effect, ScriptError>
+        requires { HasMeaning sexprs.now id }
+        ensures ok { IfOk result (λ effect. (s : Meaning) (x : Sexpr) → StandsFor self.old s → Means sexprs.now id x → Steps s x effect self.new) }
+        ensures refused { (why : Why) → result ≡ Err (ScriptError.Refused why) → (s : Meaning) (x : Sexpr) → StandsFor self.old s → Means sexprs.now id x → after s x ≡ Err why }
+        ensures err { OnErr result (self.new ≡ self.old) }
+    {
+        let request = request_of(sexprs, id)?;
+        let effect = self.carry_out(sexprs, request)?;
+        Ok(effect)
+    }
+
+    /// The verdict of the check-sat that was the last command. It takes no memory.
+    pub fn settle(&mut self, verdict: Satisfiability)
+        ensures { (s : Meaning) → StandsFor self.old s → StandsFor self.new (settled verdict s) }
+    {
+        self.mode = match verdict {
+            Satisfiability::Sat => Mode::Sat,
+            Satisfiability::Unsat => Mode::Unsat,
+        };
+    }
+
+    /// The value of a term, where the names have these values: one of its sort for each. The state is as before. It takes time
+    /// and memory of the order of the node table and the term.
+    pub fn value(
+        &mut self,
+        sexprs: &Sexprs<'a>,
+        id: SexprId,
+        values: &NamedValues,
+    ) -> Result<TermValue, TermError>
+        requires meaning { HasMeaning sexprs.now id }
+        requires state { (s : Meaning) × StandsFor self.old s × IsMadeState s × IsScheduleFor s.context values.now }
+        ensures ok { IfOk result (λ v. (s : Meaning) (x : Sexpr) → StandsFor self.old s → IsMadeState s → IsScheduleFor s.context values.now → Means sexprs.now id x → value_of (environment s.context values.now) x ≡ value_shown v) }
+        ensures refused { (why : TermRefusal) → result ≡ Err (TermError.Refused why) → (s : Meaning) (x : Sexpr) → StandsFor self.old s → Means sexprs.now id x → lowered (scope_of s.context) s.context.nodes x ≡ Err why }
+        ensures same { self.new ≡ self.old }
+    {
+        context_law();
+        lowered_law();
+        let before = self.nodes.len();
+        let term = lower(self.alloc, sexprs, id, &self.scope, &mut self.nodes)?;
+        let value = term_value(self.alloc, &term, &self.nodes, values);
+        self.nodes.cut(before);
+        Ok(value?)
+    }
+
+    /// The declared names, in order of declaration.
+    pub fn names(&self) -> &Names<'a>
+        ensures names { result.now ≡ self.now.scope.declared }
+        ensures few { length result.now ≤ names_limit }
+    {
+        self.scope.names()
+    }
+
+    /// The node table of the active definitions and assertions.
+    pub fn nodes(&self) -> &Nodes
+        ensures { result.now ≡ self.now.nodes }
+    {
+        &self.nodes
+    }
+
+    /// The number of each assertion's node, in order.
+    pub fn roots(&self) -> &[u32]
+        ensures { result.now ≡ self.now.roots }
+    {
+        &self.roots
+    }
+
+    /// Whether `success` is to be printed.
+    pub fn print_success(&self) -> bool
+        ensures { result ≡ self.now.print_success }
+    {
+        self.print_success
+    }
+
+    /// The number of levels above the bottom.
+    pub fn levels(&self) -> usize
+        ensures { result ≡ length self.now.levels }
+    {
+        self.levels.len()
+    }
+}
