@@ -49,7 +49,7 @@ grows_below (suc n) nodes p =
 
 -- ---- a node that was passed gets nothing more
 
-record IsSameAt (k : ℕ) (p q : Polarity) : Type 0 where
+pub record IsSameAt (k : ℕ) (p q : Polarity) : Type 0 where
   pub asserted : is_among k q.asserted ≡ is_among k p.asserted
   pub denied : is_among k q.denied ≡ is_among k p.denied
 
@@ -81,7 +81,7 @@ module _ (Good : Literal → Type 0) (nodes : List NodeValue) where
       let q : Polarity = spread_asserted (is_among j p.asserted) node p in
       same_on k p q (spread j node p) (late_asserted (is_among j p.asserted) j k node p is le) (late_denied (is_among j p.denied) j k node q is le)
 
-  late_below : (table : IsTableOf Good nodes) (n k : ℕ) (p : Polarity) → n ≤ suc k → IsSameAt k p (polarity_below n nodes p)
+  pub late_below : (table : IsTableOf Good nodes) (n k : ℕ) (p : Polarity) → n ≤ suc k → IsSameAt k p (polarity_below n nodes p)
   late_below table zero k p le = same_at k p
   late_below table (suc n) k p le =
       let q : Polarity = spread n (node_at nodes n) p in

@@ -3,7 +3,7 @@
 use Rattle.std.specs.Prelude.{◌≡◌, ℕ, ◌<◌, List, [], ◌∷◌, length, Bool, false, if◌then◌else◌, slice_index, slice_index_or, Option, Some, None}
 use Rattle.stn_core.specs.declared.literal.Literal.{Literal}
 use Rattle.idl_node.specs.Nodes.{NodeValue, denial}
-use Rattle.clause_form.specs.Polarity.{is_among, Polarity}
+use Rattle.clause_form.specs.Polarity.{is_among, Polarity, polarity_of, inner_nodes}
 use Rattle.clause_form.specs.ClauseForm.{fresh_point, literal_of, denied_literal}
 
 -- each of so many marks says whether its place is among the numbers
@@ -14,6 +14,10 @@ pub record AreMarks (count : ℕ) (marks : List Bool) (numbers : List ℕ) : Typ
 pub record ArePolarityMarks (count : ℕ) (asserted denied : List Bool) (p : Polarity) : Type 0 where
   pub asserted_are : AreMarks count asserted p.asserted
   pub denied_are : AreMarks count denied p.denied
+
+pub record AreNodeMarks (count : ℕ) (asserted denied inner : List Bool) (nodes : List NodeValue) (roots : List ℕ) : Type 0 where
+  pub polarity_are : ArePolarityMarks count asserted denied (polarity_of nodes roots)
+  pub inner_are : AreMarks count inner (inner_nodes nodes (polarity_of nodes roots))
 
 -- at each of so many places stands the fresh point that an inner node there has
 pub record IsNumbering (points : ℕ) (inner : List ℕ) (count : ℕ) (fresh : List ℕ) : Type 0 where

@@ -1,9 +1,9 @@
 //! Which nodes are asserted, denied and inner: marks, one for each node. Roots and members beyond the table have none.
 ghost use Rattle.std.specs.Prelude.{◌≡◌, ◌<◌, ◌≤◌, ◌||◌, ◌++◌, ℕ, List, [], length, IfOk, slice_index_or, false, nat_eq};
-ghost use Rattle.idl_node.specs.Limits.{nodes_limit};
 ghost use Rattle.idl_node.specs.Nodes.{NodeValue, node_value, shown};
-ghost use Rattle.clause_form.specs.Marking.{AreMarks, ArePolarityMarks};
-ghost use Rattle.clause_form.specs.Polarity.{Polarity, is_among, spread, polarity_below, polarity_of, body_at, is_compound, node_at, compounds, inner_of, inner_below, inner_nodes};
+ghost use Rattle.idl_node.specs.Tables.{IsTableOver};
+ghost use Rattle.clause_form.specs.Marking.{AreMarks, AreNodeMarks, ArePolarityMarks};
+ghost use Rattle.clause_form.specs.Polarity.{Polarity, is_among, spread, body_at, is_compound, node_at, compounds, inner_of};
 
 use idl_node::Node;
 use std::alloc::{AllocError, Global};
@@ -13,6 +13,13 @@ use std::alloc::{AllocError, Global};
 pub struct PolarityMarks {
     pub asserted: Vec<bool>,
     pub denied: Vec<bool>,
+}
+
+// All of them.
+#[derive(Drop)]
+pub struct NodeMarks {
+    pub polarity: PolarityMarks,
+    pub inner: Vec<bool>,
 }
 
 fn mark(marks: &mut [bool], number: u32)
@@ -65,48 +72,12 @@ fn spread(asserted: &mut [bool], denied: &mut [bool], node: &Node, number: usize
     }
 }
 
-// From the last node down: a node's members have smaller numbers.
-fn spread_all(asserted: &mut [bool], denied: &mut [bool], nodes: &[Node])
-    requires in_asserted { length asserted.old ≡ length nodes.now }
-    requires in_denied { length denied.old ≡ length nodes.now }
-    ensures { (p : Polarity) → ArePolarityMarks (length nodes.now) asserted.old denied.old p → ArePolarityMarks (length nodes.now) asserted.new denied.new (polarity_below (length nodes.now) (shown nodes.now) p) }
-{
-    let mut left = nodes.len();
-    while left > 0 {
-        left -= 1;
-        spread(asserted, denied, &nodes[left], left);
-    }
-}
-
-fn mark_polarity(asserted: &mut [bool], denied: &mut [bool], nodes: &[Node], roots: &[u32])
-    requires no_asserted { AreMarks (length nodes.now) asserted.old [] }
-    requires no_denied { AreMarks (length nodes.now) denied.old [] }
-    ensures { ArePolarityMarks (length nodes.now) asserted.new denied.new (polarity_of (shown nodes.now) roots.now) }
-{
-    mark_all(asserted, roots);
-    spread_all(asserted, denied, nodes);
-}
-
 // Marks for so many nodes, none of them set.
 fn no_marks(alloc: Global, count: usize) -> Result<Vec<bool>, AllocError>
     ensures { IfOk result (λ marks. AreMarks count marks.items []) }
 {
     let marks = vec![in alloc; false; count]?;
     Ok(marks)
-}
-
-// The asserted and the denied nodes, where these are the roots.
-pub fn polarity_marks(
-    alloc: Global,
-    nodes: &[Node],
-    roots: &[u32],
-) -> Result<PolarityMarks, AllocError>
-    ensures { IfOk result (λ marks. ArePolarityMarks (length nodes.now) marks.asserted.items marks.denied.items (polarity_of (shown nodes.now) roots.now)) }
-{
-    let mut asserted = no_marks(alloc, nodes.len())?;
-    let mut denied = no_marks(alloc, nodes.len())?;
-    mark_polarity(&mut asserted, &mut denied, nodes, roots);
-    Ok(PolarityMarks { asserted, denied })
 }
 
 // The member of a `not`, else the node itself.
@@ -148,35 +119,42 @@ fn needed_members(node: &Node, asserted: bool, denied: bool, inner: bool) -> &[u
     }
 }
 
-// From the last node down, again.
-fn mark_inner(inner: &mut [bool], nodes: &[Node], asserted: &[bool], denied: &[bool])
-    requires in_inner { length inner.old ≡ length nodes.now }
-    requires in_asserted { length asserted.now ≡ length nodes.now }
-    requires in_denied { length denied.now ≡ length nodes.now }
-    ensures count { length inner.new ≡ length nodes.now }
-    ensures marks { (p : Polarity) (numbers : List ℕ) → ArePolarityMarks (length nodes.now) asserted.now denied.now p → AreMarks (length nodes.now) inner.old numbers
-        → AreMarks (length nodes.now) inner.new (inner_below (length nodes.now) (shown nodes.now) p numbers) }
+// One pass, from the last node down: a node's members have smaller numbers, so that what a node is stands when it is reached.
+fn mark_nodes(
+    asserted: &mut [bool],
+    denied: &mut [bool],
+    inner: &mut [bool],
+    nodes: &[Node],
+    roots: &[u32],
+)
+    requires table { (points : ℕ) × IsTableOver points (shown nodes.now) }
+    requires no_asserted { AreMarks (length nodes.now) asserted.old [] }
+    requires no_denied { AreMarks (length nodes.now) denied.old [] }
+    requires no_inner { AreMarks (length nodes.now) inner.old [] }
+    ensures { AreNodeMarks (length nodes.now) asserted.new denied.new inner.new (shown nodes.now) roots.now }
 {
+    mark_all(asserted, roots);
     let mut left = nodes.len();
     while left > 0 {
         left -= 1;
-        let members = needed_members(&nodes[left], asserted[left], denied[left], inner[left]);
+        let node = &nodes[left];
+        spread(asserted, denied, node, left);
+        let members = needed_members(node, asserted[left], denied[left], inner[left]);
         mark_compounds(inner, nodes, members);
     }
 }
 
-// The inner nodes.
-pub fn inner_marks(
-    alloc: Global,
-    nodes: &[Node],
-    polarity: &PolarityMarks,
-) -> Result<Vec<bool>, AllocError>
-    requires in_asserted { length polarity.now.asserted.items ≡ length nodes.now }
-    requires in_denied { length polarity.now.denied.items ≡ length nodes.now }
-    ensures count { IfOk result (λ inner. length inner.items ≡ length nodes.now) }
-    ensures marks { IfOk result (λ inner. (p : Polarity) → ArePolarityMarks (length nodes.now) polarity.now.asserted.items polarity.now.denied.items p → AreMarks (length nodes.now) inner.items (inner_nodes (shown nodes.now) p)) }
+// The asserted, the denied and the inner nodes, where these are the roots.
+pub fn node_marks(alloc: Global, nodes: &[Node], roots: &[u32]) -> Result<NodeMarks, AllocError>
+    requires table { (points : ℕ) × IsTableOver points (shown nodes.now) }
+    ensures { IfOk result (λ marks. AreNodeMarks (length nodes.now) marks.polarity.asserted.items marks.polarity.denied.items marks.inner.items (shown nodes.now) roots.now) }
 {
+    let mut asserted = no_marks(alloc, nodes.len())?;
+    let mut denied = no_marks(alloc, nodes.len())?;
     let mut inner = no_marks(alloc, nodes.len())?;
-    mark_inner(&mut inner, nodes, &polarity.asserted, &polarity.denied);
-    Ok(inner)
+    mark_nodes(&mut asserted, &mut denied, &mut inner, nodes, roots);
+    Ok(NodeMarks {
+        polarity: PolarityMarks { asserted, denied },
+        inner,
+    })
 }

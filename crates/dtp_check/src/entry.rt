@@ -15,7 +15,7 @@ use crate::judgement::EntryFlaw;
 use cert_check::{CheckError, check_refutation};
 use cert_text::Entry;
 use dtp_session::problem;
-use idl_node::{Nodes, Sort, mark_truths};
+use idl_node::{Nodes, Sort, eval};
 use refute_tree::Refutation;
 use smt_script::State;
 use std::alloc::{AllocError, Global};
@@ -57,14 +57,16 @@ fn first_unmarked(marks: &[bool], roots: &[u32]) -> Option<usize>
     None
 }
 
-/// The truth of all nodes, where the names have these values.
+/// The truth of all nodes, where the names have these values: `eval` of the last one tells that of those before it.
 fn truths(alloc: Global, nodes: &Nodes, values: &NamedValues) -> Result<Vec<bool>, AllocError>
     requires { IsTableOver (length values.now + 1) nodes.now }
     ensures room { IfOk result (λ marks. length marks.items ≡ length nodes.now) }
     ensures each { IfOk result (λ marks. (k : ℕ) → k < length nodes.now → slice_index_or marks.items k false ≡ truth nodes.now (point_values values.now) k) }
 {
     let mut marks = vec![in alloc; false; nodes.len()]?;
-    mark_truths(nodes, values, &mut marks);
+    if let Some(last) = nodes.len().checked_sub(1) {
+        eval(nodes, last as u32, values, &mut marks);
+    }
     Ok(marks)
 }
 

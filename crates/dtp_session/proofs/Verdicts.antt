@@ -12,11 +12,12 @@ use Rattle.cert_text.specs.declared.entry.Entry.TheVariants.{Sat, Unsat}
 use Rattle.cert_text.specs.Limits.{limit, ValueFits}
 use Rattle.clause_form.specs.ClauseForm as clause_form
 use Rattle.clause_form.specs.Restricting.{restricted}
+use Rattle.clause_form.proofs.Points.{weaker_table}
 use Rattle.idl_node.specs.declared.sort.Sort.{Sort}
 use Rattle.idl_node.specs.Limits.{nodes_limit}
 use Rattle.idl_node.specs.Nodes.{NodeValue}
 use Rattle.idl_node.specs.Sorts.{AreOfSorts, IsAtomFor}
-use Rattle.idl_node.specs.Tables.{IsTableOf}
+use Rattle.idl_node.specs.Tables.{IsTableOf, IsTableOver}
 use Rattle.idl_node.specs.Truth.{truth, point_values}
 use Rattle.idl_term.specs.Contexts.{Context, IsContext, IsScheduleFor, IsTrueOn, IsSatisfiable, scope_of}
 use Rattle.idl_term.specs.Limits.{names_limit}
@@ -58,12 +59,11 @@ OverLaw = (sorts : List Sort) (nodes : List NodeValue) (roots : List ℕ) → Is
     → All (λ (clause : List Literal). All (IsOver (clause_form.points_of (length sorts + 1) nodes roots)) clause) (clause_form.clauses_of (length sorts + 1) nodes roots)
 
 -- the literals of a problem are within the limits and over its points
-abbrev pub AreOver : ℕ → List NodeValue → List ℕ → Type 0
-AreOver points nodes roots = All (λ (clause : List Literal). All (IsOver (clause_form.points_of points nodes roots)) clause) (clause_form.clauses_of points nodes roots)
-
-pub over_same : (m n : ℕ) (lent nodes : List NodeValue) (given roots : List ℕ) → m ≡ n → lent ≡ nodes → given ≡ roots → AreOver n nodes roots → AreOver m lent given
-over_same m n lent nodes given roots e f g h =
-    subst (λ (k : ℕ). AreOver k lent given) (sym e) (subst (λ (ns : List NodeValue). AreOver n ns given) (sym f) (subst (λ (rs : List ℕ). AreOver n nodes rs) (sym g) h))
+-- the table that a state lends is over the zero point and the names' points
+pub table_over : (points : ℕ) (lent nodes : List NodeValue) (sorts : List Sort) → points ≡ length sorts + 1 → lent ≡ nodes → IsTableOf (IsAtomFor sorts) nodes → IsTableOver points lent
+table_over points lent nodes sorts e f table =
+    let over : IsTableOver (length sorts + 1) nodes = weaker_table (IsAtomFor sorts) (IsOver (length sorts + 1)) nodes (λ l is. is.over) table in
+    subst (λ (n : ℕ). IsTableOver n lent) (sym e) (subst (λ (ns : List NodeValue). IsTableOver (length sorts + 1) ns) (sym f) over)
 
 abbrev pub FewLaw : Type 0
 FewLaw = (points : ℕ) (nodes : List NodeValue) (roots : List ℕ) → clause_form.points_of points nodes roots ≤ points + length nodes

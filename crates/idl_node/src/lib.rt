@@ -17,7 +17,7 @@ pub use laws::{list_making_law, making_law, truth_law};
 pub use node::Node;
 pub use nodes::Nodes;
 pub use sort::Sort;
-pub use truth::{eval, mark_truths, point_value};
+pub use truth::{eval, point_value};
 
 #[cfg(test)]
 mod tests;

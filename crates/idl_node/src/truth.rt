@@ -1,5 +1,5 @@
 //! The truth of a node.
-ghost use Rattle.std.specs.Prelude.{◌≡◌, ◌<◌, ◌+◌, ℕ, List, length, slice_index_or, false};
+ghost use Rattle.std.specs.Prelude.{◌≡◌, ◌<◌, ◌≤◌, ◌+◌, ℕ, List, length, slice_index_or, false};
 ghost use Rattle.std.specs.List.{AllByRecursion, list_all, list_any};
 ghost use Rattle.idl_node.specs.Nodes.{NodeValue, node_value};
 ghost use Rattle.idl_node.specs.Tables.{IsTableOver, IsNodeOf};
@@ -77,13 +77,16 @@ fn node_holds(node: &Node, values: &NamedValues, marks: &[bool]) -> bool
     }
 }
 
-/// Whether the node is true where the names have these values. `marks` is the caller's buffer, as long as the table, for the
-/// truth of the nodes up to it. It takes time of the order of these nodes and their members, and no memory.
+/// Whether the node is true where the names have these values. `marks` is the caller's buffer, as long as the table: it then
+/// tells the truth of each node up to this one, so one call gives all of them. It takes time of the order of these nodes and
+/// their members, and no memory.
 pub fn eval(nodes: &Nodes, number: u32, values: &NamedValues, marks: &mut [bool]) -> bool
     requires table { IsTableOver (length values.now + 1) nodes.now }
     requires number { number < length nodes.now }
     requires room { length marks.old ≡ length nodes.now }
-    ensures { result ≡ truth nodes.now (point_values values.now) number }
+    ensures truth { result ≡ truth nodes.now (point_values values.now) number }
+    ensures room { length marks.new ≡ length nodes.now }
+    ensures each { (k : ℕ) → k ≤ number → slice_index_or marks.new k false ≡ truth nodes.now (point_values values.now) k }
 {
     let slice = nodes.as_slice();
     let end = number as usize + 1;
@@ -92,20 +95,4 @@ pub fn eval(nodes: &Nodes, number: u32, values: &NamedValues, marks: &mut [bool]
         marks[i] = value;
     }
     marks[number as usize]
-}
-
-/// The truth of all nodes, where the names have these values: `marks` is the caller's buffer, as long as the table. It takes
-/// time of the order of the nodes and their members, and no memory.
-pub fn mark_truths(nodes: &Nodes, values: &NamedValues, marks: &mut [bool])
-    requires table { IsTableOver (length values.now + 1) nodes.now }
-    requires room { length marks.old ≡ length nodes.now }
-    ensures room { length marks.new ≡ length nodes.now }
-    ensures each { (k : ℕ) → k < length nodes.now → slice_index_or marks.new k false ≡ truth nodes.now (point_values values.now) k }
-{
-    let slice = nodes.as_slice();
-    let end = nodes.len();
-    for i in 0..end {
-        let value = node_holds(&slice[i], values, &marks[..i]);
-        marks[i] = value;
-    }
 }

@@ -1,5 +1,5 @@
 -- The value of a linear term, summand by summand, and how large it may be; and values of the names' sorts.
-use Rattle.std.proofs.Common.{refl, ap, ◌∙◌, arith, ◌≡◌, ◌<◌, ◌≤◌, ◌+◌, ◌*◌, ◌^◌, ℕ, zero, suc, List, [], ◌∷◌, length, drop, get_or, true, ℤ, pos, negsuc, neg_ℤ, ◌+ℤ◌, ◌*ℤ◌, ◌≤ℤ◌, FitsSigned, w64, to_z, of_z}
+use Rattle.std.proofs.Common.{refl, ap, sym, subst, ◌∙◌, arith, ◌≡◌, ◌<◌, ◌≤◌, ◌+◌, ◌*◌, ◌^◌, ℕ, zero, suc, List, [], ◌∷◌, length, drop, get_or, slice_get, Some, true, ℤ, pos, negsuc, neg_ℤ, ◌+ℤ◌, ◌*ℤ◌, ◌≤ℤ◌, FitsSigned, w64, to_z, of_z}
 use Rattle.std.proofs.lemmas.Int.{ints, unsigned_abs-mul, fits_signed_mul, to_z-of_z}
 use Rattle.std.specs.Int.{w128}
 use Rattle.std.proofs.Common.{unsigned_abs}
@@ -17,7 +17,8 @@ use Rattle.idl_node.specs.Sorts.{IsIntPoint, IsAtomFor, AreOfSorts}
 use Rattle.idl_node.specs.Tables.{IsTableOf, IsTableOver}
 use Rattle.idl_node.proofs.Keeping.{table_of-better}
 use Rattle.idl_term.specs.Meanings.{IsTermIn}
-use Rattle.idl_term.specs.Scopes.{linear_term}
+use Rattle.idl_term.specs.Guarded.{CaseValue}
+use Rattle.idl_term.specs.Scopes.{numeric}
 use Rattle.idl_linear.specs.declared.summand.Summand.{Summand}
 use Rattle.idl_linear.specs.Forms.{AscendAbove, IsLinear}
 use Rattle.idl_linear.specs.Limits.{points_limit, coefficient_limit}
@@ -109,8 +110,15 @@ module _ (sorts : List Sort) (values : List NamedValue) (fits : AreOfSorts sorts
   points_valued [] h = tt
   points_valued (x ∷ xs) h = (rw (values_count sorts values fits) (int_point_within sorts x.point h.0), points_valued xs h.1)
 
-  pub linear_valued : (nodes : List NodeValue) (linear : LinearValue) → IsTermIn sorts nodes (linear_term linear) → AllByRecursion (λ (s : Summand). s.point < length values + 1) linear.summands
-  linear_valued nodes linear h = points_valued linear.summands h.1.points
+  -- and so do those of the only case of a term
+  pub case_valued : (nodes : List NodeValue) (cases : List CaseValue) (case : CaseValue) (l : LinearValue) → IsTermIn sorts nodes (numeric cases) → slice_get cases 0 ≡ Some case → l ≡ case.linear
+      → AllByRecursion (λ (s : Summand). s.point < length values + 1) l.summands
+  case_valued nodes [] case l h e is = absurd h
+  case_valued nodes (c ∷ []) case l h e is =
+      let same : c ≡ case = cc in
+      let linear : c.linear ≡ l = ap (λ (x : CaseValue). x.linear) same ∙ sym is in
+      subst (λ (x : LinearValue). AllByRecursion (λ (s : Summand). s.point < length values + 1) x.summands) linear (points_valued c.linear.summands h.1.points)
+  case_valued nodes (c ∷ d ∷ cs) case l h e is = absurd h
 
   -- and so do those of a table of atoms over the names
   pub table_valued : (nodes : List NodeValue) → IsTableOf (IsAtomFor sorts) nodes → IsTableOver (length values + 1) nodes

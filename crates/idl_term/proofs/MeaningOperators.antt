@@ -30,7 +30,8 @@ use Rattle.idl_term.specs.Applied.{Made, a_formula, as_formula, as_number, formu
 use Rattle.idl_term.specs.Comparing.{each_compared}
 use Rattle.idl_term.specs.Meanings.{lowered_value, IsLinearFor, IsTermIn}
 use Rattle.idl_term.specs.Operators.{takes_count}
-use Rattle.idl_term.specs.Scopes.{Case, LoweredTerm, formula, numeric, linear_term}
+use Rattle.idl_term.specs.Guarded.{CaseValue}
+use Rattle.idl_term.specs.Scopes.{LoweredTerm, formula, numeric, linear_term}
 use Rattle.idl_term.specs.Values.{Value, whole, truth, any_true, all_true, truth_of, total, remainder, number_of, truth_before, whole_before, truths_in, wholes_in, applied_to, operator_value}
 use Rattle.idl_term.proofs.BelowLinear.{ArePoints, HavePoints, points_sum, points_others, points_negatives, points_weaker, points_both, points_ascending, ascends_sum}
 use Rattle.idl_term.proofs.MeaningAtoms.{follows-is, atom_negates, relation_test, IsTested, neighbours_made, pairs_made}
@@ -307,7 +308,7 @@ module _ (sorts : List Sort) (nodes : List NodeValue) (room : length nodes ≤ n
       linear : AllByRecursion (IsLinearFor sorts) ls
       say : (schedule : List NamedValue) → wholes_in (map (lowered_value nodes schedule) ts) ≡ Some (map (linear_value (point_values schedule)) ls)
 
-    linear_before_is : (case : Case) (found : Option (List LinearValue)) (ls : List LinearValue) → linear_before (numeric (case ∷ [])) found ≡ Some ls → (others : List LinearValue) × (found ≡ Some others) × (case.linear ∷ others ≡ ls)
+    linear_before_is : (case : CaseValue) (found : Option (List LinearValue)) (ls : List LinearValue) → linear_before (numeric (case ∷ [])) found ≡ Some ls → (others : List LinearValue) × (found ≡ Some others) × (case.linear ∷ others ≡ ls)
     linear_before_is case None ls e = absurd cc
     linear_before_is case (Some others) ls e = let same : case.linear ∷ others ≡ ls = cc in (others, refl, same)
 

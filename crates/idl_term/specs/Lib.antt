@@ -1,6 +1,7 @@
 pub mod Limits
 pub mod Operators
 pub mod Values
+pub mod Guarded
 pub mod Scopes
 pub mod Comparing
 pub mod Applied

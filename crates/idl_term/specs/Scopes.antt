@@ -3,27 +3,23 @@ use Rattle.std.specs.Prelude.{ℕ, ◌+◌, List, [], ◌∷◌, map, Bool, true
 use Rattle.std.specs.Str.{bytes_eq}
 use Rattle.idl_linear.specs.Linear.{LinearValue}
 use Rattle.idl_node.specs.declared.sort.Sort.{Sort}
+use Rattle.idl_term.specs.Guarded.{CaseValue, plain}
 use Rattle.idl_term.specs.declared.lowered.Lowered.{Lowered}
 use Rattle.idl_term.specs.declared.lowered.Lowered.TheVariants.{Truth, Number}
-
--- A case of an Int term: what it is worth where these nodes are true. For now a term has one case, without guards.
-pub record Case : Type 0 where
-  pub guards : List ℕ
-  pub linear : LinearValue
 
 -- what a term is made into: a Bool term a node of the table, an Int term its cases
 pub data LoweredTerm : Type 0 where
   formula : (node : ℕ) → LoweredTerm
-  numeric : (cases : List Case) → LoweredTerm
+  numeric : (cases : List CaseValue) → LoweredTerm
 
 -- an Int term without conditions
 abbrev pub linear_term : LinearValue → LoweredTerm
-linear_term l = numeric (record { guards = []; linear = l } ∷ [])
+linear_term l = numeric (plain l)
 
 -- the code's lowered terms
 abbrev pub shown_term : Lowered → LoweredTerm
 shown_term (Truth node) = formula node
-shown_term (Number linear) = linear_term linear
+shown_term (Number cases) = numeric cases
 
 pub record Declaration : Type 0 where
   pub name : List ℕ

@@ -28,7 +28,7 @@ fn formulas(alloc: Global, terms: &[Lowered]) -> Result<Option<Vec<u32>>, AllocF
     Ok(Some(members))
 }
 
-/// The linear terms of terms that are all Int.
+/// The linear terms of terms that are all Int, and have one case each.
 fn linears<'t>(
     alloc: Global,
     terms: &'t [Lowered],
@@ -38,7 +38,10 @@ fn linears<'t>(
     let mut members = Vec::new(alloc);
     for term in terms {
         match term {
-            Lowered::Number(linear) => members.push(linear)?,
+            Lowered::Number(cases) => match cases.only() {
+                Some(linear) => members.push(linear)?,
+                None => return Ok(None),
+            },
             Lowered::Truth(_) => return Ok(None),
         }
     }
@@ -98,8 +101,8 @@ fn calculate(
     ensures front { take (length nodes.old) nodes.new ≡ nodes.old }
 {
     let relation = match operator {
-        Operator::Plus => return Ok(Lowered::Number(add(alloc, terms)?)),
-        Operator::Minus => return Ok(Lowered::Number(subtract(alloc, terms)?)),
+        Operator::Plus => return Ok(Lowered::number(alloc, add(alloc, terms)?)),
+        Operator::Minus => return Ok(Lowered::number(alloc, subtract(alloc, terms)?)),
         Operator::AtMost => Relation::AtMost,
         Operator::Less => Relation::Less,
         Operator::AtLeast => Relation::AtLeast,

@@ -47,7 +47,7 @@ fn node_of(term: &Lowered) -> Option<u32> {
 fn difference_of(alloc: Global, term: &Lowered) -> Option<Difference> {
     match term {
         Lowered::Truth(_) => None,
-        Lowered::Number(linear) => compare(linear, &Linear::number(alloc, 0)).ok(),
+        Lowered::Number(cases) => compare(cases.only()?, &Linear::number(alloc, 0)).ok(),
     }
 }
 
@@ -74,9 +74,9 @@ fn of_truths(
 fn of_points(alloc: Global, operator: Operator, nodes: &mut Nodes) -> Result<Option<u32>, TermError>
     requires { takes_count operator 3 ≡ true }
 {
-    let x = Lowered::Number(Linear::point(alloc, 1)?);
-    let y = Lowered::Number(Linear::point(alloc, 2)?);
-    let z = Lowered::Number(Linear::point(alloc, 3)?);
+    let x = Lowered::number(alloc, Linear::point(alloc, 1)?);
+    let y = Lowered::number(alloc, Linear::point(alloc, 2)?);
+    let z = Lowered::number(alloc, Linear::point(alloc, 3)?);
     let made = apply(alloc, operator, nodes, &[x, y, z])?;
     Ok(node_of(&made))
 }
@@ -91,8 +91,8 @@ fn of_number(
     requires count { takes_count operator 2 ≡ true }
     requires limited { is_within constant_limit number ≡ true }
 {
-    let x = Lowered::Number(Linear::point(alloc, 1)?);
-    let number = Lowered::Number(Linear::number(alloc, number));
+    let x = Lowered::number(alloc, Linear::point(alloc, 1)?);
+    let number = Lowered::number(alloc, Linear::number(alloc, number));
     apply(alloc, operator, nodes, &[x, number])
 }
 
@@ -176,8 +176,8 @@ fn choice(rt: HostRuntime) -> Result<(), Fail> {
 fn choice_of_numbers(rt: HostRuntime) -> Result<(), Fail> {
     let alloc = rt.alloc();
     let mut nodes = two_truths(alloc)?;
-    let yes = Lowered::Number(Linear::number(alloc, 1));
-    let no = Lowered::Number(Linear::number(alloc, 2));
+    let yes = Lowered::number(alloc, Linear::number(alloc, 1));
+    let no = Lowered::number(alloc, Linear::number(alloc, 2));
     let made = apply(
         alloc,
         Operator::Ite,
@@ -205,9 +205,9 @@ fn sums(rt: HostRuntime) -> Result<(), Fail> {
 fn subtracts_each(rt: HostRuntime) -> Result<(), Fail> {
     let alloc = rt.alloc();
     let mut nodes = Nodes::new(alloc);
-    let x = Lowered::Number(Linear::point(alloc, 1)?);
-    let y = Lowered::Number(Linear::point(alloc, 2)?);
-    let five = Lowered::Number(Linear::number(alloc, 5));
+    let x = Lowered::number(alloc, Linear::point(alloc, 1)?);
+    let y = Lowered::number(alloc, Linear::point(alloc, 2)?);
+    let five = Lowered::number(alloc, Linear::number(alloc, 5));
     let made = apply(alloc, Operator::Minus, &mut nodes, &[x, y, five])?;
     assert!(rt; difference_of(alloc, &made) == difference(1, 2, 5));
     Ok(())
@@ -264,7 +264,10 @@ fn distinct_numbers(rt: HostRuntime) -> Result<(), Fail> {
 fn wrong_sorts(rt: HostRuntime) -> Result<(), Fail> {
     let alloc = rt.alloc();
     let mut nodes = two_truths(alloc)?;
-    let mixed = [Lowered::Truth(0), Lowered::Number(Linear::number(alloc, 1))];
+    let mixed = [
+        Lowered::Truth(0),
+        Lowered::number(alloc, Linear::number(alloc, 1)),
+    ];
     let equal = apply(alloc, Operator::Equal, &mut nodes, &mixed);
     assert!(rt; is_refused(&equal, TermRefusal::WrongSort));
     let sum = apply(alloc, Operator::Plus, &mut nodes, &mixed);
@@ -278,8 +281,8 @@ fn limits(rt: HostRuntime) -> Result<(), Fail> {
     let mut nodes = Nodes::new(alloc);
     let less = of_number(alloc, Operator::Less, &mut nodes, TWO_TO_40 + 1);
     assert!(rt; is_refused(&less, TermRefusal::BoundTooLarge));
-    let greatest = Lowered::Number(Linear::number(alloc, 1 << 62));
-    let one = Lowered::Number(Linear::number(alloc, 1));
+    let greatest = Lowered::number(alloc, Linear::number(alloc, 1 << 62));
+    let one = Lowered::number(alloc, Linear::number(alloc, 1));
     let sum = apply(alloc, Operator::Plus, &mut nodes, &[greatest, one]);
     assert!(rt; is_refused(&sum, TermRefusal::BoundTooLarge));
     Ok(())

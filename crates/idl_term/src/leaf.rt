@@ -47,7 +47,7 @@ fn lower_found(alloc: Global, meaning: FoundName, nodes: &mut Nodes) -> Result<L
         FoundName::Declared(place, sort) => {
             let point = place as u32 + 1;
             match sort {
-                Sort::Int => Ok(Lowered::Number(Linear::point(alloc, point)?)),
+                Sort::Int => Ok(Lowered::number(alloc, Linear::point(alloc, point)?)),
                 Sort::Bool => as_formula(nodes.place(Node::Atom(Literal {
                     x: point,
                     y: 0,
@@ -90,7 +90,7 @@ fn lower_numeral(alloc: Global, digits: &[u8]) -> Result<Lowered, TermError>
 {
     match numeral_value(digits) {
         Some(value) if value <= CONSTANT_LIMIT => {
-            Ok(Lowered::Number(Linear::number(alloc, value as i64)))
+            Ok(Lowered::number(alloc, Linear::number(alloc, value as i64)))
         }
         _ => Err(TermError::Refused(TermRefusal::BoundTooLarge)),
     }

@@ -4,6 +4,7 @@
 mod applied;
 mod arithmetic;
 mod binding;
+mod cases;
 mod comparing;
 mod error;
 mod eval;
@@ -19,6 +20,7 @@ mod names;
 mod operator;
 mod scope;
 
+pub use cases::{Case, Cases};
 pub use error::{LeftOutTerm, TermError, TermRefusal};
 pub use eval::eval_int;
 pub use examples::{worked_terms, worked_values};

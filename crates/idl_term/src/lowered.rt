@@ -1,31 +1,39 @@
 //! What terms are made into.
 ghost use Rattle.std.specs.Prelude.{◌≡◌, IfOk};
 ghost use Rattle.idl_term.specs.Kept.{sort_of};
-ghost use Rattle.idl_term.specs.Scopes.{shown_term};
+ghost use Rattle.idl_term.specs.Scopes.{linear_term, shown_term};
 
+use crate::cases::Cases;
 use idl_linear::Linear;
 use idl_node::Sort;
-use std::alloc::AllocError;
+use std::alloc::{AllocError, Global};
 
 /// What a term is made into.
 #[derive(Drop)]
 pub enum Lowered {
     /// A Bool term: the number of its node.
     Truth(u32),
-    /// An Int term.
-    Number(Linear),
+    /// An Int term: its cases.
+    Number(Cases),
 }
 
 impl Lowered {
+    /// An Int term without conditions.
+    pub fn number(alloc: Global, linear: Linear) -> Lowered
+        ensures { shown_term result ≡ linear_term linear }
+    {
+        Lowered::Number(Cases::plain(alloc, linear))
+    }
+
     /// An equal one in memory of its own.
     pub fn copy(&self) -> Result<Lowered, AllocError>
         ensures { IfOk result (λ t. t ≡ self.now) }
     {
         match self {
             Lowered::Truth(node) => Ok(Lowered::Truth(*node)),
-            Lowered::Number(linear) => {
-                let linear = linear.copy()?;
-                Ok(Lowered::Number(linear))
+            Lowered::Number(cases) => {
+                let cases = cases.copy()?;
+                Ok(Lowered::Number(cases))
             }
         }
     }

@@ -38,7 +38,10 @@ pub fn term_value(
             let truth = eval(nodes, *number, values, &mut marks);
             Ok(TermValue::Truth(truth))
         }
-        Lowered::Number(linear) => Ok(TermValue::Int(eval_int(linear, values))),
+        Lowered::Number(cases) => {
+            let number = eval_int(cases.first().linear(), values);
+            Ok(TermValue::Int(number))
+        }
     }
 }
 

@@ -39,7 +39,11 @@ fn fill(alloc: Global, scope: &mut Scope) -> Result<(), AllocError> {
     declare(scope, b"x", Sort::Int)?;
     define(scope, b"f", Lowered::Truth(7))?;
     declare(scope, b"p", Sort::Bool)?;
-    define(scope, b"n", Lowered::Number(Linear::number(alloc, 5)))?;
+    define(
+        scope,
+        b"n",
+        Lowered::number(alloc, Linear::number(alloc, 5)),
+    )?;
     declare(scope, b"f", Sort::Int)?;
     define(scope, b"x", Lowered::Truth(6))
 }
@@ -102,7 +106,7 @@ fn copies_terms(rt: HostRuntime) -> Result<(), Fail> {
     let truth = Lowered::Truth(7).copy()?;
     assert_eq!(rt; kind(FoundName::Bound(&truth)), (b't', 7));
     assert_eq!(rt; truth.sort(), Sort::Bool);
-    let number = Lowered::Number(Linear::number(alloc, 5)).copy()?;
+    let number = Lowered::number(alloc, Linear::number(alloc, 5)).copy()?;
     assert_eq!(rt; number.sort(), Sort::Int);
     Ok(())
 }

@@ -2,13 +2,13 @@ use Rattle.std.proofs.Common.{subst}
 use Rattle.idl_term.specs.Meanings.{IsTermIn}
 use Rattle.idl_term.specs.Scopes.{shown_term}
 use Rattle.idl_term.specs.declared.lowered.Lowered.{Lowered}
-use Rattle.idl_term.proofs.Evaluating.{linear_valued, table_valued}
+use Rattle.idl_term.proofs.Evaluating.{case_valued, table_valued}
 use Rattle.smt_script.proofs.value.term_value.Goals as goal
 
 pub eval-truth-requires-clause-table : goal.eval-truth-requires-clause-table
 eval-truth-requires-clause-table c = table_valued c.requires.0 c.args.values.now c.requires.1 c.args.nodes.now c.requires.2
 
-pub eval_int-requires : goal.eval_int-requires
-eval_int-requires c =
+pub eval_int-number-requires : goal.eval_int-number-requires
+eval_int-number-requires c =
     let term = subst (λ (t : Lowered). IsTermIn c.requires.0 c.args.nodes.now (shown_term t)) c.in-Number.is c.requires.3 in
-    record { points = linear_valued c.requires.0 c.args.values.now c.requires.1 c.args.nodes.now c.in-Number.linear term }
+    record { points = case_valued c.requires.0 c.args.values.now c.requires.1 c.args.nodes.now c.in-Number.cases c.first.result.now c.linear.result.now term c.first.ensures c.linear.ensures }
