@@ -1,13 +1,11 @@
 -- The numbers of an entry are within the limits of the format.
-use Rattle.std.proofs.Common.{refl, sym, ap, subst, arith, ◌∙◌, ◌≡◌, ◌<◌, ◌≤◌, ◌+◌, ◌-◌, ◌^◌, ◌++◌, ℕ, zero, suc, List, [], ◌∷◌, length, map, take, true, false, Option, Some, None, ℤ, pos, negsuc, neg_ℤ, ◌-ℤ◌, ◌≤ℤ◌, ◌<ℤ◌, get_or}
-use Rattle.std.specs.Prelude.{All, Contains, slice_get, unsigned_abs}
+use Rattle.std.proofs.Common.{sym, subst, arith, ◌≡◌, ◌≤◌, ◌^◌, ℕ, List, [], ◌∷◌, length, map, take, Some, ℤ, pos, negsuc, neg_ℤ, ◌-ℤ◌, ◌≤ℤ◌, get_or}
+use Rattle.std.specs.Prelude.{All, Contains, slice_get}
 use Rattle.std.specs.List.{AllByRecursion}
 use Rattle.std.proofs.lemmas.Int.{ints}
 use Rattle.std.proofs.lemmas.List.Elements.{All-contains, All-get_or, All-from_get_or, All-push, All-nil, recursion_from_All, All-from_recursion}
 use Rattle.std.proofs.lemmas.Option.{slice_get_within, get_or_from_slice_get, slice_get-get_or}
 use Rattle.stn_core.specs.declared.literal.Literal.{Literal}
-use Rattle.stn_core.specs.declared.named.NamedValue.{NamedValue}
-use Rattle.stn_core.specs.Limits.{bound_limit, value_limit}
 use Rattle.stn_core.specs.Literal.{negation_of, IsOver}
 use Rattle.stn_core.specs.Schedule.{IsInRange}
 use Rattle.refute_tree.specs.declared.step.Step.{Step}

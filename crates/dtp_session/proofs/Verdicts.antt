@@ -9,7 +9,7 @@ use Rattle.stn_core.specs.Problem.{ProblemHolds}
 use Rattle.refute_tree.specs.declared.lemma.Lemma.{Lemma}
 use Rattle.refute_tree.specs.Trees.{IsRefutation}
 use Rattle.cert_text.specs.declared.entry.Entry.TheVariants.{Sat, Unsat}
-use Rattle.cert_text.specs.Limits.{limit, ValueFits}
+use Rattle.cert_text.specs.Limits.{limit}
 use Rattle.clause_form.specs.ClauseForm as clause_form
 use Rattle.clause_form.specs.Restricting.{restricted}
 use Rattle.clause_form.proofs.Points.{weaker_table}
@@ -27,7 +27,7 @@ use Rattle.plain_search.specs.declared.verdict.Verdict.{Verdict}
 use Rattle.plain_search.specs.Verdicts.{IsSolution, IsOfInputs, IsVerdict}
 use Rattle.dtp_session.specs.Entries.{points_of, problem_of, IsEntryOf}
 use Rattle.dtp_session.proofs.Fitting.{NegationKept, values_within, refutation_within}
-use Rattle.dtp_session.proofs.Roots.{IsRootTrue, roots_true, assertions_true}
+use Rattle.dtp_session.proofs.Roots.{roots_true, assertions_true}
 
 -- ---- the laws that verdicts rest on
 

@@ -1,5 +1,5 @@
 -- A text that is appended piece by piece.
-use Rattle.std.proofs.Common.{refl, sym, ap, ◌∙◌, ◌≡◌, ℕ, List, ◌++◌}
+use Rattle.std.proofs.Common.{ap, ◌∙◌, ◌≡◌, ℕ, List, ◌++◌}
 use Rattle.std.proofs.lemmas.List.{append_assoc}
 
 pub five : (old a b c d e o p q r s : List ℕ) → o ≡ old ++ a → p ≡ o ++ b → q ≡ p ++ c → r ≡ q ++ d → s ≡ r ++ e → s ≡ old ++ (a ++ (b ++ (c ++ (d ++ e))))

@@ -1,8 +1,8 @@
 -- The attributes of a term, item by item.
-use Rattle.std.proofs.Common.{refl, sym, ap, ◌∙◌, ◌≡◌, ◌≢◌, ◌<◌, ◌+◌, ℕ, List, [], length, drop, get_or, Option, Some, None, Result, Ok, Err}
+use Rattle.std.proofs.Common.{refl, sym, ap, ◌∙◌, ◌≡◌, ◌≢◌, ◌<◌, ◌+◌, ℕ, List, [], length, drop, get_or, Option, Some, Ok, Err}
 use Rattle.smt_sexpr.specs.Tree.{Sexpr, Items, none, more}
 use Rattle.smt_sexpr.specs.Table.{Table, Means, MeansEach}
-use Rattle.smt_script.specs.Attributes.{Named, whole, wants_name, may_have_value, named_after, named_in}
+use Rattle.smt_script.specs.Attributes.{Named, named_after}
 use Rattle.smt_script.specs.Shapes.{shown_awaited, shown_name, AttributeIs, AttributesAre}
 use Rattle.smt_script.specs.declared.attribute.Attributes.{Attributes}
 use Rattle.smt_script.specs.declared.attribute.Awaited.{Awaited}

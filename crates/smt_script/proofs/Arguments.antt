@@ -1,11 +1,11 @@
 -- What the ids of some items say of the items.
-use Rattle.std.proofs.Common.{refl, sym, subst, ap, arith, ◌∙◌, ◌≡◌, ◌<◌, ◌≤◌, ◌^◌, ◌+◌, ◌-◌, ℕ, List, [], ◌∷◌, length, take, drop, get_or, Option, Some, None, Result, Ok, Err, false, ◌==◌, Bor}
+use Rattle.std.proofs.Common.{refl, sym, subst, ap, arith, ◌∙◌, ◌≡◌, ◌<◌, ◌≤◌, ◌^◌, ◌+◌, ◌-◌, ℕ, List, [], ◌∷◌, length, take, drop, get_or, Option, Some, None, Ok, false, ◌==◌, Bor}
 use Rattle.std.specs.Prelude.{IfSome, IsNone, codes, if◌then◌else◌}
 use Rattle.std.specs.Str.{bytes_eq}
 use Rattle.std.proofs.lemmas.List.{take_all, drop_more}
 use Rattle.smt_sexpr.specs.Tree.{Sexpr, Items, leaf, list, none, more, symbol_of}
 use Rattle.smt_sexpr.specs.Table.{Table, Means, MeansEach, ItemsAre}
-use Rattle.smt_script.specs.Commands.{Command, ill_formed, declaring, defining, with_name, function_command, definition_command, headed_by, annotation_in, annotated, annotation_command, assertion_by, assertion_command, asserting, command_of}
+use Rattle.smt_script.specs.Commands.{ill_formed, declaring, defining, with_name, function_command, definition_command, headed_by, annotation_in, annotated, annotation_command, assertion_by, assertion_command, asserting, command_of}
 use Rattle.smt_script.specs.Attributes.{Named, named_in}
 use Rattle.smt_script.specs.Shapes.{AnnotationIs, CountIs}
 

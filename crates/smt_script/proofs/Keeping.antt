@@ -1,5 +1,5 @@
 -- What is kept stands for the state behind a command.
-use Rattle.std.proofs.Common.{refl, sym, ap, subst, arith, ◌∙◌, ◌≡◌, ◌<◌, ◌≤◌, ◌+◌, ◌-◌, ◌++◌, ℕ, zero, suc, List, [], ◌∷◌, length, take, replicate, get_or, map, Some, None, slice_get, Bool, true, false}
+use Rattle.std.proofs.Common.{refl, sym, ap, subst, arith, ◌∙◌, ◌≡◌, ◌<◌, ◌≤◌, ◌+◌, ◌-◌, ◌++◌, ℕ, List, [], ◌∷◌, length, take, replicate, get_or, map, Some, slice_get, Bool}
 use Rattle.std.proofs.lemmas.List.{take_all}
 use Rattle.std.proofs.lemmas.Option.{slice_get-get_or}
 use Rattle.idl_node.specs.Nodes.{NodeValue}
@@ -8,13 +8,13 @@ use Rattle.smt_sexpr.specs.Tree.{Sexpr}
 use Rattle.idl_term.specs.Applied.{Made}
 use Rattle.idl_term.specs.Contexts.{Context, Definition, binding_of, scope_of, with_declaration, with_definition, with_assertion}
 use Rattle.idl_term.specs.Limits.{names_limit}
-use Rattle.idl_term.specs.Scopes.{LoweredTerm, formula, Scope, Declaration, Binding}
+use Rattle.idl_term.specs.Scopes.{LoweredTerm, formula, Scope, Binding}
 use Rattle.smt_script.specs.Kept.{Kept, AreLevels, StandsFor, IsKept, amount_of, cut_to}
-use Rattle.smt_script.specs.States.{State, start_state, popped}
+use Rattle.smt_script.specs.States.{State, popped}
 use Rattle.smt_script.specs.declared.state.Level.{Level}
 use Rattle.smt_script.specs.declared.state.Mode.{Mode}
 use Rattle.smt_script.specs.declared.state.Mode.TheVariants as mode
-use Rattle.smt_script.proofs.Levels.{IsFront, take_length, take_own, take_added, amount_grown, ascend_grown, ascend_pushed, ascend_popped, level_within, level_at, level_now, levels_grown, levels_pushed, levels_count, levels_cut, levels_taken, ascend_front}
+use Rattle.smt_script.proofs.Levels.{IsFront, take_length, take_own, take_added, amount_grown, ascend_grown, ascend_pushed, ascend_popped, level_within, level_at, level_now, levels_grown, levels_pushed, levels_cut, levels_taken, ascend_front}
 
 -- ---- what is kept behind a command
 

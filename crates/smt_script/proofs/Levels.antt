@@ -1,11 +1,9 @@
 -- What there was at a push is a front of what there is: as tables grow, at a push, and at a pop.
-use Rattle.std.proofs.Common.{refl, sym, ap, subst, arith, ◌∙◌, ◌≡◌, ◌<◌, ◌≤◌, ◌+◌, ◌-◌, ◌++◌, ℕ, zero, suc, List, [], ◌∷◌, length, take, replicate, get_or, Some, None, slice_get}
-use Rattle.idl_node.specs.Nodes.{NodeValue}
+use Rattle.std.proofs.Common.{refl, sym, ap, subst, arith, ◌∙◌, ◌≡◌, ◌≤◌, ◌++◌, ℕ, zero, suc, List, [], ◌∷◌, length, take, replicate, get_or, Some, slice_get}
 use Rattle.idl_term.specs.Contexts.{Context, scope_of}
 use Rattle.idl_term.specs.Scopes.{Scope, Declaration, Binding}
 use Rattle.smt_script.specs.Kept.{Kept, IsLevelOf, AreLevels, IsNoLess, Ascend, amount_of, cut_to}
 use Rattle.smt_script.specs.declared.state.Level.{Level}
-use Rattle.smt_script.specs.declared.state.Mode.TheVariants as mode
 
 -- ---- fronts of lists
 

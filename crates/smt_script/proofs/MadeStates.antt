@@ -1,5 +1,5 @@
 -- What is active came about by declarations, definitions and assertions, whatever the commands were.
-use Rattle.std.proofs.Common.{refl, sym, ap, subst, arith, ◌∙◌, ◌≡◌, ◌<◌, ◌+◌, ◌-◌, ◌++◌, ◌||◌, ℕ, zero, suc, List, [], ◌∷◌, length, take, replicate, get_or, Bool, true, false, Option, Some, None, Result, Ok, Err, nat_le, nat_lt}
+use Rattle.std.proofs.Common.{refl, subst, arith, ◌≡◌, ◌<◌, ◌+◌, ◌-◌, ◌++◌, ◌||◌, ℕ, zero, suc, List, [], ◌∷◌, length, take, replicate, get_or, Bool, true, false, Option, Some, None, Result, Ok, Err, nat_le, nat_lt}
 use Rattle.std.specs.Prelude.{if◌then◌else◌}
 use Rattle.std.specs.List.{AllByRecursion}
 use Rattle.std.proofs.lemmas.Bool.Decides.{nat_tests}
@@ -7,10 +7,10 @@ use Rattle.idl_node.specs.Nodes.{NodeValue}
 use Rattle.idl_node.specs.declared.sort.Sort.{Sort}
 use Rattle.smt_sexpr.specs.Tree.{Sexpr, Items, none, more}
 use Rattle.idl_term.specs.Applied.{Made}
-use Rattle.idl_term.specs.Contexts.{Context, start_context, scope_of, with_declaration, with_definition, with_assertion, IsFree, IsContext, start, declares, defines, asserts, names}
+use Rattle.idl_term.specs.Contexts.{Context, scope_of, IsFree, IsContext, start, declares, defines, asserts, names}
 use Rattle.idl_term.specs.Limits.{names_limit}
 use Rattle.idl_term.specs.Lowered.{lowered}
-use Rattle.idl_term.specs.Operators.{is_reserved, is_symbol}
+use Rattle.idl_term.specs.Operators.{is_reserved}
 use Rattle.idl_term.specs.Scopes.{LoweredTerm, formula, numeric, is_known}
 use Rattle.idl_term.specs.declared.error.TermRefusal.{TermRefusal}
 use Rattle.smt_script.specs.Commands

@@ -6,7 +6,7 @@ use Rattle.smt_sexpr.specs.Tree.{Sexpr, leaf, list}
 use Rattle.idl_node.specs.Nodes.{atom}
 use Rattle.idl_node.specs.declared.sort.Sort.TheVariants as sort
 use Rattle.idl_term.specs.Contexts.{Context, start_context}
-use Rattle.idl_term.specs.Examples.{symbol, numeral, p, items_of, apply, literal}
+use Rattle.idl_term.specs.Examples.{symbol, p, items_of, apply, literal}
 use Rattle.idl_term.specs.Scopes.{formula}
 use Rattle.smt_script.specs.States.{State, start_state}
 

@@ -1,6 +1,6 @@
 -- How the code sees commands: by the ids of their parts. These are words of the code's inner contracts, and no part of the
 -- meaning.
-use Rattle.std.specs.Prelude.{◌≡◌, ℕ, ◌≤◌, ◌^◌, List, [], Bool, true, false, if◌then◌else◌, Option, Some, None, option_map, Result, Ok, Err}
+use Rattle.std.specs.Prelude.{◌≡◌, ℕ, ◌≤◌, ◌^◌, List, Bool, true, false, if◌then◌else◌, Option, Some, None, option_map, Result, Ok, Err}
 use Rattle.std.specs.Borrow.{Bor}
 use Rattle.smt_sexpr.specs.Tree.{Sexpr, Items, list, none, more, symbol_of}
 use Rattle.smt_sexpr.specs.Table.{Table, Means, MeansEach}

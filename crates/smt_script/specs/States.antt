@@ -1,5 +1,5 @@
 -- The state after the commands, and the refusal of a command (SMT-LIB 2.6, section 4.1: execution modes, the assertion stack).
-use Rattle.std.specs.Prelude.{◌≡◌, ℕ, ◌+◌, ◌-◌, List, [], ◌∷◌, ◌++◌, length, take, replicate, Bool, true, false, ◌||◌, ◌==◌, nat_le, nat_lt, codes, if◌then◌else◌, Option, Some, None, Result, Ok, Err, slice_index_or}
+use Rattle.std.specs.Prelude.{ℕ, ◌+◌, ◌-◌, List, [], ◌++◌, length, take, replicate, Bool, true, false, ◌||◌, nat_le, nat_lt, codes, if◌then◌else◌, Option, Some, None, Result, Ok, Err, slice_index_or}
 use Rattle.std.specs.List.{AllByRecursion}
 use Rattle.std.specs.Str.{bytes_eq}
 use Rattle.smt_sexpr.specs.Tree.{Sexpr, Items, none, more, symbol_of}

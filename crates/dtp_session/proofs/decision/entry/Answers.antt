@@ -1,11 +1,11 @@
-use Rattle.std.proofs.Common.{arith, ◌∙◌, ◌≡◌, ◌+◌, ◌≤◌, sym, ap, subst, ℕ, List, length, ℤ}
+use Rattle.std.proofs.Common.{arith, ◌∙◌, ◌≡◌, ◌+◌, ◌≤◌, sym, ap, subst, List, length, ℤ}
 use Rattle.std.specs.Prelude.{All}
 use Rattle.stn_core.specs.Schedule.{IsInRange}
 use Rattle.stn_core.specs.declared.literal.Literal.{Literal}
 use Rattle.cert_text.specs.Limits.{limit}
 use Rattle.clause_form.specs.Restricting.{restricted}
 use Rattle.idl_node.specs.declared.sort.Sort.{Sort}
-use Rattle.idl_term.specs.Scopes.{Declaration, Scope, sorts_of}
+use Rattle.idl_term.specs.Scopes.{Scope, sorts_of}
 use Rattle.plain_search.specs.Verdicts.{IsSolution, IsOfInputs}
 use Rattle.refute_tree.specs.Trees.{IsRefutation}
 use Rattle.dtp_session.specs.Entries.{points_of, problem_of}

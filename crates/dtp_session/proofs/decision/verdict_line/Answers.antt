@@ -1,4 +1,4 @@
-use Rattle.std.proofs.Common.{◌∙◌, ◌≡◌, ◌++◌, ap, ℕ, List, true, false}
+use Rattle.std.proofs.Common.{◌∙◌, ◌++◌, ap, ℕ, List, true, false}
 use Rattle.plain_search.specs.Verdicts.{IsSolution, IsOfInputs}
 use Rattle.refute_tree.specs.Trees.{IsRefutation}
 use Rattle.smt_answer.specs.Texts.{verdict_line}

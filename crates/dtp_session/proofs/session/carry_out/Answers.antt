@@ -1,4 +1,4 @@
-use Rattle.std.proofs.Common.{◌≡◌, ◌∙◌, [], subst, ap, refl, Err}
+use Rattle.std.proofs.Common.{◌≡◌, ◌∙◌, subst, ap, refl, Err}
 use Rattle.smt_sexpr.specs.Tree.{Sexpr}
 use Rattle.smt_script.specs.declared.state.Effect.{Effect}
 use Rattle.smt_script.specs.declared.state.Effect.TheVariants.{Silent, CheckSat, Unsupported, Exit}

@@ -1,4 +1,4 @@
-use Rattle.std.proofs.Common.{ap, ◌∙◌, ◌≡◌, ℕ, List, ◌++◌}
+use Rattle.std.proofs.Common.{ap, ◌∙◌, ℕ, List, ◌++◌}
 use Rattle.smt_answer.specs.Texts.{error_line}
 use Rattle.smt_answer.proofs.Pieces.{five}
 use Rattle.smt_answer.proofs.text.write_error.Goals as goal

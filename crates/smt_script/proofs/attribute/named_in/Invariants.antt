@@ -1,4 +1,3 @@
-use Rattle.std.proofs.Common.{◌≡◌}
 use Rattle.smt_sexpr.specs.Tree.{Items}
 use Rattle.smt_sexpr.specs.Table.{MeansEach}
 use Rattle.smt_script.specs.Attributes.{named_in}

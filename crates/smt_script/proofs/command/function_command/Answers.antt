@@ -1,4 +1,4 @@
-use Rattle.std.proofs.Common.{rules, sym, ap, ◌∙◌, ◌≡◌, Err, List, ℕ, Option}
+use Rattle.std.proofs.Common.{ap, ◌∙◌, ◌≡◌, Err}
 use Rattle.std.proofs.lemmas.Result.{err_from_is_err_and}
 use Rattle.smt_script.specs.Commands.{function_command}
 use Rattle.smt_script.proofs.Arguments.{three_of, function_is}

@@ -1,4 +1,4 @@
-use Rattle.std.proofs.Common.{sym, ap, subst, ◌∙◌}
+use Rattle.std.proofs.Common.{sym, ap, subst}
 use Rattle.smt_script.specs.Kept.{Kept, StandsFor}
 use Rattle.smt_script.specs.States.{after_option}
 use Rattle.smt_script.proofs.Keeping.{stands_printing}

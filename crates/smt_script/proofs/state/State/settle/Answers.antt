@@ -1,7 +1,6 @@
 use Rattle.std.proofs.Common.{sym, subst}
 use Rattle.smt_script.specs.Kept.{Kept, StandsFor}
 use Rattle.smt_script.proofs.Keeping.{stands_mode}
-use Rattle.smt_script.proofs.Stepping.{steps_whole}
 use Rattle.smt_script.proofs.state.State.settle.Goals.{in-Sat, in-Unsat}
 use Rattle.smt_script.proofs.state.State.settle.Goals as goal
 

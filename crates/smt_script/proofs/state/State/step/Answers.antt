@@ -1,8 +1,7 @@
 use Rattle.std.proofs.Common.{ap, ◌∙◌, ◌≡◌, Err}
-use Rattle.std.specs.Prelude.{Result}
 use Rattle.std.proofs.lemmas.Result.{err_from_is_err_and}
 use Rattle.smt_script.specs.Commands.{command_of}
-use Rattle.smt_script.specs.States.{Step, after_by}
+use Rattle.smt_script.specs.States.{after_by}
 use Rattle.smt_script.specs.declared.error.Refusal.{Refusal}
 use Rattle.smt_script.specs.declared.error.ScriptError.TheVariants.{Refused}
 use Rattle.smt_script.proofs.Stepping.{steps_whole, refused_whole, agreed_error}
