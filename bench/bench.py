@@ -137,9 +137,10 @@ def long_sum(names):
     yield "(assert (< (- (+ " + " ".join(f"n{i}" for i in range(names)) + ") " + " ".join(f"n{i}" for i in range(1, names)) + ") 0))\n(check-sat)\n"
 
 
-def deep(head, depth):
+def deep(opening, depth, innermost="p", formula="{}"):
     """One operator in itself."""
-    return "(declare-const p Bool) (assert " + f"({head} " * depth + "p" + ")" * depth + ") (check-sat)\n"
+    term = f"({opening} " * depth + innermost + ")" * depth
+    return f"(declare-const p Bool) (declare-const x Int) (assert {formula.format(term)}) (check-sat)\n"
 
 
 def run(command, path, kept=None):
@@ -178,6 +179,8 @@ def main():
         ("a sum of 60,000 names", long_sum(60_000)),
         ("100,000 nested not", deep("not", 100_000)),
         ("300,000 nested and", deep("and", 300_000)),
+        ("100,000 nested ite", deep("ite p p", 100_000)),
+        ("100,000 nested +", deep("+ 1", 100_000, "x", "(< {} 0)")),
     ]
     certified = [
         ("8 jobs on one machine, 1 too little", machine(8, 35)),

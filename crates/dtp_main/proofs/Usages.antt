@@ -1,5 +1,5 @@
 -- The usage line comes where clap finds a fault in the words, and on no plain line.
-use Rattle.std.proofs.Common.{◌≡◌, ℕ, List, [], Option, Some, None, refl, sym, subst}
+use Rattle.std.proofs.Common.{◌≡◌, ℕ, List, [], Option, Some, None, refl, subst}
 use Rattle.std.specs.Prelude.{◌≢◌}
 use Rattle.clap.specs.Words.{fault_of}
 use Rattle.command_line.specs.declared.line.Line.{Line}

@@ -1,4 +1,3 @@
-use Rattle.std.proofs.Common.{rules, ◌≡◌}
 use Rattle.dtp_main.proofs.Usages.{has_fault, not_on_plain}
 use Rattle.dtp_main.specs.Outcomes.{texts}
 use Rattle.dtp_main.proofs.run.run.Goals as goal
