@@ -164,56 +164,65 @@ fn entries(rt: HostRuntime) -> Result<(), Fail> {
 }
 
 // Refutations of the two orders.
+// Each entry of the two orders is refused for its flaw.
+fn all_refused<R: Threads + Wait + Sync + Abort + AllocGlobal>(
+    rt: &R,
+    rows: &[(&str, &str)],
+) -> Result<(), Fail> {
+    for (entry, flaw) in rows {
+        let reason = format!(in rt.alloc(); "entry 1: {flaw}")?;
+        refuses(rt, TWO_ORDERS, entry, &reason)?;
+    }
+    Ok(())
+}
+
 #[test]
-fn flaws(rt: HostRuntime) -> Result<(), Fail> {
-    let no_sum = "(unsat (lemma () (input 0) (input 1) (cycle (1 2 (- 1)) (2 1 0))))";
-    let no_point = "(unsat (lemma () (input 0) (input 1) (cycle (4294967296 2 0))))";
-    let no_end = "(unsat (lemma () (input 0) (input 1) (cycle (1 2 (- 1)) (2 1 (- 1))) (input 0)))";
+fn flaws_of_lemmas(rt: HostRuntime) -> Result<(), Fail> {
     let not_empty = "(unsat (lemma ((1 2 (- 1))) (input 0) (cycle (1 2 (- 1)) (2 1 0))))";
     let of_later = "(unsat (lemma () (lemma 1)) (lemma () (lemma 0)))";
-    for (entry, flaw) in [
-        ("(unsat)", "last lemma not empty"),
-        (not_empty, "last lemma not empty"),
-        (
-            "(unsat (lemma ((9 0 0)) (input 0)))",
-            "lemma 0: step 0: no such point",
-        ),
-        (
-            "(unsat (lemma () (either 3 0 0)))",
-            "lemma 0: step 0: no such point",
-        ),
-        (
-            "(unsat (lemma () (input 2)))",
-            "lemma 0: step 0: no such clause",
-        ),
-        (
-            "(unsat (lemma () (lemma 0)))",
-            "lemma 0: step 0: no such clause",
-        ),
-        (of_later, "lemma 0: step 0: no such clause"),
-        (
-            "(unsat (lemma () (input 0)))",
-            "lemma 0: step 1: steps missing",
-        ),
-        ("(unsat (lemma ()))", "lemma 0: step 0: steps missing"),
-        ("(unsat (lemma () (cycle)))", "lemma 0: step 0: not a cycle"),
-        (
-            "(unsat (lemma () (cycle (0 0 (- 1)))))",
-            "lemma 0: step 0: not assumed",
-        ),
-        (no_sum, "lemma 0: step 2: not assumed"),
-        (no_point, "lemma 0: step 2: not assumed"),
-        (no_end, "lemma 0: step 3: steps left over"),
-    ] {
-        let reason = format!(in rt.alloc(); "entry 1: {flaw}")?;
-        refuses(&rt, TWO_ORDERS, entry, &reason)?;
-    }
+    let no_point = "(unsat (lemma ((9 0 0)) (input 0)))";
+    all_refused(
+        &rt,
+        &[
+            ("(unsat)", "last lemma not empty"),
+            (not_empty, "last lemma not empty"),
+            (no_point, "lemma 0: step 0: no such point"),
+            (of_later, "lemma 0: step 0: no such clause"),
+        ],
+    )?;
     let too_long = "(unsat (lemma () (input 18446744073709551616)))";
     refuses(
         &rt,
         TWO_ORDERS,
         too_long,
         "certificate: entry 1 is ill-formed",
+    )
+}
+
+#[test]
+fn flaws_of_steps(rt: HostRuntime) -> Result<(), Fail> {
+    let no_point = "(unsat (lemma () (either 3 0 0)))";
+    let no_input = "(unsat (lemma () (input 2)))";
+    let itself = "(unsat (lemma () (lemma 0)))";
+    let too_short = "(unsat (lemma () (input 0)))";
+    let not_assumed = "(unsat (lemma () (cycle (0 0 (- 1)))))";
+    let no_sum = "(unsat (lemma () (input 0) (input 1) (cycle (1 2 (- 1)) (2 1 0))))";
+    let far_point = "(unsat (lemma () (input 0) (input 1) (cycle (4294967296 2 0))))";
+    let no_end = "(unsat (lemma () (input 0) (input 1) (cycle (1 2 (- 1)) (2 1 (- 1))) (input 0)))";
+    all_refused(
+        &rt,
+        &[
+            (no_point, "lemma 0: step 0: no such point"),
+            (no_input, "lemma 0: step 0: no such clause"),
+            (itself, "lemma 0: step 0: no such clause"),
+            (too_short, "lemma 0: step 1: steps missing"),
+            ("(unsat (lemma ()))", "lemma 0: step 0: steps missing"),
+            ("(unsat (lemma () (cycle)))", "lemma 0: step 0: not a cycle"),
+            (not_assumed, "lemma 0: step 0: not assumed"),
+            (no_sum, "lemma 0: step 2: not assumed"),
+            (far_point, "lemma 0: step 2: not assumed"),
+            (no_end, "lemma 0: step 3: steps left over"),
+        ],
     )
 }
 

@@ -1,6 +1,6 @@
 //! Runs that show terms, their refusals and the clause form.
 use crate::run::run;
-use crate::tests::{check_all, solves};
+use crate::tests::{Row, check_all, solves};
 use dtp_io::{MemSink, MemSource};
 use dtp_session::NoGate;
 use std::process::Abort;
@@ -8,67 +8,57 @@ use std::sync::Wait;
 use std::test::Fail;
 use std::thread::Threads;
 
+const fn sat(script: &'static str) -> Row {
+    solves(script, "sat\n", 0)
+}
+
+const fn unsat(script: &'static str) -> Row {
+    solves(script, "unsat\n", 0)
+}
+
 #[test]
 fn formulas(rt: HostRuntime) -> Result<(), Fail> {
     let rows = [
         // bound in sequence it would be `unsat`
-        solves(
+        sat(
             "(declare-const x Int) (declare-const y Int) (assert (let ((x y) (y x)) (< x y))) (assert (< y x)) (check-sat)",
-            "sat\n",
-            0,
         ),
         // three values for three names that differ pairwise, of which there are two
-        solves(
+        unsat(
             "(declare-const x Int) (declare-const y Int) (declare-const z Int) (assert (<= 0 x 1)) (assert (<= 0 y 1)) (assert (<= 0 z 1)) \
              (assert (distinct x y z)) (check-sat)",
-            "unsat\n",
-            0,
         ),
-        solves(
+        unsat(
             "(declare-const p Bool) (declare-const q Bool) (assert (xor p q)) (assert (= p q)) (check-sat)",
-            "unsat\n",
-            0,
         ),
-        solves(
+        unsat(
             "(declare-const p Bool) (declare-const x Int) (assert (ite p (< x 0) (> x 5))) (assert (= x 3)) (check-sat)",
-            "unsat\n",
-            0,
         ),
-        solves(
+        unsat(
             "(declare-const p Bool) (declare-const q Bool) (assert (not (=> p q p))) (check-sat)",
-            "unsat\n",
-            0,
         ),
-        solves(
-            "(declare-const x Int) (assert (= x 1099511627776)) (check-sat)",
-            "sat\n",
-            0,
-        ),
+        sat("(declare-const x Int) (assert (= x 1099511627776)) (check-sat)"),
         // y cancels
         solves(
             "(declare-const x Int) (declare-const y Int) (check-sat) (assert (< (+ x y) y)) (assert (>= x 0)) (check-sat)",
             "sat\nunsat\n",
             0,
         ),
-        solves(
+        unsat(
             "(set-info :smt-lib-version 2.6) (set-logic QF_IDL) (set-info :source |a; b|) (set-info :status unsat) \
              (declare-fun x () Int) (declare-fun y () Int) (assert (let ((?v (- x y))) (and (<= ?v (- 3)) (>= ?v 2)))) (check-sat) (exit)",
-            "unsat\n",
-            0,
         ),
         // the worked clause form
-        solves(
+        unsat(
             "(declare-const p Bool) (declare-const q Bool) (declare-const x Int) (assert (or (and p q) (< x 0))) (assert (not p)) \
              (assert (>= x 0)) (check-sat)",
-            "unsat\n",
-            0,
         ),
     ];
     check_all(&rt, &rows)
 }
 
 #[test]
-fn refused_terms(rt: HostRuntime) -> Result<(), Fail> {
+fn refused_comparisons(rt: HostRuntime) -> Result<(), Fail> {
     let rows = [
         solves(
             "(declare-const x Int) (assert (= x 1099511627777)) (check-sat)",
@@ -86,6 +76,13 @@ fn refused_terms(rt: HostRuntime) -> Result<(), Fail> {
             "(error \"command 2: bound too large\")\n",
             1,
         ),
+    ];
+    check_all(&rt, &rows)
+}
+
+#[test]
+fn refused_shapes(rt: HostRuntime) -> Result<(), Fail> {
+    let rows = [
         solves(
             "(assert (not p))",
             "(error \"command 1: unknown symbol\")\n",

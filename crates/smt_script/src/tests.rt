@@ -27,11 +27,19 @@ fn sizes(state: &State) -> (usize, usize, usize, usize) {
     )
 }
 
-const SILENT: Result<Effect, ScriptError> = Ok(Effect::Silent);
+type Answer = Result<Effect, ScriptError>;
 
-fn refused(why: Refusal) -> Result<Effect, ScriptError> {
-    Err(ScriptError::Refused(why))
-}
+const SILENT: Answer = Ok(Effect::Silent);
+
+const TAKEN: Answer = Err(ScriptError::Refused(Refusal::AlreadyDeclared));
+
+const WRONG_SORT: Answer = Err(ScriptError::Refused(Refusal::Term(TermRefusal::WrongSort)));
+
+const UNKNOWN: Answer = Err(ScriptError::Refused(Refusal::Term(TermRefusal::UnknownSymbol)));
+
+const TOO_DEEP: Answer = Err(ScriptError::Refused(Refusal::TooManyLevels));
+
+const TOO_LOW: Answer = Err(ScriptError::Refused(Refusal::PopBelowTheBottom));
 
 #[test]
 fn names_and_levels(rt: HostRuntime) {
@@ -42,54 +50,22 @@ fn names_and_levels(rt: HostRuntime) {
         (b"(push 2)", SILENT, (2, 1, 1, 2)),
         (b"(define-fun q () Bool (not p))", SILENT, (2, 2, 1, 2)),
         (b"(assert (or q (< x 5)))", SILENT, (2, 4, 2, 2)),
-        (
-            b"(declare-const q Int)",
-            refused(Refusal::AlreadyDeclared),
-            (2, 4, 2, 2),
-        ),
-        (
-            b"(assert x)",
-            refused(Refusal::Term(TermRefusal::WrongSort)),
-            (2, 4, 2, 2),
-        ),
-        (
-            b"(assert (! (not q) :named p))",
-            refused(Refusal::AlreadyDeclared),
-            (2, 4, 2, 2),
-        ),
-        (
-            b"(define-fun r () Int (< x 7))",
-            refused(Refusal::Term(TermRefusal::WrongSort)),
-            (2, 4, 2, 2),
-        ),
+        (b"(declare-const q Int)", TAKEN, (2, 4, 2, 2)),
+        (b"(assert x)", WRONG_SORT, (2, 4, 2, 2)),
+        (b"(assert (! (not q) :named p))", TAKEN, (2, 4, 2, 2)),
+        (b"(define-fun r () Int (< x 7))", WRONG_SORT, (2, 4, 2, 2)),
         (b"(pop)", SILENT, (2, 1, 1, 1)),
         (b"(declare-const q Int)", SILENT, (3, 1, 1, 1)),
         (b"(pop 1)", SILENT, (2, 1, 1, 0)),
-        (
-            b"(pop 1)",
-            refused(Refusal::PopBelowTheBottom),
-            (2, 1, 1, 0),
-        ),
-        (
-            b"(declare-const n Int)",
-            refused(Refusal::AlreadyDeclared),
-            (2, 1, 1, 0),
-        ),
+        (b"(pop 1)", TOO_LOW, (2, 1, 1, 0)),
+        (b"(declare-const n Int)", TAKEN, (2, 1, 1, 0)),
         (b"(assert n)", SILENT, (2, 1, 2, 0)),
         (b"(check-sat)", Ok(Effect::CheckSat), (2, 1, 2, 0)),
         (b"(reset-assertions)", SILENT, (0, 0, 0, 0)),
-        (
-            b"(assert n)",
-            refused(Refusal::Term(TermRefusal::UnknownSymbol)),
-            (0, 0, 0, 0),
-        ),
+        (b"(assert n)", UNKNOWN, (0, 0, 0, 0)),
         (b"(declare-const n Bool)", SILENT, (1, 0, 0, 0)),
         (b"(push 65536)", SILENT, (1, 0, 0, 65_536)),
-        (
-            b"(push 1)",
-            refused(Refusal::TooManyLevels),
-            (1, 0, 0, 65_536),
-        ),
+        (b"(push 1)", TOO_DEEP, (1, 0, 0, 65_536)),
         (b"(pop 65535)", SILENT, (1, 0, 0, 1)),
         (b"(reset)", SILENT, (0, 0, 0, 0)),
         (b"(exit)", Ok(Effect::Exit), (0, 0, 0, 0)),
