@@ -10,10 +10,11 @@ use Rattle.refute_tree.specs.declared.step.Step.{Step}
 use Rattle.refute_tree.specs.declared.step.Step.TheVariants.{Cycle, Input, Lemma as Earlier, Either}
 use Rattle.cert_check.specs.declared.flaw.FlawKind.{FlawKind}
 use Rattle.cert_check.specs.declared.flaw.FlawKind.TheVariants.{NoSuchPoint}
-use Rattle.cert_check.specs.Tests.{same_literal, is_assumed, is_on_points, is_negative_cycle}
+use Rattle.stn_core.specs.Literal.{same_literal}
+use Rattle.cert_check.specs.Tests.{is_assumed, is_on_points, is_negative_cycle}
 use Rattle.cert_check.specs.Flaws.{cases_of, cases_in, opened, flaw_at, after_step, steps_flaw}
 use Rattle.cert_check.specs.Walks.{with_literal, IsAlike, AreAlike}
-use Rattle.cert_check.proofs.Decided.{same_literal_decides}
+use Rattle.stn_core.proofs.SameLiteral.{same_literal_decides}
 use Rattle.cert_check.proofs.Reading.{leaf_opened}
 
 pub IsAlike-itself : (xs : List Literal) → IsAlike xs xs

@@ -10,28 +10,9 @@ use Rattle.std.proofs.lemmas.Int.{ints}
 use Rattle.stn_core.specs.declared.literal.Literal.{Literal}
 use Rattle.stn_core.specs.Cycle.{Leads, weight_of, IsNegativeCycle}
 use Rattle.refute_tree.specs.Trees.{IsOnPoints}
-use Rattle.cert_check.specs.Tests.{same_literal, is_assumed, is_on_points, leads_to, is_negative_cycle}
-
-abbrev literal : ℕ → ℕ → ℤ → Literal
-literal x y c = record { x = x; y = y; c = c }
-
-literal_is : (l m : Literal) → l.x ≡ m.x → l.y ≡ m.y → l.c ≡ m.c → l ≡ m
-literal_is l m e f g =
-    ap (λ (a : ℕ). literal a l.y l.c) e ∙ ap (λ (b : ℕ). literal m.x b l.c) f ∙ ap (λ (c : ℤ). literal m.x m.y c) g
-
-pub same_literal_decides : (l m : Literal) → Decides (same_literal l m) (l ≡ m)
-same_literal_decides l m = (λ e. forth e, λ e. back e)
-  where
-    forth : same_literal l m ≡ true → l ≡ m
-    forth e =
-        let first = and_parts (l.x == m.x) (l.y == m.y && int_eq l.c m.c) e in
-        let second = and_parts (l.y == m.y) (int_eq l.c m.c) first.1 in
-        literal_is l m (eqb-true _ _ first.0) (eqb-true _ _ second.0) ((Decides-int_eq l.c m.c).0 second.1)
-
-    back : l ≡ m → same_literal l m ≡ true
-    back e =
-        and_from (l.x == m.x) (l.y == m.y && int_eq l.c m.c) (eq-eqb _ _ (ap (λ (k : Literal). k.x) e))
-        (and_from (l.y == m.y) (int_eq l.c m.c) (eq-eqb _ _ (ap (λ (k : Literal). k.y) e)) ((Decides-int_eq l.c m.c).1 (ap (λ (k : Literal). k.c) e)))
+use Rattle.stn_core.specs.Literal.{same_literal}
+use Rattle.stn_core.proofs.SameLiteral.{same_literal_decides}
+use Rattle.cert_check.specs.Tests.{is_assumed, is_on_points, leads_to, is_negative_cycle}
 
 contains_first : (l : Literal) (ls : List Literal) → Contains (l ∷ ls) l
 contains_first l ls = (0, omega arith, refl)

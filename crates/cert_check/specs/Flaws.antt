@@ -11,7 +11,7 @@ use Rattle.cert_check.specs.declared.flaw.FlawKind.{FlawKind}
 use Rattle.cert_check.specs.declared.flaw.FlawKind.TheVariants.{NoSuchPoint, NoSuchClause, NotAssumed, NotACycle, StepsMissing, StepsLeftOver, LastLemmaNotEmpty}
 use Rattle.cert_check.specs.declared.flaw.Flaw.{Flaw}
 use Rattle.cert_check.specs.declared.flaw.CheckError.{CheckError}
-use Rattle.cert_check.specs.declared.flaw.CheckError.TheVariants.{OutOfMemory, Flawed}
+use Rattle.cert_check.specs.declared.flaw.CheckError.TheVariants.{OutOfMemory, Refused}
 use Rattle.cert_check.specs.Tests.{is_assumed, is_on_points, is_negative_cycle}
 
 -- the cases of a clause: in each a literal is assumed, and the negations of those before it
@@ -78,4 +78,4 @@ refutation_flaw points clauses lemmas = lemmas_flaw points clauses [] lemmas
 abbrev pub TellsFlaw : Option Flaw → Result (Unit {0}) CheckError → Type 0
 TellsFlaw flaw (Ok _) = flaw ≡ None
 TellsFlaw flaw (Err OutOfMemory) = Unit {0}
-TellsFlaw flaw (Err (Flawed f)) = flaw ≡ Some f
+TellsFlaw flaw (Err (Refused f)) = flaw ≡ Some f

@@ -1,13 +1,10 @@
 -- The tests that the definition of the first flaw asks, by computing. Laws of this crate say that they answer what the
 -- definition of refutations says.
 use Rattle.std.specs.Prelude.{ℕ, List, [], ◌∷◌, Bool, false, ◌==◌, ◌&&◌, nat_lt, int_lt, pos}
-use Rattle.std.specs.Ordering.{int_eq}
 use Rattle.std.specs.List.{list_any}
 use Rattle.stn_core.specs.declared.literal.Literal.{Literal}
+use Rattle.stn_core.specs.Literal.{same_literal}
 use Rattle.stn_core.specs.Cycle.{weight_of}
-
-abbrev pub same_literal : Literal → Literal → Bool
-same_literal l m = l.x == m.x && (l.y == m.y && int_eq l.c m.c)
 
 -- the literal is one of the assumptions
 abbrev pub is_assumed : List Literal → Literal → Bool

@@ -9,7 +9,7 @@ use Rattle.cert_check.specs.declared.cases.Cases.{Cases}
 use Rattle.cert_check.specs.declared.cases.Cases.TheVariants.{Clause, Either}
 use Rattle.cert_check.specs.declared.walk.Frame.{Frame}
 use Rattle.cert_check.specs.declared.walk.WalkError.{WalkError}
-use Rattle.cert_check.specs.declared.walk.WalkError.TheVariants.{OutOfMemory, Flawed}
+use Rattle.cert_check.specs.declared.walk.WalkError.TheVariants.{OutOfMemory, Refused}
 use Rattle.cert_check.specs.Tests.{is_assumed}
 use Rattle.cert_check.specs.Flaws.{cases_of, opened}
 
@@ -52,4 +52,4 @@ LeavesOpen points clauses earlier assumed others step now =
 
 abbrev pub IsFaultOf : Result (List (List Literal)) FlawKind → WalkError → Type 0
 IsFaultOf found OutOfMemory = Unit {0}
-IsFaultOf found (Flawed kind) = found ≡ Err kind
+IsFaultOf found (Refused kind) = found ≡ Err kind

@@ -14,7 +14,7 @@ use stn_core::Problem;
 fn flawed(lemma: usize, step: usize, kind: FlawKind) -> Result<(), CheckError>
     ensures { TellsFlaw (Some (record { lemma = lemma; step = step; kind = kind })) result }
 {
-    Err(CheckError::Flawed(Flaw { lemma, step, kind }))
+    Err(CheckError::Refused(Flaw { lemma, step, kind }))
 }
 
 // The lemma's steps, of which its tree is to be made.
@@ -37,7 +37,7 @@ fn check_steps<E: Earlier>(
         }
         open = match walk.read(problem, earlier, step) {
             Ok(open) => open,
-            Err(WalkError::Flawed(kind)) => return flawed(number, at, kind),
+            Err(WalkError::Refused(kind)) => return flawed(number, at, kind),
             Err(WalkError::OutOfMemory) => return Err(CheckError::OutOfMemory),
         };
     }

@@ -33,7 +33,7 @@ pub struct Flaw {
 #[derive(Clone, Copy, Debug, PartialEq, Eq)]
 pub enum CheckError {
     OutOfMemory,
-    Flawed(Flaw),
+    Refused(Flaw),
 }
 
 impl From<AllocError> for CheckError {

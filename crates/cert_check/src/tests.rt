@@ -42,7 +42,7 @@ fn expect(
 ) -> Result<(), AllocError> {
     let refutation = Refutation::new(lemmas);
     let expected = expected.map_err(|flaw| {
-        CheckError::Flawed(Flaw {
+        CheckError::Refused(Flaw {
             lemma: flaw.0,
             step: flaw.1,
             kind: flaw.2,

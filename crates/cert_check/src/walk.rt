@@ -24,7 +24,7 @@ pub struct Frame<'a> {
 #[derive(Clone, Copy)]
 pub enum WalkError {
     OutOfMemory,
-    Flawed(FlawKind),
+    Refused(FlawKind),
 }
 
 impl<T: Drop> From<AllocFailed<T>> for WalkError {
@@ -40,12 +40,12 @@ impl<T: Drop> From<AllocFailed<T>> for WalkError {
 
 impl From<FlawKind> for WalkError {
     ghost use Rattle.std.specs.Prelude.{◌≡◌};
-    ghost use Rattle.cert_check.specs.declared.walk.WalkError.TheVariants.{Flawed};
+    ghost use Rattle.cert_check.specs.declared.walk.WalkError.TheVariants.{Refused};
 
-    ghost from_gives = { λ kind e. e ≡ Flawed kind };
+    ghost from_gives = { λ kind e. e ≡ Refused kind };
 
     fn from(kind: FlawKind) -> Self {
-        WalkError::Flawed(kind)
+        WalkError::Refused(kind)
     }
 }
 

@@ -129,7 +129,7 @@ fn lemmas_flaw(
     let problem = problem(alloc, state)?;
     match check_refutation(alloc, &problem, refutation) {
         Ok(()) => Ok(None),
-        Err(CheckError::Flawed(flaw)) => Ok(Some(EntryFlaw::Flawed(flaw))),
+        Err(CheckError::Refused(flaw)) => Ok(Some(EntryFlaw::Flawed(flaw))),
         Err(CheckError::OutOfMemory) => Err(AllocError),
     }
 }

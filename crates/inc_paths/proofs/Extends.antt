@@ -7,11 +7,10 @@ use Rattle.std.proofs.lemmas.List.Elements.{All-push, Contains-get_or}
 use Rattle.stn_core.specs.declared.literal.Literal.{Literal}
 use Rattle.stn_core.specs.Answer.{IsBest, IsCycleAmong}
 use Rattle.stn_core.specs.Limits.{points_limit}
-use Rattle.stn_core.specs.Literal.{value_at, Holds, IsOver}
+use Rattle.stn_core.specs.Literal.{value_at, Holds, IsOver, literal_at}
 use Rattle.stn_core.specs.Schedule.{IsSchedule, IsGreatestSchedule, IsInRange}
 use Rattle.stn_core.proofs.Ranges.{in_range_of_greatest}
 use Rattle.inc_paths.specs.declared.labels.Lowering.{Lowering}
-use Rattle.inc_paths.specs.Graphs.{literal_at}
 use Rattle.inc_paths.specs.Trails.{Labelled, lowering, first_of}
 use Rattle.inc_paths.specs.Work.{first_in, older_in, gap_of, IsStart, IsKept, IsLowering, IsWaiting, IsPending}
 use Rattle.inc_paths.proofs.Undoing.{first_of-none}

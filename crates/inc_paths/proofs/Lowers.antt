@@ -8,9 +8,8 @@ use Rattle.std.proofs.lemmas.List.Elements.{Contains-get_or}
 use Rattle.std.proofs.lemmas.List.Sums.{sum_by-set}
 use Rattle.stn_core.specs.declared.literal.Literal.{Literal}
 use Rattle.stn_core.specs.Limits.{bound_limit}
-use Rattle.stn_core.specs.Literal.{value_at, Holds, IsOver}
+use Rattle.stn_core.specs.Literal.{value_at, Holds, IsOver, literal_at}
 use Rattle.inc_paths.specs.declared.labels.Lowering.{Lowering}
-use Rattle.inc_paths.specs.Graphs.{literal_at}
 use Rattle.inc_paths.specs.Trails.{Labelled, no_lowering, entry_at, lowering, first_of, undone, point_of, level_of, IsTraced}
 use Rattle.inc_paths.specs.Work.{first_in, older_in, gap_of, IsStart, IsKept, IsBetween, IsLowering, IsWaiting, IsScanning, IsAt, height, room}
 use Rattle.inc_paths.proofs.Undoing.{undone-append, drop-append}

@@ -5,10 +5,10 @@ use Rattle.std.proofs.lemmas.Int.{ints}
 use Rattle.std.proofs.lemmas.List.{get_or_default}
 use Rattle.std.proofs.lemmas.List.Sorted.{Contains-permutation, IsPermutation-sym, length_permutation}
 use Rattle.stn_core.specs.declared.literal.Literal.{Literal}
-use Rattle.stn_core.specs.Literal.{value_at, Holds}
+use Rattle.stn_core.specs.Literal.{value_at, Holds, literal_at}
 use Rattle.stn_core.specs.Schedule.{IsGreatestSchedule}
 use Rattle.inc_paths.specs.declared.labels.Lowering.{Lowering}
-use Rattle.inc_paths.specs.Graphs.{literal_at, IsNewest}
+use Rattle.inc_paths.specs.Graphs.{IsNewest}
 use Rattle.inc_paths.specs.Trails.{Labelled, entry_at, first_of}
 use Rattle.inc_paths.specs.Work.{first_in, older_in, IsStart, IsKept, IsBetween, IsLowering, IsPending, IsTaken, IsScanning, height, room}
 use Rattle.inc_paths.proofs.Lowers.{contains_cases, contains_rest, contains_first}

@@ -1,14 +1,12 @@
 -- Of the code and not of the meaning: literals that are found by their second points.
-use Rattle.std.specs.Prelude.{◌≡◌, ◌≢◌, ℕ, ◌<◌, ◌≤◌, ◌-◌, List, length, slice_index_or, pos}
+use Rattle.std.specs.Prelude.{◌≡◌, ◌≢◌, ℕ, ◌<◌, ◌≤◌, ◌-◌, List, length, slice_index_or}
 use Rattle.stn_core.specs.declared.literal.Literal.{Literal}
+use Rattle.stn_core.specs.Literal.{literal_at}
 
 -- a count of points, and literals whose second points are among them
 pub record Graph : Type 0 where
   pub points : ℕ
   pub literals : List Literal
-
-abbrev pub literal_at : List Literal → ℕ → Literal
-literal_at literals place = slice_index_or literals place (record { x = 0; y = 0; c = pos 0 })
 
 -- of the literals before a place, the last whose second point is this one has the number, counted from 1; 0 is none
 pub record IsNewest (literals : List Literal) (point place number : ℕ) : Type 0 where

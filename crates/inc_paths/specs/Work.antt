@@ -2,10 +2,9 @@
 use Rattle.std.specs.Prelude.{◌≡◌, ◌≢◌, ◌⊎◌, ℕ, ◌<◌, ◌≤◌, ◌+◌, ◌*◌, ◌-◌, ◌^◌, List, [], ◌∷◌, ◌++◌, length, take, sum_by, All, Contains, ℤ, pos, negsuc, ◌+ℤ◌, ◌-ℤ◌, ◌≤ℤ◌, ◌<ℤ◌}
 use Rattle.stn_core.specs.declared.literal.Literal.{Literal}
 use Rattle.stn_core.specs.Answer.{IsBest}
-use Rattle.stn_core.specs.Literal.{value_at, Holds, IsOver}
+use Rattle.stn_core.specs.Literal.{value_at, Holds, IsOver, literal_at}
 use Rattle.stn_core.specs.Schedule.{IsSchedule, IsInRange}
 use Rattle.inc_paths.specs.declared.labels.Lowering.{Lowering}
-use Rattle.inc_paths.specs.Graphs.{literal_at}
 use Rattle.inc_paths.specs.Trails.{Labelled, entry_at, first_of, IsTraced}
 
 -- the values before the literal that is being added, and the trail before it

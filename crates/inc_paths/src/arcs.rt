@@ -1,5 +1,6 @@
 ghost use Rattle.std.specs.Prelude.{◌≡◌, ◌<◌, ◌≤◌, ◌-◌, [], ◌∷◌, ◌++◌, length, take, min, IfOk, OnOk, OnErr};
-ghost use Rattle.inc_paths.specs.Graphs.{IsNewest, literal_at};
+ghost use Rattle.inc_paths.specs.Graphs.{IsNewest};
+ghost use Rattle.stn_core.specs.Literal.{literal_at};
 
 use std::alloc::{AllocError, Global};
 use std::marker::Model;

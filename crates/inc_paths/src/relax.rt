@@ -1,8 +1,7 @@
 ghost use Rattle.std.specs.Prelude.{◌≡◌, ◌<◌, ◌≤◌, ◌-◌, length, true, false, IfOk, OnOk, IfSome, IfNone};
 ghost use Rattle.stn_core.specs.Answer.{IsCycleAmong};
-ghost use Rattle.stn_core.specs.Literal.{value_at};
+ghost use Rattle.stn_core.specs.Literal.{value_at, literal_at};
 ghost use Rattle.stn_core.specs.Schedule.{IsGreatestSchedule};
-ghost use Rattle.inc_paths.specs.Graphs.{literal_at};
 ghost use Rattle.inc_paths.specs.Trails.{entry_at};
 ghost use Rattle.inc_paths.specs.Work.{first_in, older_in, IsStart, IsKept, AreTraced, IsLowering, IsPending, IsTaken, IsScanning, IsAt, IsClosing, room};
 

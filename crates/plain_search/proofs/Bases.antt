@@ -13,34 +13,25 @@ use Rattle.std.proofs.lemmas.List.Sums.{fails_before_first}
 use Rattle.std.proofs.lemmas.List.Elements.{Contains-append_cases, Contains-append_left, Contains-push, Contains-get_or, All-weaker, All-take, All-contains}
 use Rattle.std.proofs.lemmas.Option.{slice_get-get_or, slice_get_within, get_or_from_slice_get}
 use Rattle.stn_core.specs.declared.literal.Literal.{Literal}
+use Rattle.stn_core.proofs.SameLiteral.{same_literal_decides}
 use Rattle.stn_core.specs.Cycle.{IsNegativeCycle}
 use Rattle.stn_core.specs.Answer.{IsCycleAmong}
 use Rattle.refute_tree.specs.declared.step.Step.{Step}
 use Rattle.refute_tree.specs.declared.step.Step.TheVariants.{Cycle}
-use Rattle.stn_core.specs.Literal.{Holds, IsOver}
+use Rattle.stn_core.specs.Literal.{Holds, IsOver, same_literal}
 use Rattle.stn_core.specs.Net.{IsAdded}
 use Rattle.stn_core.specs.declared.net.Added.{Added}
 use Rattle.stn_core.specs.declared.net.Added.TheVariants.{Yes, Cycle as Refused}
 use Rattle.refute_tree.specs.Trees.{Tree, leaf, cases, none, more}
-use Rattle.plain_search.specs.Base.{Base, IsBase, with_unit, same_literal, number_of, steps_of, unit_steps, leaf_steps}
+use Rattle.plain_search.specs.Base.{Base, IsBase, with_unit, number_of, steps_of, unit_steps, leaf_steps}
 
 and_both : (a b : Bool) → (a && b) ≡ true → (a ≡ true) × (b ≡ true)
 and_both true true e = (refl, refl)
 and_both true false e = absurd cc
 and_both false b e = absurd cc
 
-abbrev literal : ℕ → ℕ → ℤ → Literal
-literal x y c = record { x = x; y = y; c = c }
-
-literal_is : (l m : Literal) → l.x ≡ m.x → l.y ≡ m.y → l.c ≡ m.c → l ≡ m
-literal_is l m a b c =
-    ap (λ (x : ℕ). literal x l.y l.c) a ∙ ap (λ (y : ℕ). literal m.x y l.c) b ∙ ap (λ (z : ℤ). literal m.x m.y z) c
-
 same_is : (l m : Literal) → same_literal l m ≡ true → l ≡ m
-same_is l m e =
-    let first = and_both (l.x == m.x) (l.y == m.y && int_eq l.c m.c) e in
-    let second = and_both (l.y == m.y) (int_eq l.c m.c) first.1 in
-    literal_is l m (eqb-true _ _ first.0) (eqb-true _ _ second.0) ((Decides-int_eq l.c m.c).0 second.1)
+same_is l m e = (same_literal_decides l m).0 e
 
 -- the clause of the number has the literal alone
 number_right : (clauses : List (List Literal)) (base : Base) (l : Literal) (number : ℕ) → IsBase clauses base → number_of base l ≡ Some number → slice_get clauses number ≡ Some (l ∷ [])

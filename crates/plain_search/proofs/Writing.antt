@@ -5,11 +5,11 @@ use Rattle.std.specs.List.{list_any, IsDistinct}
 use Rattle.std.proofs.lemmas.List.{length-append, length-map, drop_more, drop_all, take_all}
 use Rattle.std.proofs.lemmas.List.Elements.{All-nil, All-cons, All-get_or, Contains-append_cases, Contains-append_left, Contains-append_right, Contains-get_or}
 use Rattle.stn_core.specs.declared.literal.Literal.{Literal}
-use Rattle.stn_core.specs.Literal.{negation_of}
+use Rattle.stn_core.specs.Literal.{negation_of, same_literal}
 use Rattle.stn_core.specs.Answer.{IsCycleAmong}
 use Rattle.refute_tree.specs.declared.step.Step.{Step}
 use Rattle.plain_search.specs.declared.frame.Frame.{Frame}
-use Rattle.plain_search.specs.Base.{Base, IsBase, same_literal, leaf_steps}
+use Rattle.plain_search.specs.Base.{Base, IsBase, leaf_steps}
 use Rattle.plain_search.specs.Cases.{Case, denied_in, assumed_in, trail_of, AreIn, IsBegun, IsTreeOver, assumes, cites}
 use Rattle.plain_search.specs.Paths.{case_of, cases_of, AreFrames, IsIn, clause_of_frame, AreOfDifferent, used_in, used_of, AreBegun, marked}
 use Rattle.plain_search.proofs.Bases.{same_self, leaf_closes}

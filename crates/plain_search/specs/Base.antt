@@ -1,9 +1,9 @@
 -- Of the code and not of the meaning: the literals of the unit clauses, with which the search begins. Contracts of private
 -- functions alone cite it.
-use Rattle.std.specs.Prelude.{◌≡◌, ℕ, ◌==◌, ◌&&◌, if◌then◌else◌, Bool, true, false, List, [], ◌∷◌, ◌++◌, length, flat_map, Option, Some, None, slice_get, slice_index, option_map}
+use Rattle.std.specs.Prelude.{◌≡◌, ℕ, if◌then◌else◌, Bool, true, false, List, [], ◌∷◌, ◌++◌, length, flat_map, Option, Some, None, slice_get, slice_index, option_map}
 use Rattle.std.specs.List.{position, list_any}
-use Rattle.std.specs.Ordering.{int_eq}
 use Rattle.stn_core.specs.declared.literal.Literal.{Literal}
+use Rattle.stn_core.specs.Literal.{same_literal}
 use Rattle.refute_tree.specs.declared.step.Step.{Step}
 use Rattle.refute_tree.specs.declared.step.Step.TheVariants.{Cycle, Input, Lemma as Earlier, Either}
 
@@ -16,9 +16,6 @@ pub record Base : Type 0 where
 pub record IsBase (clauses : List (List Literal)) (base : Base) : Type 0 where
   pub count : length base.numbers ≡ length base.literals
   pub each : (k : ℕ) (l : Literal) → slice_get base.literals k ≡ Some l → slice_get clauses (slice_index base.numbers k) ≡ Some (l ∷ [])
-
-abbrev pub same_literal : Literal → Literal → Bool
-same_literal l m = l.x == m.x && (l.y == m.y && int_eq l.c m.c)
 
 -- the number of a literal's clause, if the literal is one of them
 abbrev pub number_of : Base → Literal → Option ℕ

@@ -3,10 +3,9 @@
 use Rattle.std.specs.Prelude.{◌||◌, Bool, List, [], ◌∷◌, ◌++◌, map, Contains}
 use Rattle.std.specs.List.{list_any}
 use Rattle.stn_core.specs.declared.literal.Literal.{Literal}
-use Rattle.stn_core.specs.Literal.{negation_of}
+use Rattle.stn_core.specs.Literal.{negation_of, same_literal}
 use Rattle.refute_tree.specs.declared.step.Step.{Step}
 use Rattle.refute_tree.specs.Trees.{Tree, Forest}
-use Rattle.plain_search.specs.Base.{same_literal}
 
 -- one case of a clause: the literals before it, its own, and those after it
 pub record Case : Type 0 where

@@ -2,16 +2,13 @@
 use Rattle.std.specs.Prelude.{◌≡◌, ℕ, ◌<◌, ◌+◌, ◌||◌, if◌then◌else◌, Bool, true, false, List, [], ◌∷◌, ◌++◌, length, map, take, drop, All, ℤ, pos, slice_index_or, nat_eq}
 use Rattle.std.specs.List.{IsDistinct}
 use Rattle.stn_core.specs.declared.literal.Literal.{Literal}
-use Rattle.stn_core.specs.Literal.{Holds}
+use Rattle.stn_core.specs.Literal.{Holds, literal_at}
 use Rattle.refute_tree.specs.declared.step.Step.{Step}
 use Rattle.refute_tree.specs.Trees.{Tree}
 use Rattle.plain_search.specs.declared.frame.Frame.{Frame}
 use Rattle.plain_search.specs.Clauses.{clause_at, IsFalse}
 use Rattle.plain_search.specs.Cases.{Case, trail_of, held_of, assumed_in, IsBegun, IsTreeOver, cites}
 use Rattle.plain_search.specs.Work.{width_of, later_turns, open_turns}
-
-abbrev pub literal_at : List Literal → ℕ → Literal
-literal_at clause k = slice_index_or clause k (record { x = 0; y = 0; c = pos 0 })
 
 -- the case of a clause at a place
 abbrev pub case_at : List Literal → ℕ → Case

@@ -2,9 +2,9 @@
 ghost use Rattle.std.specs.Prelude.{◌≡◌, ◌||◌, ◌<◌, ◌≤◌, ◌+◌, ◌++◌, ◌∷◌, [], ℕ, List, length, All, MatchOption, true, IfOk, OnOk, map, take, drop};
 ghost use Rattle.stn_core.specs.declared.literal.Literal.{Literal as Bound};
 ghost use Rattle.std.specs.List.{list_any};
-ghost use Rattle.stn_core.specs.Literal.{IsOver, negation_of};
+ghost use Rattle.stn_core.specs.Literal.{IsOver, negation_of, same_literal};
 ghost use Rattle.refute_tree.specs.Trees.{Tree};
-ghost use Rattle.plain_search.specs.Base.{IsBase, IsPlain, same_literal, steps_of, leaf_steps};
+ghost use Rattle.plain_search.specs.Base.{IsBase, IsPlain, steps_of, leaf_steps};
 ghost use Rattle.plain_search.specs.Clauses.{clause_at, IsNotEmpty};
 ghost use Rattle.plain_search.specs.Cases.{cites};
 ghost use Rattle.plain_search.specs.Paths.{case_of, cases_of, IsFalsified, IsOpen, IsClosed, IsReady, IsLater, IsIn, Goes, Tries, marked, turns_behind, turns_with};

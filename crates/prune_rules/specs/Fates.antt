@@ -1,16 +1,12 @@
 use Rattle.std.specs.Prelude.{◌≡◌, ◌<◌, ℕ, List, [], ◌∷◌, ◌++◌, length, slice_index_or, ℤ, pos}
 use Rattle.stn_core.specs.declared.literal.Literal.{Literal}
 use Rattle.stn_core.specs.Answer.{IsCycleAmong}
-use Rattle.stn_core.specs.Literal.{Holds, negation_of}
+use Rattle.stn_core.specs.Literal.{Holds, negation_of, literal_at}
 use Rattle.stn_core.specs.Net.{IsConsistent}
 use Rattle.stn_core.specs.Schedule.{IsSchedule}
 use Rattle.prune_rules.specs.declared.fate.Fate.{Fate}
 use Rattle.prune_rules.specs.declared.fate.Fate.TheVariants.{Live, Dead}
 use Rattle.prune_rules.specs.declared.fate.Subsumed.{Subsumed}
-
--- the literal at a place of a clause
-abbrev pub literal_at : List Literal → ℕ → Literal
-literal_at clause place = slice_index_or clause place (record { x = 0; y = 0; c = pos 0 })
 
 -- a network with the literal more is consistent, or has the negative cycle
 -- (forward checking: Tsamardinos, Pollack 2003, section 4)

@@ -1,3 +1,4 @@
+pub mod SameLiteral
 pub mod Ends
 pub mod Consequences
 pub mod Ranges

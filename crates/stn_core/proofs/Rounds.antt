@@ -8,7 +8,7 @@ use Rattle.std.proofs.lemmas.List.Elements.{All-more, All-weaker, All-contains, 
 use Rattle.stn_core.specs.Limits.{bound_limit}
 use Rattle.stn_core.specs.declared.literal.Literal.{Literal}
 use Rattle.stn_core.specs.declared.label.Label.{Label}
-use Rattle.stn_core.specs.Literal.{value_at, IsOver, Holds}
+use Rattle.stn_core.specs.Literal.{literal_at, value_at, IsOver, Holds}
 use Rattle.stn_core.specs.Rounds.{initial_label, label_at, value_of, last_of, round_of, by_of, IsFallen, IsTraced, IsWaiting, IsDone, IsAbove, IsRound, IsLoweredIn}
 
 -- what a test of the code says
@@ -224,9 +224,6 @@ above_after points literals old l round p s above p_in values schedule =
       | inl n ↦ let e = ap (λ (k : ℕ). value_at values k) n.q_is in omega (arith, ints)
       | inr same ↦ omega (arith, ints)
     ]
-
-abbrev pub literal_at : List Literal → ℕ → Literal
-literal_at literals i = get_or literals i (record { x = 0; y = 0; c = pos 0 })
 
 pub step_at : (points : ℕ) (literals : List Literal) (old : List Label) (round i : ℕ) → 1 ≤ round → All (IsOver points) literals → i < length literals → IsRound points literals old round i → (last_of old (literal_at literals i).y +ℤ (literal_at literals i).c) <ℤ value_of old (literal_at literals i).x → IsStep points literals old (literal_at literals i) round
 step_at points literals old round i first over i_in r below = record {

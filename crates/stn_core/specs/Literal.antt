@@ -1,4 +1,5 @@
-use Rattle.std.specs.Prelude.{ℕ, List, ℤ, pos, neg_ℤ, ◌+◌, ◌-ℤ◌, ◌≤ℤ◌, ◌<◌, slice_index_or}
+use Rattle.std.specs.Prelude.{ℕ, List, ℤ, pos, neg_ℤ, ◌+◌, ◌-ℤ◌, ◌≤ℤ◌, ◌<◌, slice_index_or, Bool, ◌==◌, ◌&&◌}
+use Rattle.std.specs.Ordering.{int_eq}
 use Rattle.stn_core.specs.declared.literal.Literal.{Literal}
 use Rattle.stn_core.specs.Limits.{bound_limit}
 
@@ -21,3 +22,11 @@ pub record IsOver (points : ℕ) (l : Literal) : Type 0 where
   pub y_in : l.y < points
   pub low : neg_ℤ (pos (bound_limit + 1)) ≤ℤ l.c
   pub high : l.c ≤ℤ pos bound_limit
+
+-- the same time points and the same bound
+abbrev pub same_literal : Literal → Literal → Bool
+same_literal l m = l.x == m.x && (l.y == m.y && int_eq l.c m.c)
+
+-- the literal at a place of a list
+abbrev pub literal_at : List Literal → ℕ → Literal
+literal_at literals place = slice_index_or literals place (record { x = 0; y = 0; c = pos 0 })

@@ -3,14 +3,15 @@ ghost use Rattle.stn_core.specs.Limits.{points_limit};
 ghost use Rattle.stn_core.specs.Literal.{IsOver};
 ghost use Rattle.stn_core.specs.Rounds.{begun, IsRound, NoneLowered, IsLoweredIn};
 
+use crate::limits::Value;
 use crate::literal::Literal;
 
 // What the rounds keep for a time point (its label, as in label-correcting algorithms for shortest paths).
 #[derive(Clone, Copy)]
 pub struct Label {
     // its value now, and as the round began
-    pub value: i64,
-    pub last: i64,
+    pub value: Value,
+    pub last: Value,
     // the round in which the value was lowered last, or 0, and the literal that lowered it
     pub round: u32,
     pub by: Literal,
@@ -47,7 +48,7 @@ pub fn lower(labels: &mut [Label], literals: &[Literal], round: u32) -> Option<u
 {
     let mut lowered = None;
     for literal in literals {
-        let bound = labels[literal.y as usize].last + literal.c;
+        let bound = labels[literal.y as usize].last + Value::from(literal.c);
         let label = labels[literal.x as usize];
         if bound < label.value {
             labels[literal.x as usize] = Label {

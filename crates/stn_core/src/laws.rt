@@ -26,7 +26,7 @@ pub fn one_greatest_law()
     ensures { (points : ℕ) (literals : List Literal) (u v : List ℤ) → IsGreatestSchedule points literals u → IsGreatestSchedule points literals v → u ≡ v }
 {}
 
-/// Every value of a greatest schedule lies strictly above -2^61 and is at most 0.
+/// Every value of a greatest schedule lies strictly above `-VALUE_LIMIT` and is at most 0.
 pub fn greatest_range_law()
     ensures { (points : ℕ) (literals : List Literal) (values : List ℤ) → points ≤ points_limit → All (IsOver points) literals → IsGreatestSchedule points literals values → All IsInRange values }
 {}

@@ -6,6 +6,7 @@
 mod cycle;
 mod label;
 mod laws;
+mod limits;
 mod literal;
 mod named;
 mod net;
@@ -19,6 +20,7 @@ mod solve;
 mod tests;
 
 pub use laws::{cycle_law, greatest_range_law, negation_kept, negation_law, one_greatest_law};
+pub use limits::{BOUND_LIMIT, POINTS_LIMIT, VALUE_LIMIT, Value};
 pub use literal::{Literal, Literals, holds, negate};
 pub use named::{NamedValue, NamedValues};
 pub use net::{Added, Mark, Net};

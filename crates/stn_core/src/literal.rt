@@ -1,6 +1,7 @@
 ghost use Rattle.std.specs.Prelude.{◌≡◌, ◌<◌, ◌↔◌, length, IsTrue};
 ghost use Rattle.stn_core.specs.Literal.{Holds, negation_of};
 
+use crate::limits::Value;
 use std::marker::Model;
 
 /// The bound `x - y <= c` on the values of two time points, which are given by their numbers, from 0.
@@ -25,7 +26,7 @@ pub fn negate(literal: Literal) -> Literal
 
 /// Whether the literal holds on these values, one for each time point. Values and bound may be any: the difference is
 /// taken in 128 bits.
-pub fn holds(literal: Literal, values: &[i64]) -> bool
+pub fn holds(literal: Literal, values: &[Value]) -> bool
     requires x_in { literal.x < length values.now }
     requires y_in { literal.y < length values.now }
     ensures { IsTrue result ↔ Holds values.now literal }

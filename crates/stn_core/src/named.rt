@@ -1,12 +1,13 @@
 ghost use Rattle.std.specs.Prelude.{◌≡◌};
 
+use crate::limits::Value;
 use std::marker::Model;
 
-/// The value of a declared name: a whole number of a name of sort Int, which lies within `i64`, or a truth value of one
+/// The value of a declared name: a whole number of a name of sort Int or a truth value of one
 /// of sort Bool.
 #[derive(Clone, Copy, Debug, PartialEq, Eq)]
 pub enum NamedValue {
-    Int(i64),
+    Int(Value),
     Truth(bool),
 }
 

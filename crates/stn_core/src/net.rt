@@ -5,6 +5,7 @@ ghost use Rattle.stn_core.specs.Limits.{points_limit};
 ghost use Rattle.stn_core.specs.Literal.{IsOver};
 ghost use Rattle.stn_core.specs.Net.{IsAdded};
 
+use crate::limits::Value;
 use crate::literal::{Literal, Literals};
 use std::alloc::AllocError;
 
@@ -26,7 +27,7 @@ pub enum Added {
 /// A Simple Temporal Network that is changed at its end: a count of time points, a consistent list of literals over
 /// them, and their greatest schedule. Which algorithm keeps the schedule is the implementation's choice.
 ///
-/// The points are 1 to 2^21. The one error is want of memory.
+/// The points are 1 to `POINTS_LIMIT`. The one error is want of memory.
 pub trait Net {
     /// The count of time points, which no call changes.
     ghost points_of: { Self → ℕ };
@@ -48,7 +49,7 @@ pub trait Net {
         ensures { result.length ≡ length (literals_of self.now) };
 
     /// The literal goes to the list's end, unless it would close a negative cycle. Its points are among the net's, and
-    /// its bound is from -2^40 - 1 to 2^40.
+    /// its bound is from `-BOUND_LIMIT - 1` to `BOUND_LIMIT`.
     fn add(&mut self, literal: Literal) -> Result<Added, AllocError>
         requires { IsOver (points_of self.old) literal }
         ensures points { points_of self.new ≡ points_of self.old }
@@ -64,8 +65,8 @@ pub trait Net {
         ensures literals { literals_of self.new ≡ take mark.length (literals_of self.old) }
         ensures adds { adds_of self.new ≡ adds_of self.old };
 
-    /// The greatest schedule of the list: one value for each point, from -2^61 + 1 to 0.
-    fn schedule(&self) -> &[i64]
+    /// The greatest schedule of the list: one value for each point, above `-VALUE_LIMIT` and at most 0.
+    fn schedule(&self) -> &[Value]
         ensures { IsBest (points_of self.now) (literals_of self.now) result.now };
 
     /// How many calls of `add` were answered, by Yes or by Cycle. It stands at 2^64 - 1 where it would go past that.

@@ -2,6 +2,7 @@ ghost use Rattle.std.specs.Prelude.{◌≡◌, ℕ, ◌≤◌, ◌<◌, ◌+◌,
 ghost use Rattle.stn_core.specs.Limits.{points_limit};
 ghost use Rattle.stn_core.specs.RoundsNet.{Shown};
 
+use crate::limits::Value;
 use crate::literal::Literal;
 use crate::net::{Added, Mark, Net};
 use crate::schedule::{Greatest, Schedule};
@@ -31,7 +32,7 @@ impl Model for RoundsNet {
 }
 
 impl RoundsNet {
-    /// A net of 1 to 2^21 points, without literals.
+    /// A net of 1 to `POINTS_LIMIT` points, without literals.
     pub fn new(alloc: Global, points: u32) -> Result<Self, AllocError>
         requires some { 1 ≤ points }
         requires few { points ≤ points_limit }
@@ -97,7 +98,7 @@ impl Net for RoundsNet {
         self.schedules.truncate(mark.length + 1);
     }
 
-    fn schedule(&self) -> &[i64] {
+    fn schedule(&self) -> &[Value] {
         self.schedules[self.literals.len()].as_slice()
     }
 

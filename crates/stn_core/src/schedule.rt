@@ -1,5 +1,6 @@
 ghost use Rattle.std.specs.Prelude.{◌≡◌, List, ℤ, IfOk};
 
+use crate::limits::Value;
 use crate::literal::Literals;
 use std::alloc::AllocError;
 use std::marker::Model;
@@ -7,7 +8,7 @@ use std::marker::Model;
 /// One value for each time point, in the order of the points.
 #[derive(Drop)]
 pub struct Schedule {
-    values: Vec<i64>,
+    values: Vec<Value>,
 }
 
 impl Model for Schedule {
@@ -17,20 +18,20 @@ impl Model for Schedule {
 }
 
 impl Schedule {
-    pub fn new(values: Vec<i64>) -> Self
+    pub fn new(values: Vec<Value>) -> Self
         ensures { result ≡ values.items }
     {
         Schedule { values }
     }
 
-    pub fn as_slice(&self) -> &[i64]
+    pub fn as_slice(&self) -> &[Value]
         ensures { result.now ≡ self.now }
     {
         self.values.as_slice()
     }
 
     /// The values in a `Vec`, without taking memory.
-    pub fn into_vec(self) -> Vec<i64>
+    pub fn into_vec(self) -> Vec<Value>
         ensures { result.items ≡ self }
     {
         self.values

@@ -6,11 +6,12 @@ ghost use Rattle.stn_core.specs.Rounds.{label_value, IsRound, NoneLowered};
 
 use crate::cycle::cycle_from;
 use crate::label::{INITIAL, Label, begin_round, lower};
+use crate::limits::Value;
 use crate::literal::Literal;
 use crate::schedule::{Greatest, Schedule};
 use std::alloc::{AllocError, Global};
 
-fn values_of(alloc: Global, labels: &[Label]) -> Result<Vec<i64>, AllocError>
+fn values_of(alloc: Global, labels: &[Label]) -> Result<Vec<Value>, AllocError>
     ensures { IfOk result (λ values. values.items ≡ map label_value labels.now) }
 {
     labels.iter().map(|label| label.value).collect(alloc)
@@ -62,8 +63,8 @@ fn run(
 
 /// The greatest schedule of the literals, or a negative cycle of them.
 ///
-/// The points are 1 to 2^21, the literals' points are among them, and each bound is from -2^40 - 1 to 2^40. It takes
-/// memory for a few numbers a point, and time for at most as many passes over the literals as there are points: it
+/// The points are 1 to `POINTS_LIMIT`, the literals' points are among them, and each bound is from `-BOUND_LIMIT - 1` to
+/// `BOUND_LIMIT`. It takes memory for a few numbers a point, and time for at most as many passes over the literals as there are points: it
 /// ends after the first pass that lowers nothing. The one error is want of memory.
 ///
 /// Source: Dechter, Meiri, Pearl 1991, section 3; the passes are those of the Bellman-Ford algorithm.

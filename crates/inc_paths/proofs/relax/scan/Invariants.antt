@@ -1,5 +1,5 @@
 use Rattle.std.proofs.Common.{◌≡◌, ◌<◌, ◌≤◌, ◌-◌, length}
-use Rattle.inc_paths.specs.Graphs.{literal_at}
+use Rattle.stn_core.specs.Literal.{literal_at}
 use Rattle.inc_paths.specs.Trails.{entry_at}
 use Rattle.inc_paths.specs.Work.{first_in, older_in, IsKept, IsLowering, IsScanning, IsAt, room}
 use Rattle.inc_paths.proofs.relax.scan.Given as goal

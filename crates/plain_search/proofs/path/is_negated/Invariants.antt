@@ -1,8 +1,7 @@
 use Rattle.std.proofs.Common.{◌≡◌, drop}
 use Rattle.std.specs.List.{list_any}
 use Rattle.stn_core.specs.declared.literal.Literal.{Literal}
-use Rattle.stn_core.specs.Literal.{negation_of}
-use Rattle.plain_search.specs.Base.{same_literal}
+use Rattle.stn_core.specs.Literal.{negation_of, same_literal}
 use Rattle.plain_search.proofs.path.is_negated.Given as goal
 
 abbrev pub invariant-loop-m : goal.invariant-loop-m

@@ -1,6 +1,7 @@
 use Rattle.std.proofs.Common.{◌≡◌, ◌<◌, ℕ, length, slice_index_or}
 use Rattle.prune_rules.specs.declared.fate.Fate.TheVariants.{Live}
-use Rattle.prune_rules.specs.Fates.{IsFate, literal_at}
+use Rattle.prune_rules.specs.Fates.{IsFate}
+use Rattle.stn_core.specs.Literal.{literal_at}
 use Rattle.prune_rules.proofs.rules.forward_check.Given as goal
 
 abbrev pub invariant-literals : goal.invariant-literals

@@ -1,8 +1,8 @@
 use Rattle.std.proofs.Common.{arith, ap, ◌∙◌, ◌<◌, ◌++◌, ◌∷◌, [], ℕ, length, below_more}
 use Rattle.stn_core.specs.declared.literal.Literal.{Literal}
-use Rattle.stn_core.specs.Literal.{negation_of}
+use Rattle.stn_core.specs.Literal.{negation_of, literal_at}
 use Rattle.stn_core.specs.Net.{IsConsistent}
-use Rattle.prune_rules.specs.Fates.{IsFate, literal_at}
+use Rattle.prune_rules.specs.Fates.{IsFate}
 use Rattle.prune_rules.proofs.Implied.{implied, not_implied, dead_cycle, live_consistent}
 use Rattle.prune_rules.proofs.rules.is_subsumed.Goals as goal
 

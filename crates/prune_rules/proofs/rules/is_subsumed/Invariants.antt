@@ -1,7 +1,6 @@
 use Rattle.std.proofs.Common.{◌≡◌, ◌<◌, ◌++◌, ◌∷◌, [], ℕ}
-use Rattle.stn_core.specs.Literal.{negation_of}
+use Rattle.stn_core.specs.Literal.{negation_of, literal_at}
 use Rattle.stn_core.specs.Net.{IsConsistent}
-use Rattle.prune_rules.specs.Fates.{literal_at}
 use Rattle.prune_rules.proofs.rules.is_subsumed.Given as goal
 
 abbrev pub invariant-literals : goal.invariant-literals

@@ -1,8 +1,8 @@
 use Rattle.std.proofs.Common.{rules, arith, ◌≡◌, ◌<◌, ◌≤◌, length, w64, ◌+ℤ◌, ◌≤ℤ◌, ◌<ℤ◌, FitsSigned}
 use Rattle.std.proofs.lemmas.Int.{to_z-of_z}
-use Rattle.stn_core.specs.Literal.{IsOver}
+use Rattle.stn_core.specs.Literal.{IsOver, literal_at}
 use Rattle.stn_core.specs.Rounds.{last_of, value_of}
-use Rattle.stn_core.proofs.Rounds.{below_from_test, reached_from_test, literal_at, after, round_after, round_skips, lowered_now}
+use Rattle.stn_core.proofs.Rounds.{below_from_test, reached_from_test, after, round_after, round_skips, lowered_now}
 use Rattle.stn_core.proofs.label.lower.Goals as goal
 use Rattle.stn_core.proofs.label.lower.Goals.{then-bound-label, else-bound-label}
 
@@ -21,15 +21,15 @@ loop-literal-preserved c =
     let over : IsOver (length c.args.labels.now) (literal_at literals i) = c.requires.over i _ i_in in
     elim c.if-bound-label.branch [
       | then-bound-label w ↦
-          let e : c.if-bound-label.labels ≡ after labels (literal_at literals i) c.args.round = simp to_z-of_z at w.labels-is in
-          let t = simp to_z-of_z at w.if-bound-label.true in
+          let e : c.if-bound-label.labels ≡ after labels (literal_at literals i) c.args.round = simp (to_z-of_z, c.from.ensures) at w.labels-is in
+          let t = simp (to_z-of_z, c.from.ensures) at w.if-bound-label.true in
           let below : (last_of labels (literal_at literals i).y +ℤ (literal_at literals i).c) <ℤ value_of labels (literal_at literals i).x = below_from_test _ _ t in
           rw (e, w.lowered-is) (record {
             kept = round_after (length c.args.labels.now) literals labels c.args.round i first c.requires.over i_in c.loop-literal.invariant.kept below;
             some = lowered_now (length c.args.labels.now) labels (literal_at literals i) c.args.round c.loop-literal.invariant.kept.count over.x_in;
           })
       | else-bound-label w ↦
-          let t = simp to_z-of_z at w.if-bound-label.false in
+          let t = simp (to_z-of_z, c.from.ensures) at w.if-bound-label.false in
           let done : value_of labels (literal_at literals i).x ≤ℤ (last_of labels (literal_at literals i).y +ℤ (literal_at literals i).c) = reached_from_test _ _ t in
           rw (w.labels-is, w.lowered-is) (record {
             kept = round_skips (length c.args.labels.now) literals labels c.args.round i i_in c.loop-literal.invariant.kept done;

@@ -1,0 +1,11 @@
+/// The value of a time point. The sum of a value of a greatest schedule and a bound is one too.
+pub type Value = i64;
+
+/// The greatest count of time points.
+pub const POINTS_LIMIT: u32 = 1 << 21;
+
+/// The greatest bound of a literal. The least is one below its negative, so that negation keeps the limits.
+pub const BOUND_LIMIT: u64 = 1 << 40;
+
+/// The values of a greatest schedule lie strictly above the negative of this. No number of a certificate is greater.
+pub const VALUE_LIMIT: u128 = 1 << 61;
