@@ -8,7 +8,8 @@ use Rattle.smt_sexpr.specs.Reading.{Spells, Outcome, expression, finished, refus
 use Rattle.cert_text.specs.declared.entry.Entry.{Entry}
 use Rattle.cert_text.specs.Form.{header_sexpr, end_sexpr}
 use Rattle.cert_read.specs.Parts.{entry_of}
-use Rattle.cert_read.specs.Certificates.{no_header, ill_formed, no_end, text_after_end, CertificateOutcome, certificate, no_certificate, HoldsEntries, IsStrange, HasMore, ReadsEntries, LacksHeader, ReadsCertificate}
+use Rattle.cert_read.specs.declared.error.CertificateRefusal.TheVariants.{NoHeader, IllFormed, NoEnd, TextAfterEnd}
+use Rattle.cert_read.specs.Certificates.{CertificateOutcome, certificate, no_certificate, HoldsEntries, IsStrange, HasMore, ReadsEntries, LacksHeader, ReadsCertificate}
 
 -- what the laws of s-expressions and of tokens say
 abbrev pub OneOutcome : Type 0
@@ -134,48 +135,48 @@ module _ (one : OneOutcome) (reading : OneReading) (bytes : List ℕ) where
   closed_at place es (here, mid, after, held, h, rest) = (here, held, (mid, after, h, rest))
 
   -- the entries before an ill-formed one
-  strange_at : (place k : ℕ) → ReadsEntries bytes place (no_certificate (ill_formed k)) → (es : List Entry) × (k ≡ length es + 1) × At StrangeAt place es
+  strange_at : (place k : ℕ) → ReadsEntries bytes place (no_certificate (IllFormed k)) → (es : List Entry) × (k ≡ length es + 1) × At StrangeAt place es
   strange_at place k (es, here, held, (o, after, outcome, strange, e)) = (es, e, (here, held, (o, after, outcome, strange)))
 
-  finished_at : (place : ℕ) → ReadsEntries bytes place (no_certificate no_end) → (es : List Entry) × At Finished place es
+  finished_at : (place : ℕ) → ReadsEntries bytes place (no_certificate NoEnd) → (es : List Entry) × At Finished place es
   finished_at place (es, here, held, h) = (es, (here, held, h))
 
-  more_at : (place : ℕ) → ReadsEntries bytes place (no_certificate text_after_end) → (es : List Entry) × At More place es
+  more_at : (place : ℕ) → ReadsEntries bytes place (no_certificate TextAfterEnd) → (es : List Entry) × At More place es
   more_at place (es, here, held, h) = (es, (here, held, h))
 
-  closed_not_strange : (place k : ℕ) (es : List Entry) → ReadsEntries bytes place (certificate es) → ReadsEntries bytes place (no_certificate (ill_formed k)) → ⊥
+  closed_not_strange : (place k : ℕ) (es : List Entry) → ReadsEntries bytes place (certificate es) → ReadsEntries bytes place (no_certificate (IllFormed k)) → ⊥
   closed_not_strange place k es h g =
       let s = strange_at place k g in
       let both = together Closed StrangeAt place es s.0 closed_stops strange_stops (closed_at place es h) s.2 in
       end_apart_strange both.1.0 both.1.1.0 both.1.1.2 both.1.2
 
-  closed_not_finished : (place : ℕ) (es : List Entry) → ReadsEntries bytes place (certificate es) → ReadsEntries bytes place (no_certificate no_end) → ⊥
+  closed_not_finished : (place : ℕ) (es : List Entry) → ReadsEntries bytes place (certificate es) → ReadsEntries bytes place (no_certificate NoEnd) → ⊥
   closed_not_finished place es h g =
       let f = finished_at place g in
       let both = together Closed Finished place es f.0 closed_stops finished_halts (closed_at place es h) f.1 in
       end_apart_finished both.1.0 both.1.1.0 both.1.2.0 both.1.1.2 both.1.2.1
 
-  closed_not_more : (place : ℕ) (es : List Entry) → ReadsEntries bytes place (certificate es) → ReadsEntries bytes place (no_certificate text_after_end) → ⊥
+  closed_not_more : (place : ℕ) (es : List Entry) → ReadsEntries bytes place (certificate es) → ReadsEntries bytes place (no_certificate TextAfterEnd) → ⊥
   closed_not_more place es h g =
       let m = more_at place g in
       let both = together Closed More place es m.0 closed_stops more_stops (closed_at place es h) m.1 in
       closed_apart_more both.1.0 both.1.1.0 both.1.1.1 both.1.2.0 both.1.1.2 both.1.1.3 both.1.2.1 both.1.2.2
 
-  strange_not_finished : (place k : ℕ) → ReadsEntries bytes place (no_certificate (ill_formed k)) → ReadsEntries bytes place (no_certificate no_end) → ⊥
+  strange_not_finished : (place k : ℕ) → ReadsEntries bytes place (no_certificate (IllFormed k)) → ReadsEntries bytes place (no_certificate NoEnd) → ⊥
   strange_not_finished place k h g =
       let s = strange_at place k h in
       let f = finished_at place g in
       let both = together StrangeAt Finished place s.0 f.0 strange_stops finished_halts s.2 f.1 in
       strange_apart_finished both.1.0 both.1.2.0 both.1.1 both.1.2.1
 
-  strange_not_more : (place k : ℕ) → ReadsEntries bytes place (no_certificate (ill_formed k)) → ReadsEntries bytes place (no_certificate text_after_end) → ⊥
+  strange_not_more : (place k : ℕ) → ReadsEntries bytes place (no_certificate (IllFormed k)) → ReadsEntries bytes place (no_certificate TextAfterEnd) → ⊥
   strange_not_more place k h g =
       let s = strange_at place k h in
       let m = more_at place g in
       let both = together StrangeAt More place s.0 m.0 strange_stops more_stops s.2 m.1 in
       end_apart_strange both.1.0 both.1.2.0 both.1.2.1 both.1.1
 
-  finished_not_more : (place : ℕ) → ReadsEntries bytes place (no_certificate no_end) → ReadsEntries bytes place (no_certificate text_after_end) → ⊥
+  finished_not_more : (place : ℕ) → ReadsEntries bytes place (no_certificate NoEnd) → ReadsEntries bytes place (no_certificate TextAfterEnd) → ⊥
   finished_not_more place h g =
       let f = finished_at place h in
       let m = more_at place g in
@@ -185,35 +186,35 @@ module _ (one : OneOutcome) (reading : OneReading) (bytes : List ℕ) where
   closed_same : (place : ℕ) (es fs : List Entry) → ReadsEntries bytes place (certificate es) → ReadsEntries bytes place (certificate fs) → es ≡ fs
   closed_same place es fs h g = (together Closed Closed place es fs closed_stops closed_stops (closed_at place es h) (closed_at place fs g)).0
 
-  strange_same : (place j k : ℕ) → ReadsEntries bytes place (no_certificate (ill_formed j)) → ReadsEntries bytes place (no_certificate (ill_formed k)) → j ≡ k
+  strange_same : (place j k : ℕ) → ReadsEntries bytes place (no_certificate (IllFormed j)) → ReadsEntries bytes place (no_certificate (IllFormed k)) → j ≡ k
   strange_same place j k h g =
       let s = strange_at place j h in
       let t = strange_at place k g in
       let same = (together StrangeAt StrangeAt place s.0 t.0 strange_stops strange_stops s.2 t.2).0 in
       s.1 ∙ ap (λ (es : List Entry). length es + 1) same ∙ sym t.1
 
-  no_header_behind : (place : ℕ) → ReadsEntries bytes place (no_certificate no_header) → ⊥
+  no_header_behind : (place : ℕ) → ReadsEntries bytes place (no_certificate NoHeader) → ⊥
   no_header_behind place (es, here, held, h) = h
 
   entries_one : (place : ℕ) (o p : CertificateOutcome) → ReadsEntries bytes place o → ReadsEntries bytes place p → o ≡ p
   entries_one place (certificate es) (certificate fs) h g = ap certificate (closed_same place es fs h g)
-  entries_one place (certificate es) (no_certificate (ill_formed k)) h g = absurd (closed_not_strange place k es h g)
-  entries_one place (certificate es) (no_certificate no_end) h g = absurd (closed_not_finished place es h g)
-  entries_one place (certificate es) (no_certificate text_after_end) h g = absurd (closed_not_more place es h g)
-  entries_one place (no_certificate (ill_formed k)) (certificate es) h g = absurd (closed_not_strange place k es g h)
-  entries_one place (no_certificate (ill_formed j)) (no_certificate (ill_formed k)) h g = ap (λ (n : ℕ). no_certificate (ill_formed n)) (strange_same place j k h g)
-  entries_one place (no_certificate (ill_formed k)) (no_certificate no_end) h g = absurd (strange_not_finished place k h g)
-  entries_one place (no_certificate (ill_formed k)) (no_certificate text_after_end) h g = absurd (strange_not_more place k h g)
-  entries_one place (no_certificate no_end) (certificate es) h g = absurd (closed_not_finished place es g h)
-  entries_one place (no_certificate no_end) (no_certificate (ill_formed k)) h g = absurd (strange_not_finished place k g h)
-  entries_one place (no_certificate no_end) (no_certificate no_end) h g = refl
-  entries_one place (no_certificate no_end) (no_certificate text_after_end) h g = absurd (finished_not_more place h g)
-  entries_one place (no_certificate text_after_end) (certificate es) h g = absurd (closed_not_more place es g h)
-  entries_one place (no_certificate text_after_end) (no_certificate (ill_formed k)) h g = absurd (strange_not_more place k g h)
-  entries_one place (no_certificate text_after_end) (no_certificate no_end) h g = absurd (finished_not_more place g h)
-  entries_one place (no_certificate text_after_end) (no_certificate text_after_end) h g = refl
-  entries_one place (no_certificate no_header) p h g = absurd (no_header_behind place h)
-  entries_one place o (no_certificate no_header) h g = absurd (no_header_behind place g)
+  entries_one place (certificate es) (no_certificate (IllFormed k)) h g = absurd (closed_not_strange place k es h g)
+  entries_one place (certificate es) (no_certificate NoEnd) h g = absurd (closed_not_finished place es h g)
+  entries_one place (certificate es) (no_certificate TextAfterEnd) h g = absurd (closed_not_more place es h g)
+  entries_one place (no_certificate (IllFormed k)) (certificate es) h g = absurd (closed_not_strange place k es g h)
+  entries_one place (no_certificate (IllFormed j)) (no_certificate (IllFormed k)) h g = ap (λ (n : ℕ). no_certificate (IllFormed n)) (strange_same place j k h g)
+  entries_one place (no_certificate (IllFormed k)) (no_certificate NoEnd) h g = absurd (strange_not_finished place k h g)
+  entries_one place (no_certificate (IllFormed k)) (no_certificate TextAfterEnd) h g = absurd (strange_not_more place k h g)
+  entries_one place (no_certificate NoEnd) (certificate es) h g = absurd (closed_not_finished place es g h)
+  entries_one place (no_certificate NoEnd) (no_certificate (IllFormed k)) h g = absurd (strange_not_finished place k g h)
+  entries_one place (no_certificate NoEnd) (no_certificate NoEnd) h g = refl
+  entries_one place (no_certificate NoEnd) (no_certificate TextAfterEnd) h g = absurd (finished_not_more place h g)
+  entries_one place (no_certificate TextAfterEnd) (certificate es) h g = absurd (closed_not_more place es g h)
+  entries_one place (no_certificate TextAfterEnd) (no_certificate (IllFormed k)) h g = absurd (strange_not_more place k g h)
+  entries_one place (no_certificate TextAfterEnd) (no_certificate NoEnd) h g = absurd (finished_not_more place g h)
+  entries_one place (no_certificate TextAfterEnd) (no_certificate TextAfterEnd) h g = refl
+  entries_one place (no_certificate NoHeader) p h g = absurd (no_header_behind place h)
+  entries_one place o (no_certificate NoHeader) h g = absurd (no_header_behind place g)
 
   -- ---- with the header
 
@@ -229,12 +230,12 @@ module _ (one : OneOutcome) (reading : OneReading) (bytes : List ℕ) where
       entries_one mid o p rest (subst (λ (k : ℕ). ReadsEntries bytes k p) same.1 others)
 
   -- either there is no header, or what follows it
-  cases : (place : ℕ) (o : CertificateOutcome) → ReadsCertificate bytes place o → (LacksHeader bytes place × (o ≡ no_certificate no_header)) ⊎ Headed place o
+  cases : (place : ℕ) (o : CertificateOutcome) → ReadsCertificate bytes place o → (LacksHeader bytes place × (o ≡ no_certificate NoHeader)) ⊎ Headed place o
   cases place (certificate es) h = inr h
-  cases place (no_certificate no_header) h = inl (h, refl)
-  cases place (no_certificate (ill_formed k)) h = inr h
-  cases place (no_certificate no_end) h = inr h
-  cases place (no_certificate text_after_end) h = inr h
+  cases place (no_certificate NoHeader) h = inl (h, refl)
+  cases place (no_certificate (IllFormed k)) h = inr h
+  cases place (no_certificate NoEnd) h = inr h
+  cases place (no_certificate TextAfterEnd) h = inr h
 
   certificate_same : (place : ℕ) (o p : CertificateOutcome) → ReadsCertificate bytes place o → ReadsCertificate bytes place p → o ≡ p
   certificate_same place o p h g = elim (cases place o h) [

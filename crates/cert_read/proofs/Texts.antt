@@ -2,16 +2,18 @@
 use Rattle.std.proofs.Common.{◌≡◌, ◌≢◌, ◌∙◌, refl, sym, ap, subst, ℕ, ◌+◌, List, [], ◌∷◌, ◌++◌, length, Option, Some, None, Result, Ok, Err}
 use Rattle.smt_lex.specs.Grammar.{Reads}
 use Rattle.smt_sexpr.specs.declared.error.SexprError.{SexprError}
-use Rattle.smt_sexpr.specs.declared.error.SexprError.TheVariants.{OutOfMemory, Lex, UnclosedList, StrayClose}
+use Rattle.smt_sexpr.specs.declared.error.SexprError.TheVariants as sexpr
+use Rattle.smt_sexpr.specs.declared.error.SexprRefusal.{SexprRefusal}
 use Rattle.smt_sexpr.specs.Tree.{Sexpr}
 use Rattle.smt_sexpr.specs.Table.{Table, Means}
-use Rattle.smt_sexpr.specs.Reading.{Spells, Refusal, Outcome, expression, finished, refused, lexical, unclosed, stray, Outcomes, Explains, Finds, failed_of}
+use Rattle.smt_sexpr.specs.Reading.{Spells, Outcome, expression, finished, refused, Outcomes, Explains, Finds, failed_of}
 use Rattle.cert_text.specs.declared.entry.Entry.{Entry}
 use Rattle.cert_text.specs.Form.{header_sexpr, end_sexpr}
 use Rattle.cert_read.specs.Parts.{entry_of}
-use Rattle.cert_read.specs.declared.error.CertTextError.{CertTextError}
-use Rattle.cert_read.specs.declared.error.CertTextError.TheVariants.{OutOfMemory as OutOfSpace, NoHeader, IllFormed, NoEnd, TextAfterEnd}
-use Rattle.cert_read.specs.Certificates.{ill_formed, certificate, no_certificate, HoldsEntries, RefusesBehind, ReadsEntries, LacksHeader, ReadsCertificate, ErrorSays}
+use Rattle.cert_read.specs.declared.error.CertReadError.{CertReadError}
+use Rattle.cert_read.specs.declared.error.CertReadError.TheVariants.{Refused, OutOfMemory}
+use Rattle.cert_read.specs.declared.error.CertificateRefusal.TheVariants.{NoHeader, IllFormed, NoEnd, TextAfterEnd}
+use Rattle.cert_read.specs.Certificates.{certificate, no_certificate, HoldsEntries, RefusesBehind, ReadsEntries, LacksHeader, ReadsCertificate, ErrorSays}
 use Rattle.cert_read.specs.declared.certificate.Line.{Line}
 use Rattle.cert_read.specs.declared.certificate.Line.TheVariants.{Shown, End}
 use Rattle.cert_read.specs.declared.error.PartError.{PartError}
@@ -57,23 +59,19 @@ module _ (t : Table) (bytes : List ℕ) (same : t.bytes ≡ bytes) (place after 
 -- ---- refusals
 
 -- it can't be read
-strange : (bytes : List ℕ) (place after count : ℕ) (why : Refusal) → Outcomes bytes place (refused why) after → RefusesBehind bytes count place (ill_formed (count + 1))
+strange : (bytes : List ℕ) (place after count : ℕ) (why : SexprRefusal) → Outcomes bytes place (refused why) after → RefusesBehind bytes count place (IllFormed (count + 1))
 strange bytes place after count why h = (refused why, after, h, tt, refl)
 
 pub refuses_error : (bytes : List ℕ) (place after count : ℕ) (error : SexprError) → Explains bytes place error after → ErrorSays (RefusesBehind bytes count place) (told_as (IllFormed (count + 1)) error)
-refuses_error bytes place after count OutOfMemory h = tt
-refuses_error bytes place after count (Lex why) h = strange bytes place after count (lexical why) h
-refuses_error bytes place after count (UnclosedList outer) h = strange bytes place after count (unclosed outer) h
-refuses_error bytes place after count (StrayClose start) h = strange bytes place after count (stray start) h
+refuses_error bytes place after count (sexpr.Refused why) h = strange bytes place after count why h
+refuses_error bytes place after count sexpr.OutOfMemory h = tt
 
-no_header_in : (bytes : List ℕ) (place after : ℕ) (why : Refusal) → Outcomes bytes place (refused why) after → LacksHeader bytes place
+no_header_in : (bytes : List ℕ) (place after : ℕ) (why : SexprRefusal) → Outcomes bytes place (refused why) after → LacksHeader bytes place
 no_header_in bytes place after why h = (refused why, after, h, λ r. absurd cc)
 
 pub no_header_error : (bytes : List ℕ) (place after : ℕ) (error : SexprError) → Explains bytes place error after → ErrorSays (λ why. ReadsCertificate bytes place (no_certificate why)) (told_as NoHeader error)
-no_header_error bytes place after OutOfMemory h = tt
-no_header_error bytes place after (Lex why) h = no_header_in bytes place after (lexical why) h
-no_header_error bytes place after (UnclosedList outer) h = no_header_in bytes place after (unclosed outer) h
-no_header_error bytes place after (StrayClose start) h = no_header_in bytes place after (stray start) h
+no_header_error bytes place after (sexpr.Refused why) h = no_header_in bytes place after why h
+no_header_error bytes place after sexpr.OutOfMemory h = tt
 
 pub no_header_at_end : (bytes : List ℕ) (place after : ℕ) → Outcomes bytes place finished after → LacksHeader bytes place
 no_header_at_end bytes place after h = (finished, after, h, λ r. absurd cc)
@@ -85,29 +83,29 @@ pub another_first : (bytes : List ℕ) (place after : ℕ) (x : Sexpr) → Spell
 another_first bytes place after x h other = (expression x, after, h, λ e. other (expression_same x header_sexpr e))
 
 -- what is refused behind the header
-behind : (bytes : List ℕ) (place here count : ℕ) (es : List Entry) (error : CertTextError) → HoldsEntries bytes place es here → count ≡ length es → ErrorSays (RefusesBehind bytes count here) error → ErrorSays (λ why. ReadsEntries bytes place (no_certificate why)) error
-behind bytes place here count es OutOfSpace held same h = tt
-behind bytes place here count es NoHeader held same h = absurd h
-behind bytes place here count es (IllFormed k) held same h = (es, here, held, subst (λ (n : ℕ). RefusesBehind bytes n here (ill_formed k)) same h)
-behind bytes place here count es NoEnd held same h = (es, here, held, h)
-behind bytes place here count es TextAfterEnd held same h = (es, here, held, h)
+behind : (bytes : List ℕ) (place here count : ℕ) (es : List Entry) (error : CertReadError) → HoldsEntries bytes place es here → count ≡ length es → ErrorSays (RefusesBehind bytes count here) error → ErrorSays (λ why. ReadsEntries bytes place (no_certificate why)) error
+behind bytes place here count es (Refused NoHeader) held same h = absurd h
+behind bytes place here count es (Refused (IllFormed k)) held same h = (es, here, held, subst (λ (n : ℕ). RefusesBehind bytes n here (IllFormed k)) same h)
+behind bytes place here count es (Refused NoEnd) held same h = (es, here, held, h)
+behind bytes place here count es (Refused TextAfterEnd) held same h = (es, here, held, h)
+behind bytes place here count es OutOfMemory held same h = tt
 
-pub refused_behind : (text bytes : List ℕ) (place here count : ℕ) (es : List Entry) (error : CertTextError) → text ≡ bytes → HoldsEntries bytes place es here → count ≡ length es → ErrorSays (RefusesBehind text count here) error → ErrorSays (λ why. ReadsEntries bytes place (no_certificate why)) error
+pub refused_behind : (text bytes : List ℕ) (place here count : ℕ) (es : List Entry) (error : CertReadError) → text ≡ bytes → HoldsEntries bytes place es here → count ≡ length es → ErrorSays (RefusesBehind text count here) error → ErrorSays (λ why. ReadsEntries bytes place (no_certificate why)) error
 refused_behind text bytes place here count es error same held counted h =
     behind bytes place here count es error held counted (subst (λ (b : List ℕ). ErrorSays (RefusesBehind b count here) error) same h)
 
 -- what is refused with the header
-with_header : (bytes : List ℕ) (place mid : ℕ) (error : CertTextError) → Spells bytes place header_sexpr mid → ErrorSays (λ why. ReadsEntries bytes mid (no_certificate why)) error → ErrorSays (λ why. ReadsCertificate bytes place (no_certificate why)) error
-with_header bytes place mid OutOfSpace header h = tt
-with_header bytes place mid NoHeader header (es, here, held, h) = absurd h
-with_header bytes place mid (IllFormed k) header h = (mid, header, h)
-with_header bytes place mid NoEnd header h = (mid, header, h)
-with_header bytes place mid TextAfterEnd header h = (mid, header, h)
+with_header : (bytes : List ℕ) (place mid : ℕ) (error : CertReadError) → Spells bytes place header_sexpr mid → ErrorSays (λ why. ReadsEntries bytes mid (no_certificate why)) error → ErrorSays (λ why. ReadsCertificate bytes place (no_certificate why)) error
+with_header bytes place mid (Refused NoHeader) header (es, here, held, h) = absurd h
+with_header bytes place mid (Refused (IllFormed k)) header h = (mid, header, h)
+with_header bytes place mid (Refused NoEnd) header h = (mid, header, h)
+with_header bytes place mid (Refused TextAfterEnd) header h = (mid, header, h)
+with_header bytes place mid OutOfMemory header h = tt
 
 header_at : (bytes : List ℕ) (place mid : ℕ) (x : Sexpr) → Spells bytes place x mid → x ≡ header_sexpr → Spells bytes place header_sexpr mid
 header_at bytes place mid x h e = subst (λ (y : Sexpr). Spells bytes place y mid) e h
 
-pub refused_with_header : (text bytes : List ℕ) (place mid : ℕ) (x : Sexpr) (error : CertTextError) → text ≡ bytes → Spells bytes place x mid → x ≡ header_sexpr → ErrorSays (λ why. ReadsEntries text mid (no_certificate why)) error → ErrorSays (λ why. ReadsCertificate bytes place (no_certificate why)) error
+pub refused_with_header : (text bytes : List ℕ) (place mid : ℕ) (x : Sexpr) (error : CertReadError) → text ≡ bytes → Spells bytes place x mid → x ≡ header_sexpr → ErrorSays (λ why. ReadsEntries text mid (no_certificate why)) error → ErrorSays (λ why. ReadsCertificate bytes place (no_certificate why)) error
 refused_with_header text bytes place mid x error same h e says =
     with_header bytes place mid error (header_at bytes place mid x h e) (subst (λ (b : List ℕ). ErrorSays (λ why. ReadsEntries b mid (no_certificate why)) error) same says)
 

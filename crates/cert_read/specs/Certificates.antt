@@ -9,20 +9,12 @@ use Rattle.smt_sexpr.specs.Reading.{Spells, Outcome, expression, finished, refus
 use Rattle.cert_text.specs.declared.entry.Entry.{Entry}
 use Rattle.cert_text.specs.Form.{header_sexpr, end_sexpr}
 use Rattle.cert_read.specs.Parts.{entry_of}
-use Rattle.cert_read.specs.declared.error.CertTextError.{CertTextError}
-use Rattle.cert_read.specs.declared.error.CertTextError.TheVariants.{OutOfMemory, NoHeader, IllFormed, NoEnd, TextAfterEnd}
+use Rattle.cert_read.specs.declared.error.CertReadError.{CertReadError}
+use Rattle.cert_read.specs.declared.error.CertReadError.TheVariants.{Refused, OutOfMemory}
+use Rattle.cert_read.specs.declared.error.CertificateRefusal.{CertificateRefusal}
+use Rattle.cert_read.specs.declared.error.CertificateRefusal.TheVariants.{NoHeader, IllFormed, NoEnd, TextAfterEnd}
 
--- why a text is no certificate
-pub data CertificateRefusal : Type 0 where
-  -- it doesn't begin with the header
-  no_header : CertificateRefusal
-  -- what stands in place of this entry, counted from 1, is none
-  ill_formed : (entry : ℕ) → CertificateRefusal
-  -- it ends before the end is written
-  no_end : CertificateRefusal
-  -- something follows the end
-  text_after_end : CertificateRefusal
-
+-- a text is a certificate with these entries, or none, for this reason
 pub data CertificateOutcome : Type 0 where
   certificate : (entries : List Entry) → CertificateOutcome
   no_certificate : (why : CertificateRefusal) → CertificateOutcome
@@ -44,10 +36,10 @@ HasMore bytes place = (result : Result (Option Token) LexError) × (after : ℕ)
 
 -- behind the header, and so many entries, the text is refused for this
 abbrev pub RefusesBehind : List ℕ → ℕ → ℕ → CertificateRefusal → Type 0
-RefusesBehind bytes count here no_header = ⊥
-RefusesBehind bytes count here (ill_formed k) = (o : Outcome) × (after : ℕ) × Outcomes bytes here o after × IsStrange o × (k ≡ count + 1)
-RefusesBehind bytes count here no_end = (after : ℕ) × Outcomes bytes here finished after
-RefusesBehind bytes count here text_after_end = (mid : ℕ) × Spells bytes here end_sexpr mid × HasMore bytes mid
+RefusesBehind bytes count here NoHeader = ⊥
+RefusesBehind bytes count here (IllFormed k) = (o : Outcome) × (after : ℕ) × Outcomes bytes here o after × IsStrange o × (k ≡ count + 1)
+RefusesBehind bytes count here NoEnd = (after : ℕ) × Outcomes bytes here finished after
+RefusesBehind bytes count here TextAfterEnd = (mid : ℕ) × Spells bytes here end_sexpr mid × HasMore bytes mid
 
 -- what stands behind the header, from the place on
 abbrev pub ReadsEntries : List ℕ → ℕ → CertificateOutcome → Type 0
@@ -60,13 +52,10 @@ LacksHeader bytes place = (o : Outcome) × (after : ℕ) × Outcomes bytes place
 
 -- what the text from the place on is, as a certificate
 abbrev pub ReadsCertificate : List ℕ → ℕ → CertificateOutcome → Type 0
-ReadsCertificate bytes place (no_certificate no_header) = LacksHeader bytes place
+ReadsCertificate bytes place (no_certificate NoHeader) = LacksHeader bytes place
 ReadsCertificate bytes place outcome = (mid : ℕ) × Spells bytes place header_sexpr mid × ReadsEntries bytes mid outcome
 
 -- what an error says: that the text is refused for this; want of memory says nothing
-abbrev pub ErrorSays : (CertificateRefusal → Type 0) → CertTextError → Type 0
+abbrev pub ErrorSays : (CertificateRefusal → Type 0) → CertReadError → Type 0
+ErrorSays IsRefused (Refused why) = IsRefused why
 ErrorSays IsRefused OutOfMemory = Unit {0}
-ErrorSays IsRefused NoHeader = IsRefused no_header
-ErrorSays IsRefused (IllFormed entry) = IsRefused (ill_formed entry)
-ErrorSays IsRefused NoEnd = IsRefused no_end
-ErrorSays IsRefused TextAfterEnd = IsRefused text_after_end

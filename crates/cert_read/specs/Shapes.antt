@@ -4,7 +4,7 @@ use Rattle.std.specs.Prelude.{◌≡◌, ℕ, Bool, false, List, Option, Some, N
 use Rattle.std.specs.Option.{option_map_or}
 use Rattle.std.specs.Str.{bytes_eq}
 use Rattle.smt_sexpr.specs.declared.error.SexprError.{SexprError}
-use Rattle.smt_sexpr.specs.declared.error.SexprError.TheVariants.{OutOfMemory as NoMemory}
+use Rattle.smt_sexpr.specs.declared.error.SexprError.TheVariants as sexpr
 use Rattle.smt_sexpr.specs.Tree.{Sexpr, Items, numeral_of}
 use Rattle.smt_sexpr.specs.Reading.{Spells}
 use Rattle.smt_sexpr.specs.Table.{Table, MeansEach}
@@ -12,8 +12,9 @@ use Rattle.cert_text.specs.Form.{end_sexpr}
 use Rattle.cert_read.specs.Parts.{headed_of, entry_of}
 use Rattle.cert_read.specs.declared.certificate.Line.{Line}
 use Rattle.cert_read.specs.declared.certificate.Line.TheVariants.{Shown, End}
-use Rattle.cert_read.specs.declared.error.CertTextError.{CertTextError}
-use Rattle.cert_read.specs.declared.error.CertTextError.TheVariants.{OutOfMemory as OutOfSpace}
+use Rattle.cert_read.specs.declared.error.CertReadError.{CertReadError}
+use Rattle.cert_read.specs.declared.error.CertReadError.TheVariants as read
+use Rattle.cert_read.specs.declared.error.CertificateRefusal.{CertificateRefusal}
 use Rattle.cert_read.specs.declared.error.PartError.{PartError}
 use Rattle.cert_read.specs.declared.error.PartError.TheVariants.{OutOfMemory, IllFormed}
 
@@ -41,6 +42,6 @@ LineIs bytes place (Shown e) after = (x : Sexpr) × Spells bytes place x after �
 LineIs bytes place End after = Spells bytes place end_sexpr after
 
 -- what can't be read is refused for this
-abbrev pub told_as : CertTextError → SexprError → CertTextError
-told_as why NoMemory = OutOfSpace
-told_as why _ = why
+abbrev pub told_as : CertificateRefusal → SexprError → CertReadError
+told_as why (sexpr.Refused _) = read.Refused why
+told_as why sexpr.OutOfMemory = read.OutOfMemory

@@ -8,7 +8,7 @@ ghost use Rattle.cert_text.specs.Form.{header_sexpr, end_sexpr};
 ghost use Rattle.cert_read.specs.Certificates.{certificate, no_certificate, ErrorSays, RefusesBehind, HasMore, ReadsEntries, ReadsCertificate};
 ghost use Rattle.cert_read.specs.Shapes.{LineIs, told_as};
 
-use crate::error::{CertTextError, PartError};
+use crate::error::{CertReadError, CertificateRefusal, PartError};
 use crate::number::{is_numeral, is_symbol};
 use crate::part::read_entry;
 use cert_text::Entry;
@@ -41,12 +41,12 @@ fn is_end(table: &Sexprs, id: SexprId) -> bool
 }
 
 /// What an error of the reader is told as.
-fn told_as(why: CertTextError, error: SexprError) -> CertTextError
+fn told_as(why: CertificateRefusal, error: SexprError) -> CertReadError
     ensures { result ≡ told_as why error }
 {
     match error {
-        SexprError::OutOfMemory => CertTextError::OutOfMemory,
-        _ => why,
+        SexprError::Refused(_) => CertReadError::Refused(why),
+        SexprError::OutOfMemory => CertReadError::OutOfMemory,
     }
 }
 
@@ -62,7 +62,7 @@ fn read_line(
     table: &mut Sexprs,
     lexer: &mut Lexer,
     count: usize,
-) -> Result<Line, CertTextError>
+) -> Result<Line, CertReadError>
     requires fresh { lexer.old.failed ≡ None }
     requires same { lexer.old.bytes ≡ table.old.bytes }
     requires few { count < 2 ^ 64 - 1 }
@@ -74,11 +74,11 @@ fn read_line(
     ensures lexer_bytes { lexer.new.bytes ≡ lexer.old.bytes }
     ensures table_bytes { table.new.bytes ≡ table.old.bytes }
 {
-    let ill_formed = CertTextError::IllFormed(count + 1);
+    let ill_formed = CertificateRefusal::IllFormed(count + 1);
     table.clear();
     let id = match table.read_one(lexer) {
         Ok(Some(id)) => id,
-        Ok(None) => return Err(CertTextError::NoEnd),
+        Ok(None) => return Err(CertReadError::Refused(CertificateRefusal::NoEnd)),
         Err(error) => return Err(told_as(ill_formed, error)),
     };
     if is_end(table, id) {
@@ -86,40 +86,34 @@ fn read_line(
     }
     match read_entry(alloc, table, id) {
         Ok(entry) => Ok(Line::Shown(entry)),
-        Err(PartError::IllFormed) => Err(ill_formed),
-        Err(PartError::OutOfMemory) => Err(CertTextError::OutOfMemory),
+        Err(PartError::IllFormed) => Err(CertReadError::Refused(ill_formed)),
+        Err(PartError::OutOfMemory) => Err(CertReadError::OutOfMemory),
     }
 }
 
 /// Refuses what stands behind the end.
-fn read_rest(lexer: &mut Lexer) -> Result<(), CertTextError>
+fn read_rest(lexer: &mut Lexer) -> Result<(), CertReadError>
     requires fresh { lexer.old.failed ≡ None }
     ensures ok { OnOk result (Reads lexer.old.bytes lexer.old.place (Ok None) lexer.new.place) }
     ensures err { OnErr result (HasMore lexer.old.bytes lexer.old.place) }
-    ensures text { IfErr result (λ e. e ≡ CertTextError.TextAfterEnd) }
+    ensures text { IfErr result (λ e. e ≡ CertReadError.Refused CertificateRefusal.TextAfterEnd) }
     ensures end { OnOk result (lexer.new.place ≡ length lexer.new.bytes) }
     ensures bytes { lexer.new.bytes ≡ lexer.old.bytes }
 {
     match lexer.next() {
         Ok(None) => Ok(()),
-        _ => Err(CertTextError::TextAfterEnd),
+        _ => Err(CertReadError::Refused(CertificateRefusal::TextAfterEnd)),
     }
 }
 
-/// Reads the entries of a certificate whose header has been read, its end, and the rest of the text.
-///
-/// A lexer that gave an error before reads no first entry. It takes time linear in the text, and memory for the greatest
-/// entry's s-expression beside the entries.
-pub fn read_entries(alloc: Global, lexer: &mut Lexer) -> Result<Vec<Entry>, CertTextError>
-    ensures entries { lexer.old.failed ≡ None → IfOk result (λ entries. ReadsEntries lexer.old.bytes lexer.old.place (certificate entries.items)) }
-    ensures refused { lexer.old.failed ≡ None → IfErr result (ErrorSays (λ why. ReadsEntries lexer.old.bytes lexer.old.place (no_certificate why))) }
-    ensures again { (e : LexError) → lexer.old.failed ≡ Some e → (result ≡ Err (CertTextError.IllFormed 1)) × (lexer.new ≡ lexer.old) }
+/// Reads the entries, the end and the rest of the text; the lexer stays where memory ended.
+fn read_lines(alloc: Global, lexer: &mut Lexer) -> Result<Vec<Entry>, CertReadError>
+    requires fresh { lexer.old.failed ≡ None }
+    ensures entries { IfOk result (λ entries. ReadsEntries lexer.old.bytes lexer.old.place (certificate entries.items)) }
+    ensures refused { IfErr result (ErrorSays (λ why. ReadsEntries lexer.old.bytes lexer.old.place (no_certificate why))) }
     ensures end { OnOk result (lexer.new.place ≡ length lexer.new.bytes) }
     ensures bytes { lexer.new.bytes ≡ lexer.old.bytes }
 {
-    if lexer.error().is_some() {
-        return Err(CertTextError::IllFormed(1));
-    }
     let mut table = Sexprs::new(alloc, lexer.bytes());
     let mut entries = Vec::new(alloc);
     'entries: loop {
@@ -133,25 +127,75 @@ pub fn read_entries(alloc: Global, lexer: &mut Lexer) -> Result<Vec<Entry>, Cert
     }
 }
 
-/// Reads a certificate from the lexer's place to the end of the text.
+/// Reads the entries of a certificate whose header has been read, its end, and the rest of the text.
 ///
-/// A lexer that gave an error before reads no header. Time and memory are those of [`read_entries`].
-pub fn read_certificate(alloc: Global, lexer: &mut Lexer) -> Result<Vec<Entry>, CertTextError>
-    ensures entries { lexer.old.failed ≡ None → IfOk result (λ entries. ReadsCertificate lexer.old.bytes lexer.old.place (certificate entries.items)) }
-    ensures refused { lexer.old.failed ≡ None → IfErr result (ErrorSays (λ why. ReadsCertificate lexer.old.bytes lexer.old.place (no_certificate why))) }
-    ensures again { (e : LexError) → lexer.old.failed ≡ Some e → (result ≡ Err CertTextError.NoHeader) × (lexer.new ≡ lexer.old) }
+/// A lexer that gave an error before reads no first entry. Want of memory leaves the lexer as it was. It takes time linear
+/// in the text, and memory for the greatest entry's s-expression beside the entries.
+pub fn read_entries(alloc: Global, lexer: &mut Lexer) -> Result<Vec<Entry>, CertReadError>
+    ensures entries { lexer.old.failed ≡ None
+        → IfOk result (λ entries. ReadsEntries lexer.old.bytes lexer.old.place (certificate entries.items)) }
+    ensures refused { lexer.old.failed ≡ None
+        → IfErr result (ErrorSays (λ why. ReadsEntries lexer.old.bytes lexer.old.place (no_certificate why))) }
+    ensures again { (e : LexError) → lexer.old.failed ≡ Some e
+        → (result ≡ Err (CertReadError.Refused (CertificateRefusal.IllFormed 1))) × (lexer.new ≡ lexer.old) }
+    ensures end { OnOk result (lexer.new.place ≡ length lexer.new.bytes) }
+    ensures bytes { lexer.new.bytes ≡ lexer.old.bytes }
+    ensures memory { result ≡ Err CertReadError.OutOfMemory → lexer.new ≡ lexer.old }
+{
+    if lexer.error().is_some() {
+        return Err(CertReadError::Refused(CertificateRefusal::IllFormed(1)));
+    }
+    let before = lexer.copy();
+    let result = read_lines(alloc, lexer);
+    if let Err(CertReadError::OutOfMemory) = result {
+        *lexer = before;
+    }
+    result
+}
+
+/// Reads the header, and then the entries; the lexer stays where memory ended.
+fn read_whole(alloc: Global, lexer: &mut Lexer) -> Result<Vec<Entry>, CertReadError>
+    ensures entries { lexer.old.failed ≡ None
+        → IfOk result (λ entries. ReadsCertificate lexer.old.bytes lexer.old.place (certificate entries.items)) }
+    ensures refused { lexer.old.failed ≡ None
+        → IfErr result (ErrorSays (λ why. ReadsCertificate lexer.old.bytes lexer.old.place (no_certificate why))) }
+    ensures again { (e : LexError) → lexer.old.failed ≡ Some e
+        → (result ≡ Err (CertReadError.Refused CertificateRefusal.NoHeader)) × (lexer.new ≡ lexer.old) }
     ensures end { OnOk result (lexer.new.place ≡ length lexer.new.bytes) }
     ensures bytes { lexer.new.bytes ≡ lexer.old.bytes }
 {
     let mut table = Sexprs::new(alloc, lexer.bytes());
     let id = match table.read_one(lexer) {
         Ok(Some(id)) => id,
-        Ok(None) => return Err(CertTextError::NoHeader),
-        Err(error) => return Err(told_as(CertTextError::NoHeader, error)),
+        Ok(None) => return Err(CertReadError::Refused(CertificateRefusal::NoHeader)),
+        Err(error) => return Err(told_as(CertificateRefusal::NoHeader, error)),
     };
     if !is_header(&table, id) {
-        return Err(CertTextError::NoHeader);
+        return Err(CertReadError::Refused(CertificateRefusal::NoHeader));
     }
     let entries = read_entries(alloc, lexer)?;
     Ok(entries)
+}
+
+/// Reads a certificate from the lexer's place to the end of the text.
+///
+/// A lexer that gave an error before reads no header. Want of memory leaves the lexer as it was. Time and memory are those
+/// of [`read_entries`].
+pub fn read_certificate(alloc: Global, lexer: &mut Lexer) -> Result<Vec<Entry>, CertReadError>
+    ensures entries { lexer.old.failed ≡ None
+        → IfOk result (λ entries. ReadsCertificate lexer.old.bytes lexer.old.place (certificate entries.items)) }
+    ensures refused { lexer.old.failed ≡ None
+        → IfErr result (ErrorSays (λ why. ReadsCertificate lexer.old.bytes lexer.old.place (no_certificate why))) }
+    ensures again { (e : LexError) → lexer.old.failed ≡ Some e
+        → (result ≡ Err (CertReadError.Refused CertificateRefusal.NoHeader)) × (lexer.new ≡ lexer.old) }
+    ensures end { OnOk result (lexer.new.place ≡ length lexer.new.bytes) }
+    ensures bytes { lexer.new.bytes ≡ lexer.old.bytes }
+    ensures memory { result ≡ Err CertReadError.OutOfMemory → lexer.new ≡ lexer.old }
+{
+    let before = lexer.copy();
+    let result = read_whole(alloc, lexer);
+    if let Err(CertReadError::OutOfMemory) = result {
+        *lexer = before;
+    }
+    result
 }

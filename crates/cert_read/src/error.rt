@@ -1,9 +1,10 @@
+//! Why no certificate was read, whole or in part.
+
 use std::alloc::{AllocError, AllocFailed};
 
-/// Why no certificate was read.
+/// Why a text is no certificate.
 #[derive(Clone, Copy, Debug, PartialEq, Eq)]
-pub enum CertTextError {
-    OutOfMemory,
+pub enum CertificateRefusal {
     /// The text doesn't begin with `(dtp-certificate 1)`.
     NoHeader,
     /// What stands in place of this entry, counted from 1, is no entry and not the end, or can't be read.
@@ -14,23 +15,33 @@ pub enum CertTextError {
     TextAfterEnd,
 }
 
-impl<T: Drop> From<AllocFailed<T>> for CertTextError {
+/// Why no certificate was read.
+#[derive(Clone, Copy, Debug, PartialEq, Eq)]
+pub enum CertReadError {
+    /// The text is refused.
+    Refused(CertificateRefusal),
+    /// Memory was wanting.
+    OutOfMemory,
+}
+
+impl<T: Drop> From<AllocFailed<T>> for CertReadError {
     ghost use Rattle.std.specs.Prelude.{◌≡◌};
-    ghost use Rattle.cert_read.specs.declared.error.CertTextError.TheVariants.{OutOfMemory};
+    ghost use Rattle.cert_read.specs.declared.error.CertReadError.TheVariants.{OutOfMemory};
 
     ghost from_gives = { λ _ e. e ≡ OutOfMemory };
 
-    fn from(_failed: AllocFailed<T>) -> CertTextError {
-        CertTextError::OutOfMemory
+    fn from(_failed: AllocFailed<T>) -> CertReadError {
+        CertReadError::OutOfMemory
     }
 }
 
 /// Why a part of an entry was not read.
 #[derive(Clone, Copy, Debug, PartialEq, Eq)]
 pub enum PartError {
-    OutOfMemory,
     /// The s-expression stands for no such part.
     IllFormed,
+    /// Memory was wanting.
+    OutOfMemory,
 }
 
 impl<T: Drop> From<AllocFailed<T>> for PartError {

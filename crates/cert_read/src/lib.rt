@@ -16,5 +16,5 @@ mod part;
 mod tests;
 
 pub use certificate::{is_header, read_certificate, read_entries};
-pub use error::CertTextError;
+pub use error::{CertReadError, CertificateRefusal};
 pub use laws::{certificate_reads_back, examples_law, numeral_law, one_certificate, only_entries};

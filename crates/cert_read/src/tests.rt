@@ -22,7 +22,7 @@ fn headed(rt: &HostRuntime, rest: &[u8]) -> Result<Vec<u8>, Fail> {
 }
 
 /// Whether the text is refused for this.
-fn is_refused(rt: &HostRuntime, text: &[u8], why: CertTextError) -> bool {
+fn is_refused(rt: &HostRuntime, text: &[u8], why: CertificateRefusal) -> bool {
     let mut lexer = Lexer::new(text);
     matches!(read_certificate(rt.alloc(), &mut lexer), Err(error) if error == why)
 }
@@ -46,7 +46,7 @@ fn headers(rt: HostRuntime) -> Result<(), Fail> {
         b")(dtp-certificate 1)(end)".as_slice(),
         b"(sat)(end)".as_slice(),
     ] {
-        assert!(rt; is_refused(&rt, text, CertTextError::NoHeader));
+        assert!(rt; is_refused(&rt, text, CertificateRefusal::NoHeader));
     }
     let mut lexer = Lexer::new(b"\\ (dtp-certificate 1)(end)");
     assert_eq!(rt;
@@ -56,13 +56,13 @@ fn headers(rt: HostRuntime) -> Result<(), Fail> {
     assert!(rt;
         matches!(
             read_certificate(rt.alloc(), &mut lexer),
-            Err(CertTextError::NoHeader)
+            Err(CertificateRefusal::NoHeader)
         )
     );
     assert!(rt;
         matches!(
             read_entries(rt.alloc(), &mut lexer),
-            Err(CertTextError::IllFormed(1))
+            Err(CertificateRefusal::IllFormed(1))
         )
     );
     let text = b"(exit)( |dtp-certificate|;\n1)\n(sat 3)(end)";
@@ -81,24 +81,24 @@ fn headers(rt: HostRuntime) -> Result<(), Fail> {
 #[test]
 fn refusals(rt: HostRuntime) -> Result<(), Fail> {
     for (rest, why) in [
-        (b"".as_slice(), CertTextError::NoEnd),
-        (b"(sat) ; (end)".as_slice(), CertTextError::NoEnd),
-        (b"(sat)(end".as_slice(), CertTextError::IllFormed(2)),
-        (b"(unsat (lemma ()".as_slice(), CertTextError::IllFormed(1)),
-        (b"(sat))(end)".as_slice(), CertTextError::IllFormed(2)),
-        (b"(sat)(sat)(end 1)".as_slice(), CertTextError::IllFormed(3)),
-        (b"end".as_slice(), CertTextError::IllFormed(1)),
-        (b"((end))".as_slice(), CertTextError::IllFormed(1)),
+        (b"".as_slice(), CertificateRefusal::NoEnd),
+        (b"(sat) ; (end)".as_slice(), CertificateRefusal::NoEnd),
+        (b"(sat)(end".as_slice(), CertificateRefusal::IllFormed(2)),
+        (b"(unsat (lemma ()".as_slice(), CertificateRefusal::IllFormed(1)),
+        (b"(sat))(end)".as_slice(), CertificateRefusal::IllFormed(2)),
+        (b"(sat)(sat)(end 1)".as_slice(), CertificateRefusal::IllFormed(3)),
+        (b"end".as_slice(), CertificateRefusal::IllFormed(1)),
+        (b"((end))".as_slice(), CertificateRefusal::IllFormed(1)),
         (
             b"(dtp-certificate 1)".as_slice(),
-            CertTextError::IllFormed(1),
+            CertificateRefusal::IllFormed(1),
         ),
-        (b"(sat x)\\".as_slice(), CertTextError::IllFormed(1)),
-        (b"(sat)\\(sat x)".as_slice(), CertTextError::IllFormed(2)),
-        (b"(end)(end)".as_slice(), CertTextError::TextAfterEnd),
-        (b"(end) )".as_slice(), CertTextError::TextAfterEnd),
-        (b"(end) ;\n \"".as_slice(), CertTextError::TextAfterEnd),
-        (b"(end)\n(unsat".as_slice(), CertTextError::TextAfterEnd),
+        (b"(sat x)\\".as_slice(), CertificateRefusal::IllFormed(1)),
+        (b"(sat)\\(sat x)".as_slice(), CertificateRefusal::IllFormed(2)),
+        (b"(end)(end)".as_slice(), CertificateRefusal::TextAfterEnd),
+        (b"(end) )".as_slice(), CertificateRefusal::TextAfterEnd),
+        (b"(end) ;\n \"".as_slice(), CertificateRefusal::TextAfterEnd),
+        (b"(end)\n(unsat".as_slice(), CertificateRefusal::TextAfterEnd),
     ] {
         assert!(rt; is_refused(&rt, &headed(&rt, rest)?, why));
     }
@@ -172,7 +172,7 @@ fn ill_formed_values(rt: HostRuntime) -> Result<(), Fail> {
         b"(unknown)",
     ] {
         let text = with_entry(&rt, entry)?;
-        assert!(rt; is_refused(&rt, &text, CertTextError::IllFormed(1)));
+        assert!(rt; is_refused(&rt, &text, CertificateRefusal::IllFormed(1)));
     }
     Ok(())
 }
@@ -204,7 +204,7 @@ fn ill_formed_lemmas(rt: HostRuntime) -> Result<(), Fail> {
         b"(unsat (lemma () (unsat)))",
     ] {
         let text = with_entry(&rt, entry)?;
-        assert!(rt; is_refused(&rt, &text, CertTextError::IllFormed(1)));
+        assert!(rt; is_refused(&rt, &text, CertificateRefusal::IllFormed(1)));
     }
     Ok(())
 }

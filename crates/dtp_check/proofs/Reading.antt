@@ -1,7 +1,8 @@
 -- What is read of the script's part is what stands there.
 use Rattle.std.proofs.Common.{refl, sym, ap, subst, ◌∙◌, ◌≡◌, ◌≢◌, ◌+◌, ◌≤◌, ℕ, List, [], ◌∷◌, length, drop, Bool, true, false}
 use Rattle.smt_sexpr.specs.Tree.{Sexpr}
-use Rattle.smt_sexpr.specs.Reading.{Spells, Refusal, Outcome, expression, finished, refused, Outcomes}
+use Rattle.smt_sexpr.specs.declared.error.SexprRefusal.{SexprRefusal}
+use Rattle.smt_sexpr.specs.Reading.{Spells, Outcome, expression, finished, refused, Outcomes}
 use Rattle.cert_text.specs.declared.entry.Entry.{Entry}
 use Rattle.cert_text.specs.Form.{header_sexpr}
 use Rattle.smt_answer.specs.declared.kind.Kind.{Kind}
@@ -67,7 +68,7 @@ module _ (one : (bytes : List ℕ) (place : ℕ) (o p : Outcome) (m n : ℕ) →
   not_finished : (bytes : List ℕ) (place : ℕ) (x : Sexpr) (m n : ℕ) → Spells bytes place x m → Outcomes bytes place finished n → ⊥
   not_finished bytes place x m n h k = let e = (one bytes place (expression x) finished m n h k).0 in absurd cc
 
-  not_refused : (bytes : List ℕ) (place : ℕ) (x : Sexpr) (why : Refusal) (m n : ℕ) → Spells bytes place x m → Outcomes bytes place (refused why) n → ⊥
+  not_refused : (bytes : List ℕ) (place : ℕ) (x : Sexpr) (why : SexprRefusal) (m n : ℕ) → Spells bytes place x m → Outcomes bytes place (refused why) n → ⊥
   not_refused bytes place x why m n h k = let e = (one bytes place (expression x) (refused why) m n h k).0 in absurd cc
 
   -- at a command the script doesn't end

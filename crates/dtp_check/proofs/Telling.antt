@@ -2,9 +2,10 @@
 use Rattle.std.proofs.Common.{refl, sym, ap, subst, ◌∙◌, ◌≡◌, ◌+◌, ℕ, List, [], length, Option, Some, inl, inr}
 use Rattle.smt_sexpr.specs.Tree.{Sexpr}
 use Rattle.cert_text.specs.declared.entry.Entry.{Entry as Shown}
-use Rattle.cert_read.specs.Certificates.{CertificateRefusal, no_header, ill_formed, no_end, text_after_end, certificate, no_certificate, ErrorSays}
-use Rattle.cert_read.specs.declared.error.CertTextError.{CertTextError}
-use Rattle.cert_read.specs.declared.error.CertTextError.TheVariants as text
+use Rattle.cert_read.specs.Certificates.{certificate, no_certificate, ErrorSays}
+use Rattle.cert_read.specs.declared.error.CertReadError.{CertReadError}
+use Rattle.cert_read.specs.declared.error.CertReadError.TheVariants.{Refused, OutOfMemory}
+use Rattle.cert_read.specs.declared.error.CertificateRefusal.{CertificateRefusal}
 use Rattle.smt_answer.specs.declared.kind.Kind.{Kind}
 use Rattle.smt_script.specs.States.{start_state}
 use Rattle.dtp_session.specs.Transcripts.{IsFront}
@@ -24,12 +25,9 @@ use Rattle.dtp_check.specs.Judged.{ScriptPart, CertificateBehind, flaw_of_refusa
 use Rattle.dtp_check.specs.Parts.{IsReadable}
 
 -- an error that tells a refusal tells its flaw
-pub error_told : (IsRefused : CertificateRefusal → Type 0) (error : CertTextError) (flaw : CertificateFlaw) → ErrorSays IsRefused error → flaw_of_error error ≡ Some flaw → (why : CertificateRefusal) × IsRefused why × (flaw ≡ flaw_of_refusal why)
-error_told IsRefused text.OutOfMemory flaw h e = absurd cc
-error_told IsRefused text.NoHeader flaw h e = let same : flaw_of_refusal no_header ≡ flaw = cc in (no_header, h, sym same)
-error_told IsRefused (text.IllFormed k) flaw h e = let same : flaw_of_refusal (ill_formed k) ≡ flaw = cc in (ill_formed k, h, sym same)
-error_told IsRefused text.NoEnd flaw h e = let same : flaw_of_refusal no_end ≡ flaw = cc in (no_end, h, sym same)
-error_told IsRefused text.TextAfterEnd flaw h e = let same : flaw_of_refusal text_after_end ≡ flaw = cc in (text_after_end, h, sym same)
+pub error_told : (IsRefused : CertificateRefusal → Type 0) (error : CertReadError) (flaw : CertificateFlaw) → ErrorSays IsRefused error → flaw_of_error error ≡ Some flaw → (why : CertificateRefusal) × IsRefused why × (flaw ≡ flaw_of_refusal why)
+error_told IsRefused (Refused why) flaw h e = let same : flaw_of_refusal why ≡ flaw = cc in (why, h, sym same)
+error_told IsRefused OutOfMemory flaw h e = absurd cc
 
 -- ---- the whole
 

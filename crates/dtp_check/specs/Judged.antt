@@ -2,13 +2,16 @@
 -- project's own. Sources: SMT-LIB 2.6, section 4.1 (a script), section 4.2.5 (check-sat).
 use Rattle.std.specs.Prelude.{◌≡◌, ◌≢◌, ℕ, ◌+◌, List, [], ◌∷◌, length, ◌==◌, Bool, true, false, if◌then◌else◌, Option, Some, None, option_map, Ok, Err}
 use Rattle.smt_sexpr.specs.Tree.{Sexpr}
-use Rattle.smt_sexpr.specs.Reading.{Spells, Refusal, Outcomes, finished, refused}
+use Rattle.smt_sexpr.specs.declared.error.SexprRefusal.{SexprRefusal}
+use Rattle.smt_sexpr.specs.Reading.{Spells, Outcomes, finished, refused}
 use Rattle.stn_core.specs.declared.named.NamedValue.{NamedValue}
 use Rattle.stn_core.specs.declared.named.NamedValue.TheVariants.{Int, Truth}
 use Rattle.cert_text.specs.declared.entry.Entry.{Entry}
 use Rattle.cert_text.specs.declared.entry.Entry.TheVariants.{Sat, Unsat}
 use Rattle.cert_text.specs.Form.{header_sexpr}
-use Rattle.cert_read.specs.Certificates.{CertificateRefusal, no_header, ill_formed, no_end, text_after_end, CertificateOutcome, certificate, no_certificate, ReadsEntries, ReadsCertificate}
+use Rattle.cert_read.specs.declared.error.CertificateRefusal.{CertificateRefusal}
+use Rattle.cert_read.specs.declared.error.CertificateRefusal.TheVariants.{NoHeader, IllFormed, NoEnd, TextAfterEnd}
+use Rattle.cert_read.specs.Certificates.{CertificateOutcome, certificate, no_certificate, ReadsEntries, ReadsCertificate}
 use Rattle.cert_check.specs.Flaws.{refutation_flaw}
 use Rattle.idl_node.specs.declared.sort.Sort.{Sort}
 use Rattle.idl_node.specs.declared.sort.Sort.TheVariants as sorts
@@ -37,7 +40,7 @@ abbrev pub EndsPart : List ℕ → ℕ → PartEnd → ℕ → Type 0
 EndsPart bytes place part.Exit behind = ⊥
 EndsPart bytes place part.Header behind = Spells bytes place header_sexpr behind
 EndsPart bytes place part.End behind = Outcomes bytes place finished behind
-EndsPart bytes place (part.Unread kind) behind = (why : Refusal) × Outcomes bytes place (refused why) behind × (kind_of_unreadable why ≡ kind)
+EndsPart bytes place (part.Unread kind) behind = (why : SexprRefusal) × Outcomes bytes place (refused why) behind × (kind_of_unreadable why ≡ kind)
 
 -- behind an `(exit)` nothing of the script follows
 abbrev pub ExitEnds : ℕ → List Sexpr → PartEnd → ℕ → Type 0
@@ -58,7 +61,7 @@ ScriptPart bytes place (x ∷ xs) end behind =
 abbrev pub CertificateBehind : List ℕ → PartEnd → ℕ → CertificateOutcome → Type 0
 CertificateBehind bytes part.Exit behind outcome = ReadsCertificate bytes behind outcome
 CertificateBehind bytes part.Header behind outcome = ReadsEntries bytes behind outcome
-CertificateBehind bytes part.End behind outcome = outcome ≡ no_certificate no_header
+CertificateBehind bytes part.End behind outcome = outcome ≡ no_certificate NoHeader
 CertificateBehind bytes (part.Unread kind) behind outcome = ⊥
 
 -- ---- an entry
@@ -129,10 +132,10 @@ judged s k n (x ∷ xs) entries = elim (after s x) [
 ]
 
 abbrev pub flaw_of_refusal : CertificateRefusal → CertificateFlaw
-flaw_of_refusal no_header = flaw.NoHeader
-flaw_of_refusal (ill_formed k) = flaw.IllFormed k
-flaw_of_refusal no_end = flaw.NoEnd
-flaw_of_refusal text_after_end = flaw.TextAfterEnd
+flaw_of_refusal NoHeader = flaw.NoHeader
+flaw_of_refusal (IllFormed k) = flaw.IllFormed k
+flaw_of_refusal NoEnd = flaw.NoEnd
+flaw_of_refusal TextAfterEnd = flaw.TextAfterEnd
 
 -- the commands with what stands behind them
 abbrev pub judged_with : List Sexpr → CertificateOutcome → Judgement

@@ -5,7 +5,7 @@ ghost use Rattle.dtp_check.specs.Parts.{IsBefore, IsReadable};
 
 use crate::judgement::CertificateFlaw;
 use crate::part::PartEnd;
-use cert_read::{CertTextError, read_certificate, read_entries};
+use cert_read::{CertReadError, CertificateRefusal, read_certificate, read_entries};
 use cert_text::Entry;
 use smt_lex::Lexer;
 use std::alloc::{AllocError, Global};
@@ -18,15 +18,19 @@ pub enum Behind {
 }
 
 /// Why the text is no certificate, or `None` for want of memory.
-fn flaw_of_error(error: CertTextError) -> Option<CertificateFlaw>
+fn flaw_of_error(error: CertReadError) -> Option<CertificateFlaw>
     ensures { result ≡ flaw_of_error error }
 {
     match error {
-        CertTextError::OutOfMemory => None,
-        CertTextError::NoHeader => Some(CertificateFlaw::NoHeader),
-        CertTextError::IllFormed(entry) => Some(CertificateFlaw::IllFormed(entry)),
-        CertTextError::NoEnd => Some(CertificateFlaw::NoEnd),
-        CertTextError::TextAfterEnd => Some(CertificateFlaw::TextAfterEnd),
+        CertReadError::Refused(CertificateRefusal::NoHeader) => Some(CertificateFlaw::NoHeader),
+        CertReadError::Refused(CertificateRefusal::IllFormed(entry)) => {
+            Some(CertificateFlaw::IllFormed(entry))
+        }
+        CertReadError::Refused(CertificateRefusal::NoEnd) => Some(CertificateFlaw::NoEnd),
+        CertReadError::Refused(CertificateRefusal::TextAfterEnd) => {
+            Some(CertificateFlaw::TextAfterEnd)
+        }
+        CertReadError::OutOfMemory => None,
     }
 }
 

@@ -1,14 +1,15 @@
 -- A script has one transcript at most.
 use Rattle.std.proofs.Common.{refl, sym, ap, subst, ◌∙◌, ◌≡◌, ◌+◌, ℕ, List, [], ◌∷◌, ◌++◌, Result, Ok, Err}
 use Rattle.smt_sexpr.specs.Tree.{Sexpr}
-use Rattle.smt_sexpr.specs.Reading.{Spells, Refusal, Outcome, expression, finished, refused, Outcomes}
+use Rattle.smt_sexpr.specs.declared.error.SexprRefusal.{SexprRefusal}
+use Rattle.smt_sexpr.specs.Reading.{Spells, Outcome, expression, finished, refused, Outcomes}
 use Rattle.smt_sexpr.specs.Commands.{Commands, Ending, ended, stopped, unread, EndsAs}
 use Rattle.dtp_session.specs.declared.report.Report.TheVariants.{Verdicts}
 use Rattle.dtp_session.specs.Transcripts.{IsVerdict, Answers, Closes, Stops, GoesOn, Follows, IsTranscript}
 use Rattle.idl_term.specs.Contexts.{Context}
 use Rattle.smt_answer.specs.Kinds.{kind_of, kind_of_unreadable}
 use Rattle.smt_answer.specs.Texts.{error_line}
-use Rattle.smt_script.specs.declared.error.Refusal.{Refusal as Why}
+use Rattle.smt_script.specs.declared.error.SexprRefusal.{SexprRefusal as Why}
 use Rattle.smt_script.specs.declared.state.Effect.{Effect}
 use Rattle.smt_script.specs.declared.state.Effect.TheVariants.{Silent, CheckSat, Unsupported, Exit}
 use Rattle.smt_script.specs.declared.state.Satisfiability.{Satisfiability}
@@ -19,19 +20,19 @@ use Rattle.smt_script.specs.States.{State, Step, start_state, after, settled}
 abbrev pub OneOutcome : Type 0
 OneOutcome = (bytes : List ℕ) (place : ℕ) (o p : Outcome) (m n : ℕ) → Outcomes bytes place o m → Outcomes bytes place p n → (o ≡ p) × (m ≡ n)
 
-same_refusal : (e f : Refusal) → refused e ≡ refused f → e ≡ f
+same_refusal : (e f : SexprRefusal) → refused e ≡ refused f → e ≡ f
 same_refusal e f h = cc
 
 same_expression : (x y : Sexpr) → expression x ≡ expression y → x ≡ y
 same_expression x y h = cc
 
-end_no_refusal : (why : Refusal) → finished ≡ refused why → ⊥
+end_no_refusal : (why : SexprRefusal) → finished ≡ refused why → ⊥
 end_no_refusal why h = cc
 
 end_no_expression : (x : Sexpr) → finished ≡ expression x → ⊥
 end_no_expression x h = cc
 
-refusal_no_expression : (why : Refusal) (x : Sexpr) → refused why ≡ expression x → ⊥
+refusal_no_expression : (why : SexprRefusal) (x : Sexpr) → refused why ≡ expression x → ⊥
 refusal_no_expression why x h = cc
 
 -- ---- the answers
@@ -95,7 +96,7 @@ module _ (one : OneOutcome) (bytes : List ℕ) where
   closes_one k place (unread why) ended a b s t p q c d = absurd (end_no_refusal why (one bytes place finished (refused why) q.0 p.0 q.1 p.1).0)
   closes_one k place (unread why) (unread other) a b s t p q c d =
       let same = same_refusal why other (one bytes place (refused why) (refused other) p.0 q.0 p.1 q.1).0 in
-      (c.0 ∙ ap (λ (w : Refusal). error_line k (kind_of_unreadable w)) same ∙ sym d.0, c.1 ∙ sym d.1)
+      (c.0 ∙ ap (λ (w : SexprRefusal). error_line k (kind_of_unreadable w)) same ∙ sym d.0, c.1 ∙ sym d.1)
   closes_one k place (unread why) stopped a b s t p q c d = absurd d
   closes_one k place stopped f a b s t p q c d = absurd c
 

@@ -6,10 +6,11 @@ use Rattle.std.proofs.KnownBytes.{Appends-trans}
 use Rattle.std.proofs.lemmas.List.{append-nil, append_assoc}
 use Rattle.smt_sexpr.specs.Tree.{Sexpr}
 use Rattle.smt_sexpr.specs.Table.{Table, Means}
-use Rattle.smt_sexpr.specs.Reading.{Finds, Spells, Outcomes, finished, refused, Refusal, lexical, unclosed, stray, Explains}
+use Rattle.smt_sexpr.specs.Reading.{Finds, Spells, Outcomes, finished, refused, Explains}
 use Rattle.smt_sexpr.specs.Commands.{Ending, ended, stopped, unread}
 use Rattle.smt_sexpr.specs.declared.error.SexprError.{SexprError}
-use Rattle.smt_sexpr.specs.declared.error.SexprError.TheVariants.{OutOfMemory, Lex, UnclosedList as OpenList, StrayClose as Stray}
+use Rattle.smt_sexpr.specs.declared.error.SexprError.TheVariants.{Refused, OutOfMemory}
+use Rattle.smt_sexpr.specs.declared.error.SexprRefusal.{SexprRefusal}
 use Rattle.dtp_session.specs.declared.report.Report.{Report}
 use Rattle.dtp_session.specs.declared.session.Turn.{Turn}
 use Rattle.dtp_session.specs.declared.session.Turn.TheVariants.{Going, Ended, Stopped}
@@ -229,7 +230,7 @@ end_cut report bytes place behind s k added h front = record {
   answers = part_end report s k ended added (inr (closing report, (0, (refl, refl)), front));
 }
 
-refused_by : (report : Report) (bytes : List ℕ) (place behind : ℕ) (s : State) (k : ℕ) (why : Refusal) (kind : Kind) → Outcomes bytes place (refused why) behind → kind_of_unreadable why ≡ kind → TranscribesFrom report bytes place s k (error_line k kind) 1
+refused_by : (report : Report) (bytes : List ℕ) (place behind : ℕ) (s : State) (k : ℕ) (why : SexprRefusal) (kind : Kind) → Outcomes bytes place (refused why) behind → kind_of_unreadable why ≡ kind → TranscribesFrom report bytes place s k (error_line k kind) 1
 refused_by report bytes place behind s k why kind h e = record {
   commands = [];
   here = place;
@@ -239,7 +240,7 @@ refused_by report bytes place behind s k why kind h e = record {
   answers = follows_end report s k (unread why) (error_line k kind) 1 (ap (error_line k) (sym e), refl);
 }
 
-cut_by : (report : Report) (bytes : List ℕ) (place behind : ℕ) (s : State) (k : ℕ) (why : Refusal) (kind : Kind) (added : List ℕ) → Outcomes bytes place (refused why) behind → kind_of_unreadable why ≡ kind → IsFront added (error_line k kind)
+cut_by : (report : Report) (bytes : List ℕ) (place behind : ℕ) (s : State) (k : ℕ) (why : SexprRefusal) (kind : Kind) (added : List ℕ) → Outcomes bytes place (refused why) behind → kind_of_unreadable why ≡ kind → IsFront added (error_line k kind)
     → TranscribesPartFrom report bytes place s k added
 cut_by report bytes place behind s k why kind added h e front = record {
   commands = [];
@@ -251,11 +252,9 @@ cut_by report bytes place behind s k why kind added h e front = record {
 }
 
 -- what the reader refuses, by the kind that its error line has
-pub explained : (bytes : List ℕ) (place behind : ℕ) (error : SexprError) (kind : Kind) → Explains bytes place error behind → kind_of_error error ≡ Some kind → (why : Refusal) × Outcomes bytes place (refused why) behind × (kind_of_unreadable why ≡ kind)
+pub explained : (bytes : List ℕ) (place behind : ℕ) (error : SexprError) (kind : Kind) → Explains bytes place error behind → kind_of_error error ≡ Some kind → (why : SexprRefusal) × Outcomes bytes place (refused why) behind × (kind_of_unreadable why ≡ kind)
+explained bytes place behind (Refused why) kind h e = let same : kind_of_unreadable why ≡ kind = cc in (why, h, same)
 explained bytes place behind OutOfMemory kind h e = absurd cc
-explained bytes place behind (Lex error) kind h e = let same : kind_of_unreadable (lexical error) ≡ kind = cc in (lexical error, h, same)
-explained bytes place behind (OpenList outer) kind h e = let same : kind_of_unreadable (unclosed outer) ≡ kind = cc in (unclosed outer, h, same)
-explained bytes place behind (Stray start) kind h e = let same : kind_of_unreadable (stray start) ≡ kind = cc in (stray start, h, same)
 
 pub turn_refused : (report : Report) (bytes : List ℕ) (place behind : ℕ) (s : State) (k : ℕ) (error : SexprError) (kind : Kind) → Explains bytes place error behind → kind_of_error error ≡ Some kind
     → TranscribesFrom report bytes place s k (error_line k kind) 1

@@ -2,9 +2,10 @@
 use Rattle.std.specs.Prelude.{Option, Some, None}
 use Rattle.smt_lex.specs.declared.token.LexErrorKind.{LexErrorKind}
 use Rattle.smt_lex.specs.declared.token.LexErrorKind.TheVariants as lex
-use Rattle.smt_sexpr.specs.Reading.{Refusal as Unreadable, lexical, unclosed, stray}
 use Rattle.smt_sexpr.specs.declared.error.SexprError.{SexprError}
-use Rattle.smt_sexpr.specs.declared.error.SexprError.TheVariants as sexpr
+use Rattle.smt_sexpr.specs.declared.error.SexprError.TheVariants.{Refused, OutOfMemory}
+use Rattle.smt_sexpr.specs.declared.error.SexprRefusal.{SexprRefusal}
+use Rattle.smt_sexpr.specs.declared.error.SexprRefusal.TheVariants as sexpr
 use Rattle.idl_term.specs.declared.error.TermRefusal.{TermRefusal}
 use Rattle.idl_term.specs.declared.error.TermRefusal.TheVariants as term
 use Rattle.smt_script.specs.declared.error.Refusal.{Refusal}
@@ -20,17 +21,15 @@ lexical_kind lex.UnclosedSymbol = UnclosedQuotedSymbol
 lexical_kind lex.LeadingZero = LeadingZero
 
 -- why an s-expression can't be read
-abbrev pub kind_of_unreadable : Unreadable → Kind
-kind_of_unreadable (lexical error) = lexical_kind error.kind
-kind_of_unreadable (unclosed place) = UnclosedList
-kind_of_unreadable (stray place) = StrayClose
+abbrev pub kind_of_unreadable : SexprRefusal → Kind
+kind_of_unreadable (sexpr.Lex error) = lexical_kind error.kind
+kind_of_unreadable (sexpr.UnclosedList place) = UnclosedList
+kind_of_unreadable (sexpr.StrayClose place) = StrayClose
 
 -- the same of an error of the reader; want of memory is no refusal
 abbrev pub kind_of_error : SexprError → Option Kind
-kind_of_error sexpr.OutOfMemory = None
-kind_of_error (sexpr.Lex error) = Some (lexical_kind error.kind)
-kind_of_error (sexpr.UnclosedList place) = Some UnclosedList
-kind_of_error (sexpr.StrayClose place) = Some StrayClose
+kind_of_error (Refused why) = Some (kind_of_unreadable why)
+kind_of_error OutOfMemory = None
 
 abbrev pub kind_of_term : TermRefusal → Kind
 kind_of_term term.UnknownSymbol = UnknownSymbol

@@ -1,11 +1,11 @@
 //! Why a command is refused, of all that may refuse it.
 ghost use Rattle.std.specs.Prelude.{◌≡◌};
-ghost use Rattle.smt_answer.specs.Kinds.{kind_of_error};
+ghost use Rattle.smt_answer.specs.Kinds.{kind_of_error, kind_of_unreadable};
 
 use idl_term::{LeftOutTerm, TermRefusal};
 use smt_lex::LexErrorKind;
 use smt_script::{LeftOutCommand, Refusal};
-use smt_sexpr::SexprError;
+use smt_sexpr::{SexprError, SexprRefusal};
 
 /// What is left out of the language.
 #[derive(Clone, Copy, Debug, PartialEq, Eq)]
@@ -89,19 +89,28 @@ impl From<Refusal> for Kind {
     }
 }
 
+/// The kind of a refusal of the reader.
+pub fn kind_of_unreadable(why: SexprRefusal) -> Kind
+    ensures { result ≡ kind_of_unreadable why }
+{
+    match why {
+        SexprRefusal::Lex(error) => match error.kind {
+            LexErrorKind::BadByte => Kind::BadByte,
+            LexErrorKind::UnclosedText => Kind::UnclosedString,
+            LexErrorKind::UnclosedSymbol => Kind::UnclosedQuotedSymbol,
+            LexErrorKind::LeadingZero => Kind::LeadingZero,
+        },
+        SexprRefusal::UnclosedList(_) => Kind::UnclosedList,
+        SexprRefusal::StrayClose(_) => Kind::StrayClose,
+    }
+}
+
 /// The kind of a reader's error, or `None` for want of memory.
 pub fn kind_of_error(error: SexprError) -> Option<Kind>
     ensures { result ≡ kind_of_error error }
 {
     match error {
+        SexprError::Refused(why) => Some(kind_of_unreadable(why)),
         SexprError::OutOfMemory => None,
-        SexprError::Lex(error) => Some(match error.kind {
-            LexErrorKind::BadByte => Kind::BadByte,
-            LexErrorKind::UnclosedText => Kind::UnclosedString,
-            LexErrorKind::UnclosedSymbol => Kind::UnclosedQuotedSymbol,
-            LexErrorKind::LeadingZero => Kind::LeadingZero,
-        }),
-        SexprError::UnclosedList(_) => Some(Kind::UnclosedList),
-        SexprError::StrayClose(_) => Some(Kind::StrayClose),
     }
 }

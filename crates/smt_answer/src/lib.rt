@@ -4,7 +4,7 @@
 mod kind;
 mod text;
 
-pub use kind::{Kind, LeftOut, kind_of_error};
+pub use kind::{Kind, LeftOut, kind_of_error, kind_of_unreadable};
 pub use text::{error_text, kind_text, success_text, unsupported_text, verdict_text};
 
 #[cfg(test)]

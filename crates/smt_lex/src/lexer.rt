@@ -42,6 +42,17 @@ impl<'a> Lexer<'a> {
         }
     }
 
+    /// A lexer at the same place of the same bytes, with the same error.
+    pub fn copy(&self) -> Lexer<'a>
+        ensures { result ≡ self.now }
+    {
+        Lexer {
+            bytes: self.bytes,
+            place: self.place,
+            failed: self.failed,
+        }
+    }
+
     /// The bytes that it was made with.
     pub fn bytes(&self) -> &'a [u8]
         ensures { result.now ≡ self.now.bytes }

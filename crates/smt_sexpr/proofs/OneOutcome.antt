@@ -6,7 +6,9 @@ use Rattle.smt_lex.specs.declared.token.Token.{Token}
 use Rattle.smt_lex.specs.declared.token.LexError.{LexError}
 use Rattle.smt_lex.specs.Grammar.{Reads}
 use Rattle.smt_sexpr.specs.Tree.{Sexpr, Items, leaf, list, none, more}
-use Rattle.smt_sexpr.specs.Reading.{ReadsToken, Spells, SpellsEach, IsInside, reached, behind, deeper, IsOpen, Refusal, lexical, unclosed, stray, Refuses, Outcome, expression, finished, refused, Outcomes}
+use Rattle.smt_sexpr.specs.declared.error.SexprRefusal.{SexprRefusal}
+use Rattle.smt_sexpr.specs.declared.error.SexprRefusal.TheVariants.{Lex, UnclosedList, StrayClose}
+use Rattle.smt_sexpr.specs.Reading.{ReadsToken, Spells, SpellsEach, IsInside, reached, behind, deeper, IsOpen, Refuses, Outcome, expression, finished, refused, Outcomes}
 use Rattle.smt_sexpr.proofs.OneValue.{OneReading, same_token, not_right, not_left, spells_same}
 
 -- no token is read
@@ -134,40 +136,40 @@ module _ (one : OneReading) (bytes : List ℕ) where
   spelt_not_finished : (place : ℕ) (x : Sexpr) (m n : ℕ) → Spells bytes place x m → Reads bytes place (Ok None) n → ⊥
   spelt_not_finished place x m n s p = spells_not_dead place x m (Ok None) n s p tt
 
-  spelt_not_refused : (place : ℕ) (x : Sexpr) (why : Refusal) (m n : ℕ) → Spells bytes place x m → Refuses bytes place why n → ⊥
-  spelt_not_refused place x (lexical e) m n s (here, w, p) = within_not_spelt place here (Err e) n x m w p tt s
-  spelt_not_refused place x (unclosed outer) m n s (here, o, p) = within_not_spelt place here (Ok None) n x m (inr (outer, o)) p tt s
-  spelt_not_refused place x (stray start) m n s (token, t, k, at) = not_right one bytes place x m token n s t k
+  spelt_not_refused : (place : ℕ) (x : Sexpr) (why : SexprRefusal) (m n : ℕ) → Spells bytes place x m → Refuses bytes place why n → ⊥
+  spelt_not_refused place x (Lex e) m n s (here, w, p) = within_not_spelt place here (Err e) n x m w p tt s
+  spelt_not_refused place x (UnclosedList outer) m n s (here, o, p) = within_not_spelt place here (Ok None) n x m (inr (outer, o)) p tt s
+  spelt_not_refused place x (StrayClose start) m n s (token, t, k, at) = not_right one bytes place x m token n s t k
 
-  finished_not_refused : (place : ℕ) (why : Refusal) (m n : ℕ) → Reads bytes place (Ok None) m → Refuses bytes place why n → ⊥
-  finished_not_refused place (lexical e) m n p (here, w, q) = end_apart e (within_reads place place here (Ok None) (Err e) m n (inl refl) p tt w q tt).0
-  finished_not_refused place (unclosed outer) m n p (here, (opening, mid, t, left, at, inside), q) = token_not_dead place opening mid (Ok None) m t p tt
-  finished_not_refused place (stray start) m n p (token, t, k, at) = token_not_dead place token n (Ok None) m t p tt
+  finished_not_refused : (place : ℕ) (why : SexprRefusal) (m n : ℕ) → Reads bytes place (Ok None) m → Refuses bytes place why n → ⊥
+  finished_not_refused place (Lex e) m n p (here, w, q) = end_apart e (within_reads place place here (Ok None) (Err e) m n (inl refl) p tt w q tt).0
+  finished_not_refused place (UnclosedList outer) m n p (here, (opening, mid, t, left, at, inside), q) = token_not_dead place opening mid (Ok None) m t p tt
+  finished_not_refused place (StrayClose start) m n p (token, t, k, at) = token_not_dead place token n (Ok None) m t p tt
 
-  lexical_not_unclosed : (place : ℕ) (e : LexError) (outer m n : ℕ) → Refuses bytes place (lexical e) m → Refuses bytes place (unclosed outer) n → ⊥
+  lexical_not_unclosed : (place : ℕ) (e : LexError) (outer m n : ℕ) → Refuses bytes place (Lex e) m → Refuses bytes place (UnclosedList outer) n → ⊥
   lexical_not_unclosed place e outer m n (here, w, p) (there, o, q) = end_apart e (within_reads place there here (Ok None) (Err e) n m (inr (outer, o)) q tt w p tt).0
 
-  lexical_not_stray : (place : ℕ) (e : LexError) (start m n : ℕ) → Refuses bytes place (lexical e) m → Refuses bytes place (stray start) n → ⊥
+  lexical_not_stray : (place : ℕ) (e : LexError) (start m n : ℕ) → Refuses bytes place (Lex e) m → Refuses bytes place (StrayClose start) n → ⊥
   lexical_not_stray place e start m n (here, w, p) (token, t, k, at) = within_not_closed place here (Err e) m token n w p tt t k
 
-  unclosed_not_stray : (place outer start m n : ℕ) → Refuses bytes place (unclosed outer) m → Refuses bytes place (stray start) n → ⊥
+  unclosed_not_stray : (place outer start m n : ℕ) → Refuses bytes place (UnclosedList outer) m → Refuses bytes place (StrayClose start) n → ⊥
   unclosed_not_stray place outer start m n (here, o, p) (token, t, k, at) = within_not_closed place here (Ok None) m token n (inr (outer, o)) p tt t k
 
-  refusal_one : (place : ℕ) (why other : Refusal) (m n : ℕ) → Refuses bytes place why m → Refuses bytes place other n → (why ≡ other) × (m ≡ n)
-  refusal_one place (lexical e) (lexical f) m n (here, w, p) (there, v, q) =
+  refusal_one : (place : ℕ) (why other : SexprRefusal) (m n : ℕ) → Refuses bytes place why m → Refuses bytes place other n → (why ≡ other) × (m ≡ n)
+  refusal_one place (Lex e) (Lex f) m n (here, w, p) (there, v, q) =
       let same = within_reads place here there (Err e) (Err f) m n w p tt v q tt in
-      (ap lexical (lexical_same e f same.0), same.1)
-  refusal_one place (lexical e) (unclosed outer) m n h k = absurd (lexical_not_unclosed place e outer m n h k)
-  refusal_one place (lexical e) (stray start) m n h k = absurd (lexical_not_stray place e start m n h k)
-  refusal_one place (unclosed outer) (lexical f) m n h k = absurd (lexical_not_unclosed place f outer n m k h)
-  refusal_one place (unclosed outer) (unclosed other) m n (here, o, p) (there, o', q) =
-      (ap unclosed (outer_one place here there outer other o o'), (within_reads place here there (Ok None) (Ok None) m n (inr (outer, o)) p tt (inr (other, o')) q tt).1)
-  refusal_one place (unclosed outer) (stray start) m n h k = absurd (unclosed_not_stray place outer start m n h k)
-  refusal_one place (stray start) (lexical f) m n h k = absurd (lexical_not_stray place f start n m k h)
-  refusal_one place (stray start) (unclosed other) m n h k = absurd (unclosed_not_stray place other start n m k h)
-  refusal_one place (stray start) (stray other) m n (token, t, k, at) (token', t', k', at') =
+      (ap Lex (lexical_same e f same.0), same.1)
+  refusal_one place (Lex e) (UnclosedList outer) m n h k = absurd (lexical_not_unclosed place e outer m n h k)
+  refusal_one place (Lex e) (StrayClose start) m n h k = absurd (lexical_not_stray place e start m n h k)
+  refusal_one place (UnclosedList outer) (Lex f) m n h k = absurd (lexical_not_unclosed place f outer n m k h)
+  refusal_one place (UnclosedList outer) (UnclosedList other) m n (here, o, p) (there, o', q) =
+      (ap UnclosedList (outer_one place here there outer other o o'), (within_reads place here there (Ok None) (Ok None) m n (inr (outer, o)) p tt (inr (other, o')) q tt).1)
+  refusal_one place (UnclosedList outer) (StrayClose start) m n h k = absurd (unclosed_not_stray place outer start m n h k)
+  refusal_one place (StrayClose start) (Lex f) m n h k = absurd (lexical_not_stray place f start n m k h)
+  refusal_one place (StrayClose start) (UnclosedList other) m n h k = absurd (unclosed_not_stray place other start n m k h)
+  refusal_one place (StrayClose start) (StrayClose other) m n (token, t, k, at) (token', t', k', at') =
       let same = same_token one bytes place token token' m n t t' in
-      (ap stray (sym at ∙ ap (λ (x : Token). x.start) same.0 ∙ at'), same.1)
+      (ap StrayClose (sym at ∙ ap (λ (x : Token). x.start) same.0 ∙ at'), same.1)
 
   outcome_here : (place : ℕ) (o p : Outcome) (m n : ℕ) → Outcomes bytes place o m → Outcomes bytes place p n → (o ≡ p) × (m ≡ n)
   outcome_here place (expression x) (expression y) m n h k = let same = spells_same one bytes place x y m n h k in (ap expression same.0, same.1)

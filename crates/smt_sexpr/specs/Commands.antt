@@ -1,6 +1,7 @@
 -- The commands of a text, and how the text ends.
 use Rattle.std.specs.Prelude.{◌≡◌, ℕ, List, [], ◌∷◌}
-use Rattle.smt_sexpr.specs.Reading.{Spells, Refusal, Outcomes, finished, refused}
+use Rattle.smt_sexpr.specs.Reading.{Spells, Outcomes, finished, refused}
+use Rattle.smt_sexpr.specs.declared.error.SexprRefusal.{SexprRefusal}
 use Rattle.smt_sexpr.specs.Tree.{Sexpr}
 
 -- the s-expressions of the text from the place on, in order, up to here
@@ -14,7 +15,7 @@ pub data Ending : Type 0 where
   -- what follows isn't looked at
   stopped : Ending
   -- what follows is refused
-  unread : (why : Refusal) → Ending
+  unread : (why : SexprRefusal) → Ending
 
 -- how the text ends behind the last of its commands
 abbrev pub EndsAs : List ℕ → ℕ → Ending → Type 0

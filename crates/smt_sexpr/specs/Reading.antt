@@ -5,7 +5,9 @@ use Rattle.smt_lex.specs.declared.token.Token.{Token}
 use Rattle.smt_lex.specs.declared.token.LexError.{LexError}
 use Rattle.smt_lex.specs.Grammar.{Reads}
 use Rattle.smt_sexpr.specs.declared.error.SexprError.{SexprError}
-use Rattle.smt_sexpr.specs.declared.error.SexprError.TheVariants.{OutOfMemory, Lex, UnclosedList, StrayClose}
+use Rattle.smt_sexpr.specs.declared.error.SexprError.TheVariants.{Refused, OutOfMemory}
+use Rattle.smt_sexpr.specs.declared.error.SexprRefusal.{SexprRefusal}
+use Rattle.smt_sexpr.specs.declared.error.SexprRefusal.TheVariants.{Lex, UnclosedList, StrayClose}
 use Rattle.smt_sexpr.specs.Table.{Table, Means}
 use Rattle.smt_sexpr.specs.Tree.{Sexpr, Items, leaf, list, none, more, leaf_text}
 
@@ -34,25 +36,18 @@ pub data IsInside (bytes : List ℕ) (here : ℕ) : ℕ → Type 0 where
 abbrev pub IsOpen : List ℕ → ℕ → ℕ → ℕ → Type 0
 IsOpen bytes place outer here = (opening : Token) × (mid : ℕ) × ReadsToken bytes place opening mid × (opening.kind ≡ Left) × (opening.start ≡ outer) × IsInside bytes here mid
 
--- why there is no s-expression
-pub data Refusal : Type 0 where
-  -- no token can be read
-  lexical : (error : LexError) → Refusal
-  -- the text ends in a list, whose outermost parenthesis stands at the place
-  unclosed : (place : ℕ) → Refusal
-  -- a closing parenthesis at the place closes nothing
-  stray : (place : ℕ) → Refusal
-
-abbrev pub Refuses : List ℕ → ℕ → Refusal → ℕ → Type 0
-Refuses bytes place (lexical error) after = (here : ℕ) × ((place ≡ here) ⊎ ((outer : ℕ) × IsOpen bytes place outer here)) × Reads bytes here (Err error) after
-Refuses bytes place (unclosed outer) after = (here : ℕ) × IsOpen bytes place outer here × Reads bytes here (Ok None) after
-Refuses bytes place (stray start) after = (token : Token) × ReadsToken bytes place token after × (token.kind ≡ Right) × (token.start ≡ start)
+-- why there is no s-expression: no token can be read; or the text ends in a list, whose outermost parenthesis stands at
+-- outer; or a closing parenthesis, which stands at start, closes nothing
+abbrev pub Refuses : List ℕ → ℕ → SexprRefusal → ℕ → Type 0
+Refuses bytes place (Lex error) after = (here : ℕ) × ((place ≡ here) ⊎ ((outer : ℕ) × IsOpen bytes place outer here)) × Reads bytes here (Err error) after
+Refuses bytes place (UnclosedList outer) after = (here : ℕ) × IsOpen bytes place outer here × Reads bytes here (Ok None) after
+Refuses bytes place (StrayClose start) after = (token : Token) × ReadsToken bytes place token after × (token.kind ≡ Right) × (token.start ≡ start)
 
 pub data Outcome : Type 0 where
   expression : (x : Sexpr) → Outcome
   -- nothing but white space and comments is left
   finished : Outcome
-  refused : (why : Refusal) → Outcome
+  refused : (why : SexprRefusal) → Outcome
 
 -- what stands at the place, and the place behind it
 abbrev pub Outcomes : List ℕ → ℕ → Outcome → ℕ → Type 0
@@ -62,10 +57,8 @@ Outcomes bytes place (refused why) after = Refuses bytes place why after
 
 -- what an error says of the text; want of memory says nothing
 abbrev pub Explains : List ℕ → ℕ → SexprError → ℕ → Type 0
+Explains bytes place (Refused why) after = Outcomes bytes place (refused why) after
 Explains bytes place OutOfMemory after = Unit {0}
-Explains bytes place (Lex error) after = Outcomes bytes place (refused (lexical error)) after
-Explains bytes place (UnclosedList outer) after = Outcomes bytes place (refused (unclosed outer)) after
-Explains bytes place (StrayClose start) after = Outcomes bytes place (refused (stray start)) after
 
 -- What one call gives at the place, where t is the table after it.
 abbrev pub Finds : Table → ℕ → Result (Option ℕ) SexprError → ℕ → Type 0
@@ -75,5 +68,5 @@ Finds t place (Err error) after = Explains t.bytes place error after
 
 -- the error of the lexer after such a call
 abbrev pub failed_of : Result (Option ℕ) SexprError → Option LexError
-failed_of (Err (Lex error)) = Some error
+failed_of (Err (Refused (Lex error))) = Some error
 failed_of result = None

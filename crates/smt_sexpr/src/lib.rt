@@ -19,7 +19,7 @@ mod reader;
 mod sexprs;
 mod text;
 
-pub use error::SexprError;
+pub use error::{SexprError, SexprRefusal};
 pub use laws::{
     meaning_is_writable, meaning_stays, one_meaning, one_outcome, one_value, read_is_writable,
     reads_back, reads_on,

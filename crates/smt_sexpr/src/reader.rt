@@ -3,7 +3,7 @@ ghost use Rattle.std.specs.Prelude.{◌≡◌, ◌-◌, ◌≤◌, ◌<◌, ◌+
 ghost use Rattle.smt_sexpr.specs.Table.{Grows};
 ghost use Rattle.smt_sexpr.specs.Reading.{Finds, failed_of};
 
-use crate::error::SexprError;
+use crate::error::{SexprError, SexprRefusal};
 use crate::node::{Node, SexprId};
 use smt_lex::{Lexer, TokenKind};
 use std::alloc::Global;
@@ -59,11 +59,11 @@ pub(crate) fn read(
     let mut pending: Vec<SexprId> = Vec::new(alloc);
     'tokens: loop {
         let token = match lexer.next() {
-            Err(error) => return Err(SexprError::Lex(error)),
+            Err(error) => return Err(SexprError::Refused(SexprRefusal::Lex(error))),
             Ok(None) => {
                 return match stack.first() {
                     None => Ok(None),
-                    Some(frame) => Err(SexprError::UnclosedList(frame.place)),
+                    Some(frame) => Err(SexprError::Refused(SexprRefusal::UnclosedList(frame.place))),
                 };
             }
             Ok(Some(token)) => token,
@@ -78,7 +78,7 @@ pub(crate) fn read(
                 continue;
             }
             TokenKind::Right => match stack.pop() {
-                None => return Err(SexprError::StrayClose(token.start)),
+                None => return Err(SexprError::Refused(SexprRefusal::StrayClose(token.start))),
                 Some(frame) => close_list(nodes, items, &mut pending, frame.first)?,
             },
             _ => {

@@ -6,7 +6,7 @@ ghost use Rattle.smt_sexpr.specs.Table.{Means, HasMeaning, HasItem, IsNodeOf, It
 ghost use Rattle.smt_sexpr.specs.Reading.{Finds, failed_of};
 ghost use Rattle.smt_sexpr.specs.Printing.{text_of};
 
-use crate::error::SexprError;
+use crate::error::{SexprError, SexprRefusal};
 use crate::node::{Node, SexprId};
 use crate::printer::write;
 use crate::reader::read;
@@ -49,29 +49,34 @@ impl<'a> Sexprs<'a> {
 
     /// Reads the next s-expression, or gives `None` at the end of the text.
     ///
-    /// After an error of the lexer each call gives that error again.
+    /// After an error of the lexer each call gives that error again. Want of memory leaves table and lexer as they were.
     pub fn read_one(&mut self, lexer: &mut Lexer) -> Result<Option<SexprId>, SexprError>
         requires same { lexer.old.bytes ≡ self.old.bytes }
         ensures finds { lexer.old.failed ≡ None → Finds self.new lexer.old.place result lexer.new.place }
         ensures failed { lexer.old.failed ≡ None → lexer.new.failed ≡ failed_of result }
         ensures forward { (id : ℕ) → result ≡ Ok (Some id) → lexer.old.place < lexer.new.place }
         ensures within { lexer.old.failed ≡ None → lexer.new.place ≤ length lexer.new.bytes }
-        ensures again { (e : LexError) → lexer.old.failed ≡ Some e → (result ≡ Err (SexprError.Lex e)) × (lexer.new ≡ lexer.old) }
+        ensures again { (e : LexError) → lexer.old.failed ≡ Some e → (result ≡ Err (SexprError.Refused (SexprRefusal.Lex e))) × (lexer.new ≡ lexer.old) }
         ensures bytes { lexer.new.bytes ≡ lexer.old.bytes }
         ensures grows { Grows self.old self.new }
         // Only an s-expression adds to the table.
         ensures end { result ≡ Ok None → self.new ≡ self.old }
         ensures err { OnErr result (self.new ≡ self.old) }
+        ensures memory { result ≡ Err SexprError.OutOfMemory → lexer.new ≡ lexer.old }
     {
         if let Some(error) = lexer.error() {
-            return Err(SexprError::Lex(error));
+            return Err(SexprError::Refused(SexprRefusal::Lex(error)));
         }
+        let lexer_before = lexer.copy();
         let nodes_before = self.nodes.len();
         let items_before = self.items.len();
         let result = read(self.alloc, &mut self.nodes, &mut self.items, lexer);
         if result.is_err() {
             self.nodes.truncate(nodes_before);
             self.items.truncate(items_before);
+        }
+        if let Err(SexprError::OutOfMemory) = result {
+            *lexer = lexer_before;
         }
         result
     }

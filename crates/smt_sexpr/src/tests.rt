@@ -8,14 +8,14 @@ fn outcome(rt: &HostRuntime, text: &[u8]) -> Result<Option<SexprId>, SexprError>
     table.read_one(&mut lexer)
 }
 
-fn is_refused(rt: &HostRuntime, text: &[u8], why: SexprError) -> bool {
-    matches!(outcome(rt, text), Err(error) if error == why)
+fn is_refused(rt: &HostRuntime, text: &[u8], why: SexprRefusal) -> bool {
+    matches!(outcome(rt, text), Err(SexprError::Refused(refusal)) if refusal == why)
 }
 
 #[test]
 fn refusals(rt: HostRuntime) {
-    assert!(rt; is_refused(&rt, b" )", SexprError::StrayClose(1)));
-    assert!(rt; is_refused(&rt, b" (a (b c) (d ; )", SexprError::UnclosedList(1)));
+    assert!(rt; is_refused(&rt, b" )", SexprRefusal::StrayClose(1)));
+    assert!(rt; is_refused(&rt, b" (a (b c) (d ; )", SexprRefusal::UnclosedList(1)));
     for text in [
         b"01".as_slice(),
         b"(a 01".as_slice(),
@@ -23,7 +23,7 @@ fn refusals(rt: HostRuntime) {
     ] {
         let result = outcome(&rt, text);
         assert!(rt;
-            matches!(result, Err(SexprError::Lex(error)) if error.kind == LexErrorKind::LeadingZero)
+            matches!(result, Err(SexprError::Refused(SexprRefusal::Lex(error))) if error.kind == LexErrorKind::LeadingZero)
         );
     }
     assert!(rt; matches!(outcome(&rt, b" ; nothing"), Ok(None)));
@@ -99,7 +99,7 @@ fn deep(rt: HostRuntime) -> Result<(), Fail> {
     for _ in 0..1000000 {
         text.push(b'(')?;
     }
-    assert!(rt; is_refused(&rt, &text, SexprError::UnclosedList(0)));
+    assert!(rt; is_refused(&rt, &text, SexprRefusal::UnclosedList(0)));
     for _ in 0..1000000 {
         text.push(b')')?;
     }

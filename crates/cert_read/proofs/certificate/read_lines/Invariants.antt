@@ -1,6 +1,6 @@
 use Rattle.std.proofs.Common.{◌≡◌, ◌-◌, length, None}
 use Rattle.cert_read.specs.Certificates.{HoldsEntries}
-use Rattle.cert_read.proofs.certificate.read_entries.Given as goal
+use Rattle.cert_read.proofs.certificate.read_lines.Given as goal
 
 abbrev pub invariant-entries : goal.invariant-entries
 invariant-entries l = record {
