@@ -1,4 +1,3 @@
-pub mod Shapes
 pub mod Each
 pub mod Numbers
 pub mod Lines

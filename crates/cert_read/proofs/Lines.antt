@@ -4,8 +4,8 @@ use Rattle.std.specs.Prelude.{codes}
 use Rattle.std.proofs.lemmas.Slice.Eq.{bytes_eq-Decides}
 use Rattle.smt_lex.specs.declared.token.TokenKind.TheVariants.{Numeral, Symbol}
 use Rattle.smt_sexpr.specs.Tree.{Sexpr, Items, leaf, list, none, more}
-use Rattle.cert_text.specs.Form.{numeral_text, symbol, header_sexpr, end_sexpr}
-use Rattle.cert_read.specs.Parts.{is_symbol}
+use Rattle.cert_text.specs.Form.{numeral_text, header_sexpr, end_sexpr}
+use Rattle.smt_sexpr.specs.Shapes.{symbol, is_symbol}
 use Rattle.cert_read.specs.Shapes.{is_numeral}
 
 pub symbol_is : (text : List ℕ) (x : Sexpr) → is_symbol text x ≡ true → x ≡ symbol text

@@ -2,7 +2,8 @@
 use Rattle.std.proofs.Common.{◌≡◌, refl, sym, ap, ℕ, zero, suc, true, Some, pos, neg_ℤ}
 use Rattle.std.specs.Prelude.{codes, option_and_then}
 use Rattle.smt_sexpr.specs.Tree.{Sexpr, list, none, more}
-use Rattle.cert_read.specs.Parts.{is_symbol, index_of, negative, number_of}
+use Rattle.cert_read.specs.Parts.{index_of, negative, number_of}
+use Rattle.smt_sexpr.specs.Shapes.{is_symbol}
 
 pub negative_number : (head digits : Sexpr) (n : ℕ) → is_symbol (codes "-") head ≡ true → Some n ≡ index_of digits → (n ≡ 0 → ⊥) → number_of (list (more head (more digits none))) ≡ Some (neg_ℤ (pos n))
 negative_number head digits zero minus e some = absurd (some refl)

@@ -9,9 +9,10 @@
 -- A number is a numeral, or (- n) with n at least 1. The indices i and j and the points x and y are numerals. No number
 -- and no numeral goes beyond the limit. What has none of these forms stands for nothing.
 use Rattle.std.specs.Prelude.{ℕ, Bool, zero, suc, min, nat_le, ℤ, pos, negsuc, true, false, if◌then◌else◌, List, [], ◌∷◌, codes, Option, Some, None, option_map, option_and_then}
-use Rattle.std.specs.Option.{option_or, option_map_or}
+use Rattle.std.specs.Option.{option_or}
 use Rattle.std.specs.Str.{bytes_eq}
 use Rattle.smt_lex.specs.Numbers.{value_of}
+use Rattle.smt_sexpr.specs.Shapes.{is_symbol, headed_of}
 use Rattle.smt_sexpr.specs.Tree.{Sexpr, Items, leaf, list, none, more, symbol_of, numeral_of}
 use Rattle.stn_core.specs.declared.literal.Literal.{Literal}
 use Rattle.stn_core.specs.declared.named.NamedValue.{NamedValue}
@@ -24,10 +25,6 @@ pub use Rattle.cert_text.specs.Limits.{limit}
 use Rattle.cert_text.specs.declared.entry.Entry.TheVariants.{Sat, Unsat}
 
 -- ---- numbers
-
--- whether the s-expression is this symbol
-abbrev pub is_symbol : List ℕ → Sexpr → Bool
-is_symbol text x = option_map_or (λ name. bytes_eq name text) (symbol_of x) false
 
 abbrev pub limited : ℕ → Option ℕ
 limited n = if nat_le n limit then Some n else None
@@ -61,11 +58,6 @@ put _ _ = None
 abbrev pub each_of : {A : Type 0} → (Sexpr → Option A) → Items → Option (List A)
 each_of f none = Some []
 each_of f (more x xs) = put (f x) (each_of f xs)
-
--- of a list that begins with a symbol: its bytes, and what follows it
-abbrev pub headed_of : Sexpr → Option (List ℕ × Items)
-headed_of (list (more head xs)) = option_map (λ name. (name, xs)) (symbol_of head)
-headed_of _ = None
 
 -- ---- the parts of an entry
 

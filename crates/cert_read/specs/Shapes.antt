@@ -9,7 +9,7 @@ use Rattle.smt_sexpr.specs.Tree.{Sexpr, Items, numeral_of}
 use Rattle.smt_sexpr.specs.Reading.{Spells}
 use Rattle.smt_sexpr.specs.Table.{Table, MeansEach}
 use Rattle.cert_text.specs.Form.{end_sexpr}
-use Rattle.cert_read.specs.Parts.{headed_of, entry_of}
+use Rattle.cert_read.specs.Parts.{entry_of}
 use Rattle.cert_read.specs.declared.certificate.Line.{Line}
 use Rattle.cert_read.specs.declared.certificate.Line.TheVariants.{Shown, End}
 use Rattle.cert_read.specs.declared.error.CertReadError.{CertReadError}
@@ -17,10 +17,6 @@ use Rattle.cert_read.specs.declared.error.CertReadError.TheVariants as read
 use Rattle.cert_read.specs.declared.error.CertificateRefusal.{CertificateRefusal}
 use Rattle.cert_read.specs.declared.error.PartError.{PartError}
 use Rattle.cert_read.specs.declared.error.PartError.TheVariants.{OutOfMemory, IllFormed}
-
--- ids that stand for s-expressions
-abbrev pub HaveMeaning : Table → List ℕ → Type 0
-HaveMeaning t ids = (xs : Items) × MeansEach t ids xs
 
 -- whether the s-expression is this numeral
 abbrev pub is_numeral : List ℕ → Sexpr → Bool
@@ -30,11 +26,6 @@ is_numeral digits x = option_map_or (λ text. bytes_eq text digits) (numeral_of 
 abbrev pub Lacks : {A : Type 0} → Option A → PartError → Type 0
 Lacks meant IllFormed = meant ≡ None
 Lacks meant OutOfMemory = Unit {0}
-
--- a list that begins with a symbol: its bytes, and the ids of what follows it
-abbrev pub HeadIs : Table → Sexpr → Option (List ℕ × List ℕ) → Type 0
-HeadIs t x (Some p) = (xs : Items) × (headed_of x ≡ Some (p.0, xs)) × MeansEach t p.1 xs
-HeadIs t x None = headed_of x ≡ None
 
 -- an entry or the end stands at the place, and after is the place behind it
 abbrev pub LineIs : List ℕ → ℕ → Line → ℕ → Type 0

@@ -2,7 +2,7 @@
 use Rattle.std.specs.Prelude.{[], ◌∷◌, codes}
 use Rattle.smt_lex.specs.declared.token.TokenKind.TheVariants.{Numeral}
 use Rattle.smt_sexpr.specs.Tree.{Sexpr, leaf}
-use Rattle.cert_text.specs.Form.{list_of, form}
+use Rattle.smt_sexpr.specs.Shapes.{list_of, form}
 
 abbrev zero : Sexpr
 zero = leaf Numeral (codes "0")

@@ -9,7 +9,7 @@ ghost use Rattle.cert_read.specs.Certificates.{certificate, no_certificate, Erro
 ghost use Rattle.cert_read.specs.Shapes.{LineIs, told_as};
 
 use crate::error::{CertReadError, CertificateRefusal, PartError};
-use crate::number::{is_numeral, is_symbol};
+use crate::number::is_numeral;
 use crate::part::read_entry;
 use cert_text::Entry;
 use smt_lex::Lexer;
@@ -22,7 +22,7 @@ pub fn is_header(table: &Sexprs, id: SexprId) -> bool
     ensures { (x : Sexpr) → Means table.now id x → IsTrue result ↔ (x ≡ header_sexpr) }
 {
     match table.items(id) {
-        Some([head, version]) if is_symbol(table, *head, b"dtp-certificate") => {
+        Some([head, version]) if table.is_symbol(*head, b"dtp-certificate") => {
             is_numeral(table, *version, b"1")
         }
         _ => false,
@@ -35,7 +35,7 @@ fn is_end(table: &Sexprs, id: SexprId) -> bool
     ensures { (x : Sexpr) → Means table.now id x → IsTrue result ↔ (x ≡ end_sexpr) }
 {
     match table.items(id) {
-        Some([head]) => is_symbol(table, *head, b"end"),
+        Some([head]) => table.is_symbol(*head, b"end"),
         _ => false,
     }
 }

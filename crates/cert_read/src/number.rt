@@ -2,25 +2,13 @@
 ghost use Rattle.std.specs.Prelude.{◌≡◌, ◌≤◌, IfSome};
 ghost use Rattle.smt_sexpr.specs.Tree.{Sexpr};
 ghost use Rattle.smt_sexpr.specs.Table.{Means, HasMeaning};
-ghost use Rattle.cert_read.specs.Parts.{is_symbol, index_of, point_of, number_of};
+ghost use Rattle.cert_text.specs.Limits.{limit};
+ghost use Rattle.cert_read.specs.Parts.{index_of, point_of, number_of};
 ghost use Rattle.cert_read.specs.Shapes.{is_numeral};
 
+use cert_text::NUMBER_LIMIT;
 use smt_lex::numeral_value;
 use smt_sexpr::{SexprId, Sexprs};
-
-/// The greatest absolute value of a number, and the greatest index.
-const LIMIT: u64 = 1 << 61;
-
-/// Whether the s-expression is this symbol.
-pub(crate) fn is_symbol(table: &Sexprs, id: SexprId, text: &[u8]) -> bool
-    requires { HasMeaning table.now id }
-    ensures { (x : Sexpr) → Means table.now id x → result ≡ is_symbol text.now x }
-{
-    match table.symbol(id) {
-        Some(name) => name == text,
-        None => false,
-    }
-}
 
 /// Whether the s-expression is the numeral with these digits.
 pub(crate) fn is_numeral(table: &Sexprs, id: SexprId, digits: &[u8]) -> bool
@@ -37,11 +25,11 @@ pub(crate) fn is_numeral(table: &Sexprs, id: SexprId, digits: &[u8]) -> bool
 fn magnitude(table: &Sexprs, id: SexprId) -> Option<u64>
     requires { HasMeaning table.now id }
     ensures value { (x : Sexpr) → Means table.now id x → result ≡ index_of x }
-    ensures within { IfSome result (λ n. n ≤ 2305843009213693952) }
+    ensures within { IfSome result (λ n. n ≤ limit) }
 {
     smt_lex::numeral_digits();
     let value = numeral_value(table.numeral(id)?)?;
-    if value <= LIMIT { Some(value) } else { None }
+    if value <= NUMBER_LIMIT { Some(value) } else { None }
 }
 
 /// An index.
@@ -71,7 +59,7 @@ pub(crate) fn number(table: &Sexprs, id: SexprId) -> Option<i64>
         return Some(value as i64);
     }
     match table.items(id) {
-        Some([head, digits]) if is_symbol(table, *head, b"-") => {
+        Some([head, digits]) if table.is_symbol(*head, b"-") => {
             let value = magnitude(table, *digits)?;
             if value == 0 {
                 None

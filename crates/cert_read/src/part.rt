@@ -2,8 +2,9 @@
 ghost use Rattle.std.specs.Prelude.{◌≡◌, Option, Some, option_map, IfOk, IfErr};
 ghost use Rattle.smt_sexpr.specs.Tree.{Sexpr, Items};
 ghost use Rattle.smt_sexpr.specs.Table.{Means, MeansEach, HasMeaning};
-ghost use Rattle.cert_read.specs.Parts.{headed_of, each_of, bound_of, literal_of, clause_of, single_of, step_named, truth_named, entry_of};
-ghost use Rattle.cert_read.specs.Shapes.{HaveMeaning, Lacks, HeadIs};
+ghost use Rattle.cert_read.specs.Parts.{each_of, bound_of, literal_of, clause_of, single_of, step_named, truth_named, entry_of};
+ghost use Rattle.smt_sexpr.specs.Shapes.{headed_of, HaveMeaning, HeadIs};
+ghost use Rattle.cert_read.specs.Shapes.{Lacks};
 
 use crate::error::PartError;
 use crate::number::{index, number, point};
@@ -38,17 +39,6 @@ pub(crate) fn read_each<T: Part + Drop>(
         parts.push(T::read(alloc, table, *id)?)?;
     }
     Ok(parts)
-}
-
-/// Of a list that begins with a symbol: its bytes, and what follows it.
-fn headed<'s, 'a>(table: &'s Sexprs<'a>, id: SexprId) -> Option<(&'a [u8], &'s [SexprId])>
-    requires { HasMeaning table.now id }
-    ensures { (x : Sexpr) → Means table.now id x → HeadIs table.now x (option_map (λ p. (p.0.now, p.1.now)) result) }
-{
-    match table.items(id) {
-        Some([head, rest @ ..]) => Some((table.symbol(*head)?, rest)),
-        _ => None,
-    }
 }
 
 /// A literal, by the ids of `x`, `y` and `c`.
@@ -128,7 +118,7 @@ impl Part for Step {
     ghost meant = { step_of };
 
     fn read(alloc: Global, table: &Sexprs, id: SexprId) -> Result<Step, PartError> {
-        let (name, ids) = headed(table, id).ok_or(PartError::IllFormed)?;
+        let (name, ids) = table.headed(id).ok_or(PartError::IllFormed)?;
         let step = step(alloc, table, name, ids)?;
         Ok(step)
     }
@@ -140,7 +130,7 @@ impl Part for Lemma {
     ghost meant = { lemma_of };
 
     fn read(alloc: Global, table: &Sexprs, id: SexprId) -> Result<Lemma, PartError> {
-        let (name, ids) = headed(table, id).ok_or(PartError::IllFormed)?;
+        let (name, ids) = table.headed(id).ok_or(PartError::IllFormed)?;
         match ids {
             [first, rest @ ..] if name == b"lemma".as_slice() => {
                 let clause = clause(alloc, table, *first)?;
@@ -188,7 +178,7 @@ pub(crate) fn read_entry(alloc: Global, table: &Sexprs, id: SexprId) -> Result<E
     ensures ok { IfOk result (λ entry. (x : Sexpr) → Means table.now id x → entry_of x ≡ Some entry) }
     ensures err { IfErr result (λ e. (x : Sexpr) → Means table.now id x → Lacks (entry_of x) e) }
 {
-    let (name, ids) = headed(table, id).ok_or(PartError::IllFormed)?;
+    let (name, ids) = table.headed(id).ok_or(PartError::IllFormed)?;
     if name == b"sat".as_slice() {
         let values = read_each(alloc, table, ids)?;
         Ok(Entry::Sat(NamedValues::new(values)))

@@ -20,7 +20,8 @@ use Rattle.refute_tree.specs.declared.step.Step.TheVariants.{Cycle, Input, Lemma
 use Rattle.refute_tree.specs.declared.lemma.Lemma.{Lemma}
 use Rattle.cert_text.specs.declared.entry.Entry.{Entry}
 use Rattle.cert_text.specs.declared.entry.Entry.TheVariants.{Sat, Unsat}
-use Rattle.cert_text.specs.Form.{numeral_text, numeral, items_of, number_of_value, literal_sexpr, step_sexpr, lemma_sexpr, value_sexpr, header_sexpr, entry_sexpr, end_sexpr, line_of}
+use Rattle.cert_text.specs.Form.{numeral_text, numeral, number_of_value, literal_sexpr, step_sexpr, lemma_sexpr, value_sexpr, header_sexpr, entry_sexpr, end_sexpr, line_of}
+use Rattle.smt_sexpr.specs.Shapes.{items_of}
 
 -- ---- numerals
 

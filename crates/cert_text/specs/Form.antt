@@ -14,8 +14,9 @@
 -- A number is a numeral, or (- n) where it is below 0. Each line holds one s-expression.
 use Rattle.std.specs.Prelude.{ℕ, suc, ◌+◌, ◌==◌, ℤ, pos, negsuc, true, false, if◌then◌else◌, List, [], ◌∷◌, ◌++◌, map, codes}
 use Rattle.std.specs.Int.Digits.{digits_of}
-use Rattle.smt_lex.specs.declared.token.TokenKind.TheVariants.{Numeral, Symbol}
-use Rattle.smt_sexpr.specs.Tree.{Sexpr, Items, leaf, list, none, more}
+use Rattle.smt_lex.specs.declared.token.TokenKind.TheVariants.{Numeral}
+use Rattle.smt_sexpr.specs.Shapes.{symbol, list_of, form}
+use Rattle.smt_sexpr.specs.Tree.{Sexpr, leaf}
 use Rattle.smt_sexpr.specs.Printing.{text_of}
 use Rattle.stn_core.specs.declared.literal.Literal.{Literal}
 use Rattle.stn_core.specs.declared.named.NamedValue.{NamedValue}
@@ -26,7 +27,7 @@ use Rattle.refute_tree.specs.declared.lemma.Lemma.{Lemma}
 use Rattle.cert_text.specs.declared.entry.Entry.{Entry}
 use Rattle.cert_text.specs.declared.entry.Entry.TheVariants.{Sat, Unsat}
 
--- ---- s-expressions
+-- ---- numerals
 
 -- the decimal digits of a number, with no leading zero; 48 is the digit 0
 unfoldable pub numeral_text : ℕ → List ℕ
@@ -34,20 +35,6 @@ numeral_text n = if n == 0 then 48 ∷ [] else map (λ d. 48 + d) (digits_of 10 
 
 abbrev pub numeral : ℕ → Sexpr
 numeral n = leaf Numeral (numeral_text n)
-
-abbrev pub symbol : List ℕ → Sexpr
-symbol text = leaf Symbol text
-
-abbrev pub items_of : List Sexpr → Items
-items_of [] = none
-items_of (x ∷ xs) = more x (items_of xs)
-
-abbrev pub list_of : List Sexpr → Sexpr
-list_of xs = list (items_of xs)
-
--- the list of a symbol and what follows it
-abbrev pub form : List ℕ → List Sexpr → Sexpr
-form head xs = list_of (symbol head ∷ xs)
 
 -- ---- the parts of an entry
 

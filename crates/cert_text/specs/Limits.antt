@@ -1,4 +1,4 @@
--- The numbers that a certificate may have: its points are below a number, and all other numbers within 2^61 both ways.
+-- The numbers that a certificate may have: its points are below a number, and all other numbers within the limit both ways.
 use Rattle.std.specs.Prelude.{ℕ, ◌<◌, ◌≤◌, ◌^◌, ◌-◌, ℤ, List, All, unsigned_abs}
 use Rattle.stn_core.specs.declared.literal.Literal.{Literal}
 use Rattle.stn_core.specs.declared.named.NamedValue.{NamedValue}
@@ -7,11 +7,11 @@ use Rattle.refute_tree.specs.declared.step.Step.{Step}
 use Rattle.refute_tree.specs.declared.step.Step.TheVariants.{Cycle, Input, Lemma as Earlier, Either}
 use Rattle.refute_tree.specs.declared.lemma.Lemma.{Lemma}
 use Rattle.cert_text.specs.declared.entry.Entry.{Entry}
+use Rattle.cert_text.specs.declared.number.TheConstants.{NUMBER_LIMIT}
 use Rattle.cert_text.specs.declared.entry.Entry.TheVariants.{Sat, Unsat}
 
--- 2^61
 abbrev pub limit : ℕ
-limit = 2305843009213693952
+limit = NUMBER_LIMIT
 
 abbrev pub NumberFits : ℤ → Type 0
 NumberFits n = unsigned_abs n ≤ limit

@@ -7,6 +7,10 @@ ghost use Rattle.cert_text.specs.Form.{numeral_text, number_of_value};
 use bstr::ByteVec;
 use itoa::Buffer;
 use std::alloc::AllocError;
+use stn_core::Value;
+
+/// No number of a certificate is greater, and none is below its negative.
+pub const NUMBER_LIMIT: u64 = 1 << 61;
 
 /// Appends a numeral.
 pub(crate) fn write_numeral(n: u64, out: &mut Vec<u8>) -> Result<(), AllocError>
@@ -18,7 +22,7 @@ pub(crate) fn write_numeral(n: u64, out: &mut Vec<u8>) -> Result<(), AllocError>
 }
 
 /// Appends a number: a numeral, or `(- n)` below 0.
-pub(crate) fn write_number(n: i64, out: &mut Vec<u8>) -> Result<(), AllocError>
+pub(crate) fn write_number(n: Value, out: &mut Vec<u8>) -> Result<(), AllocError>
     ensures ok { OnOk result (out.new.items ≡ out.old.items ++ text_of (number_of_value n)) }
     ensures front { take (vec_len out.old) out.new.items ≡ out.old.items }
 {

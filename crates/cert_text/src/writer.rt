@@ -5,7 +5,8 @@ ghost use Rattle.std.specs.Prelude.{◌≡◌, ◌++◌, ◌∷◌, [], map, tak
 ghost use Rattle.std.specs.Vec.{vec_len};
 ghost use Rattle.smt_sexpr.specs.Tree.{Sexpr};
 ghost use Rattle.smt_sexpr.specs.Printing.{text_of, text_behind};
-ghost use Rattle.cert_text.specs.Form.{items_of, numeral, number_of_value, clause_sexpr};
+ghost use Rattle.cert_text.specs.Form.{numeral, number_of_value, clause_sexpr};
+ghost use Rattle.smt_sexpr.specs.Shapes.{items_of};
 
 use crate::number::{write_number, write_numeral};
 use bstr::ByteVec;

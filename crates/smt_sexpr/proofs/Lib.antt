@@ -8,3 +8,4 @@ pub mod Stack
 pub mod Loop
 pub mod Writing
 pub mod Onward
+pub mod Shapes

@@ -1,5 +1,6 @@
 pub mod Tree
 pub mod Table
+pub mod Shapes
 pub mod Reading
 pub mod Printing
 pub mod Commands

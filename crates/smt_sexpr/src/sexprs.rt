@@ -5,6 +5,7 @@ ghost use Rattle.smt_sexpr.specs.Tree.{Sexpr, leaf_of, symbol_of, numeral_of, it
 ghost use Rattle.smt_sexpr.specs.Table.{Means, HasMeaning, HasItem, IsNodeOf, ItemsAre, Grows};
 ghost use Rattle.smt_sexpr.specs.Reading.{Finds, failed_of};
 ghost use Rattle.smt_sexpr.specs.Printing.{text_of};
+ghost use Rattle.smt_sexpr.specs.Shapes.{is_symbol, HeadIs};
 
 use crate::error::{SexprError, SexprRefusal};
 use crate::node::{Node, SexprId};
@@ -149,6 +150,28 @@ impl<'a> Sexprs<'a> {
     {
         match self.leaf(id) {
             Some((TokenKind::Numeral, text)) => Some(text),
+            _ => None,
+        }
+    }
+
+    /// Whether it is this symbol.
+    pub fn is_symbol(&self, id: SexprId, text: &[u8]) -> bool
+        requires { HasMeaning self.now id }
+        ensures { (x : Sexpr) → Means self.now id x → result ≡ is_symbol text.now x }
+    {
+        match self.symbol(id) {
+            Some(name) => name == text,
+            None => false,
+        }
+    }
+
+    /// Of a list that begins with a symbol: its bytes, and the ids of what follows it.
+    pub fn headed(&self, id: SexprId) -> Option<(&'a [u8], &[SexprId])>
+        requires { HasMeaning self.now id }
+        ensures { (x : Sexpr) → Means self.now id x → HeadIs self.now x (option_map (λ p. (p.0.now, p.1.now)) result) }
+    {
+        match self.items(id) {
+            Some([head, rest @ ..]) => Some((self.symbol(*head)?, rest)),
             _ => None,
         }
     }

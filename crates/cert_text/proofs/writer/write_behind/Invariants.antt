@@ -1,7 +1,7 @@
 use Rattle.std.proofs.Common.{◌≡◌, ◌++◌, map, drop, take}
 use Rattle.std.specs.Vec.{vec_len}
 use Rattle.smt_sexpr.specs.Printing.{text_behind}
-use Rattle.cert_text.specs.Form.{items_of}
+use Rattle.smt_sexpr.specs.Shapes.{items_of}
 use Rattle.cert_text.proofs.writer.write_behind.Given as goal
 
 abbrev pub invariant-loop-item : goal.invariant-loop-item
