@@ -2,10 +2,10 @@
 use Rattle.std.proofs.Common.{◌≡◌, ℕ, ◌+◌, ◌-◌, ◌<◌, ◌≤◌, List, [], ◌∷◌, ◌++◌, length, take, drop, Option, Result, Ok, Err, sym, arith}
 use Rattle.std.specs.Prelude.{OnErr}
 use Rattle.std.specs.Io.KnownBytes.{Consumes, Appends, Keeps}
-use Rattle.std.proofs.KnownBytes.{Appends-trans, Appends-kept, Consumes-trans}
+use Rattle.std.proofs.KnownBytes.{Appends-trans, Appends-kept, Consumes-trans, Consumes-kept}
 use Rattle.std.proofs.lemmas.List.{take-append-drop, length-append, length-drop, length-take-le, take_rest}
 use Rattle.std.proofs.Math.Seq.{take-add}
-use Rattle.dtp_io.specs.Faults.{TookFront, TookMore, AddsFront}
+use Rattle.dtp_io.specs.Faults.{TookWithin, TookMore, AddsFront}
 
 pub on_err : {A E : Type 0} (r : Result A E) (P : Type 0) → P → OnErr r P
 on_err (Ok x) P h = tt
@@ -23,9 +23,16 @@ pub added_more : (a b c : Option (List ℕ)) (bytes : List ℕ) (done count : �
 added_more a b c bytes done count p q =
     rw (take-add done count bytes) (Appends-trans a b c (take done bytes) (take count (drop done bytes)) p (rw take_rest at q))
 
+-- a piece more than the limit allows
 pub took_more : (a b c : Option (List ℕ)) (all buf : List ℕ) (count limit : ℕ) → Consumes a b all → Consumes b c (take count buf) → count ≤ length buf → limit < length all + count → TookMore a c limit
 took_more a b c all buf count limit p q le lt =
     (all ++ take count buf, Consumes-trans a b c all (take count buf) p q, omega (arith, length-append all (take count buf), length-take-le count buf le))
 
-pub took_front : (a b c : Option (List ℕ)) (all buf : List ℕ) (count : ℕ) → Consumes a b all → Consumes b c (take count buf) → TookFront a c
-took_front a b c all buf count p q = (all ++ take count buf, Consumes-trans a b c all (take count buf) p q)
+-- a piece within the limit
+pub took_within : (a b c : Option (List ℕ)) (all buf : List ℕ) (count limit : ℕ) → Consumes a b all → Consumes b c (take count buf) → count ≤ length buf → length all + count ≤ limit → TookWithin a c limit
+took_within a b c all buf count limit p q le within =
+    (all ++ take count buf, Consumes-trans a b c all (take count buf) p q, omega (arith, length-append all (take count buf), length-take-le count buf le))
+
+-- a failed read
+pub took_no_more : (a b c : Option (List ℕ)) (all : List ℕ) (limit : ℕ) → Consumes a b all → Keeps b c → length all ≤ limit → TookWithin a c limit
+took_no_more a b c all limit p k within = (all, Consumes-kept a b c all p k, within)

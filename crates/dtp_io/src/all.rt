@@ -1,7 +1,8 @@
 //! Reading all that a source has, and writing all of some bytes.
-ghost use Rattle.std.specs.Prelude.{◌≡◌, ℕ, ◌<◌, ◌≤◌, List, [], length, Some, IfSome, OnOk, OnErr, IfOk, IsOk, Err};
+ghost use Rattle.std.specs.Prelude.{◌≡◌, ℕ, ◌<◌, ◌≤◌, List, [], length, Some, IfSome, OnOk, OnErr, IfOk, IfErr, IsOk, Err};
 ghost use Rattle.std.specs.Io.KnownBytes.{Consumes, Appends, IsAtEnd};
-ghost use Rattle.dtp_io.specs.Faults.{Rose, HasCause, TookFront, TookMore, AddsFront};
+ghost use Rattle.dtp_io.specs.Faults.{HasCause, AddsFront};
+ghost use Rattle.dtp_io.specs.Reading.{Stops};
 
 use crate::sink::Sink;
 use crate::source::{Failed, Source};
@@ -63,9 +64,8 @@ pub fn read_all<S: Source>(alloc: Global, source: &mut S, limit: u64) -> Result<
         IfOk result (λ all. (all.items ≡ input) × (S.left source.new ≡ Some []))) }
     ensures told_too_long { IfSome (S.left source.old) (λ input.
         result ≡ Err ReadError.TooLong → limit < length input) }
-    ensures too_long { result ≡ Err ReadError.TooLong → TookMore (S.left source.old) (S.left source.new) limit }
-    ensures front { OnErr result (TookFront (S.left source.old) (S.left source.new)) }
-    ensures fault { result ≡ Err ReadError.ReadFault → Rose (S.faults source.old) (S.faults source.new) }
+    ensures quiet { OnOk result (S.faults source.new ≡ S.faults source.old) }
+    ensures stops { IfErr result (Stops limit (S.left source.old) (S.left source.new) (S.faults source.old) (S.faults source.new)) }
     ensures later { S.faults source.old ≤ S.faults source.new }
 {
     let mut all = Vec::new(alloc);

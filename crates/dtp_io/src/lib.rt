@@ -30,6 +30,3 @@ pub use sink::Sink;
 pub use source::{Failed, Source};
 pub use standard::{StdSink, StdSource};
 pub use sure::{SureSink, SureSource};
-
-#[cfg(test)]
-mod tests;

@@ -1,7 +1,9 @@
 //! The process's streams. They are the trusted edge: which bytes come and go there is not told, only
 //! that each error is counted and handed on.
-ghost use Rattle.std.specs.Prelude.{◌≡◌, None};
+ghost use Rattle.std.specs.Prelude.{◌≡◌, ◌<◌, length, take, None, IfOk};
 ghost use Rattle.std.specs.Io.{WritesAtMost};
+ghost use Rattle.std.specs.Io.KnownBytes.{Appends, WriteAppends};
+ghost use Rattle.dtp_io.specs.Faults.{HasCause};
 
 use crate::sink::Sink;
 use crate::source::{Failed, Source, count_fault};
@@ -59,6 +61,7 @@ impl<W: Write> StdSink<W> {
     /// One write, and then a flush.
     fn write_and_flush(&mut self, piece: &[u8]) -> std::io::Result<usize>
         ensures bound { WritesAtMost result piece.now }
+        ensures taken { IfOk result (λ n. Appends (W.contents self.old.writer) (W.contents self.new.writer) (take n piece.now)) }
         ensures faults { self.new.faults ≡ self.old.faults }
     {
         let count = self.writer.write(piece)?;
@@ -72,7 +75,13 @@ impl<W: Write> Sink for StdSink<W> {
 
     ghost faults = { λ k. k.faults };
 
-    fn write(&mut self, piece: &[u8]) -> Result<usize, Failed> {
+    fn write(&mut self, piece: &[u8]) -> Result<usize, Failed>
+        ensures bound { WritesAtMost result piece.now }
+        ensures some { IfOk result (λ n. 0 < length piece.now → 0 < n) }
+        ensures bytes { WriteAppends None None result piece.now }
+        ensures cause { HasCause self.old.faults self.new.faults result }
+        ensures taken { IfOk result (λ n. Appends (W.contents self.old.writer) (W.contents self.new.writer) (take n piece.now)) }
+    {
         match self.write_and_flush(piece) {
             Ok(count) if count > 0 || piece.is_empty() => Ok(count),
             _ => Err(count_fault(&mut self.faults)),

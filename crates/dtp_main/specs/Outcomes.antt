@@ -1,7 +1,10 @@
 -- What a run does, by the status that it ends with.
 use Rattle.std.specs.Prelude.{◌≡◌, ◌≢◌, ◌⊎◌, ℕ, ◌≤◌, ◌^◌, List, [], length, map, codes, Option, Some, None, String, string_bytes}
 use Rattle.std.specs.Io.KnownBytes.{Consumes, Appends, IsAtEnd}
-use Rattle.dtp_io.specs.Faults.{Rose, TookMore, AddsFront}
+use Rattle.dtp_io.specs.Faults.{Rose, AddsFront}
+use Rattle.dtp_io.specs.Reading.{Stops}
+use Rattle.dtp_io.specs.declared.all.ReadError.{ReadError}
+use Rattle.dtp_io.specs.declared.all.ReadError.TheVariants.{OutOfMemory as NoMemory, ReadFault as Failing, TooLong as Over}
 use Rattle.dtp_session.specs.Transcripts.{IsReport, IsReportPart}
 use Rattle.dtp_session.specs.declared.report.Report.{Report}
 use Rattle.dtp_session.specs.declared.report.Report.TheVariants.{Verdicts, Certificate}
@@ -45,8 +48,14 @@ pub record IsUnwritten (old new : Outside) : Type 0 where
 -- the source was read to its end, and gave this script within the limit
 pub record IsInput (old new : Outside) (script : List ℕ) : Type 0 where
   pub consumed : Consumes old.left new.left script
+  pub read_faults : new.read_faults ≡ old.read_faults
   pub ended : IsAtEnd new.left
   pub within : length script ≤ input_limit
+
+-- the source wasn't read to its end, with this cause, and nothing was written
+pub record IsUnfinished (error : ReadError) (old new : Outside) : Type 0 where
+  pub stops : Stops input_limit old.left new.left old.read_faults new.read_faults error
+  pub unwritten : IsUnwritten old new
 
 abbrev pub WritesUsage : Option (List ℕ) → Option (List ℕ) → ℕ → ℕ → Type 0
 WritesUsage before now faults_before faults_now = Appends before now usage_line ⊎ (AddsFront before now usage_line × Rose faults_before faults_now)
@@ -67,11 +76,11 @@ abbrev pub IsReported : Report → Outside → Outside → Status → Type 0
 IsReported report old new Done = Reports report old new 0
 IsReported report old new Refused = Reports report old new 1
 IsReported report old new Usage = ⊥
-IsReported report old new ReadFault = Rose old.read_faults new.read_faults × IsUnwritten old new
+IsReported report old new ReadFault = IsUnfinished Failing old new
 IsReported report old new WriteFault = Rose old.write_faults new.write_faults × ReportsPart report old new
-IsReported report old new OutOfMemory = IsUnwritten old new ⊎ ReportsPart report old new
+IsReported report old new OutOfMemory = IsUnfinished NoMemory old new ⊎ ReportsPart report old new
 IsReported report old new NotAccepted = ⊥
-IsReported report old new TooLong = TookMore old.left new.left input_limit × IsUnwritten old new
+IsReported report old new TooLong = IsUnfinished Over old new
 
 -- the line that accepts or refuses the source is written whole, and it is the one with this end
 abbrev pub Checks : Checked → Outside → Outside → Type 0
@@ -85,11 +94,11 @@ abbrev pub IsChecked : Outside → Outside → Status → Type 0
 IsChecked old new Done = Checks Accepted old new
 IsChecked old new Refused = ⊥
 IsChecked old new Usage = ⊥
-IsChecked old new ReadFault = Rose old.read_faults new.read_faults × IsUnwritten old new
+IsChecked old new ReadFault = IsUnfinished Failing old new
 IsChecked old new WriteFault = Rose old.write_faults new.write_faults × ChecksPart old new
-IsChecked old new OutOfMemory = IsUnwritten old new ⊎ ChecksPart old new
+IsChecked old new OutOfMemory = IsUnfinished NoMemory old new ⊎ ChecksPart old new
 IsChecked old new NotAccepted = Checks Unaccepted old new
-IsChecked old new TooLong = TookMore old.left new.left input_limit × IsUnwritten old new
+IsChecked old new TooLong = IsUnfinished Over old new
 
 -- each kind of line has its own outcomes
 abbrev pub IsOutcomeOf : Line → Outside → Outside → Status → Type 0

@@ -1,4 +1,4 @@
-use Rattle.std.proofs.Common.{arith, length, drop, ◌-◌, length-take, length-drop}
+use Rattle.std.proofs.Common.{◌∙◌, arith, length, drop, ◌-◌, length-take, length-drop}
 use Rattle.dtp_io.proofs.Moves.{on_err, not_below_none, front_added, added_more}
 use Rattle.dtp_io.proofs.all.write_all_of.Goals as goal
 
@@ -9,6 +9,6 @@ pub writes-preserved : goal.writes-preserved
 writes-preserved g c = record {
   added = added_more _ _ _ c.args.bytes.now c.writes.done c.in_ok-count.count c.writes.invariant.added c.in_ok-count.ensures.bytes;
   within = omega (arith, c.in_ok-count.ensures.bound, length-take (length c.args.bytes.now - c.writes.done) (drop c.writes.done c.args.bytes.now), length-drop c.writes.done c.args.bytes.now, c.writes-test.true);
-  later = (let l = c.write.ensures.cause.later in let w = c.writes.invariant.later in omega (arith, l, w));
+  quiet = c.in_ok-count.ensures.cause.quiet ∙ c.writes.invariant.quiet;
   nothing = λ none. absurd (not_below_none none c.writes-test.true);
 }

@@ -6,7 +6,7 @@ abbrev pub invariant-writes : goal.invariant-writes
 invariant-writes g l = record {
   added : Appends (g.K.Sink.holds l.initial.sink) (g.K.Sink.holds l.sink) (take l.done l.bytes);
   within : l.done ≤ length l.bytes;
-  later : g.K.Sink.faults l.initial.sink ≤ g.K.Sink.faults l.sink;
+  quiet : g.K.Sink.faults l.sink ≡ g.K.Sink.faults l.initial.sink;
   nothing : l.bytes ≡ [] → l.sink ≡ l.initial.sink;
 }
 
