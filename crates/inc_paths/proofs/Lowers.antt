@@ -7,12 +7,12 @@ use Rattle.std.proofs.lemmas.List.Sorted.{Contains-permutation, IsPermutation-sy
 use Rattle.std.proofs.lemmas.List.Elements.{Contains-get_or}
 use Rattle.std.proofs.lemmas.List.Sums.{sum_by-set}
 use Rattle.stn_core.specs.declared.literal.Literal.{Literal}
-use Rattle.stn_core.specs.Limits.{bound_limit}
+use Rattle.stn_core.specs.Limits.{bound_limit, value_span, FitsValue}
 use Rattle.stn_core.specs.Literal.{value_at, Holds, IsOver, literal_at}
 use Rattle.inc_paths.specs.declared.labels.Lowering.{Lowering}
 use Rattle.inc_paths.specs.Trails.{Labelled, no_lowering, entry_at, lowering, first_of, undone, point_of, level_of, IsTraced}
 use Rattle.inc_paths.specs.Work.{first_in, older_in, gap_of, IsStart, IsKept, IsBetween, IsLowering, IsWaiting, IsScanning, IsAt, height, room}
-use Rattle.inc_paths.proofs.Undoing.{undone-append, drop-append}
+use Rattle.inc_paths.proofs.Undoing.{first_of-more}
 
 -- a list's first item and the others
 pub contains_cases : (items : List (ℕ × ℕ)) (x y : ℕ × ℕ) → Contains (x ∷ items) y → (x ≡ y) ⊎ Contains items y
@@ -27,18 +27,13 @@ contains_first items x = (zero, omega arith, refl)
 
 -- numbers that are parts of values
 abbrev low_side : ℤ
-low_side = neg_ℤ (pos (2 ^ 63))
+low_side = neg_ℤ (pos value_span)
 
 height_falls : (a b : ℤ) → low_side ≤ℤ a → a <ℤ b → height a < height b
 height_falls (pos m) (pos n) low lt = omega (arith, ints)
 height_falls (pos m) (negsuc n) low lt = absurd (omega (arith, ints))
 height_falls (negsuc m) (pos n) low lt = omega (arith, ints)
 height_falls (negsuc m) (negsuc n) low lt = omega (arith, ints)
-
-set_back : (values : List ℤ) (x : ℕ) (a : ℤ) → set (set values x a) x (value_at values x) ≡ values
-set_back [] x a = refl
-set_back (v ∷ vs) zero a = refl
-set_back (v ∷ vs) (suc x) a = ap (λ (ws : List ℤ). v ∷ ws) (set_back vs x a)
 
 module _ (labels next : Labelled) (l : Literal) (parent fall : ℕ)
     (x_in : l.x < length labels.values)
@@ -75,9 +70,8 @@ module _ (labels next : Labelled) (l : Literal) (parent fall : ℕ)
   same_first within =
       ap (λ (k : ℕ). first_of k next.trail next.values) s
       ∙ ap (λ (es : List Lowering). first_of labels.start es next.values) t
-      ∙ ap (λ (es : List Lowering). undone es next.values) (drop-append labels.trail (lowering labels.values l parent ∷ []) labels.start within)
-      ∙ undone-append (drop labels.start labels.trail) (lowering labels.values l parent ∷ []) next.values
-      ∙ ap (undone (drop labels.start labels.trail)) (ap (λ (vs : List ℤ). set vs l.x (value_at labels.values l.x)) v ∙ set_back labels.values l.x (value_at labels.values l.y +ℤ l.c))
+      ∙ ap (first_of labels.start (labels.trail ++ lowering labels.values l parent ∷ [])) v
+      ∙ first_of-more labels.start labels.trail labels.values (lowering labels.values l parent) (value_at labels.values l.y +ℤ l.c) within refl
 
   pub same_older : labels.start ≤ length labels.trail → take labels.start next.trail ≡ take labels.start labels.trail
   same_older within = ap (take labels.start) t ∙ take-append-le labels.start labels.trail (lowering labels.values l parent ∷ []) within
@@ -123,7 +117,7 @@ traced_by trail from ls source base k d e given y_is now_is low high =
 
 -- a literal of the net that fails, and does not begin where the new one does
 module _ (points : ℕ) (ls : List Literal) (new : Literal) (first : List ℤ) (labels : Labelled) (start : IsStart points ls new first) (b : IsLowering points ls new first labels) where
-  -- no sum goes out of 64 bits
+  -- every sum is a value
   pub low_sum : (p : ℕ) (c : ℤ) → neg_ℤ (pos (bound_limit + 1)) ≤ℤ c → low_side ≤ℤ (value_at labels.values p +ℤ c)
   low_sum p c low =
       let above = b.between.above p in
@@ -136,7 +130,7 @@ module _ (points : ℕ) (ls : List Literal) (new : Literal) (first : List ℤ) (
       over_new : IsOver points new
       over_new = let at = start.given in subst (IsOver points) at.2 (start.over at.0 new at.1)
 
-  pub fits_sum : (p : ℕ) (c : ℤ) → neg_ℤ (pos (bound_limit + 1)) ≤ℤ c → c ≤ℤ pos bound_limit → FitsSigned w64 (value_at labels.values p +ℤ c)
+  pub fits_sum : (p : ℕ) (c : ℤ) → neg_ℤ (pos (bound_limit + 1)) ≤ℤ c → c ≤ℤ pos bound_limit → FitsValue (value_at labels.values p +ℤ c)
   fits_sum p c low high =
       let below = b.between.below p in
       let f = (start.range p).high in

@@ -1,5 +1,5 @@
 -- Of the code and not of the meaning: the trail of lowerings.
-use Rattle.std.specs.Prelude.{◌≡◌, ℕ, zero, suc, ◌<◌, ◌≤◌, List, [], ◌∷◌, length, drop, All, Contains, slice_index_or, slice_set, ℤ, pos, ◌+ℤ◌}
+use Rattle.std.specs.Prelude.{◌≡◌, ℕ, zero, suc, ◌<◌, ◌≤◌, List, [], ◌∷◌, length, drop, All, Contains, slice_index_or, slice_set, ℤ, pos, ◌+ℤ◌, ◌-ℤ◌, unsigned_abs}
 use Rattle.stn_core.specs.declared.literal.Literal.{Literal}
 use Rattle.stn_core.specs.Literal.{value_at}
 use Rattle.inc_paths.specs.declared.labels.Lowering.{Lowering}
@@ -9,10 +9,6 @@ pub record Labelled : Type 0 where
   pub trail : List Lowering
   pub start : ℕ
   pub queue : List (ℕ × ℕ)
-
-pub record IsLabelled (values : List ℤ) (trail : List Lowering) (before : List ℤ) : Type 0 where
-  pub count : length before ≡ length values
-  pub points : All (λ (e : Lowering). e.literal.x < length values) trail
 
 abbrev pub no_lowering : Lowering
 no_lowering = record { literal = record { x = 0; y = 0; c = pos 0 }; now = pos 0; old = pos 0; parent = 0 }
@@ -32,6 +28,18 @@ undone (e ∷ es) values = slice_set (undone es values) e.literal.x e.old
 -- the values before the lowerings from a place on
 abbrev pub first_of : ℕ → List Lowering → List ℤ → List ℤ
 first_of start trail values = undone (drop start trail) values
+
+-- the lowerings are of the points, and the values before those from the start on are at hand
+pub record IsLabelled (values : List ℤ) (trail : List Lowering) (start : ℕ) (before : List ℤ) : Type 0 where
+  pub points : All (λ (e : Lowering). e.literal.x < length values) trail
+  pub count : length before ≡ length values
+  pub within : start ≤ length trail
+  pub began : before ≡ first_of start trail values
+
+-- how far the literal's first point falls below its value before the start, where it is lowered to what the literal allows
+abbrev pub fall_of : Labelled → Literal → ℕ
+fall_of labels l =
+    unsigned_abs (value_at (first_of labels.start labels.trail labels.values) l.x -ℤ (value_at labels.values l.y +ℤ l.c))
 
 -- the point and the value that a lowering gave, by its number; 0 stands for the point where all began
 abbrev pub point_of : List Lowering → ℕ → ℕ → ℕ

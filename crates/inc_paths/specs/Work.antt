@@ -1,7 +1,8 @@
 -- Of the code and not of the meaning: what holds while a new literal lowers values.
-use Rattle.std.specs.Prelude.{◌≡◌, ◌≢◌, ◌⊎◌, ℕ, ◌<◌, ◌≤◌, ◌+◌, ◌*◌, ◌-◌, ◌^◌, List, [], ◌∷◌, ◌++◌, length, take, sum_by, All, Contains, ℤ, pos, negsuc, ◌+ℤ◌, ◌-ℤ◌, ◌≤ℤ◌, ◌<ℤ◌}
+use Rattle.std.specs.Prelude.{◌≡◌, ◌≢◌, ◌⊎◌, ℕ, ◌<◌, ◌≤◌, ◌+◌, ◌*◌, ◌-◌, List, [], ◌∷◌, ◌++◌, length, take, sum_by, All, Contains, ℤ, pos, negsuc, ◌+ℤ◌, ◌-ℤ◌, ◌≤ℤ◌, ◌<ℤ◌}
 use Rattle.stn_core.specs.declared.literal.Literal.{Literal}
 use Rattle.stn_core.specs.Answer.{IsBest}
+use Rattle.stn_core.specs.Limits.{value_span}
 use Rattle.stn_core.specs.Literal.{value_at, Holds, IsOver, literal_at}
 use Rattle.stn_core.specs.Schedule.{IsSchedule, IsInRange}
 use Rattle.inc_paths.specs.declared.labels.Lowering.{Lowering}
@@ -87,8 +88,8 @@ pub record IsClosing (literals : List Literal) (labels : Labelled) (source place
 
 -- a measure of how far values can fall
 abbrev pub height : ℤ → ℕ
-height (pos n) = n + 2 ^ 63
-height (negsuc n) = 2 ^ 63 - (n + 1)
+height (pos n) = n + value_span
+height (negsuc n) = value_span - (n + 1)
 
 abbrev pub room : Labelled → ℕ
 room labels = 2 * sum_by height labels.values + length labels.queue

@@ -6,13 +6,13 @@ use std::alloc::{AllocError, Global};
 use std::marker::Model;
 use stn_core::Literal;
 
-// Literals, found by their second points: those of a point are a list that goes from the newest to the oldest.
+/// Literals, found by their second points: those of a point are a list that goes from the newest to the oldest.
 #[derive(Drop)]
 pub struct Arcs {
     literals: Vec<Literal>,
-    // for each point 1 more than the place of its newest literal, or 0
+    /// for each point 1 more than the place of its newest literal, or 0
     heads: Vec<usize>,
-    // for each literal 1 more than the place of the next older one of its second point, or 0
+    /// for each literal 1 more than the place of the next older one of its second point, or 0
     nexts: Vec<usize>,
 }
 
@@ -55,7 +55,7 @@ impl Arcs {
         self.literals[place]
     }
 
-    // 1 more than the place of the newest literal with this second point, or 0.
+    /// 1 more than the place of the newest literal with this second point, or 0.
     pub fn newest(&self, point: u32) -> usize
         requires { point < self.now.points }
         ensures { IsNewest self.now.literals point (length self.now.literals) result }
@@ -63,7 +63,7 @@ impl Arcs {
         self.heads[point as usize]
     }
 
-    // The same of those that are older than the literal with this number, counted from 1, and with its second point.
+    /// The same of those that are older than the literal with this number, counted from 1, and with its second point.
     pub fn older(&self, number: usize) -> usize
         requires some { 1 ≤ number }
         requires within { number ≤ length self.now.literals }
@@ -92,7 +92,7 @@ impl Arcs {
         }
     }
 
-    // Takes back the newest literal.
+    /// Takes back the newest literal.
     fn pop(&mut self)
         requires { 0 < length self.old.literals }
         ensures points { self.new.points ≡ self.old.points }

@@ -18,8 +18,8 @@ fn single(alloc: Global, literal: Literal) -> Result<Literals, AllocError>
     Ok(Literals::new(literals))
 }
 
-// From the greatest schedule of all literals but the last, which is new, to that of all of them; or a negative cycle, if
-// there is none. In every case the trail leads back to the schedule before.
+/// From the greatest schedule of all literals but the last, which is new, to that of all of them; or a negative cycle, if
+/// there is none. In every case the trail leads back to the schedule before.
 pub fn extend(
     arcs: &Arcs,
     labels: &mut Labels,
@@ -40,11 +40,6 @@ pub fn extend(
         return Ok(Some(single(arcs.alloc(), new)?));
     }
     labels.lower(new, 0)?;
-    match settle(arcs, labels, new)? {
-        None => {
-            labels.keep();
-            Ok(None)
-        }
-        Some(cycle) => Ok(Some(cycle)),
-    }
+    let cycle = settle(arcs, labels, new)?;
+    Ok(cycle)
 }

@@ -1,39 +1,42 @@
-ghost use Rattle.std.specs.Prelude.{◌≡◌, ◌<◌, ◌≤◌, ◌+◌, ◌-◌, [], ◌∷◌, ◌++◌, ◌↔◌, ℕ, length, take, replicate, slice_set, IfOk, OnOk, OnErr, All, IfSome, IfNone, IsTrue, IsPermutation, FitsSigned, pos, ◌+ℤ◌, ◌<ℤ◌};
-ghost use Rattle.std.specs.Int.{w64};
+ghost use Rattle.std.specs.Prelude.{◌≡◌, ◌<◌, ◌≤◌, ◌+◌, ◌-◌, [], ◌∷◌, ◌++◌, ◌↔◌, ℕ, length, take, replicate, slice_set, IfOk, OnOk, OnErr, All, IfSome, IfNone, IsTrue, IsPermutation, pos, ◌+ℤ◌, ◌<ℤ◌};
+ghost use Rattle.stn_core.specs.Limits.{FitsValue};
 ghost use Rattle.stn_core.specs.Literal.{value_at};
 ghost use Rattle.inc_paths.specs.declared.labels.Lowering.{Lowering};
-ghost use Rattle.inc_paths.specs.Trails.{entry_at, first_of, lowering};
+ghost use Rattle.inc_paths.specs.Trails.{entry_at, fall_of, first_of, lowering};
 
 use std::alloc::{AllocError, Global};
 use std::collections::BinaryHeap;
 use std::marker::Model;
-use stn_core::Literal;
+use stn_core::{Literal, Value};
 
-// One lowering of a point's value.
+/// How far a value falls; the unsigned type beside `Value`.
+type Fall = u64;
+
+/// One lowering of a point's value.
 #[derive(Clone, Copy)]
 pub struct Lowering {
-    // the literal that did it, whose first point was lowered
+    /// the literal that did it, whose first point was lowered
     pub literal: Literal,
-    // the value after it, and before
-    pub now: i64,
-    pub old: i64,
-    // 1 more than the place on the trail of the lowering that gave the literal's second point its value, or 0 for the
-    // literal that is being added
+    /// the value after it, and before
+    pub now: Value,
+    pub old: Value,
+    /// 1 more than the place on the trail of the lowering that gave the literal's second point its value, or 0 for the
+    /// literal that is being added
     pub parent: usize,
 }
 
-// The points' values, and how they came to be.
+/// The points' values, and how they came to be.
 #[derive(Drop)]
 pub struct Labels {
-    values: Vec<i64>,
-    // all lowerings since the beginning that have not been taken back
+    values: Vec<Value>,
+    /// all lowerings since the beginning that have not been taken back
     trail: Vec<Lowering>,
-    // where the lowerings begin that the literal which is being added made
+    /// where the lowerings begin that the literal which is being added made
     start: usize,
-    // the lowerings, by their places on the trail, whose points are to be looked at; first the one that fell furthest
-    queue: BinaryHeap<(u64, usize)>,
-    // the values as they were before the literal that is being added: the order in the queue goes by them, and nothing else
-    before: Vec<i64>,
+    /// the lowerings, by their places on the trail, whose points are to be looked at; first the one that fell furthest
+    queue: BinaryHeap<(Fall, usize)>,
+    /// the values as they were before the start: the order in the queue goes by them, and nothing else
+    before: Vec<Value>,
 }
 
 impl Model for Labels {
@@ -44,7 +47,7 @@ impl Model for Labels {
 
     ghost view = { λ l. record { values = l.values.items; trail = l.trail.items; start = l.start; queue = heap_items l.queue } };
 
-    ghost invariant = { λ l. IsLabelled l.values.items l.trail.items l.before.items };
+    ghost invariant = { λ l. IsLabelled l.values.items l.trail.items l.start l.before.items };
 }
 
 impl Labels {
@@ -52,15 +55,15 @@ impl Labels {
         ensures { IfOk result (λ labels. labels ≡ record { values = replicate points (pos 0); trail = []; start = 0; queue = [] }) }
     {
         Ok(Labels {
-            values: vec![in alloc; 0i64; points as usize]?,
+            values: vec![in alloc; 0; points as usize]?,
             trail: Vec::new(alloc),
             start: 0,
             queue: BinaryHeap::new(alloc),
-            before: vec![in alloc; 0i64; points as usize]?,
+            before: vec![in alloc; 0; points as usize]?,
         })
     }
 
-    pub fn values(&self) -> &[i64]
+    pub fn values(&self) -> &[Value]
         ensures { result.now ≡ self.now.values }
     {
         self.values.as_slice()
@@ -80,7 +83,7 @@ impl Labels {
         self.trail[place]
     }
 
-    // The number of a lowering, counted from 1.
+    /// The number of a lowering, counted from 1.
     pub fn number(&self, place: usize) -> usize
         requires { place < length self.now.trail }
         ensures { result ≡ place + 1 }
@@ -88,7 +91,7 @@ impl Labels {
         self.trail[..=place].len()
     }
 
-    // Whether the value is still the one that the lowering gave.
+    /// Whether the value is still the one that the lowering gave.
     pub fn is_current(&self, place: usize) -> bool
         requires { place < length self.now.trail }
         ensures { IsTrue result ↔ (value_at self.now.values (entry_at self.now.trail place).literal.x ≡ (entry_at self.now.trail place).now) }
@@ -97,31 +100,42 @@ impl Labels {
         self.values[entry.literal.x as usize] == entry.now
     }
 
-    // Whether the literal does not hold.
+    /// Whether the literal does not hold.
     pub fn fails(&self, literal: Literal) -> bool
         requires x_in { literal.x < length self.now.values }
         requires y_in { literal.y < length self.now.values }
-        requires fits { FitsSigned w64 (value_at self.now.values literal.y +ℤ literal.c) }
+        requires fits { FitsValue (value_at self.now.values literal.y +ℤ literal.c) }
         ensures { IsTrue result ↔ ((value_at self.now.values literal.y +ℤ literal.c) <ℤ value_at self.now.values literal.x) }
     {
         self.values[literal.y as usize] + literal.c < self.values[literal.x as usize]
     }
 
-    // Lowers the literal's first point to what it allows.
+    /// How far the literal's first point falls below its value before the start.
+    fn fall_of(&self, literal: Literal) -> Fall
+        requires x_in { literal.x < length self.now.values }
+        requires y_in { literal.y < length self.now.values }
+        requires fits { FitsValue (value_at self.now.values literal.y +ℤ literal.c) }
+        ensures { result ≡ fall_of self.now literal }
+    {
+        let now = self.values[literal.y as usize] + literal.c;
+        self.before[literal.x as usize].abs_diff(now)
+    }
+
+    /// Lowers the literal's first point to what it allows.
     pub fn lower(&mut self, literal: Literal, parent: usize) -> Result<(), AllocError>
         requires x_in { literal.x < length self.old.values }
         requires y_in { literal.y < length self.old.values }
-        requires fits { FitsSigned w64 (value_at self.old.values literal.y +ℤ literal.c) }
+        requires fits { FitsValue (value_at self.old.values literal.y +ℤ literal.c) }
         ensures values { OnOk result (self.new.values ≡ slice_set self.old.values literal.x (value_at self.old.values literal.y +ℤ literal.c)) }
         ensures trail { OnOk result (self.new.trail ≡ self.old.trail ++ lowering self.old.values literal parent ∷ []) }
-        ensures queue { OnOk result ((fall : ℕ) × IsPermutation ((fall, length self.old.trail) ∷ self.old.queue) self.new.queue) }
+        ensures queue { OnOk result (IsPermutation ((fall_of self.old literal, length self.old.trail) ∷ self.old.queue) self.new.queue) }
         ensures start { self.new.start ≡ self.old.start }
         ensures err_values { OnErr result (self.new.values ≡ self.old.values) }
         ensures err_trail { OnErr result (self.new.trail ≡ self.old.trail) }
     {
         let now = self.values[literal.y as usize] + literal.c;
         let old = self.values[literal.x as usize];
-        let fall = self.before[literal.x as usize].abs_diff(now);
+        let fall = self.fall_of(literal);
         self.queue.push((fall, self.trail.len()))?;
         self.trail.push(Lowering {
             literal,
@@ -133,8 +147,8 @@ impl Labels {
         Ok(())
     }
 
-    // The fall and the place of the lowering whose point is to be looked at next.
-    pub fn pop(&mut self) -> Option<(u64, usize)>
+    /// The fall and the place of the lowering whose point is to be looked at next.
+    pub fn pop(&mut self) -> Option<(Fall, usize)>
         ensures values { self.new.values ≡ self.old.values }
         ensures trail { self.new.trail ≡ self.old.trail }
         ensures start { self.new.start ≡ self.old.start }
@@ -144,15 +158,16 @@ impl Labels {
         self.queue.pop()
     }
 
-    // Before a literal is added.
+    /// Before a literal is added: the values as they are become those before the start.
     pub fn begin(&mut self)
         ensures { self.new ≡ record self.old { start = length self.old.trail; queue = [] } }
     {
+        copy_lowered(&mut self.before, &self.values, &self.trail, self.start);
         self.start = self.trail.len();
         self.queue.clear();
     }
 
-    // Takes back the last lowering.
+    /// Takes back the last lowering.
     fn undo_last(&mut self)
         requires { 0 < length self.old.trail }
         ensures values { self.new.values ≡ slice_set self.old.values (entry_at self.old.trail (length self.old.trail - 1)).literal.x (entry_at self.old.trail (length self.old.trail - 1)).old }
@@ -161,11 +176,14 @@ impl Labels {
         let last = self.trail.len() - 1;
         let entry = self.trail[last];
         self.values[entry.literal.x as usize] = entry.old;
-        self.before[entry.literal.x as usize] = entry.old;
         self.trail.truncate(last);
+        if last < self.start {
+            self.before[entry.literal.x as usize] = entry.old;
+            self.start = last;
+        }
     }
 
-    // Takes back the lowerings from a place on.
+    /// Takes back the lowerings from a place on.
     pub fn undo(&mut self, start: usize)
         ensures values { self.new.values ≡ first_of start self.old.trail self.old.values }
         ensures trail { self.new.trail ≡ take start self.old.trail }
@@ -174,19 +192,14 @@ impl Labels {
             self.undo_last();
         }
     }
-
-    // After a literal was added: the values as they are become those that the next one begins with.
-    pub fn keep(&mut self)
-        ensures { self.new ≡ self.old }
-    {
-        copy_lowered(&mut self.before, &self.values, &self.trail, self.start);
-    }
 }
 
-fn copy_lowered(before: &mut [i64], values: &[i64], trail: &[Lowering], start: usize)
-    requires count { length before.old ≡ length values.now }
+/// Gives the lowered points' values as they are to the list of those before the lowerings from the start on.
+fn copy_lowered(before: &mut [Value], values: &[Value], trail: &[Lowering], start: usize)
     requires points { All (λ (e : Lowering). e.literal.x < length values.now) trail.now }
-    ensures { length before.new ≡ length before.old }
+    requires count { length before.old ≡ length values.now }
+    requires before { before.old ≡ first_of start trail.now values.now }
+    ensures { before.new ≡ values.now }
 {
     'lowerings: for place in start..trail.len() {
         let point = trail[place].literal.x as usize;

@@ -10,7 +10,5 @@ mod extend;
 mod labels;
 mod network;
 mod relax;
-#[cfg(test)]
-mod tests;
 
 pub use network::Network;

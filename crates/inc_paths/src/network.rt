@@ -9,7 +9,7 @@ use crate::extend::extend;
 use crate::labels::Labels;
 use std::alloc::{AllocError, Global};
 use std::marker::Model;
-use stn_core::{Added, Literal, Mark, Net};
+use stn_core::{Added, Literal, Mark, Net, Value};
 
 /// A net that keeps its schedule from literal to literal.
 ///
@@ -25,7 +25,7 @@ pub struct Network {
     points: u32,
     arcs: Arcs,
     labels: Labels,
-    // for each literal the length of the trail before it
+    /// for each literal the length of the trail before it
     ends: Vec<usize>,
     adds: u64,
 }
@@ -42,7 +42,7 @@ impl Model for Network {
 }
 
 impl Network {
-    /// A net of 1 to 2^21 points, without literals.
+    /// A net of 1 to `POINTS_LIMIT` points, without literals.
     pub fn new(alloc: Global, points: u32) -> Result<Self, AllocError>
         requires some { 1 ≤ points }
         requires few { points ≤ points_limit }
@@ -58,7 +58,7 @@ impl Network {
     }
 }
 
-// Leaves the first literals and what they lowered.
+/// Leaves the first literals and what they lowered.
 fn cut(arcs: &mut Arcs, labels: &mut Labels, ends: &mut Vec<usize>, count: usize)
     ensures points { arcs.new.points ≡ arcs.old.points }
     ensures literals { arcs.new.literals ≡ take count arcs.old.literals }
@@ -125,7 +125,7 @@ impl Net for Network {
         );
     }
 
-    fn schedule(&self) -> &[i64] {
+    fn schedule(&self) -> &[Value] {
         self.labels.values()
     }
 

@@ -10,8 +10,8 @@ use crate::labels::Labels;
 use std::alloc::AllocError;
 use stn_core::{Literal, Literals};
 
-// Looks at a literal that begins at the point of a lowering. Where it does not hold, it lowers its first point, unless the
-// new literal begins there: then the answer is true.
+/// Looks at a literal that begins at the point of a lowering. Where it does not hold, it lowers its first point, unless the
+/// new literal begins there: then the answer is true.
 fn look(
     arcs: &Arcs,
     number: usize,
@@ -48,8 +48,8 @@ fn look(
     Ok(false)
 }
 
-// Looks at the literals that begin at the point of a lowering that was taken from the queue, the newest first, where its
-// value still stands. The answer is one that would lower the point where the new literal begins.
+/// Looks at the literals that begin at the point of a lowering that was taken from the queue, the newest first, where its
+/// value still stands. The answer is one that would lower the point where the new literal begins.
 fn scan(
     arcs: &Arcs,
     labels: &mut Labels,
@@ -83,7 +83,7 @@ fn scan(
     Ok(None)
 }
 
-// The walk from the last literal, and then back over the lowerings that led to it, to the new literal.
+/// The walk from the last literal, and then back over the lowerings that led to it, to the new literal.
 fn way_back(
     arcs: &Arcs,
     labels: &Labels,
@@ -107,8 +107,8 @@ fn way_back(
     Ok(Literals::new(walk))
 }
 
-// Lowers values until all literals hold. The answer is a negative cycle, where the point would be lowered at which the new
-// literal begins.
+/// Lowers values until all literals hold. The answer is a negative cycle, where the point would be lowered at which the new
+/// literal begins.
 pub fn settle(
     arcs: &Arcs,
     labels: &mut Labels,

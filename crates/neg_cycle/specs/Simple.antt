@@ -1,9 +1,10 @@
-use Rattle.std.specs.Prelude.{◌≢◌, ℕ, ◌<◌, List, length, slice_index, slice_index_or, pos}
+use Rattle.std.specs.Prelude.{◌≢◌, ℕ, ◌<◌, List, length, slice_index}
 use Rattle.stn_core.specs.declared.literal.Literal.{Literal}
+use Rattle.stn_core.specs.Literal.{literal_at}
 
--- the first time point of the literal at a place, and 0 past the end
+-- the first time point of the literal at a place
 abbrev pub x_at : List Literal → ℕ → ℕ
-x_at literals place = (slice_index_or literals place (record { x = 0; y = 0; c = pos 0 })).x
+x_at literals place = (literal_at literals place).x
 
 -- no time point is the first one of two of the literals; of a cycle: no time point comes twice
 -- (a simple cycle: Dechter, Meiri, Pearl 1991, section 3)

@@ -6,7 +6,7 @@ use indexmap::IndexSet;
 use std::alloc::AllocError;
 use stn_core::{Literal, Literals};
 
-// The sum of the bounds from a place on.
+/// The sum of the bounds from a place on.
 fn sum_from(literals: &[Literal], place: usize) -> i128
     requires { place ≤ length literals.now }
     ensures { result ≡ weight_of (drop place literals.now) }
@@ -18,7 +18,7 @@ fn sum_from(literals: &[Literal], place: usize) -> i128
     sum
 }
 
-// The place of a point.
+/// The place of a point.
 fn place_of(points: &IndexSet<u32>, point: u32) -> Option<usize>
     ensures some { IfSome result (λ k. (k < length points.now.keys) × (slice_index points.now.keys k ≡ point)) }
     ensures none { IfNone result (LacksPoint points.now.keys point) }
@@ -26,7 +26,7 @@ fn place_of(points: &IndexSet<u32>, point: u32) -> Option<usize>
     points.get_index_of(&point)
 }
 
-// One more point, at the end.
+/// One more point, at the end.
 fn append(points: &mut IndexSet<u32>, point: u32) -> Result<(), AllocError>
     requires { LacksPoint points.old.keys point }
     ensures { OnOk result (points.new.keys ≡ points.old.keys ++ point ∷ []) }

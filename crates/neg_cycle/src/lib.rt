@@ -6,8 +6,6 @@
 mod cut;
 mod cycle;
 mod rotation;
-#[cfg(test)]
-mod tests;
 
 pub use cut::cut_walk;
 pub use cycle::is_cycle;

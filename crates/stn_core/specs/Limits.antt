@@ -1,5 +1,6 @@
 -- The limits, by the constants that the code has for them.
-use Rattle.std.specs.Prelude.{ℕ}
+use Rattle.std.specs.Prelude.{ℕ, ◌^◌, ℤ, FitsSigned}
+use Rattle.std.specs.Int.{w64}
 use Rattle.stn_core.specs.declared.limits.TheConstants.{POINTS_LIMIT, BOUND_LIMIT, VALUE_LIMIT}
 
 -- the greatest count of time points
@@ -13,3 +14,11 @@ bound_limit = BOUND_LIMIT
 -- the values of a greatest schedule lie strictly above the negative of this
 abbrev pub value_limit : ℕ
 value_limit = VALUE_LIMIT
+
+-- half the count of the numbers that a `Value` can be
+abbrev pub value_span : ℕ
+value_span = 2 ^ 63
+
+-- the number is a `Value`
+abbrev pub FitsValue : ℤ → Type 0
+FitsValue n = FitsSigned w64 n

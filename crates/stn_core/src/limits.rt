@@ -7,5 +7,5 @@ pub const POINTS_LIMIT: u32 = 1 << 21;
 /// The greatest bound of a literal. The least is one below its negative, so that negation keeps the limits.
 pub const BOUND_LIMIT: u64 = 1 << 40;
 
-/// The values of a greatest schedule lie strictly above the negative of this. No number of a certificate is greater.
+/// The values of a greatest schedule lie strictly above the negative of this.
 pub const VALUE_LIMIT: u128 = 1 << 61;

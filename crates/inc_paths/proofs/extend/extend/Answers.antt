@@ -1,10 +1,11 @@
-use Rattle.std.proofs.Common.{sym, ap, subst, ◌∙◌, ◌≡◌, List, Option, ℤ, Bool, true, false, length, ◌+ℤ◌, ◌<ℤ◌}
+use Rattle.std.proofs.Common.{sym, ap, subst, ◌∙◌, ◌≡◌, List, Option, Some, None, ℤ, Bool, true, false, length, ◌+ℤ◌, ◌<ℤ◌}
 use Rattle.stn_core.specs.Literal.{value_at, Holds}
 use Rattle.std.specs.Option.{IfNone}
 use Rattle.stn_core.specs.declared.literal.Literals.{Literals}
+use Rattle.stn_core.specs.Answer.{IsBest}
 use Rattle.stn_core.specs.Schedule.{IsGreatestSchedule}
 use Rattle.inc_paths.specs.declared.labels.Lowering.{Lowering}
-use Rattle.inc_paths.specs.Trails.{Labelled}
+use Rattle.inc_paths.specs.Trails.{Labelled, fall_of}
 use Rattle.inc_paths.specs.Work.{first_in, older_in, IsKept, IsStart, IsLowering, IsPending}
 use Rattle.inc_paths.proofs.Lowers.{holds_not}
 use Rattle.inc_paths.proofs.Extends.{x_in, y_in, fits, best_more, loop_cycle, greatest_best, first_is, older_is, began_start, began_lowering, began_pending, kept_back}
@@ -40,19 +41,19 @@ bad : (c : In_ok-lower) → (value_at c.args.labels.now.values c.args.new.y +ℤ
 bad c = subst (λ (l : Labelled). (value_at l.values c.args.new.y +ℤ c.args.new.c) <ℤ value_at l.values c.args.new.x) c.begin.ensures (c.fails.ensures.0 c.if-not-fails.false)
 
 first : (c : In_ok-lower) → first_in c.lower.new.self ≡ c.args.labels.now.values
-first c = first_is c.args.arcs.now.points c.args.arcs.now.literals c.args.new c.args.labels.now.values c.requires.few c.requires.over c.requires.extending.0 c.requires.extending.1 c.requires.extending.2 c.if-new.false (bad c) c.begin.new.self c.lower.new.self c.in_ok-lower.ensures.queue.0 (ap (λ (l : Labelled). l.values) c.begin.ensures) (ap (λ (l : Labelled). l.start) c.begin.ensures ∙ sym (ap (λ (l : Labelled). length l.trail) c.begin.ensures)) (ap (λ (l : Labelled). l.queue) c.begin.ensures) c.in_ok-lower.ensures.values c.in_ok-lower.ensures.trail c.in_ok-lower.ensures.start c.in_ok-lower.ensures.queue.1
+first c = first_is c.args.arcs.now.points c.args.arcs.now.literals c.args.new c.args.labels.now.values c.requires.few c.requires.over c.requires.extending.0 c.requires.extending.1 c.requires.extending.2 c.if-new.false (bad c) c.begin.new.self c.lower.new.self (fall_of c.begin.new.self c.args.new) (ap (λ (l : Labelled). l.values) c.begin.ensures) (ap (λ (l : Labelled). l.start) c.begin.ensures ∙ sym (ap (λ (l : Labelled). length l.trail) c.begin.ensures)) (ap (λ (l : Labelled). l.queue) c.begin.ensures) c.in_ok-lower.ensures.values c.in_ok-lower.ensures.trail c.in_ok-lower.ensures.start c.in_ok-lower.ensures.queue
 
 older : (c : In_ok-lower) → older_in c.lower.new.self ≡ c.args.labels.now.trail
-older c = older_is c.args.arcs.now.points c.args.arcs.now.literals c.args.new c.args.labels.now.values c.requires.few c.requires.over c.requires.extending.0 c.requires.extending.1 c.requires.extending.2 c.if-new.false (bad c) c.begin.new.self c.lower.new.self c.in_ok-lower.ensures.queue.0 (ap (λ (l : Labelled). l.values) c.begin.ensures) (ap (λ (l : Labelled). l.start) c.begin.ensures ∙ sym (ap (λ (l : Labelled). length l.trail) c.begin.ensures)) (ap (λ (l : Labelled). l.queue) c.begin.ensures) c.in_ok-lower.ensures.values c.in_ok-lower.ensures.trail c.in_ok-lower.ensures.start c.in_ok-lower.ensures.queue.1 ∙ ap (λ (l : Labelled). l.trail) c.begin.ensures
+older c = older_is c.args.arcs.now.points c.args.arcs.now.literals c.args.new c.args.labels.now.values c.requires.few c.requires.over c.requires.extending.0 c.requires.extending.1 c.requires.extending.2 c.if-new.false (bad c) c.begin.new.self c.lower.new.self (fall_of c.begin.new.self c.args.new) (ap (λ (l : Labelled). l.values) c.begin.ensures) (ap (λ (l : Labelled). l.start) c.begin.ensures ∙ sym (ap (λ (l : Labelled). length l.trail) c.begin.ensures)) (ap (λ (l : Labelled). l.queue) c.begin.ensures) c.in_ok-lower.ensures.values c.in_ok-lower.ensures.trail c.in_ok-lower.ensures.start c.in_ok-lower.ensures.queue ∙ ap (λ (l : Labelled). l.trail) c.begin.ensures
 
 begin : (c : In_ok-lower) → IsStart c.args.arcs.now.points c.args.arcs.now.literals c.args.new (first_in c.lower.new.self)
-begin c = began_start c.args.arcs.now.points c.args.arcs.now.literals c.args.new c.args.labels.now.values c.requires.few c.requires.over c.requires.extending.0 c.requires.extending.1 c.requires.extending.2 c.if-new.false (bad c) c.begin.new.self c.lower.new.self c.in_ok-lower.ensures.queue.0 (ap (λ (l : Labelled). l.values) c.begin.ensures) (ap (λ (l : Labelled). l.start) c.begin.ensures ∙ sym (ap (λ (l : Labelled). length l.trail) c.begin.ensures)) (ap (λ (l : Labelled). l.queue) c.begin.ensures) c.in_ok-lower.ensures.values c.in_ok-lower.ensures.trail c.in_ok-lower.ensures.start c.in_ok-lower.ensures.queue.1
+begin c = began_start c.args.arcs.now.points c.args.arcs.now.literals c.args.new c.args.labels.now.values c.requires.few c.requires.over c.requires.extending.0 c.requires.extending.1 c.requires.extending.2 c.if-new.false (bad c) c.begin.new.self c.lower.new.self (fall_of c.begin.new.self c.args.new) (ap (λ (l : Labelled). l.values) c.begin.ensures) (ap (λ (l : Labelled). l.start) c.begin.ensures ∙ sym (ap (λ (l : Labelled). length l.trail) c.begin.ensures)) (ap (λ (l : Labelled). l.queue) c.begin.ensures) c.in_ok-lower.ensures.values c.in_ok-lower.ensures.trail c.in_ok-lower.ensures.start c.in_ok-lower.ensures.queue
 
 lowering : (c : In_ok-lower) → IsLowering c.args.arcs.now.points c.args.arcs.now.literals c.args.new (first_in c.lower.new.self) c.lower.new.self
-lowering c = began_lowering c.args.arcs.now.points c.args.arcs.now.literals c.args.new c.args.labels.now.values c.requires.few c.requires.over c.requires.extending.0 c.requires.extending.1 c.requires.extending.2 c.if-new.false (bad c) c.begin.new.self c.lower.new.self c.in_ok-lower.ensures.queue.0 (ap (λ (l : Labelled). l.values) c.begin.ensures) (ap (λ (l : Labelled). l.start) c.begin.ensures ∙ sym (ap (λ (l : Labelled). length l.trail) c.begin.ensures)) (ap (λ (l : Labelled). l.queue) c.begin.ensures) c.in_ok-lower.ensures.values c.in_ok-lower.ensures.trail c.in_ok-lower.ensures.start c.in_ok-lower.ensures.queue.1
+lowering c = began_lowering c.args.arcs.now.points c.args.arcs.now.literals c.args.new c.args.labels.now.values c.requires.few c.requires.over c.requires.extending.0 c.requires.extending.1 c.requires.extending.2 c.if-new.false (bad c) c.begin.new.self c.lower.new.self (fall_of c.begin.new.self c.args.new) (ap (λ (l : Labelled). l.values) c.begin.ensures) (ap (λ (l : Labelled). l.start) c.begin.ensures ∙ sym (ap (λ (l : Labelled). length l.trail) c.begin.ensures)) (ap (λ (l : Labelled). l.queue) c.begin.ensures) c.in_ok-lower.ensures.values c.in_ok-lower.ensures.trail c.in_ok-lower.ensures.start c.in_ok-lower.ensures.queue
 
 pending : (c : In_ok-lower) → IsPending c.args.arcs.now.literals c.lower.new.self
-pending c = began_pending c.args.arcs.now.points c.args.arcs.now.literals c.args.new c.args.labels.now.values c.requires.few c.requires.over c.requires.extending.0 c.requires.extending.1 c.requires.extending.2 c.if-new.false (bad c) c.begin.new.self c.lower.new.self c.in_ok-lower.ensures.queue.0 (ap (λ (l : Labelled). l.values) c.begin.ensures) (ap (λ (l : Labelled). l.start) c.begin.ensures ∙ sym (ap (λ (l : Labelled). length l.trail) c.begin.ensures)) (ap (λ (l : Labelled). l.queue) c.begin.ensures) c.in_ok-lower.ensures.values c.in_ok-lower.ensures.trail c.in_ok-lower.ensures.start c.in_ok-lower.ensures.queue.1
+pending c = began_pending c.args.arcs.now.points c.args.arcs.now.literals c.args.new c.args.labels.now.values c.requires.few c.requires.over c.requires.extending.0 c.requires.extending.1 c.requires.extending.2 c.if-new.false (bad c) c.begin.new.self c.lower.new.self (fall_of c.begin.new.self c.args.new) (ap (λ (l : Labelled). l.values) c.begin.ensures) (ap (λ (l : Labelled). l.start) c.begin.ensures ∙ sym (ap (λ (l : Labelled). length l.trail) c.begin.ensures)) (ap (λ (l : Labelled). l.queue) c.begin.ensures) c.in_ok-lower.ensures.values c.in_ok-lower.ensures.trail c.in_ok-lower.ensures.start c.in_ok-lower.ensures.queue
 
 back : (c : In_ok-lower) (trail : List Lowering) (found : List ℤ) → IsKept c.lower.new.self.start (first_in c.lower.new.self) (older_in c.lower.new.self) trail found → IsKept (length c.args.labels.now.trail) c.args.labels.now.values c.args.labels.now.trail trail found
 back c trail found = kept_back (length c.args.labels.now.trail) c.args.labels.now.values c.args.labels.now.trail c.lower.new.self trail found (c.in_ok-lower.ensures.start ∙ ap (λ (l : Labelled). l.start) c.begin.ensures) (first c) (older c)
@@ -66,17 +67,15 @@ settle-requires-clause-lowering c = lowering (goal.at.settle-requires-clause-low
 pub settle-requires-clause-pending : goal.settle-requires-clause-pending
 settle-requires-clause-pending c = pending (goal.at.settle-requires-clause-pending c).In_ok-lower
 
-pub returns-in_err-settle-clause-kept : goal.returns-in_err-settle-clause-kept
-returns-in_err-settle-clause-kept c = back (goal.at.returns-in_err-settle-clause-kept c).In_ok-lower c.settle.new.labels.trail c.settle.new.labels.values c.settle.ensures.kept
+pub returns-clause-kept : goal.returns-clause-kept
+returns-clause-kept c = back (goal.at.returns-clause-kept c).In_ok-lower c.settle.new.labels.trail c.settle.new.labels.values c.settle.ensures.kept
 
-pub returns-in-None-clause-kept : goal.returns-in-None-clause-kept
-returns-in-None-clause-kept c =
-    rw c.keep.ensures (back (goal.at.returns-in-None-clause-kept c).In_ok-lower c.settle.new.labels.trail c.settle.new.labels.values c.settle.ensures.kept)
+pub returns-clause-none : goal.returns-clause-none
+returns-clause-none c = by c.in_ok-cycle.cycle c.in_ok-cycle.ensures.none
+  where
+    by : (r : Option Literals) → IfNone r (IsGreatestSchedule c.args.arcs.now.points c.args.arcs.now.literals c.settle.new.labels.values) → IfNone r (IsBest c.args.arcs.now.points c.args.arcs.now.literals c.settle.new.labels.values)
+    by None found = greatest_best c.args.arcs.now.points c.args.arcs.now.literals c.args.new c.args.labels.now.values c.requires.few c.requires.over c.requires.extending.0 c.requires.extending.1 c.requires.extending.2 c.settle.new.labels.values found
+    by (Some cycle) found = tt
 
-pub returns-in-None-clause-none : goal.returns-in-None-clause-none
-returns-in-None-clause-none c =
-    let found = subst (λ (r : Option Literals). IfNone r (IsGreatestSchedule c.args.arcs.now.points c.args.arcs.now.literals c.settle.new.labels.values)) c.in-None.is c.in_ok-settle.ensures.none in
-    rw c.keep.ensures (greatest_best c.args.arcs.now.points c.args.arcs.now.literals c.args.new c.args.labels.now.values c.requires.few c.requires.over c.requires.extending.0 c.requires.extending.1 c.requires.extending.2 c.settle.new.labels.values found)
-
-pub returns-in-Some-clause-kept : goal.returns-in-Some-clause-kept
-returns-in-Some-clause-kept c = back (goal.at.returns-in-Some-clause-kept c).In_ok-lower c.settle.new.labels.trail c.settle.new.labels.values c.settle.ensures.kept
+pub returns-in_err-cycle-clause-kept : goal.returns-in_err-cycle-clause-kept
+returns-in_err-cycle-clause-kept c = back (goal.at.returns-in_err-cycle-clause-kept c).In_ok-lower c.settle.new.labels.trail c.settle.new.labels.values c.settle.ensures.kept

@@ -1,6 +1,7 @@
 use Rattle.std.proofs.Common.{arith, subst, ◌≡◌, ◌-◌, Bool, true, false, ◌+ℤ◌, ◌<ℤ◌}
 use Rattle.stn_core.specs.declared.literal.Literal.{Literal}
 use Rattle.stn_core.specs.Literal.{value_at, IsOver, literal_at}
+use Rattle.inc_paths.specs.Trails.{fall_of}
 use Rattle.inc_paths.specs.Work.{first_in}
 use Rattle.inc_paths.proofs.Lowers.{fits_sum, passed, holds_not, literal_over, looked, IsLooked}
 use Rattle.inc_paths.proofs.relax.look.Goals as goal
@@ -32,9 +33,9 @@ returns-then-not-fails-clause-scanning c =
 done : (c : goal.In_ok-lower) → IsLooked c.args.arcs.now.points c.args.arcs.now.literals c.args.new c.args.labels.now c.lower.new.self c.args.place c.args.number
 done c =
     let bad = c.fails.ensures.0 c.if-not-fails.false in
-    looked c.args.arcs.now.points c.args.arcs.now.literals c.args.new c.args.labels.now c.lower.new.self c.args.place c.args.number c.at-literal.result c.number-parent.result c.in_ok-lower.ensures.queue.0
+    looked c.args.arcs.now.points c.args.arcs.now.literals c.args.new c.args.labels.now c.lower.new.self c.args.place c.args.number c.at-literal.result c.number-parent.result (fall_of c.args.labels.now c.at-literal.result)
     c.requires.start c.requires.within c.requires.lowering c.requires.some c.requires.number c.requires.place c.requires.point c.requires.scanning
-    c.at-literal.ensures bad c.if-literal-new.false c.in_ok-lower.ensures.values c.in_ok-lower.ensures.trail c.in_ok-lower.ensures.start c.in_ok-lower.ensures.queue.1
+    c.at-literal.ensures bad c.if-literal-new.false c.in_ok-lower.ensures.values c.in_ok-lower.ensures.trail c.in_ok-lower.ensures.start c.in_ok-lower.ensures.queue
     (omega (arith, c.number-parent.ensures))
 
 pub returns-clause-kept : goal.returns-clause-kept

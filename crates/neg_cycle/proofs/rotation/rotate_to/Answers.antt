@@ -5,4 +5,4 @@ use Rattle.neg_cycle.proofs.rotation.rotate_to.Goals as goal
 pub returns-clause-negative : goal.returns-clause-negative
 returns-clause-negative c =
     let e : c.new.result ≡ drop c.args.k c.args.cycle ++ take c.args.k c.args.cycle = search rules in
-    rw e (rotated c.args.cycle c.args.k c.requires.negative)
+    λ negative. rw e (rotated c.args.cycle c.args.k negative)
