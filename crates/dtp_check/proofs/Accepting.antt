@@ -29,18 +29,20 @@ use Rattle.idl_term.specs.declared.error.TermRefusal.{TermRefusal}
 use Rattle.smt_script.specs.declared.error.Refusal.{Refusal}
 use Rattle.smt_script.specs.declared.error.Refusal.TheVariants.{AlreadyDeclared, LogicNotSupported, TooManyNames, TooManyLevels, PopBelowTheBottom}
 use Rattle.smt_script.specs.declared.state.Effect.{Effect}
-use Rattle.smt_script.specs.declared.state.Effect.TheVariants.{Silent, CheckSat, Unsupported, Exit}
+use Rattle.smt_script.specs.declared.state.Effect.TheVariants.{CheckSat, Exit, Tell}
+use Rattle.smt_script.specs.declared.state.Notice.{Notice}
+use Rattle.smt_script.specs.declared.state.Notice.TheVariants.{Success, Unsupported}
 use Rattle.smt_script.specs.declared.state.Satisfiability.{Satisfiability}
 use Rattle.smt_script.specs.Commands
 use Rattle.smt_script.specs.Commands.{Command, command_name, is_unsupported, left_out_of, command_of, is_exiting, is_exit}
-use Rattle.smt_script.specs.Limits.{levels_limit}
+use Rattle.smt_script.specs.Laws.{OnlyExitEnds}
 use Rattle.smt_script.specs.Options.{OptionEffect, printing_success, no_effect, not_supported, ill_formed_value, option_effect}
 use Rattle.smt_script.specs.States.{State, start_state, Step, after_option, is_taken, sort_of, after_declaration, is_of_sort, defined_by, after_definition, asserted_by, named_by, levels_of, after_by, after, settled}
 use Rattle.smt_answer.specs.Kinds.{kind_of}
 use Rattle.smt_answer.specs.Texts.{error_line}
 use Rattle.dtp_session.specs.declared.report.Report.TheVariants.{Certificate}
 use Rattle.dtp_session.specs.Entries.{verdict_of, IsRight, IsEntryOf}
-use Rattle.dtp_session.specs.Transcripts.{Stops, GoesOn, Follows, IsReport}
+use Rattle.dtp_session.specs.Transcripts.{Answers, Stops, GoesOn, Follows, IsReport}
 use Rattle.dtp_session.proofs.Verdicts.{sorts_count}
 use Rattle.dtp_check.specs.declared.judgement.EntryFlaw.{EntryFlaw}
 use Rattle.dtp_check.specs.declared.judgement.EntryFlaw.TheVariants.{Flawed}
@@ -49,7 +51,7 @@ use Rattle.dtp_check.specs.declared.part.PartEnd.{PartEnd}
 use Rattle.dtp_check.specs.declared.part.PartEnd.TheVariants as part
 use Rattle.dtp_check.specs.Judged.{EndsPart, ExitEnds, FollowsExit, ScriptPart, is_true, first_false, entry_flaw, judged_entry, judged, IsJudged}
 use Rattle.dtp_check.specs.Whole.{IsWholeFrom, IsWhole}
-use Rattle.dtp_check.proofs.Judging.{none_of_wrong_sort, of_sorts_count, values_flaw_is, judged_ok, judged_none, not_exit, silent_apart, unsupported_apart, check_apart, step_of}
+use Rattle.dtp_check.proofs.Judging.{none_of_wrong_sort, of_sorts_count, values_flaw_is, judged_ok, judged_none, not_exit, told_apart, check_apart, step_of}
 
 -- ---- what the laws of the lower crates say
 
@@ -98,80 +100,6 @@ header_refused s step e = cc
 pub carried_apart : (s : State) (x : Sexpr) (step : Step) → after s x ≡ Ok step → x ≢ header_sexpr
 carried_apart s x step e h = header_refused s step (ap (after s) (sym h) ∙ e)
 
--- what doesn't end the script
-abbrev Stays : Result Step Refusal → Type 0
-Stays (Ok step) = step.effect ≢ Exit
-Stays (Err why) = Unit {0}
-
-stays : (found : Result Step Refusal) (step : Step) → Stays found → found ≡ Ok step → step.effect ≢ Exit
-stays found step h e = subst Stays e h
-
-stays_if : (test : Bool) (found : Result Step Refusal) (why : Refusal) → Stays found → Stays (if test then found else Err why)
-stays_if true found why h = h
-stays_if false found why h = tt
-
-stays_unless : (test : Bool) (found : Result Step Refusal) (why : Refusal) → Stays found → Stays (if test then Err why else found)
-stays_unless true found why h = tt
-stays_unless false found why h = h
-
-option_stays : (s : State) (effect : OptionEffect) → Stays (after_option s effect)
-option_stays s (printing_success on) = silent_apart
-option_stays s no_effect = silent_apart
-option_stays s not_supported = unsupported_apart
-option_stays s ill_formed_value = tt
-
-declared_stays : (s : State) (name : List ℕ) (parameters : Items) (found : Option Sort) → Stays (after_declaration s name parameters found)
-declared_stays s name (more x xs) found = tt
-declared_stays s name none None = tt
-declared_stays s name none (Some sort) = stays_unless (is_taken s.context name) _ AlreadyDeclared (stays_if (nat_lt (length s.context.declared) names_limit) _ TooManyNames silent_apart)
-
-defined_stays_by : (s : State) (name : List ℕ) (sort : Sort) (term : Sexpr) (found : Result Made TermRefusal) → Stays (defined_by s name sort term found)
-defined_stays_by s name sort term (Err why) = tt
-defined_stays_by s name sort term (Ok made) = stays_if (is_of_sort sort made.is) _ _ silent_apart
-
-defined_stays : (s : State) (name : List ℕ) (parameters : Items) (found : Option Sort) (term : Sexpr) → Stays (after_definition s name parameters found term)
-defined_stays s name (more x xs) found term = tt
-defined_stays s name none None term = tt
-defined_stays s name none (Some sort) term = stays_unless (is_taken s.context name) _ AlreadyDeclared (defined_stays_by s name sort term (lowered (scope_of s.context) s.context.nodes term))
-
-asserted_stays_as : (s : State) (term : Sexpr) (made : Made) (is : LoweredTerm) → made.is ≡ is → Stays (asserted_by s term (Ok made))
-asserted_stays_as s term made (formula root) e = rw e silent_apart
-asserted_stays_as s term made (numeric cases) e = rw e tt
-
-asserted_stays : (s : State) (term : Sexpr) (found : Result Made TermRefusal) → Stays (asserted_by s term found)
-asserted_stays s term (Err why) = tt
-asserted_stays s term (Ok made) = asserted_stays_as s term made made.is refl
-
-named_stays_as : (s : State) (term : Sexpr) (name : List ℕ) (made : Made) (is : LoweredTerm) → made.is ≡ is → Stays (named_by s term name (Ok made))
-named_stays_as s term name made (formula root) e = rw e (stays_unless (is_taken s.context name) _ AlreadyDeclared silent_apart)
-named_stays_as s term name made (numeric cases) e = rw e tt
-
-named_stays : (s : State) (term : Sexpr) (name : List ℕ) (found : Result Made TermRefusal) → Stays (named_by s term name found)
-named_stays s term name (Err why) = tt
-named_stays s term name (Ok made) = named_stays_as s term name made made.is refl
-
-exit_by : (s : State) (found : Result Command Refusal) (step : Step) → after_by s found ≡ Ok step → step.effect ≡ Exit → is_exiting found ≡ true
-exit_by s (Err why) step e f = absurd cc
-exit_by s (Ok Commands.exiting) step e f = refl
-exit_by s (Ok (Commands.setting_logic logic)) step e f = absurd (stays _ step (stays_if (is_symbol (codes "QF_IDL") logic) _ LogicNotSupported silent_apart) e f)
-exit_by s (Ok (Commands.setting_option keyword v)) step e f = absurd (stays _ step (option_stays s (option_effect keyword v)) e f)
-exit_by s (Ok Commands.informing) step e f = absurd (stays _ step silent_apart e f)
-exit_by s (Ok (Commands.declaring name parameters sort)) step e f = absurd (stays _ step (declared_stays s name parameters (sort_of sort)) e f)
-exit_by s (Ok (Commands.defining name parameters sort term)) step e f = absurd (stays _ step (defined_stays s name parameters (sort_of sort) term) e f)
-exit_by s (Ok (Commands.asserting term)) step e f = absurd (stays _ step (asserted_stays s term (lowered (scope_of s.context) s.context.nodes term)) e f)
-exit_by s (Ok (Commands.naming term name)) step e f = absurd (stays _ step (named_stays s term name (lowered (scope_of s.context) s.context.nodes term)) e f)
-exit_by s (Ok (Commands.pushing n)) step e f = absurd (stays _ step (stays_if (nat_le (levels_of s + n) levels_limit) _ TooManyLevels silent_apart) e f)
-exit_by s (Ok (Commands.popping n)) step e f = absurd (stays _ step (stays_if (nat_le n (levels_of s)) _ PopBelowTheBottom silent_apart) e f)
-exit_by s (Ok Commands.checking) step e f = absurd (stays _ step check_apart e f)
-exit_by s (Ok Commands.resetting_assertions) step e f = absurd (stays _ step silent_apart e f)
-exit_by s (Ok Commands.resetting) step e f = absurd (stays _ step silent_apart e f)
-exit_by s (Ok Commands.unsupported) step e f = absurd (stays _ step unsupported_apart e f)
-
--- a command that ends the script is `(exit)`
-pub exit_is : (s : State) (x : Sexpr) (step : Step) → after s x ≡ Ok step → step.effect ≡ Exit → is_exit x ≡ true
-unfolding after
-exit_is s x step e f = exit_by s (command_of x) step e f
-
 -- ---- the end of a script
 
 -- behind a closed gap up to the end nothing is read
@@ -215,7 +143,7 @@ record IsSplit (script : List ℕ) (place : ℕ) (s : State) (k : ℕ) (xs : Lis
   closed : IsClosedGap (drop last script)
   reads : (added : List ℕ) (end : PartEnd) (behind : ℕ) → EndsIn exits (script ++ added) last end behind → ScriptPart (script ++ added) place xs end behind
 
-module _ (one : OneOutcome) (on : ReadsOn) (within : ReadsWithin) (flaw : HasNoFlaw) where
+module _ (one : OneOutcome) (on : ReadsOn) (within : ReadsWithin) (flaw : HasNoFlaw) (only : OnlyExitEnds) where
   same_sexpr : (bytes : List ℕ) (place : ℕ) (x y : Sexpr) (m n : ℕ) → Spells bytes place x m → Spells bytes place y n → (x ≡ y) × (m ≡ n)
   same_sexpr bytes place x y m n h k =
       let w = one bytes place (expression x) (expression y) m n h k in
@@ -256,7 +184,7 @@ module _ (one : OneOutcome) (on : ReadsOn) (within : ReadsWithin) (flaw : HasNoF
       mid,
       on_command step e added,
       carried_apart s x step e,
-      subst (λ (b : Bool). FollowsExit b (ExitEnds mid xs end behind) (ScriptPart (script ++ added) mid xs end behind)) (sym (not_exit s x step e apart)) (h.reads added end behind ends),
+      subst (λ (b : Bool). FollowsExit b (ExitEnds mid xs end behind) (ScriptPart (script ++ added) mid xs end behind)) (sym (not_exit only s x step e apart)) (h.reads added end behind ends),
     )
 
     -- a command of which nothing is written
@@ -305,7 +233,7 @@ module _ (one : OneOutcome) (on : ReadsOn) (within : ReadsWithin) (flaw : HasNoF
         mid,
         on_command (step_of next Exit) e added,
         carried_apart s x (step_of next Exit) e,
-        subst (λ (b : Bool). FollowsExit b (ExitEnds mid xs end behind) (ScriptPart (script ++ added) mid xs end behind)) (sym (exit_is s x (step_of next Exit) e refl)) (over, ends.0, ends.1),
+        subst (λ (b : Bool). FollowsExit b (ExitEnds mid xs end behind) (ScriptPart (script ++ added) mid xs end behind)) (sym ((only s x (step_of next Exit) e).0 refl)) (over, ends.0, ends.1),
       );
     }
 
@@ -322,30 +250,30 @@ module _ (one : OneOutcome) (on : ReadsOn) (within : ReadsWithin) (flaw : HasNoF
     without : (out piece rest : List ℕ) → out ≡ piece ++ rest → piece ≡ [] → out ≡ rest
     without out piece rest text silent = text ∙ ap (λ (t : List ℕ). t ++ rest) silent
 
+    -- a certificate says nothing but entries
+    told_nothing : (s : State) (notice : Notice) (piece : List ℕ) (behind : State) → Answers Certificate s (Tell notice) piece behind → (piece ≡ []) × (behind ≡ s)
+    told_nothing s Success piece behind h = h
+    told_nothing s Unsupported piece behind h = h
+
     split_effect : (effect : Effect) (next : State) → after s x ≡ Ok (step_of next effect) → (xs ys : List Sexpr) (ending : Ending) (out : List ℕ) → FollowsEffect effect next xs ending out → IsWholeBehind ys (is_exit x) → Others xs ys ending
         → IsSplit script place s k (x ∷ xs) out
-    split_effect Silent next e xs ys ending out (piece, rest, behind, (silent, same), text, follows) is others =
-        let step = step_of next Silent in
-        let left : IsWholeFrom script mid ys = subst (IsWholeBehind ys) (not_exit s x step e silent_apart) is in
-        let from : Follows Certificate next (k + 1) xs ending rest 0 = subst (λ (t : State). Follows Certificate t (k + 1) xs ending rest 0) same follows in
+    split_effect (Tell notice) next e xs ys ending out (piece, rest, behind, answers, text, follows) is others =
+        let step = step_of next (Tell notice) in
+        let nothing = told_nothing next notice piece behind answers in
+        let left : IsWholeFrom script mid ys = subst (IsWholeBehind ys) (not_exit only s x step e (told_apart notice)) is in
+        let from : Follows Certificate next (k + 1) xs ending rest 0 = subst (λ (t : State). Follows Certificate t (k + 1) xs ending rest 0) nothing.1 follows in
         let h = others next rest (command_within step e) from left in
-        split_silent Silent next xs out rest h e silent_apart (λ n. judged_ok s k n x xs h.entries step e) (without out piece rest text silent)
-    split_effect Unsupported next e xs ys ending out (piece, rest, behind, (silent, same), text, follows) is others =
-        let step = step_of next Unsupported in
-        let left : IsWholeFrom script mid ys = subst (IsWholeBehind ys) (not_exit s x step e unsupported_apart) is in
-        let from : Follows Certificate next (k + 1) xs ending rest 0 = subst (λ (t : State). Follows Certificate t (k + 1) xs ending rest 0) same follows in
-        let h = others next rest (command_within step e) from left in
-        split_silent Unsupported next xs out rest h e unsupported_apart (λ n. judged_ok s k n x xs h.entries step e) (without out piece rest text silent)
+        split_silent (Tell notice) next xs out rest h e (told_apart notice) (λ n. judged_ok s k n x xs h.entries step e) (without out piece rest text nothing.0)
     split_effect CheckSat next e xs ys ending out (piece, rest, behind, (verdict, (entry, right, says, line), same), text, follows) is others =
         let step = step_of next CheckSat in
         let written : out ≡ line_of (entry_sexpr entry) ++ rest = text ∙ ap (λ (t : List ℕ). t ++ rest) line in
-        let left : IsWholeFrom script mid ys = subst (IsWholeBehind ys) (not_exit s x step e check_apart) is in
+        let left : IsWholeFrom script mid ys = subst (IsWholeBehind ys) (not_exit only s x step e check_apart) is in
         let there : behind ≡ settled (verdict_of entry) next = same ∙ ap (λ (v : Satisfiability). settled v next) says in
         let from : Follows Certificate (settled (verdict_of entry) next) (k + 1) xs ending rest 0 = subst (λ (t : State). Follows Certificate t (k + 1) xs ending rest 0) there follows in
         split_check next e xs out rest entry right written (others (settled (verdict_of entry) next) rest (command_within step e) from left)
     split_effect Exit next e xs ys ending out (stops, text, status) is others =
         let step = step_of next Exit in
-        let left : (ys ≡ []) × IsClosedGap (drop mid script) = subst (IsWholeBehind ys) (exit_is s x step e refl) is in
+        let left : (ys ≡ []) × IsClosedGap (drop mid script) = subst (IsWholeBehind ys) ((only s x step e).0 refl) is in
         split_exit next e xs out stops.0 text left.1
 
     split_by : (r : Result Step Refusal) → after s x ≡ r → (xs ys : List Sexpr) (ending : Ending) (out : List ℕ) → FollowsBy s k xs ending out 0 r → IsWholeBehind ys (is_exit x) → Others xs ys ending → IsSplit script place s k (x ∷ xs) out

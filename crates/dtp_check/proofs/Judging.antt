@@ -23,7 +23,8 @@ use Rattle.idl_term.specs.Scopes.{Declaration, Scope, sorts_of}
 use Rattle.idl_term.specs.Values.{value}
 use Rattle.smt_script.specs.declared.error.Refusal.{Refusal}
 use Rattle.smt_script.specs.declared.state.Effect.{Effect}
-use Rattle.smt_script.specs.declared.state.Effect.TheVariants.{Silent, CheckSat, Unsupported, Exit}
+use Rattle.smt_script.specs.declared.state.Effect.TheVariants.{CheckSat, Exit, Tell}
+use Rattle.smt_script.specs.declared.state.Notice.{Notice}
 use Rattle.smt_script.specs.declared.state.Satisfiability.{Satisfiability}
 use Rattle.smt_script.specs.Commands
 use Rattle.smt_script.specs.Commands.{Command, command_of, is_exiting, is_exit}
@@ -32,7 +33,8 @@ use Rattle.smt_script.specs.States.{State, Step, IsMadeState, after, after_by, s
 use Rattle.smt_answer.specs.Kinds.{kind_of}
 use Rattle.dtp_session.specs.Entries.{verdict_of}
 use Rattle.dtp_session.specs.Turns.{Stands}
-use Rattle.dtp_session.proofs.Turning.{StepMade, SettledMade, stands_after}
+use Rattle.smt_script.specs.Laws.{StepMade, SettledMade, OnlyExitEnds}
+use Rattle.dtp_session.proofs.Turning.{stands_after}
 use Rattle.dtp_session.proofs.Verdicts.{ScopeLaw, RootsLaw, ExactLaw, sorts_count}
 use Rattle.dtp_check.specs.declared.judge.Turn.{Turn}
 use Rattle.dtp_check.specs.declared.judge.Turn.TheVariants.{Going, Judged}
@@ -211,37 +213,16 @@ pub judged_none : (s : State) (k n : ℕ) (es : List Entry) → judged s k n [] 
 unfolding judged
 judged_none s k n es = refl
 
--- an effect other than `Exit` is of a command other than `(exit)`
-exits_by : (s : State) (found : Result Command Refusal) (step : Step) → after_by s found ≡ Ok step → is_exiting found ≡ true → step.effect ≡ Exit
-exits_by s (Err why) step e f = absurd cc
-exits_by s (Ok (Commands.setting_logic logic)) step e f = absurd cc
-exits_by s (Ok (Commands.setting_option keyword v)) step e f = absurd cc
-exits_by s (Ok Commands.informing) step e f = absurd cc
-exits_by s (Ok (Commands.declaring name parameters sort)) step e f = absurd cc
-exits_by s (Ok (Commands.defining name parameters sort term)) step e f = absurd cc
-exits_by s (Ok (Commands.asserting term)) step e f = absurd cc
-exits_by s (Ok (Commands.naming term name)) step e f = absurd cc
-exits_by s (Ok (Commands.pushing n)) step e f = absurd cc
-exits_by s (Ok (Commands.popping n)) step e f = absurd cc
-exits_by s (Ok Commands.checking) step e f = absurd cc
-exits_by s (Ok Commands.resetting_assertions) step e f = absurd cc
-exits_by s (Ok Commands.resetting) step e f = absurd cc
-exits_by s (Ok Commands.unsupported) step e f = absurd cc
-exits_by s (Ok Commands.exiting) step e f = let is : record { state = s; effect = Exit } ≡ step = cc in sym (ap (λ (q : Step). q.effect) is)
-
 false_by_test : (b : Bool) → (b ≡ true → ⊥) → b ≡ false
 false_by_test true h = absurd (h refl)
 false_by_test false h = refl
 
-pub not_exit : (s : State) (x : Sexpr) (step : Step) → after s x ≡ Ok step → step.effect ≢ Exit → is_exit x ≡ false
-unfolding after
-not_exit s x step e apart = false_by_test (is_exit x) (λ f. apart (exits_by s (command_of x) step e f))
+-- an effect other than `Exit` is of a command other than `(exit)`
+pub not_exit : OnlyExitEnds → (s : State) (x : Sexpr) (step : Step) → after s x ≡ Ok step → step.effect ≢ Exit → is_exit x ≡ false
+not_exit law s x step e apart = false_by_test (is_exit x) (λ f. apart ((law s x step e).1 f))
 
-pub silent_apart : Silent ≢ Exit
-silent_apart e = absurd cc
-
-pub unsupported_apart : Unsupported ≢ Exit
-unsupported_apart e = absurd cc
+pub told_apart : (notice : Notice) → Tell notice ≢ Exit
+told_apart notice e = absurd cc
 
 pub check_apart : CheckSat ≢ Exit
 check_apart e = absurd cc
@@ -250,38 +231,29 @@ abbrev pub step_of : State → Effect → Step
 step_of state effect = record { state = state; effect = effect }
 
 module _ (s : State) (k used : ℕ) (x : Sexpr) (entries : List Entry) (kept : Kept) where
-  pub silent_judged : StepMade → used ≤ length entries → IsMadeState s → Steps s x Silent kept → IsJudgedTurn s k used entries x kept (Going used)
-  silent_judged law le made h = (
+  pub notice_judged : StepMade → OnlyExitEnds → (notice : Notice) → used ≤ length entries → IsMadeState s → Steps s x (Tell notice) kept → IsJudgedTurn s k used entries x kept (Going used)
+  notice_judged law ends notice le made h = (
     h.state,
-    stands_after law s x Silent kept h made,
-    not_exit s x (step_of h.state Silent) h.leads silent_apart,
+    stands_after law s x (Tell notice) kept h made,
+    not_exit ends s x (step_of h.state (Tell notice)) h.leads (told_apart notice),
     le,
-    λ xs. judged_ok s k (used + 1) x xs (drop used entries) (step_of h.state Silent) h.leads,
-  )
-
-  pub unsupported_judged : StepMade → used ≤ length entries → IsMadeState s → Steps s x Unsupported kept → IsJudgedTurn s k used entries x kept (Going used)
-  unsupported_judged law le made h = (
-    h.state,
-    stands_after law s x Unsupported kept h made,
-    not_exit s x (step_of h.state Unsupported) h.leads unsupported_apart,
-    le,
-    λ xs. judged_ok s k (used + 1) x xs (drop used entries) (step_of h.state Unsupported) h.leads,
+    λ xs. judged_ok s k (used + 1) x xs (drop used entries) (step_of h.state (Tell notice)) h.leads,
   )
 
   pub exit_judged : (xs : List Sexpr) → Steps s x Exit kept → judged s k (used + 1) (x ∷ xs) (drop used entries) ≡ surplus_of (used + 1) (drop used entries)
   exit_judged xs h = judged_ok s k (used + 1) x xs (drop used entries) (step_of h.state Exit) h.leads
 
   -- what is kept behind the verdict is `settled`
-  pub check_judged : (settled : Kept) (turn : Turn) (h : Steps s x CheckSat kept) → IsCheckTurn h.state used entries settled turn → IsJudgedTurn s k used entries x settled turn
-  check_judged settled (Going now) h (next, stands, le, same, one) = (
+  pub check_judged : OnlyExitEnds → (settled : Kept) (turn : Turn) (h : Steps s x CheckSat kept) → IsCheckTurn h.state used entries settled turn → IsJudgedTurn s k used entries x settled turn
+  check_judged ends settled (Going now) h (next, stands, le, same, one) = (
     next,
     stands,
-    not_exit s x (step_of h.state CheckSat) h.leads check_apart,
+    not_exit ends s x (step_of h.state CheckSat) h.leads check_apart,
     le,
     λ xs.
         judged_ok s k (used + 1) x xs (drop used entries) (step_of h.state CheckSat) h.leads
         ∙ same (λ next rest. judged next (k + 1) ((used + 1) + 1) xs rest)
         ∙ ap (λ (n : ℕ). judged next (k + 1) (n + 1) xs (drop now entries)) (sym one),
   )
-  check_judged settled (Judged judgement) h check = λ xs.
+  check_judged ends settled (Judged judgement) h check = λ xs.
       judged_ok s k (used + 1) x xs (drop used entries) (step_of h.state CheckSat) h.leads ∙ check (λ next rest. judged next (k + 1) ((used + 1) + 1) xs rest)

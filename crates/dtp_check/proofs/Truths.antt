@@ -18,11 +18,11 @@ use Rattle.idl_term.specs.Scopes.{sorts_of}
 use Rattle.idl_term.specs.Values.{Value, whole, truth, nothing, Named, value}
 use Rattle.smt_script.specs.declared.error.Refusal.{Refusal}
 use Rattle.smt_script.specs.declared.state.Effect.{Effect}
-use Rattle.smt_script.specs.declared.state.Effect.TheVariants.{Silent, CheckSat, Unsupported, Exit}
+use Rattle.smt_script.specs.declared.state.Effect.TheVariants.{CheckSat, Exit, Tell}
 use Rattle.smt_script.specs.States.{State, start_state, Step, IsMadeState, after, settled}
 use Rattle.smt_answer.specs.Kinds.{kind_of}
 use Rattle.dtp_session.specs.Entries.{points_of, problem_of, verdict_of}
-use Rattle.dtp_session.proofs.Turning.{StepMade, SettledMade}
+use Rattle.smt_script.specs.Laws.{StepMade, SettledMade}
 use Rattle.dtp_session.proofs.Verdicts.{ScopeLaw, RootsLaw, ExactLaw, HoldsLaw, RefutationLaw, refuted_unsatisfiable, sorts_count}
 use Rattle.dtp_check.specs.declared.judgement.EntryFlaw.{EntryFlaw}
 use Rattle.dtp_check.specs.declared.judgement.EntryFlaw.TheVariants.{WrongCount, WrongSort, FalseAssertion, Flawed}
@@ -99,8 +99,7 @@ module _ (flaws : FlawLaw) (refutes : RefutationLaw) (scope : ScopeLaw) (roots :
 
   told_effect : (effect : Effect) (s : State) (n : ℕ) (entries : List Entry) (others : State → ℕ → List Entry → Judgement) (Rest : State → List Entry → Type 0) → IsMadeState s → judged_effect effect s n entries others ≡ Accepted
       → ((next : State) (m : ℕ) (rest : List Entry) → IsMadeState next → others next m rest ≡ Accepted → Rest next rest) → IsToldBy effect s entries Rest
-  told_effect Silent s n entries others Rest made e f = f s n entries made e
-  told_effect Unsupported s n entries others Rest made e f = f s n entries made e
+  told_effect (Tell notice) s n entries others Rest made e f = f s n entries made e
   told_effect CheckSat s n entries others Rest made e f = told_check s n entries (λ next rest. others next (n + 1) rest) Rest made e (λ next rest of g. f next (n + 1) rest of g)
   told_effect Exit s n entries others Rest made e f = none_left n entries e
 

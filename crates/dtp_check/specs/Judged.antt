@@ -19,7 +19,7 @@ use Rattle.idl_term.specs.Contexts.{Context, environment}
 use Rattle.idl_term.specs.Scopes.{sorts_of}
 use Rattle.idl_term.specs.Values.{Value, truth, Named, value}
 use Rattle.smt_script.specs.declared.state.Effect.{Effect}
-use Rattle.smt_script.specs.declared.state.Effect.TheVariants.{Silent, CheckSat, Unsupported, Exit}
+use Rattle.smt_script.specs.declared.state.Effect.TheVariants.{CheckSat, Exit, Tell}
 use Rattle.smt_script.specs.Commands.{is_exit}
 use Rattle.smt_script.specs.States.{State, start_state, after, settled}
 use Rattle.smt_answer.specs.Kinds.{kind_of, kind_of_unreadable}
@@ -118,8 +118,7 @@ judged_check s n [] others = Missing n
 judged_check s n (entry ∷ entries) others = judged_entry n (entry_flaw s.context entry) (others (settled (verdict_of entry) s) entries)
 
 abbrev pub judged_effect : Effect → State → ℕ → List Entry → (State → ℕ → List Entry → Judgement) → Judgement
-judged_effect Silent s n entries others = others s n entries
-judged_effect Unsupported s n entries others = others s n entries
+judged_effect (Tell notice) s n entries others = others s n entries
 judged_effect CheckSat s n entries others = judged_check s n entries (λ next rest. others next (n + 1) rest)
 judged_effect Exit s n entries others = surplus_of n entries
 

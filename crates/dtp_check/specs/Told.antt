@@ -5,7 +5,7 @@ use Rattle.cert_text.specs.declared.entry.Entry.{Entry}
 use Rattle.cert_text.specs.declared.entry.Entry.TheVariants.{Sat, Unsat}
 use Rattle.idl_term.specs.Contexts.{Context, IsSatisfiable}
 use Rattle.smt_script.specs.declared.state.Effect.{Effect}
-use Rattle.smt_script.specs.declared.state.Effect.TheVariants.{Silent, CheckSat, Unsupported, Exit}
+use Rattle.smt_script.specs.declared.state.Effect.TheVariants.{CheckSat, Exit, Tell}
 use Rattle.smt_script.specs.States.{State, after, settled}
 use Rattle.dtp_session.specs.Entries.{verdict_of}
 
@@ -20,8 +20,7 @@ IsToldAt s [] Rest = ⊥
 IsToldAt s (entry ∷ entries) Rest = Tells s.context entry × Rest (settled (verdict_of entry) s) entries
 
 abbrev pub IsToldBy : Effect → State → List Entry → (State → List Entry → Type 0) → Type 0
-IsToldBy Silent s entries Rest = Rest s entries
-IsToldBy Unsupported s entries Rest = Rest s entries
+IsToldBy (Tell notice) s entries Rest = Rest s entries
 IsToldBy CheckSat s entries Rest = IsToldAt s entries Rest
 IsToldBy Exit s entries Rest = entries ≡ []
 

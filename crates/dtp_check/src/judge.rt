@@ -98,9 +98,9 @@ fn judge_command<'a>(
     ensures { IfOk result (λ turn. (s : Meaning) (x : Sexpr) → Stands state.old s → Means sexprs.now id x → IsJudgedTurn s command used entries.now x state.new turn) }
 {
     smt_script::state_law();
+    smt_script::exit_law();
     match state.step(sexprs, id) {
-        Ok(Effect::Silent) => Ok(Turn::Going(used)),
-        Ok(Effect::Unsupported) => Ok(Turn::Going(used)),
+        Ok(Effect::Tell(_)) => Ok(Turn::Going(used)),
         Ok(Effect::CheckSat) => {
             let turn = judge_check(alloc, state, entries, used)?;
             Ok(turn)

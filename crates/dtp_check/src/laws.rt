@@ -40,6 +40,7 @@ pub fn certified_is_accepted()
 {
     smt_sexpr::one_outcome();
     smt_sexpr::reads_on();
+    smt_script::exit_law();
     cert_check::flaw_law();
     cert_read::certificate_reads_back();
 }

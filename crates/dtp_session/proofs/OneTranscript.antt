@@ -11,7 +11,8 @@ use Rattle.smt_answer.specs.Kinds.{kind_of, kind_of_unreadable}
 use Rattle.smt_answer.specs.Texts.{error_line}
 use Rattle.smt_script.specs.declared.error.SexprRefusal.{SexprRefusal as Why}
 use Rattle.smt_script.specs.declared.state.Effect.{Effect}
-use Rattle.smt_script.specs.declared.state.Effect.TheVariants.{Silent, CheckSat, Unsupported, Exit}
+use Rattle.smt_script.specs.declared.state.Effect.TheVariants.{CheckSat, Exit, Tell}
+use Rattle.smt_script.specs.declared.state.Notice.TheVariants.{Success, Unsupported}
 use Rattle.smt_script.specs.declared.state.Satisfiability.{Satisfiability}
 use Rattle.smt_script.specs.declared.state.Satisfiability.TheVariants as verdict
 use Rattle.smt_script.specs.States.{State, Step, start_state, after, settled}
@@ -48,11 +49,11 @@ check_one : (s : State) (v w : Satisfiability) (m n : State) → v ≡ w → m �
 check_one s v w m n e f g = f ∙ ap (λ (u : Satisfiability). settled u s) e ∙ sym g
 
 answer_one : (s : State) (effect : Effect) (a b : List ℕ) (m n : State) → Answers Verdicts s effect a m → Answers Verdicts s effect b n → (a ≡ b) × (m ≡ n)
-answer_one s Silent a b m n h k = (h.0 ∙ sym k.0, h.1 ∙ sym k.1)
+answer_one s (Tell Success) a b m n h k = (h.0 ∙ sym k.0, h.1 ∙ sym k.1)
 answer_one s CheckSat a b m n h k =
     let same = verdict_one s.context h.0 k.0 a b h.1 k.1 in
     (same.0, check_one s h.0 k.0 m n same.1 h.2 k.2)
-answer_one s Unsupported a b m n h k = (h.0 ∙ sym k.0, h.1 ∙ sym k.1)
+answer_one s (Tell Unsupported) a b m n h k = (h.0 ∙ sym k.0, h.1 ∙ sym k.1)
 answer_one s Exit a b m n h k = (h.0 ∙ sym k.0, h.1 ∙ sym k.1)
 
 joined_one : (a b p q rest others : List ℕ) → a ≡ p ++ rest → b ≡ q ++ others → p ≡ q → rest ≡ others → a ≡ b
@@ -71,9 +72,8 @@ answered_one effect st a b s t P Q one p rest m h is follows q others n k same b
 
 goes_on_one : (effect : Effect) (st : State) (xs ys : List Sexpr) (e f : Ending) (a b : List ℕ) (s t : ℕ) (P Q : State → List ℕ → Type 0) → OneRest P Q s t
     → GoesOn Verdicts effect st xs e a s P → GoesOn Verdicts effect st ys f b t Q → (a ≡ b) × (s ≡ t)
-goes_on_one Silent st xs ys e f a b s t P Q one (p, rest, m, h, is, follows) (q, others, n, k, same, behind) = answered_one Silent st a b s t P Q one p rest m h is follows q others n k same behind
+goes_on_one (Tell notice) st xs ys e f a b s t P Q one (p, rest, m, h, is, follows) (q, others, n, k, same, behind) = answered_one (Tell notice) st a b s t P Q one p rest m h is follows q others n k same behind
 goes_on_one CheckSat st xs ys e f a b s t P Q one (p, rest, m, h, is, follows) (q, others, n, k, same, behind) = answered_one CheckSat st a b s t P Q one p rest m h is follows q others n k same behind
-goes_on_one Unsupported st xs ys e f a b s t P Q one (p, rest, m, h, is, follows) (q, others, n, k, same, behind) = answered_one Unsupported st a b s t P Q one p rest m h is follows q others n k same behind
 goes_on_one Exit st xs ys e f a b s t P Q one h k = (h.1 ∙ sym k.1, h.2 ∙ sym k.2)
 
 -- a command's answer and what is behind it, by what the command leads to

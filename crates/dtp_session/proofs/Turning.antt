@@ -19,9 +19,11 @@ use Rattle.smt_answer.specs.Kinds.{kind_of, kind_of_unreadable, kind_of_error}
 use Rattle.smt_answer.specs.Texts.{error_line}
 use Rattle.smt_script.specs.declared.error.Refusal.{Refusal as Why}
 use Rattle.smt_script.specs.declared.state.Effect.{Effect}
-use Rattle.smt_script.specs.declared.state.Effect.TheVariants.{Silent, CheckSat, Unsupported, Exit}
+use Rattle.smt_script.specs.declared.state.Effect.TheVariants.{CheckSat, Exit, Tell}
+use Rattle.smt_script.specs.declared.state.Notice.TheVariants.{Success, Unsupported}
 use Rattle.smt_script.specs.declared.state.Mode.TheVariants as mode
 use Rattle.smt_script.specs.declared.state.Satisfiability.{Satisfiability}
+use Rattle.smt_script.specs.Laws.{StepMade, SettledMade}
 use Rattle.smt_script.specs.Kept.{Kept, StandsFor, Steps}
 use Rattle.smt_script.specs.States.{State, start_state, Step, IsMadeState, after, settled}
 use Rattle.dtp_session.specs.Transcripts.{IsDecided, IsDecidedSome, IsAnswer, Answers, silent_answer, unsupported_answer, opening, closing, Closes, GoesOn, GoesOnPart, Follows, FollowsPart, IsFront, IsPartOf, TranscribesFrom, TranscribesPartFrom, IsReport, IsReportPart}
@@ -55,33 +57,27 @@ appends_nothing (Some bytes) = sym (append-nil bytes)
 
 -- ---- what is active goes on coming about by declarations, definitions and assertions
 
-abbrev pub StepMade : Type 0
-StepMade = (s : State) (x : Sexpr) (step : Step) → IsMadeState s → after s x ≡ Ok step → IsMadeState step.state
-
-abbrev pub SettledMade : Type 0
-SettledMade = (s : State) (verdict : Satisfiability) → IsMadeState s → IsMadeState (settled verdict s)
-
 pub stands_after : StepMade → (s : State) (x : Sexpr) (effect : Effect) (kept : Kept) (h : Steps s x effect kept) → IsMadeState s → Stands kept h.state
 stands_after law s x effect kept h made = record { stands = h.stands; made = law s x (record { state = h.state; effect = effect }) made h.leads }
 
 -- ---- one command more
 
-silent_apart : Silent ≢ Exit
+silent_apart : Tell Success ≢ Exit
 silent_apart e = absurd cc
 
-unsupported_apart : Unsupported ≢ Exit
+unsupported_apart : Tell Unsupported ≢ Exit
 unsupported_apart e = absurd cc
 
 check_apart : CheckSat ≢ Exit
 check_apart e = absurd cc
 
 module _ (law : StepMade) (report : Report) (s : State) (k : ℕ) (x : Sexpr) (added : List ℕ) (kept : Kept) (made : IsMadeState s) where
-  pub silent_done : (h : Steps s x Silent kept) → added ≡ silent_answer report kept.print_success → IsCarriedOut report s k x added kept Going
+  pub silent_done : (h : Steps s x (Tell Success) kept) → added ≡ silent_answer report kept.print_success → IsCarriedOut report s k x added kept Going
   silent_done h e =
-      (h.state, stands_after law s x Silent kept h made, record { effect = Silent; behind = h.state; leads = h.leads; goes_on = silent_apart; answers = (e ∙ ap (silent_answer report) h.stands.print_success, refl) })
+      (h.state, stands_after law s x (Tell Success) kept h made, record { effect = Tell Success; behind = h.state; leads = h.leads; goes_on = silent_apart; answers = (e ∙ ap (silent_answer report) h.stands.print_success, refl) })
 
-  pub unsupported_done : (h : Steps s x Unsupported kept) → added ≡ unsupported_answer report → IsCarriedOut report s k x added kept Going
-  unsupported_done h e = (h.state, stands_after law s x Unsupported kept h made, record { effect = Unsupported; behind = h.state; leads = h.leads; goes_on = unsupported_apart; answers = (e, refl) })
+  pub unsupported_done : (h : Steps s x (Tell Unsupported) kept) → added ≡ unsupported_answer report → IsCarriedOut report s k x added kept Going
+  unsupported_done h e = (h.state, stands_after law s x (Tell Unsupported) kept h made, record { effect = Tell Unsupported; behind = h.state; leads = h.leads; goes_on = unsupported_apart; answers = (e, refl) })
 
   pub check_done : SettledMade → (next : Kept) (verdict : Satisfiability) (h : Steps s x CheckSat kept) → IsDecided report h.state.context verdict added → StandsFor next (settled verdict h.state) → IsCarriedOut report s k x added next Going
   check_done settles next verdict h answers stands = (
@@ -110,12 +106,12 @@ pub check_cut : (report : Report) (s : State) (k : ℕ) (x : Sexpr) (added : Lis
 unfolding FollowsPart
 check_cut report s k x added kept h part = inl (rw (h.leads, FollowsPart) (inl ((refl, refl), decided_part report h.state added part)))
 
-pub silent_cut : (report : Report) (s : State) (k : ℕ) (x : Sexpr) (added : List ℕ) (kept : Kept) (h : Steps s x Silent kept) → IsFront added (silent_answer report kept.print_success) → IsCutShort report s k x added
+pub silent_cut : (report : Report) (s : State) (k : ℕ) (x : Sexpr) (added : List ℕ) (kept : Kept) (h : Steps s x (Tell Success) kept) → IsFront added (silent_answer report kept.print_success) → IsCutShort report s k x added
 unfolding FollowsPart
 silent_cut report s k x added kept h front =
     inl (rw (h.leads, FollowsPart) (inl ((refl, refl), inr (silent_answer report kept.print_success, (h.state, (ap (silent_answer report) h.stands.print_success, refl)), front))))
 
-pub unsupported_cut : (report : Report) (s : State) (k : ℕ) (x : Sexpr) (added : List ℕ) (kept : Kept) (h : Steps s x Unsupported kept) → IsFront added (unsupported_answer report) → IsCutShort report s k x added
+pub unsupported_cut : (report : Report) (s : State) (k : ℕ) (x : Sexpr) (added : List ℕ) (kept : Kept) (h : Steps s x (Tell Unsupported) kept) → IsFront added (unsupported_answer report) → IsCutShort report s k x added
 unfolding FollowsPart
 unsupported_cut report s k x added kept h front = inl (rw (h.leads, FollowsPart) (inl ((refl, refl), inr (unsupported_answer report, (h.state, (refl, refl)), front))))
 
@@ -131,16 +127,14 @@ refusal_cut report s k x why added leads front = inl (rw (leads, FollowsPart) ((
 
 goes_on_with : (report : Report) (effect : Effect) (s next : State) (k : ℕ) (xs : List Sexpr) (ending : Ending) (added rest : List ℕ) (status : ℕ) → effect ≢ Exit → Answers report s effect added next → Follows report next (k + 1) xs ending rest status
     → GoesOn report effect s xs ending (added ++ rest) status (λ behind out. Follows report behind (k + 1) xs ending out status)
-goes_on_with report Silent s next k xs ending added rest status apart answers follows = (added, rest, next, answers, refl, follows)
+goes_on_with report (Tell notice) s next k xs ending added rest status apart answers follows = (added, rest, next, answers, refl, follows)
 goes_on_with report CheckSat s next k xs ending added rest status apart answers follows = (added, rest, next, answers, refl, follows)
-goes_on_with report Unsupported s next k xs ending added rest status apart answers follows = (added, rest, next, answers, refl, follows)
 goes_on_with report Exit s next k xs ending added rest status apart answers follows = absurd (apart refl)
 
 goes_on_part : (report : Report) (effect : Effect) (s next : State) (k : ℕ) (xs : List Sexpr) (ending : Ending) (added rest : List ℕ) → effect ≢ Exit → Answers report s effect added next → FollowsPart report next (k + 1) xs ending rest
     → GoesOnPart report effect s xs ending (added ++ rest) (λ behind out. FollowsPart report behind (k + 1) xs ending out)
-goes_on_part report Silent s next k xs ending added rest apart answers follows = inr (added, rest, next, answers, refl, follows)
+goes_on_part report (Tell notice) s next k xs ending added rest apart answers follows = inr (added, rest, next, answers, refl, follows)
 goes_on_part report CheckSat s next k xs ending added rest apart answers follows = inr (added, rest, next, answers, refl, follows)
-goes_on_part report Unsupported s next k xs ending added rest apart answers follows = inr (added, rest, next, answers, refl, follows)
 goes_on_part report Exit s next k xs ending added rest apart answers follows = absurd (apart refl)
 
 follows_answer : (report : Report) (s next : State) (k : ℕ) (x : Sexpr) (xs : List Sexpr) (ending : Ending) (added rest : List ℕ) (status : ℕ) → IsAnswered report s x added next → Follows report next (k + 1) xs ending rest status

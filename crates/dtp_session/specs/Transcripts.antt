@@ -7,7 +7,8 @@ use Rattle.smt_sexpr.specs.Commands.{Commands, Ending, ended, stopped, unread, E
 use Rattle.dtp_session.specs.declared.report.Report.{Report}
 use Rattle.dtp_session.specs.declared.report.Report.TheVariants.{Verdicts, Certificate}
 use Rattle.smt_script.specs.declared.state.Effect.{Effect}
-use Rattle.smt_script.specs.declared.state.Effect.TheVariants.{Silent, CheckSat, Unsupported, Exit}
+use Rattle.smt_script.specs.declared.state.Effect.TheVariants.{CheckSat, Exit, Tell}
+use Rattle.smt_script.specs.declared.state.Notice.TheVariants.{Success, Unsupported}
 use Rattle.smt_script.specs.declared.state.Satisfiability.{Satisfiability}
 use Rattle.smt_script.specs.declared.state.Satisfiability.TheVariants as verdict
 use Rattle.smt_script.specs.States.{State, start_state, after, settled}
@@ -43,8 +44,8 @@ unsupported_answer Certificate = []
 -- what is written for an effect in the state behind the command, and the state behind the answer; but for the script's end
 abbrev pub Answers : Report → State → Effect → List ℕ → State → Type 0
 Answers report s CheckSat text next = (verdict : Satisfiability) × IsDecided report s.context verdict text × (next ≡ settled verdict s)
-Answers report s Silent text next = (text ≡ silent_answer report s.print_success) × (next ≡ s)
-Answers report s Unsupported text next = (text ≡ unsupported_answer report) × (next ≡ s)
+Answers report s (Tell Success) text next = (text ≡ silent_answer report s.print_success) × (next ≡ s)
+Answers report s (Tell Unsupported) text next = (text ≡ unsupported_answer report) × (next ≡ s)
 Answers report s Exit text next = (text ≡ []) × (next ≡ s)
 
 -- what is written before the first command, and at the end without an error

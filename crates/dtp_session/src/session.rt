@@ -22,7 +22,7 @@ use crate::report::Report;
 use dtp_io::Sink;
 use smt_answer::{Kind, kind_of_error};
 use smt_lex::Lexer;
-use smt_script::{Effect, Refusal, ScriptError, State};
+use smt_script::{Effect, Notice, Refusal, ScriptError, State};
 use smt_sexpr::{SexprError, SexprId, Sexprs};
 use std::alloc::Global;
 
@@ -65,11 +65,11 @@ fn carry_out<'a, K: Sink>(
 {
     smt_script::state_law();
     match state.step(sexprs, id) {
-        Ok(Effect::Silent) => {
+        Ok(Effect::Tell(Notice::Success)) => {
             write_silent(alloc, sink, report, state.print_success())?;
             Ok(Turn::Going)
         }
-        Ok(Effect::Unsupported) => {
+        Ok(Effect::Tell(Notice::Unsupported)) => {
             write_unsupported(alloc, sink, report)?;
             Ok(Turn::Going)
         }

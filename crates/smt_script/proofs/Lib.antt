@@ -5,3 +5,4 @@ pub mod Keeping
 pub mod Stepping
 pub mod MadeStates
 pub mod Exiting
+pub mod Ending

@@ -17,7 +17,7 @@ use Rattle.smt_script.specs.Commands
 use Rattle.smt_script.specs.Commands.{Command, command_of}
 use Rattle.smt_script.specs.Limits.{levels_limit}
 use Rattle.smt_script.specs.Options.{OptionEffect, printing_success, no_effect, not_supported, ill_formed_value, option_effect}
-use Rattle.smt_script.specs.States.{State, Step, start_state, silently, is_of_sort, is_taken, sort_of, after_logic, after_option, after_declaration, defined_by, after_definition, asserted_by, named_by, after_push, popped, after_pop, after_command, after_by, after, settled, IsMadeState}
+use Rattle.smt_script.specs.States.{State, Step, start_state, carried_out, is_of_sort, is_taken, sort_of, after_logic, after_option, after_declaration, defined_by, after_definition, asserted_by, named_by, after_push, popped, after_pop, after_command, after_by, after, settled, IsMadeState}
 use Rattle.smt_script.specs.declared.error.Refusal.{Refusal}
 use Rattle.smt_script.specs.declared.state.Effect.{Effect}
 use Rattle.smt_script.specs.declared.state.Mode.TheVariants as mode
@@ -76,7 +76,7 @@ module _ (s : State) (h : IsMadeState s) where
   option_made not_supported = leads_to s _ h
   option_made ill_formed_value = refuses _
 
-  changed_made : (c : Context) → IsContext c → LeadsWell (silently (record s { context = c; mode = mode.Nothing }))
+  changed_made : (c : Context) → IsContext c → LeadsWell (carried_out (record s { context = c; mode = mode.Nothing }))
   changed_made c k = leads_to (record s { context = c; mode = mode.Nothing }) _ (record { context = k; below = h.below })
 
   declaration_made : (name : List ℕ) (parameters : Items) (found : Option Sort) → LeadsWell (after_declaration s name parameters found)

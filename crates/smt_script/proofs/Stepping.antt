@@ -17,14 +17,15 @@ use Rattle.smt_script.specs.Commands.{command_of}
 use Rattle.smt_script.specs.Kept.{Kept, StandsFor, IsKept, Steps, cut_to}
 use Rattle.smt_script.specs.Limits.{levels_limit}
 use Rattle.smt_script.specs.Shapes.{Agrees, TermIs, signature_sort, only_of_sort, only_formula}
-use Rattle.smt_script.specs.States.{State, is_of_sort, is_taken, silently, after_declaration, defined_by, after_definition, asserted_by, named_by, after_push, popped, after_pop, after_by, after}
+use Rattle.smt_script.specs.States.{State, is_of_sort, is_taken, carried_out, after_declaration, defined_by, after_definition, asserted_by, named_by, after_push, popped, after_pop, after_by, after}
 use Rattle.smt_script.specs.declared.error.Refusal.{Refusal}
 use Rattle.smt_script.specs.declared.error.Refusal.TheVariants.{AlreadyDeclared, TooManyNames, TooManyLevels, PopBelowTheBottom, LeftOut, Term}
 use Rattle.smt_script.specs.declared.error.LeftOutCommand.TheVariants.{Parameters, Sort as SortLeftOut}
 use Rattle.smt_script.specs.declared.error.ScriptError.{ScriptError}
 use Rattle.smt_script.specs.declared.error.ScriptError.TheVariants.{OutOfMemory, Refused}
 use Rattle.smt_script.specs.declared.state.Effect.{Effect}
-use Rattle.smt_script.specs.declared.state.Effect.TheVariants.{Silent}
+use Rattle.smt_script.specs.declared.state.Effect.TheVariants.{Tell}
+use Rattle.smt_script.specs.declared.state.Notice.TheVariants.{Success}
 use Rattle.smt_script.specs.declared.state.Level.{Level}
 use Rattle.smt_script.specs.declared.state.Mode.TheVariants as mode
 use Rattle.smt_script.proofs.Levels.{levels_count}
@@ -129,7 +130,7 @@ module _ (kept : Kept) (s : State) (h : StandsFor kept s) where
         let test : nat_lt (length s.context.declared) names_limit ≡ false = grind (arith, nat_tests, same) in
         declaration_is s name parameters found sort given ∙ passed (is_taken s.context name) _ _ (taken_same name false free) ∙ passed (nat_lt (length s.context.declared) names_limit) _ _ test
 
-    pub declaration_steps : false ≡ (is_reserved name || is_known kept.scope name) → length kept.scope.declared < names_limit → Agrees (after_declaration s name parameters found) (declared_in kept name sort) (Ok Silent)
+    pub declaration_steps : false ≡ (is_reserved name || is_known kept.scope name) → length kept.scope.declared < names_limit → Agrees (after_declaration s name parameters found) (declared_in kept name sort) (Ok (Tell Success))
     declaration_steps free few =
         let same = names_same in
         let test : nat_lt (length s.context.declared) names_limit ≡ true = grind (arith, nat_tests, same) in (
@@ -154,7 +155,7 @@ module _ (kept : Kept) (s : State) (h : StandsFor kept s) where
       definition_error nodes new (Refused why) free e = definition_no_term why free e
 
       pub definition_steps : (made : Made) → false ≡ (is_reserved name || is_known kept.scope name) → only_of_sort sort (lowered kept.scope kept.nodes t) ≡ Ok made → take (length kept.nodes) made.nodes ≡ kept.nodes
-          → Agrees (after_definition s name parameters found t) (defined_in kept made.nodes name made.is) (Ok Silent)
+          → Agrees (after_definition s name parameters found t) (defined_in kept made.nodes name made.is) (Ok (Tell Success))
       definition_steps made free e front =
           let m = made_of_sort sort (lowered kept.scope kept.nodes t) made e in (
             record s { context = with_definition s.context name t made; mode = mode.Nothing },
@@ -167,7 +168,7 @@ module _ (kept : Kept) (s : State) (h : StandsFor kept s) where
     assertion_no_term why e = ap (asserted_by s t) (term_same t) ∙ assertion_refused s t (lowered kept.scope kept.nodes t) why e
 
     pub assertion_steps : (nodes : List NodeValue) (root : ℕ) → only_formula (lowered kept.scope kept.nodes t) ≡ Ok (record { nodes = nodes; is = formula root }) → take (length kept.nodes) nodes ≡ kept.nodes
-        → Agrees (asserted_by s t (lowered (scope_of s.context) s.context.nodes t)) (asserted_in kept nodes root) (Ok Silent)
+        → Agrees (asserted_by s t (lowered (scope_of s.context) s.context.nodes t)) (asserted_in kept nodes root) (Ok (Tell Success))
     assertion_steps nodes root e front = (
       record s { context = with_assertion s.context t nodes root; mode = mode.Nothing },
       ap (asserted_by s t) (term_same t ∙ made_formula (lowered kept.scope kept.nodes t) (record { nodes = nodes; is = formula root }) e),
@@ -185,7 +186,7 @@ module _ (kept : Kept) (s : State) (h : StandsFor kept s) where
         pub naming_taken : true ≡ (is_reserved name || is_known kept.scope name) → named_by s t name (lowered (scope_of s.context) s.context.nodes t) ≡ Err AlreadyDeclared
         naming_taken taken = naming_made ∙ chosen (is_taken s.context name) _ _ (taken_same name true taken)
 
-        pub naming_steps : false ≡ (is_reserved name || is_known kept.scope name) → take (length kept.nodes) nodes ≡ kept.nodes → Agrees (named_by s t name (lowered (scope_of s.context) s.context.nodes t)) (named_in kept nodes root name) (Ok Silent)
+        pub naming_steps : false ≡ (is_reserved name || is_known kept.scope name) → take (length kept.nodes) nodes ≡ kept.nodes → Agrees (named_by s t name (lowered (scope_of s.context) s.context.nodes t)) (named_in kept nodes root name) (Ok (Tell Success))
         naming_steps free front = (
           record s { context = with_definition (with_assertion s.context t nodes root) name t (record { nodes = nodes; is = formula root }); mode = mode.Nothing },
           naming_made ∙ passed (is_taken s.context name) _ _ (taken_same name false free),
@@ -198,7 +199,7 @@ module _ (kept : Kept) (s : State) (h : StandsFor kept s) where
       let test : nat_le (length s.below + n) levels_limit ≡ false = grind (arith, nat_tests, same) in
       passed (nat_le (length s.below + n) levels_limit) _ _ test
 
-  pub push_steps : (n : ℕ) → IsKept kept → length kept.levels + n ≤ levels_limit → Agrees (after_push s n) (pushed_in kept n) (Ok Silent)
+  pub push_steps : (n : ℕ) → IsKept kept → length kept.levels + n ≤ levels_limit → Agrees (after_push s n) (pushed_in kept n) (Ok (Tell Success))
   push_steps n sound few =
       let same = levels_same in
       let test : nat_le (length s.below + n) levels_limit ≡ true = grind (arith, nat_tests, same) in
@@ -210,17 +211,17 @@ module _ (kept : Kept) (s : State) (h : StandsFor kept s) where
       let test : nat_le n (length s.below) ≡ false = grind (arith, nat_tests, same) in
       passed (nat_le n (length s.below)) _ _ test
 
-  pop_is : (n : ℕ) → n ≤ length kept.levels → after_pop s n ≡ silently (popped s n)
+  pop_is : (n : ℕ) → n ≤ length kept.levels → after_pop s n ≡ carried_out (popped s n)
   pop_is n few =
       let same = levels_same in
       let test : nat_le n (length s.below) ≡ true = grind (arith, nat_tests, same) in
       chosen (nat_le n (length s.below)) _ _ test
 
-  pub pop_stays : (n : ℕ) → n ≡ 0 → Agrees (after_pop s n) (record kept { mode = mode.Nothing }) (Ok Silent)
+  pub pop_stays : (n : ℕ) → n ≡ 0 → Agrees (after_pop s n) (record kept { mode = mode.Nothing }) (Ok (Tell Success))
   pop_stays n zero =
-      (record s { mode = mode.Nothing }, pop_is n (omega (arith, zero)) ∙ ap silently (popped_none s n zero), stands_mode kept s mode.Nothing h)
+      (record s { mode = mode.Nothing }, pop_is n (omega (arith, zero)) ∙ ap carried_out (popped_none s n zero), stands_mode kept s mode.Nothing h)
 
-  pub pop_steps : (n i : ℕ) (level : Level) → IsKept kept → n ≤ length kept.levels → i ≡ length kept.levels - n → slice_get kept.levels i ≡ Some level → Agrees (after_pop s n) (cut_to kept i level) (Ok Silent)
+  pub pop_steps : (n i : ℕ) (level : Level) → IsKept kept → n ≤ length kept.levels → i ≡ length kept.levels - n → slice_get kept.levels i ≡ Some level → Agrees (after_pop s n) (cut_to kept i level) (Ok (Tell Success))
   pop_steps n i level sound few place at =
       let same = levels_same in
       let is : i ≡ length s.below - n = omega (arith, same, place) in

@@ -6,6 +6,7 @@ pub mod States
 pub mod Kept
 pub mod Shapes
 pub mod TermValues
+pub mod Laws
 pub use Rattle.smt_sexpr.specs.Tree
 pub use Rattle.smt_sexpr.specs.Table
 pub use Rattle.idl_node.specs.Nodes

@@ -21,7 +21,8 @@ use Rattle.smt_script.specs.declared.error.LeftOutCommand.TheVariants.{Parameter
 use Rattle.smt_script.specs.declared.error.Refusal.{Refusal}
 use Rattle.smt_script.specs.declared.error.Refusal.TheVariants.{IllFormedCommand, LogicNotSupported, AlreadyDeclared, TooManyNames, TooManyLevels, PopBelowTheBottom, LeftOut, Term}
 use Rattle.smt_script.specs.declared.state.Effect.{Effect}
-use Rattle.smt_script.specs.declared.state.Effect.TheVariants.{Silent, CheckSat, Unsupported, Exit}
+use Rattle.smt_script.specs.declared.state.Effect.TheVariants.{CheckSat, Exit, Tell}
+use Rattle.smt_script.specs.declared.state.Notice.TheVariants.{Success, Unsupported}
 use Rattle.smt_script.specs.declared.state.Mode.{Mode}
 use Rattle.smt_script.specs.declared.state.Mode.TheVariants as mode
 use Rattle.smt_script.specs.declared.state.Satisfiability.{Satisfiability}
@@ -43,22 +44,22 @@ pub record Step : Type 0 where
   pub state : State
   pub effect : Effect
 
-abbrev pub silently : State → Result Step Refusal
-silently s = Ok (record { state = s; effect = Silent })
+abbrev pub carried_out : State → Result Step Refusal
+carried_out s = Ok (record { state = s; effect = Tell Success })
 
 -- a change of the context sets the mode back
 abbrev pub changed : State → Context → Result Step Refusal
-changed s c = silently (record s { context = c; mode = mode.Nothing })
+changed s c = carried_out (record s { context = c; mode = mode.Nothing })
 
 -- ---- options and logic
 
 abbrev pub after_logic : State → Sexpr → Result Step Refusal
-after_logic s logic = if is_symbol (codes "QF_IDL") logic then silently s else Err LogicNotSupported
+after_logic s logic = if is_symbol (codes "QF_IDL") logic then carried_out s else Err LogicNotSupported
 
 abbrev pub after_option : State → OptionEffect → Result Step Refusal
-after_option s (printing_success on) = silently (record s { print_success = on })
-after_option s no_effect = silently s
-after_option s not_supported = Ok (record { state = s; effect = Unsupported })
+after_option s (printing_success on) = carried_out (record s { print_success = on })
+after_option s no_effect = carried_out s
+after_option s not_supported = Ok (record { state = s; effect = Tell Unsupported })
 after_option s ill_formed_value = Err IllFormedCommand
 
 -- ---- names
@@ -124,7 +125,7 @@ levels_of s = length s.below
 abbrev pub after_push : State → ℕ → Result Step Refusal
 after_push s n =
     if nat_le (levels_of s + n) levels_limit
-    then silently (record s { below = s.below ++ replicate n s.context; mode = mode.Nothing })
+    then carried_out (record s { below = s.below ++ replicate n s.context; mode = mode.Nothing })
     else Err TooManyLevels
 
 -- what was active comes back as it was at the push
@@ -132,14 +133,14 @@ abbrev pub popped : State → ℕ → State
 popped s n = record s { context = slice_index_or s.below (length s.below - n) s.context; below = take (length s.below - n) s.below; mode = mode.Nothing }
 
 abbrev pub after_pop : State → ℕ → Result Step Refusal
-after_pop s n = if nat_le n (levels_of s) then silently (popped s n) else Err PopBelowTheBottom
+after_pop s n = if nat_le n (levels_of s) then carried_out (popped s n) else Err PopBelowTheBottom
 
 -- ---- commands
 
 abbrev pub after_command : State → Command → Result Step Refusal
 after_command s (Commands.setting_logic logic) = after_logic s logic
 after_command s (Commands.setting_option keyword v) = after_option s (option_effect keyword v)
-after_command s Commands.informing = silently s
+after_command s Commands.informing = carried_out s
 after_command s (Commands.declaring name parameters sort) = after_declaration s name parameters (sort_of sort)
 after_command s (Commands.defining name parameters sort term) = after_definition s name parameters (sort_of sort) term
 after_command s (Commands.asserting term) = asserted_by s term (lowered (scope_of s.context) s.context.nodes term)
@@ -148,10 +149,10 @@ after_command s (Commands.pushing n) = after_push s n
 after_command s (Commands.popping n) = after_pop s n
 after_command s Commands.checking = Ok (record { state = s; effect = CheckSat })
 -- options stay
-after_command s Commands.resetting_assertions = silently (record start_state { print_success = s.print_success })
-after_command s Commands.resetting = silently start_state
+after_command s Commands.resetting_assertions = carried_out (record start_state { print_success = s.print_success })
+after_command s Commands.resetting = carried_out start_state
 after_command s Commands.exiting = Ok (record { state = s; effect = Exit })
-after_command s Commands.unsupported = Ok (record { state = s; effect = Unsupported })
+after_command s Commands.unsupported = Ok (record { state = s; effect = Tell Unsupported })
 
 abbrev pub after_by : State → Result Command Refusal → Result Step Refusal
 after_by s (Ok command) = after_command s command

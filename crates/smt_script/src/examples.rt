@@ -9,13 +9,14 @@ ghost use Rattle.smt_script.specs.Examples.{keyword, written, no_parameters, dec
 ghost use Rattle.smt_script.specs.States.{start_state, after};
 ghost use Rattle.smt_script.specs.declared.error.LeftOutCommand.TheVariants.{Parameters, Sort, DefineSort};
 ghost use Rattle.smt_script.specs.declared.error.Refusal.TheVariants.{UnknownCommand, IllFormedCommand, LogicNotSupported, AlreadyDeclared, TooManyLevels, PopBelowTheBottom, LeftOut, Term, NotYet};
-ghost use Rattle.smt_script.specs.declared.state.Effect.TheVariants.{Silent, CheckSat, Unsupported, Exit};
+ghost use Rattle.smt_script.specs.declared.state.Effect.TheVariants.{CheckSat, Exit, Tell};
+ghost use Rattle.smt_script.specs.declared.state.Notice.TheVariants.{Success, Unsupported};
 
 /// Names and assertions. `with_x` is the state behind `(declare-const x Int)`, `with_p` that behind `(declare-const p Bool)`.
 #[tactic(auto, unfolding(crate::specs::States::after, crate::specs::Commands::command_of, crate::specs::Commands::command_name, crate::specs::Commands::is_unsupported, crate::specs::Commands::left_out_of, idl_term::specs::Operators::operator_of, idl_term::specs::Operators::left_out_of, idl_term::specs::Operators::theory_symbols, idl_term::specs::Operators::reserved_words, idl_term::specs::Lowered::lowered, idl_term::specs::Lowered::lowered_leaf, idl_term::specs::Lowered::head_of, idl_term::specs::Lowered::is_let, smt_lex::specs::Numbers::value_from, smt_lex::specs::Symbols::symbol_content))]
 pub fn worked_names()
-    ensures declares { after start_state (declares x (codes "Int")) ≡ Ok (record { state = with_x; effect = Silent }) }
-    ensures function { after start_state (apply (codes "declare-fun") (x ∷ no_parameters ∷ symbol (codes "Int") ∷ [])) ≡ Ok (record { state = with_x; effect = Silent }) }
+    ensures declares { after start_state (declares x (codes "Int")) ≡ Ok (record { state = with_x; effect = Tell Success }) }
+    ensures function { after start_state (apply (codes "declare-fun") (x ∷ no_parameters ∷ symbol (codes "Int") ∷ [])) ≡ Ok (record { state = with_x; effect = Tell Success }) }
     ensures again { after with_x (declares x (codes "Bool")) ≡ Err AlreadyDeclared }
     ensures barred { after with_x (declares (written (codes "|x|")) (codes "Int")) ≡ Err AlreadyDeclared }
     ensures reserved { after start_state (declares (symbol (codes "and")) (codes "Int")) ≡ Err AlreadyDeclared }
@@ -26,10 +27,10 @@ pub fn worked_names()
     ensures unknown { after with_p (apply (codes "define-fun") (x ∷ no_parameters ∷ symbol (codes "Bool") ∷ z ∷ [])) ≡ Err (Term UnknownSymbol) }
     ensures wrong_sort { after with_p (apply (codes "define-fun") (x ∷ no_parameters ∷ symbol (codes "Int") ∷ p ∷ [])) ≡ Err (Term WrongSort) }
     ensures number { after with_p (apply (codes "assert") (numeral (codes "5") ∷ [])) ≡ Err (Term WrongSort) }
-    ensures names { after with_p (asserts_p (named (codes "n"))) ≡ Ok (record { state = with_n; effect = Silent }) }
+    ensures names { after with_p (asserts_p (named (codes "n"))) ≡ Ok (record { state = with_n; effect = Tell Success }) }
     ensures named { is_known (scope_of context_n) (codes "n") ≡ true }
     ensures named_again { after with_n (declares (symbol (codes "n")) (codes "Int")) ≡ Err AlreadyDeclared }
-    ensures attributes { after with_p (asserts_p (keyword (codes ":weight") ∷ numeral (codes "3") ∷ named (codes "n"))) ≡ Ok (record { state = with_n; effect = Silent }) }
+    ensures attributes { after with_p (asserts_p (keyword (codes ":weight") ∷ numeral (codes "3") ∷ named (codes "n"))) ≡ Ok (record { state = with_n; effect = Tell Success }) }
     ensures no_attribute { after with_p (asserts_p []) ≡ Err IllFormedCommand }
     ensures two_names { after with_p (asserts_p (keyword (codes ":named") ∷ symbol (codes "n") ∷ named (codes "m"))) ≡ Err IllFormedCommand }
 {}
@@ -37,19 +38,19 @@ pub fn worked_names()
 /// Options, levels and the other commands.
 #[tactic(auto, unfolding(crate::specs::States::after, crate::specs::Commands::command_of, crate::specs::Commands::command_name, crate::specs::Commands::is_unsupported, crate::specs::Commands::left_out_of, crate::specs::Options::option_effect, crate::specs::Options::is_production, smt_lex::specs::Numbers::value_from))]
 pub fn worked_commands()
-    ensures logic { after start_state (apply (codes "set-logic") (symbol (codes "QF_IDL") ∷ [])) ≡ Ok (record { state = start_state; effect = Silent }) }
+    ensures logic { after start_state (apply (codes "set-logic") (symbol (codes "QF_IDL") ∷ [])) ≡ Ok (record { state = start_state; effect = Tell Success }) }
     ensures other_logic { after start_state (apply (codes "set-logic") (symbol (codes "QF_LIA") ∷ [])) ≡ Err LogicNotSupported }
-    ensures option { after start_state (apply (codes "set-option") (keyword (codes ":print-success") ∷ symbol (codes "true") ∷ [])) ≡ Ok (record { state = record start_state { print_success = true }; effect = Silent }) }
+    ensures option { after start_state (apply (codes "set-option") (keyword (codes ":print-success") ∷ symbol (codes "true") ∷ [])) ≡ Ok (record { state = record start_state { print_success = true }; effect = Tell Success }) }
     ensures no_value { after start_state (apply (codes "set-option") (keyword (codes ":print-success") ∷ [])) ≡ Err IllFormedCommand }
-    ensures other_option { after start_state (apply (codes "set-option") (keyword (codes ":verbosity") ∷ numeral (codes "3") ∷ [])) ≡ Ok (record { state = start_state; effect = Unsupported }) }
-    ensures pushes { after with_p (apply (codes "push") (numeral (codes "2") ∷ [])) ≡ Ok (record { state = with_levels; effect = Silent }) }
-    ensures pops { after with_n_on_top (apply (codes "pop") (numeral (codes "1") ∷ [])) ≡ Ok (record { state = record with_p { below = context_p ∷ [] }; effect = Silent }) }
-    ensures pops_all { after with_n_on_top (apply (codes "pop") (numeral (codes "2") ∷ [])) ≡ Ok (record { state = with_p; effect = Silent }) }
+    ensures other_option { after start_state (apply (codes "set-option") (keyword (codes ":verbosity") ∷ numeral (codes "3") ∷ [])) ≡ Ok (record { state = start_state; effect = Tell Unsupported }) }
+    ensures pushes { after with_p (apply (codes "push") (numeral (codes "2") ∷ [])) ≡ Ok (record { state = with_levels; effect = Tell Success }) }
+    ensures pops { after with_n_on_top (apply (codes "pop") (numeral (codes "1") ∷ [])) ≡ Ok (record { state = record with_p { below = context_p ∷ [] }; effect = Tell Success }) }
+    ensures pops_all { after with_n_on_top (apply (codes "pop") (numeral (codes "2") ∷ [])) ≡ Ok (record { state = with_p; effect = Tell Success }) }
     ensures bottom { after with_p (apply (codes "pop") (numeral (codes "1") ∷ [])) ≡ Err PopBelowTheBottom }
     ensures too_many { after start_state (apply (codes "push") (numeral (codes "65537") ∷ [])) ≡ Err TooManyLevels }
     ensures pop_beyond { after with_p (apply (codes "pop") (numeral (codes "99999999999999999999") ∷ [])) ≡ Err PopBelowTheBottom }
-    ensures reset { after with_n_on_top (apply (codes "reset") []) ≡ Ok (record { state = start_state; effect = Silent }) }
-    ensures reset_assertions { after (record with_n_on_top { print_success = true }) (apply (codes "reset-assertions") []) ≡ Ok (record { state = record start_state { print_success = true }; effect = Silent }) }
+    ensures reset { after with_n_on_top (apply (codes "reset") []) ≡ Ok (record { state = start_state; effect = Tell Success }) }
+    ensures reset_assertions { after (record with_n_on_top { print_success = true }) (apply (codes "reset-assertions") []) ≡ Ok (record { state = record start_state { print_success = true }; effect = Tell Success }) }
     ensures checks { after with_n (apply (codes "check-sat") []) ≡ Ok (record { state = with_n; effect = CheckSat }) }
     ensures exits { after with_n (apply (codes "exit") []) ≡ Ok (record { state = with_n; effect = Exit }) }
     ensures exit_of_one { after start_state (apply (codes "exit") (numeral (codes "1") ∷ [])) ≡ Err IllFormedCommand }
@@ -57,6 +58,6 @@ pub fn worked_commands()
     ensures no_list { after start_state (numeral (codes "5")) ≡ Err IllFormedCommand }
     ensures not_yet { after start_state (apply (codes "get-model") []) ≡ Err NotYet }
     ensures left_out { after start_state (apply (codes "define-sort") (symbol (codes "A") ∷ no_parameters ∷ symbol (codes "Int") ∷ [])) ≡ Err (LeftOut DefineSort) }
-    ensures unsupported { after start_state (apply (codes "check-sat-assuming") []) ≡ Ok (record { state = start_state; effect = Unsupported }) }
-    ensures unsupported_with { after start_state (apply (codes "check-sat-assuming") (numeral (codes "5") ∷ x ∷ [])) ≡ Ok (record { state = start_state; effect = Unsupported }) }
+    ensures unsupported { after start_state (apply (codes "check-sat-assuming") []) ≡ Ok (record { state = start_state; effect = Tell Unsupported }) }
+    ensures unsupported_with { after start_state (apply (codes "check-sat-assuming") (numeral (codes "5") ∷ x ∷ [])) ≡ Ok (record { state = start_state; effect = Tell Unsupported }) }
 {}

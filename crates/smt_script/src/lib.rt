@@ -17,8 +17,8 @@ pub use command_name::CommandName;
 pub use error::{LeftOutCommand, Refusal, ScriptError};
 pub use examples::{worked_commands, worked_names};
 pub use exit::is_exit;
-pub use laws::state_law;
-pub use state::{Effect, Level, Mode, Satisfiability, State};
+pub use laws::{exit_law, state_law};
+pub use state::{Effect, Level, Mode, Notice, Satisfiability, State};
 pub use value::TermValue;
 
 #[cfg(test)]

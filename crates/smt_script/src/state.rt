@@ -34,18 +34,27 @@ const NAMES_LIMIT: usize = 65_536;
 /// The greatest number of levels above the bottom.
 const LEVELS_LIMIT: u64 = 65_536;
 
+/// What is told of a command that is carried out, where nothing else answers it.
+#[derive(Clone, Copy, Debug, PartialEq, Eq)]
+pub enum Notice {
+    /// `success`, where that is to be printed.
+    Success,
+    /// `unsupported`.
+    Unsupported,
+}
+
 /// What a command is to be answered.
 #[derive(Clone, Copy, Debug, PartialEq, Eq)]
 pub enum Effect {
-    /// Nothing but `success`, where that is to be printed.
-    Silent,
     /// A verdict on the state behind it.
     CheckSat,
-    /// `unsupported`.
-    Unsupported,
     /// Nothing, and the script ends.
     Exit,
+    Tell(Notice),
 }
+
+/// What a command without another answer is answered.
+const SUCCESS: Effect = Effect::Tell(Notice::Success);
 
 /// What the last check-sat was answered, where nothing was changed since (SMT-LIB 2.6, section 4.1.1).
 #[derive(Clone, Copy, Debug, PartialEq, Eq)]
@@ -117,7 +126,7 @@ impl<'a> State<'a> {
         ensures { (s : Meaning) (x : Sexpr) → StandsFor self.now s → Means sexprs.now logic x → Agrees (after_logic s x) self.now result }
     {
         match sexprs.symbol(logic) {
-            Some(name) if name == b"QF_IDL".as_slice() => Ok(Effect::Silent),
+            Some(name) if name == b"QF_IDL".as_slice() => Ok(SUCCESS),
             _ => Err(ScriptError::Refused(Refusal::LogicNotSupported)),
         }
     }
@@ -136,10 +145,10 @@ impl<'a> State<'a> {
         match option_effect(sexprs, keyword, value) {
             OptionEffect::PrintSuccess(on) => {
                 self.print_success = on;
-                Ok(Effect::Silent)
+                Ok(SUCCESS)
             }
-            OptionEffect::Nothing => Ok(Effect::Silent),
-            OptionEffect::Unsupported => Ok(Effect::Unsupported),
+            OptionEffect::Nothing => Ok(SUCCESS),
+            OptionEffect::Unsupported => Ok(Effect::Tell(Notice::Unsupported)),
             OptionEffect::IllFormed => Err(ScriptError::Refused(Refusal::IllFormedCommand)),
         }
     }
@@ -163,7 +172,7 @@ impl<'a> State<'a> {
         }
         self.scope.declare(signature.name, sort)?;
         self.mode = Mode::Nothing;
-        Ok(Effect::Silent)
+        Ok(SUCCESS)
     }
 
     /// `define-fun`.
@@ -187,7 +196,7 @@ impl<'a> State<'a> {
         match self.scope.define(signature.name, stands) {
             Ok(()) => {
                 self.mode = Mode::Nothing;
-                Ok(Effect::Silent)
+                Ok(SUCCESS)
             }
             Err(_) => {
                 self.nodes.cut(before);
@@ -206,7 +215,7 @@ impl<'a> State<'a> {
         let root = lower_formula(self.alloc, sexprs, term, &self.scope, &mut self.nodes)?;
         self.roots.push_reserved(root);
         self.mode = Mode::Nothing;
-        Ok(Effect::Silent)
+        Ok(SUCCESS)
     }
 
     /// `assert` of a term that is named.
@@ -231,7 +240,7 @@ impl<'a> State<'a> {
             Ok(()) => {
                 self.roots.push_reserved(root);
                 self.mode = Mode::Nothing;
-                Ok(Effect::Silent)
+                Ok(SUCCESS)
             }
             Err(_) => {
                 self.nodes.cut(before);
@@ -260,7 +269,7 @@ impl<'a> State<'a> {
         };
         self.levels.resize(depth as usize, level)?;
         self.mode = Mode::Nothing;
-        Ok(Effect::Silent)
+        Ok(SUCCESS)
     }
 
     /// Back to what there was at a push. It takes time in proportion to what goes.
@@ -285,11 +294,11 @@ impl<'a> State<'a> {
         match count {
             Some(0) => {
                 self.mode = Mode::Nothing;
-                Ok(Effect::Silent)
+                Ok(SUCCESS)
             }
             Some(count) if count <= depth as u64 => {
                 self.cut(depth - count as usize);
-                Ok(Effect::Silent)
+                Ok(SUCCESS)
             }
             _ => Err(ScriptError::Refused(Refusal::PopBelowTheBottom)),
         }
@@ -326,7 +335,7 @@ impl<'a> State<'a> {
         match request {
             Request::SetLogic(logic) => self.set_logic(sexprs, logic),
             Request::SetOption(keyword, value) => self.set_option(sexprs, keyword, value),
-            Request::SetInfo => Ok(Effect::Silent),
+            Request::SetInfo => Ok(SUCCESS),
             Request::Declare(signature) => self.declare(sexprs, signature),
             Request::Define(signature, term) => self.define(sexprs, signature, term),
             Request::Assert(term) => self.assert_term(sexprs, term),
@@ -336,14 +345,14 @@ impl<'a> State<'a> {
             Request::CheckSat => Ok(Effect::CheckSat),
             Request::ResetAssertions => {
                 self.reset_assertions();
-                Ok(Effect::Silent)
+                Ok(SUCCESS)
             }
             Request::Reset => {
                 self.reset();
-                Ok(Effect::Silent)
+                Ok(SUCCESS)
             }
             Request::Exit => Ok(Effect::Exit),
-            Request::Unsupported => Ok(Effect::Unsupported),
+            Request::Unsupported => Ok(Effect::Tell(Notice::Unsupported)),
         }
     }
 

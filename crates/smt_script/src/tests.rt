@@ -29,7 +29,7 @@ fn sizes(state: &State) -> (usize, usize, usize, usize) {
 
 type Answer = Result<Effect, ScriptError>;
 
-const SILENT: Answer = Ok(Effect::Silent);
+const SILENT: Answer = Ok(Effect::Tell(Notice::Success));
 
 const TAKEN: Answer = Err(ScriptError::Refused(Refusal::AlreadyDeclared));
 
@@ -84,7 +84,7 @@ fn options(rt: HostRuntime) {
         (b"(set-logic QF_IDL)".as_slice(), SILENT, false),
         (b"(set-option :print-success true)", SILENT, true),
         (b"(set-option :produce-models true)", SILENT, true),
-        (b"(set-option :verbosity 3)", Ok(Effect::Unsupported), true),
+        (b"(set-option :verbosity 3)", Ok(Effect::Tell(Notice::Unsupported)), true),
         (b"(reset-assertions)", SILENT, true),
         (b"(reset)", SILENT, false),
     ];

@@ -1,13 +1,13 @@
 use Rattle.std.proofs.Common.{◌≡◌, ◌+◌, ◌∙◌, sym, ap, subst, drop, Err}
 use Rattle.smt_sexpr.specs.Tree.{Sexpr}
 use Rattle.smt_script.specs.declared.state.Effect.{Effect}
-use Rattle.smt_script.specs.declared.state.Effect.TheVariants.{Silent, CheckSat, Unsupported, Exit}
+use Rattle.smt_script.specs.declared.state.Effect.TheVariants.{CheckSat, Exit, Tell}
 use Rattle.smt_script.specs.Kept.{Kept, Steps}
 use Rattle.smt_script.specs.States.{State as Meaning}
 use Rattle.smt_answer.specs.Kinds.{kind_of}
 use Rattle.dtp_session.proofs.Turning.{stands_after}
 use Rattle.dtp_check.specs.declared.judgement.Judgement.TheVariants.{Script}
-use Rattle.dtp_check.proofs.Judging.{silent_judged, unsupported_judged, check_judged, exit_judged, judged_err}
+use Rattle.dtp_check.proofs.Judging.{notice_judged, check_judged, exit_judged, judged_err}
 use Rattle.dtp_check.proofs.judge.judge_command.Goals as goal
 
 steps : (s : Meaning) (x : Sexpr) (effect is : Effect) (kept : Kept) → effect ≡ is → Steps s x effect kept → Steps s x is kept
@@ -20,20 +20,17 @@ judge_check-requires-clause-stands c =
     let h = c.in-Ok-CheckSat.ensures.ok s.0 x.0 s.1.stands x.1 in
     (h.state, stands_after c.state_law.ensures.step s.0 x.0 _ c.step.new.self h s.1.made)
 
-pub returns-in-Ok-Silent : goal.returns-in-Ok-Silent
-returns-in-Ok-Silent c = λ s x stands means.
-    silent_judged s c.args.command c.args.used x c.args.entries.now c.step.new.self c.state_law.ensures.step c.requires.used stands.made (steps s x _ Silent c.step.new.self c.in-Ok-Silent.field-0-is (c.in-Ok-Silent.ensures.ok s x stands.stands means))
-
-pub returns-in-Ok-Unsupported : goal.returns-in-Ok-Unsupported
-returns-in-Ok-Unsupported c = λ s x stands means.
-    unsupported_judged s c.args.command c.args.used x c.args.entries.now c.step.new.self c.state_law.ensures.step c.requires.used stands.made
-    (steps s x _ Unsupported c.step.new.self c.in-Ok-Unsupported.field-0-is (c.in-Ok-Unsupported.ensures.ok s x stands.stands means))
+pub returns-in-Ok-Tell : goal.returns-in-Ok-Tell
+returns-in-Ok-Tell c = λ s x stands means.
+    let notice = c.in-Ok-Tell.field-0 in
+    notice_judged s c.args.command c.args.used x c.args.entries.now c.step.new.self c.state_law.ensures.step c.exit_law.ensures.alone notice c.requires.used stands.made
+    (steps s x _ (Tell notice) c.step.new.self c.in-Ok-Tell.is (c.in-Ok-Tell.ensures.ok s x stands.stands means))
 
 pub returns-in_ok-turn-in-Ok-CheckSat : goal.returns-in_ok-turn-in-Ok-CheckSat
 returns-in_ok-turn-in-Ok-CheckSat c = λ s x stands means.
     let h = steps s x _ CheckSat c.step.new.self c.in-Ok-CheckSat.field-0-is (c.in-Ok-CheckSat.ensures.ok s x stands.stands means) in
     let there = stands_after c.state_law.ensures.step s x CheckSat c.step.new.self h stands.made in
-    check_judged s c.args.command c.args.used x c.args.entries.now c.step.new.self c.judge_check.new.state c.in_ok-turn-in-Ok-CheckSat.turn h (c.in_ok-turn-in-Ok-CheckSat.ensures h.state there)
+    check_judged s c.args.command c.args.used x c.args.entries.now c.step.new.self c.exit_law.ensures.alone c.judge_check.new.state c.in_ok-turn-in-Ok-CheckSat.turn h (c.in_ok-turn-in-Ok-CheckSat.ensures h.state there)
 
 pub returns-in-Ok-Exit : goal.returns-in-Ok-Exit
 returns-in-Ok-Exit c = λ s x stands means xs.

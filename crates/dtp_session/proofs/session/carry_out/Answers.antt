@@ -1,7 +1,8 @@
 use Rattle.std.proofs.Common.{◌≡◌, ◌∙◌, subst, ap, refl, Err}
 use Rattle.smt_sexpr.specs.Tree.{Sexpr}
 use Rattle.smt_script.specs.declared.state.Effect.{Effect}
-use Rattle.smt_script.specs.declared.state.Effect.TheVariants.{Silent, CheckSat, Unsupported, Exit}
+use Rattle.smt_script.specs.declared.state.Effect.TheVariants.{CheckSat, Exit, Tell}
+use Rattle.smt_script.specs.declared.state.Notice.TheVariants.{Success, Unsupported}
 use Rattle.smt_script.specs.Kept.{Kept, Steps}
 use Rattle.smt_script.specs.States.{State as Meaning}
 use Rattle.std.specs.Io.KnownBytes.{Appends}
@@ -24,13 +25,13 @@ write_decision-requires g c =
 
 pub returns-in_err-write_silent-in-Ok-Silent-clause-err : goal.returns-in_err-write_silent-in-Ok-Silent-clause-err
 returns-in_err-write_silent-in-Ok-Silent-clause-err g c = on_cut _ c.args.report c.args.command c.args.sexprs.now c.args.id c.args.state.now _ _ (λ s x stands means.
-    let h = steps s x _ Silent c.step.new.self c.in-Ok-Silent.field-0-is (c.in-Ok-Silent.ensures.ok s x stands.stands means) in
+    let h = steps s x _ (Tell Success) c.step.new.self c.in-Ok-Silent.field-0-is (c.in-Ok-Silent.ensures.ok s x stands.stands means) in
     let w = c.in_err-write_silent-in-Ok-Silent.ensures.err in
     (w.0, w.1, silent_cut c.args.report s c.args.command x w.0 c.step.new.self h (rw (← c.print_success.ensures) w.2)))
 
 pub returns-in_err-write_unsupported-in-Ok-Unsupported-clause-err : goal.returns-in_err-write_unsupported-in-Ok-Unsupported-clause-err
 returns-in_err-write_unsupported-in-Ok-Unsupported-clause-err g c = on_cut _ c.args.report c.args.command c.args.sexprs.now c.args.id c.args.state.now _ _ (λ s x stands means.
-    let h = steps s x _ Unsupported c.step.new.self c.in-Ok-Unsupported.field-0-is (c.in-Ok-Unsupported.ensures.ok s x stands.stands means) in
+    let h = steps s x _ (Tell Unsupported) c.step.new.self c.in-Ok-Unsupported.field-0-is (c.in-Ok-Unsupported.ensures.ok s x stands.stands means) in
     let w = c.in_err-write_unsupported-in-Ok-Unsupported.ensures.err in
     (w.0, w.1, unsupported_cut c.args.report s c.args.command x w.0 c.step.new.self h w.2))
 
@@ -53,12 +54,12 @@ returns-in_err-write_error-in-Err-Refused-clause-err g c = on_cut _ c.args.repor
 
 pub returns-in_ok-write_silent-in-Ok-Silent-clause-ok : goal.returns-in_ok-write_silent-in-Ok-Silent-clause-ok
 returns-in_ok-write_silent-in-Ok-Silent-clause-ok g c = λ s x stands means.
-    let h = steps s x _ Silent c.step.new.self c.in-Ok-Silent.field-0-is (c.in-Ok-Silent.ensures.ok s x stands.stands means) in
+    let h = steps s x _ (Tell Success) c.step.new.self c.in-Ok-Silent.field-0-is (c.in-Ok-Silent.ensures.ok s x stands.stands means) in
     (silent_answer c.args.report c.print_success.result, c.in_ok-write_silent-in-Ok-Silent.ensures.ok, silent_done c.state_law.ensures.step c.args.report s c.args.command x _ c.step.new.self stands.made h (ap (silent_answer c.args.report) c.print_success.ensures))
 
 pub returns-in_ok-write_unsupported-in-Ok-Unsupported-clause-ok : goal.returns-in_ok-write_unsupported-in-Ok-Unsupported-clause-ok
 returns-in_ok-write_unsupported-in-Ok-Unsupported-clause-ok g c = λ s x stands means.
-    let h = steps s x _ Unsupported c.step.new.self c.in-Ok-Unsupported.field-0-is (c.in-Ok-Unsupported.ensures.ok s x stands.stands means) in
+    let h = steps s x _ (Tell Unsupported) c.step.new.self c.in-Ok-Unsupported.field-0-is (c.in-Ok-Unsupported.ensures.ok s x stands.stands means) in
     (unsupported_answer c.args.report, c.in_ok-write_unsupported-in-Ok-Unsupported.ensures.ok, unsupported_done c.state_law.ensures.step c.args.report s c.args.command x _ c.step.new.self stands.made h refl)
 
 pub returns-in_ok-verdict-in-Ok-CheckSat-clause-ok : goal.returns-in_ok-verdict-in-Ok-CheckSat-clause-ok

@@ -5,7 +5,8 @@ use Rattle.smt_script.specs.Kept.{Kept, StandsFor, IsKept}
 use Rattle.smt_script.specs.Shapes.{CountIs, Agrees}
 use Rattle.smt_script.specs.States.{after_pop}
 use Rattle.smt_script.specs.declared.state.Level.{Level}
-use Rattle.smt_script.specs.declared.state.Effect.TheVariants.{Silent}
+use Rattle.smt_script.specs.declared.state.Effect.TheVariants.{Tell}
+use Rattle.smt_script.specs.declared.state.Notice.TheVariants.{Success}
 use Rattle.smt_script.proofs.Stepping.{pop_refused, pop_stays, pop_steps}
 use Rattle.smt_script.proofs.state.State.pop.Goals as goal
 
@@ -28,7 +29,7 @@ returns-in-Some-clause-agrees c = λ s n stands is.
     let level = get_or c.args.self.now.levels i nothing in
     let at = slice_get-get_or c.args.self.now.levels i nothing (grind (arith, nat_tests, count, depth, c.in-Some.count-test)) in
     let sound = subst (λ (k : Kept). IsKept k) c.self.view_is c.self.invariant in
-    subst (λ (k : Kept). Agrees (after_pop s n) k (Ok Silent)) (sym (c.cut.ensures level at)) (pop_steps c.args.self.now s stands n i level sound few place at)
+    subst (λ (k : Kept). Agrees (after_pop s n) k (Ok (Tell Success))) (sym (c.cut.ensures level at)) (pop_steps c.args.self.now s stands n i level sound few place at)
 
 pub returns-in_default-clause-agrees : goal.returns-in_default-clause-agrees
 returns-in_default-clause-agrees c = λ s n stands is.
