@@ -23,16 +23,16 @@ write_decision-requires g c =
     let h = c.in-Ok-CheckSat.ensures.ok s.0 x.0 s.1.stands x.1 in
     (h.state, stands_after c.state_law.ensures.step s.0 x.0 _ c.step.new.self h s.1.made)
 
-pub returns-in_err-write_silent-in-Ok-Silent-clause-err : goal.returns-in_err-write_silent-in-Ok-Silent-clause-err
-returns-in_err-write_silent-in-Ok-Silent-clause-err g c = on_cut _ c.args.report c.args.command c.args.sexprs.now c.args.id c.args.state.now _ _ (λ s x stands means.
-    let h = steps s x _ (Tell Success) c.step.new.self c.in-Ok-Silent.field-0-is (c.in-Ok-Silent.ensures.ok s x stands.stands means) in
-    let w = c.in_err-write_silent-in-Ok-Silent.ensures.err in
+pub returns-in_err-write_silent-in-Ok-Tell-Success-clause-err : goal.returns-in_err-write_silent-in-Ok-Tell-Success-clause-err
+returns-in_err-write_silent-in-Ok-Tell-Success-clause-err g c = on_cut _ c.args.report c.args.command c.args.sexprs.now c.args.id c.args.state.now _ _ (λ s x stands means.
+    let h = steps s x _ (Tell Success) c.step.new.self (c.in-Ok-Tell-Success.field-0-is ∙ ap Tell c.in-Ok-Tell-Success.field-0-0-is) (c.in-Ok-Tell-Success.ensures.ok s x stands.stands means) in
+    let w = c.in_err-write_silent-in-Ok-Tell-Success.ensures.err in
     (w.0, w.1, silent_cut c.args.report s c.args.command x w.0 c.step.new.self h (rw (← c.print_success.ensures) w.2)))
 
-pub returns-in_err-write_unsupported-in-Ok-Unsupported-clause-err : goal.returns-in_err-write_unsupported-in-Ok-Unsupported-clause-err
-returns-in_err-write_unsupported-in-Ok-Unsupported-clause-err g c = on_cut _ c.args.report c.args.command c.args.sexprs.now c.args.id c.args.state.now _ _ (λ s x stands means.
-    let h = steps s x _ (Tell Unsupported) c.step.new.self c.in-Ok-Unsupported.field-0-is (c.in-Ok-Unsupported.ensures.ok s x stands.stands means) in
-    let w = c.in_err-write_unsupported-in-Ok-Unsupported.ensures.err in
+pub returns-in_err-write_unsupported-in-Ok-Tell-Unsupported-clause-err : goal.returns-in_err-write_unsupported-in-Ok-Tell-Unsupported-clause-err
+returns-in_err-write_unsupported-in-Ok-Tell-Unsupported-clause-err g c = on_cut _ c.args.report c.args.command c.args.sexprs.now c.args.id c.args.state.now _ _ (λ s x stands means.
+    let h = steps s x _ (Tell Unsupported) c.step.new.self (c.in-Ok-Tell-Unsupported.field-0-is ∙ ap Tell c.in-Ok-Tell-Unsupported.field-0-0-is) (c.in-Ok-Tell-Unsupported.ensures.ok s x stands.stands means) in
+    let w = c.in_err-write_unsupported-in-Ok-Tell-Unsupported.ensures.err in
     (w.0, w.1, unsupported_cut c.args.report s c.args.command x w.0 c.step.new.self h w.2))
 
 pub returns-in_err-verdict-in-Ok-CheckSat-clause-err : goal.returns-in_err-verdict-in-Ok-CheckSat-clause-err
@@ -52,15 +52,15 @@ returns-in_err-write_error-in-Err-Refused-clause-err g c = on_cut _ c.args.repor
     let w = c.in_err-write_error-in-Err-Refused.ensures.err in
     (w.0, w.1, refusal_cut c.args.report s c.args.command x c.in-Err-Refused.why w.0 (c.in-Err-Refused.ensures.refused c.in-Err-Refused.why (ap Err c.in-Err-Refused.field-0-is) s x stands.stands means) (subst (λ (k : Kind). IsFront w.0 (error_line c.args.command k)) (c.kind.ensures ∙ ap kind_of c.in-Err-Refused.why-is) w.2)))
 
-pub returns-in_ok-write_silent-in-Ok-Silent-clause-ok : goal.returns-in_ok-write_silent-in-Ok-Silent-clause-ok
-returns-in_ok-write_silent-in-Ok-Silent-clause-ok g c = λ s x stands means.
-    let h = steps s x _ (Tell Success) c.step.new.self c.in-Ok-Silent.field-0-is (c.in-Ok-Silent.ensures.ok s x stands.stands means) in
-    (silent_answer c.args.report c.print_success.result, c.in_ok-write_silent-in-Ok-Silent.ensures.ok, silent_done c.state_law.ensures.step c.args.report s c.args.command x _ c.step.new.self stands.made h (ap (silent_answer c.args.report) c.print_success.ensures))
+pub returns-in_ok-write_silent-in-Ok-Tell-Success-clause-ok : goal.returns-in_ok-write_silent-in-Ok-Tell-Success-clause-ok
+returns-in_ok-write_silent-in-Ok-Tell-Success-clause-ok g c = λ s x stands means.
+    let h = steps s x _ (Tell Success) c.step.new.self (c.in-Ok-Tell-Success.field-0-is ∙ ap Tell c.in-Ok-Tell-Success.field-0-0-is) (c.in-Ok-Tell-Success.ensures.ok s x stands.stands means) in
+    (silent_answer c.args.report c.print_success.result, c.in_ok-write_silent-in-Ok-Tell-Success.ensures.ok, silent_done c.state_law.ensures.step c.args.report s c.args.command x _ c.step.new.self stands.made h (ap (silent_answer c.args.report) c.print_success.ensures))
 
-pub returns-in_ok-write_unsupported-in-Ok-Unsupported-clause-ok : goal.returns-in_ok-write_unsupported-in-Ok-Unsupported-clause-ok
-returns-in_ok-write_unsupported-in-Ok-Unsupported-clause-ok g c = λ s x stands means.
-    let h = steps s x _ (Tell Unsupported) c.step.new.self c.in-Ok-Unsupported.field-0-is (c.in-Ok-Unsupported.ensures.ok s x stands.stands means) in
-    (unsupported_answer c.args.report, c.in_ok-write_unsupported-in-Ok-Unsupported.ensures.ok, unsupported_done c.state_law.ensures.step c.args.report s c.args.command x _ c.step.new.self stands.made h refl)
+pub returns-in_ok-write_unsupported-in-Ok-Tell-Unsupported-clause-ok : goal.returns-in_ok-write_unsupported-in-Ok-Tell-Unsupported-clause-ok
+returns-in_ok-write_unsupported-in-Ok-Tell-Unsupported-clause-ok g c = λ s x stands means.
+    let h = steps s x _ (Tell Unsupported) c.step.new.self (c.in-Ok-Tell-Unsupported.field-0-is ∙ ap Tell c.in-Ok-Tell-Unsupported.field-0-0-is) (c.in-Ok-Tell-Unsupported.ensures.ok s x stands.stands means) in
+    (unsupported_answer c.args.report, c.in_ok-write_unsupported-in-Ok-Tell-Unsupported.ensures.ok, unsupported_done c.state_law.ensures.step c.args.report s c.args.command x _ c.step.new.self stands.made h refl)
 
 pub returns-in_ok-verdict-in-Ok-CheckSat-clause-ok : goal.returns-in_ok-verdict-in-Ok-CheckSat-clause-ok
 returns-in_ok-verdict-in-Ok-CheckSat-clause-ok g c = λ s x stands means.
