@@ -9,7 +9,7 @@ use Rattle.dtp_session.specs.Transcripts.{IsVerdict, Answers, Closes, Stops, Goe
 use Rattle.idl_term.specs.Contexts.{Context}
 use Rattle.smt_answer.specs.Kinds.{kind_of, kind_of_unreadable}
 use Rattle.smt_answer.specs.Texts.{error_line}
-use Rattle.smt_script.specs.declared.error.SexprRefusal.{SexprRefusal as Why}
+use Rattle.smt_script.specs.declared.error.Refusal.{Refusal as Why}
 use Rattle.smt_script.specs.declared.state.Effect.{Effect}
 use Rattle.smt_script.specs.declared.state.Effect.TheVariants.{CheckSat, Exit, Tell}
 use Rattle.smt_script.specs.declared.state.Notice.TheVariants.{Success, Unsupported}
