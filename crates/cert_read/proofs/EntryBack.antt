@@ -19,6 +19,7 @@ use Rattle.cert_text.specs.declared.entry.Entry.TheVariants.{Sat, Unsat}
 use Rattle.cert_text.specs.Form.{numeral_text, numeral, bound_sexprs, number_of_value, literal_sexpr, step_sexpr, lemma_sexpr, value_sexpr, entry_sexpr}
 use Rattle.smt_sexpr.specs.Shapes.{items_of}
 use Rattle.cert_text.proofs.OneEntry.{numeral_value}
+use Rattle.cert_read.specs.Laws.{EntryIsItsForm}
 use Rattle.cert_read.specs.Parts.{limit, limited, index_of, point_of, number_of, each_of, bound_of, literal_of, step_of, lemma_of, named_value_of, entry_of}
 use Rattle.cert_read.specs.Written.{NumberFits, LiteralWithin, StepWithin, LemmaWithin, ValueFits, EntryFits}
 
@@ -78,6 +79,6 @@ value_back (Int n) h = rw (number_back n h) refl
 value_back (Truth true) h = refl
 value_back (Truth false) h = refl
 
-pub entry_back : (e : Entry) → EntryFits e → entry_of (entry_sexpr e) ≡ Some e
+pub entry_back : EntryIsItsForm
 entry_back (Sat values) h = rw (each_back named_value_of value_sexpr ValueFits value_back values h) refl
 entry_back (Unsat lemmas) h = rw (each_back lemma_of lemma_sexpr LemmaFits lemma_back lemmas h) refl

@@ -3,20 +3,16 @@ use Rattle.std.proofs.Common.{◌⊎◌, inl, inr, ◌≡◌, ◌∙◌, refl, s
 use Rattle.smt_lex.specs.declared.token.Token.{Token}
 use Rattle.smt_lex.specs.declared.token.LexError.{LexError}
 use Rattle.smt_lex.specs.Grammar.{Reads}
+use Rattle.smt_lex.specs.Laws.{OneReading}
+use Rattle.smt_sexpr.specs.Laws.{OneOutcome}
 use Rattle.smt_sexpr.specs.Tree.{Sexpr}
 use Rattle.smt_sexpr.specs.Reading.{Spells, Outcome, expression, finished, refused, Outcomes}
 use Rattle.cert_text.specs.declared.entry.Entry.{Entry}
 use Rattle.cert_text.specs.Form.{header_sexpr, end_sexpr}
 use Rattle.cert_read.specs.Parts.{entry_of}
 use Rattle.cert_read.specs.declared.error.CertificateRefusal.TheVariants.{NoHeader, IllFormed, NoEnd, TextAfterEnd}
+use Rattle.cert_read.specs.Laws.{OneCertificate, OneRest}
 use Rattle.cert_read.specs.Certificates.{CertificateOutcome, certificate, no_certificate, HoldsEntries, IsStrange, HasMore, ReadsEntries, LacksHeader, ReadsCertificate}
-
--- what the laws of s-expressions and of tokens say
-abbrev pub OneOutcome : Type 0
-OneOutcome = (bytes : List ℕ) (place : ℕ) (o p : Outcome) (m n : ℕ) → Outcomes bytes place o m → Outcomes bytes place p n → (o ≡ p) × (m ≡ n)
-
-abbrev pub OneReading : Type 0
-OneReading = (bytes : List ℕ) (place : ℕ) (r s : Result (Option Token) LexError) (m n : ℕ) → Reads bytes place r m → Reads bytes place s n → (r ≡ s) × (m ≡ n)
 
 -- no entry stands at the place
 abbrev IsNone : Outcome → Type 0
@@ -249,8 +245,8 @@ module _ (one : OneOutcome) (reading : OneReading) (bytes : List ℕ) where
     ]
   ]
 
-pub certificate_one : OneOutcome → OneReading → (bytes : List ℕ) (place : ℕ) (o p : CertificateOutcome) → ReadsCertificate bytes place o → ReadsCertificate bytes place p → o ≡ p
+pub certificate_one : OneOutcome → OneReading → OneCertificate
 certificate_one one reading bytes place o p h g = certificate_same one reading bytes place o p h g
 
-pub one_behind : OneOutcome → OneReading → (bytes : List ℕ) (place : ℕ) (o p : CertificateOutcome) → ReadsEntries bytes place o → ReadsEntries bytes place p → o ≡ p
+pub one_behind : OneOutcome → OneReading → OneRest
 one_behind one reading bytes place o p h g = entries_one one reading bytes place o p h g

@@ -14,6 +14,8 @@ use Rattle.smt_sexpr.specs.Reading.{Spells}
 use Rattle.smt_sexpr.specs.Printing.{text_of}
 use Rattle.cert_text.specs.declared.entry.Entry.{Entry}
 use Rattle.cert_text.specs.Form.{header_sexpr, entry_sexpr, end_sexpr, line_of}
+use Rattle.cert_text.specs.Laws.{EntryReadsBack, LineReadsBack}
+use Rattle.cert_read.specs.Laws.{CertificateReadsBack}
 use Rattle.cert_read.specs.Certificates.{certificate, ReadsEntries, ReadsCertificate}
 use Rattle.cert_read.specs.Written.{entries_text, certificate_text, IsClosedGap, EntryFits}
 use Rattle.cert_read.proofs.EntryBack.{entry_back}
@@ -50,19 +52,12 @@ line_feed : IsClosedGap (10 ∷ [])
 unfolding is_gap is_space
 line_feed rest = refl
 
--- what the law of the format says
-abbrev pub EntryReadsBack : Type 0
-EntryReadsBack = (entry : Entry) (before after : List ℕ) → Spells (before ++ (line_of (entry_sexpr entry) ++ after)) (length before) (entry_sexpr entry) (length before + length (text_of (entry_sexpr entry)))
-
-abbrev pub ReadsBack : Sexpr → Type 0
-ReadsBack x = (before after : List ℕ) → Spells (before ++ (line_of x ++ after)) (length before) x (length before + length (text_of x))
-
 -- a line whose line feed isn't split off
 line_parts : (x : Sexpr) (rest : List ℕ) → line_of x ++ rest ≡ text_of x ++ (10 ∷ rest)
 line_parts x rest = append_assoc (text_of x) (10 ∷ []) rest
 
 -- the s-expression of a line behind the line feed before it
-line_back : (x : Sexpr) → ReadsBack x → (bytes before rest : List ℕ) (place : ℕ) → bytes ≡ before ++ (10 ∷ (line_of x ++ rest)) → place ≡ length before → Spells bytes place x (place + 1 + length (text_of x))
+line_back : (x : Sexpr) → LineReadsBack x → (bytes before rest : List ℕ) (place : ℕ) → bytes ≡ before ++ (10 ∷ (line_of x ++ rest)) → place ≡ length before → Spells bytes place x (place + 1 + length (text_of x))
 line_back x back bytes before rest place e p =
     let opened = before ++ 10 ∷ [] in
     let grouped : opened ++ (line_of x ++ rest) ≡ bytes = append_assoc before (10 ∷ []) (line_of x ++ rest) ∙ sym e in
@@ -82,7 +77,7 @@ rest_back bytes before place e p =
     let count : place + 1 ≡ length bytes = omega (arith, ap length e, length-append before (10 ∷ [])) in
     (1, subst (λ (text : List ℕ). LongestGap text 1) (sym rest) gap, (count, refl))
 
-module _ (back : EntryReadsBack) (end : ReadsBack end_sexpr) where
+module _ (back : EntryReadsBack) (end : LineReadsBack end_sexpr) where
   -- the bytes before the next line feed
   behind_line : (before rest : List ℕ) (x : Sexpr) → before ++ (10 ∷ (line_of x ++ rest)) ≡ (before ++ (10 ∷ text_of x)) ++ (10 ∷ rest)
   behind_line before rest x = ap (λ (text : List ℕ). before ++ (10 ∷ text)) (line_parts x rest) ∙ sym (append_assoc before (10 ∷ text_of x) (10 ∷ rest))
@@ -104,7 +99,7 @@ module _ (back : EntryReadsBack) (end : ReadsBack end_sexpr) where
       let others = lines_back es bytes (before ++ (10 ∷ text_of x)) mid fits.1 (grouped ∙ behind_line before rest x) count in
       (others.0, others.1, others.2, (x, mid, spells, entry_back entry fits.0, others.3), others.4, others.5)
 
-  module _ (header : ReadsBack header_sexpr) where
+  module _ (header : LineReadsBack header_sexpr) where
     text_back : (es : List Entry) (bytes before : List ℕ) (place : ℕ) → AllByRecursion EntryFits es → bytes ≡ before ++ certificate_text es → place ≡ length before → ReadsCertificate bytes place (certificate es)
     text_back es bytes before place fits e p =
         let rest = entries_text es ++ line_of end_sexpr in
@@ -119,7 +114,7 @@ module _ (back : EntryReadsBack) (end : ReadsBack end_sexpr) where
     behind_gap : (es : List Entry) (bytes gap : List ℕ) (place there : ℕ) → IsClosedGap gap → there ≡ place + length gap → drop place bytes ≡ gap ++ drop there bytes → ReadsCertificate bytes there (certificate es) → ReadsCertificate bytes place (certificate es)
     behind_gap es bytes gap place there closed e same (mid, spells, rest) = (mid, spells_before bytes gap closed place there e same header_sexpr mid spells, rest)
 
-pub certificate_back : EntryReadsBack → ReadsBack end_sexpr → ReadsBack header_sexpr → (es : List Entry) (bytes gap : List ℕ) (place : ℕ) → All EntryFits es → IsClosedGap gap → drop place bytes ≡ gap ++ certificate_text es → ReadsCertificate bytes place (certificate es)
+pub certificate_back : EntryReadsBack → LineReadsBack end_sexpr → LineReadsBack header_sexpr → CertificateReadsBack
 certificate_back back end header es bytes gap place fits closed e =
     let there = place + length gap in
     let text = certificate_text es in

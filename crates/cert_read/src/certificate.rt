@@ -145,10 +145,10 @@ pub fn read_entries(alloc: Global, lexer: &mut Lexer) -> Result<Vec<Entry>, Cert
     if lexer.error().is_some() {
         return Err(CertReadError::Refused(CertificateRefusal::IllFormed(1)));
     }
-    let before = lexer.copy();
+    let before_entries = lexer.copy();
     let result = read_lines(alloc, lexer);
     if let Err(CertReadError::OutOfMemory) = result {
-        *lexer = before;
+        *lexer = before_entries;
     }
     result
 }
@@ -192,10 +192,10 @@ pub fn read_certificate(alloc: Global, lexer: &mut Lexer) -> Result<Vec<Entry>, 
     ensures bytes { lexer.new.bytes ≡ lexer.old.bytes }
     ensures memory { result ≡ Err CertReadError.OutOfMemory → lexer.new ≡ lexer.old }
 {
-    let before = lexer.copy();
+    let before_header = lexer.copy();
     let result = read_whole(alloc, lexer);
     if let Err(CertReadError::OutOfMemory) = result {
-        *lexer = before;
+        *lexer = before_header;
     }
     result
 }

@@ -1,24 +1,18 @@
 //! Laws of the text: functions that do nothing, and tell their callers' proofs a fact.
-ghost use Rattle.std.specs.Prelude.{◌≡◌, ◌++◌, List, ℕ, Some, None, All, drop};
-ghost use Rattle.smt_lex.specs.declared.token.TokenKind.TheVariants.{Numeral};
-ghost use Rattle.smt_lex.specs.Grammar.{IsToken};
-ghost use Rattle.smt_lex.specs.Numbers.{value_of};
-ghost use Rattle.smt_sexpr.specs.Tree.{Sexpr};
-ghost use Rattle.smt_sexpr.specs.Printing.{IsWritable};
+ghost use Rattle.std.specs.Prelude.{◌≡◌, Some, None};
 ghost use Rattle.refute_tree.specs.Examples.{two_orders_refutation};
-ghost use Rattle.cert_text.specs.declared.entry.Entry.{Entry};
 ghost use Rattle.cert_text.specs.declared.entry.Entry.TheVariants.{Unsat};
-ghost use Rattle.cert_text.specs.Form.{numeral_text, entry_sexpr, end_sexpr};
+ghost use Rattle.cert_text.specs.Form.{end_sexpr};
 ghost use Rattle.cert_read.specs.Parts.{index_of, point_of, number_of, entry_of};
-ghost use Rattle.cert_read.specs.Certificates.{CertificateOutcome, certificate, ReadsEntries, ReadsCertificate};
 ghost use Rattle.cert_read.specs.WorkedForms.{two_orders_sexpr, minus_zero, beyond_points, beyond_limit, end_with_more};
-ghost use Rattle.cert_read.specs.Written.{EntryFits, IsPlain, IsClosedGap, certificate_text};
+ghost use Rattle.cert_read.specs.Laws.{OneCertificate, OneRest, CertificateReadsBack, EntryIsItsForm};
+ghost use Rattle.cert_read.specs.Laws.{ReadEntryFits, ReadEntryIsForm, TextOfValue, ValueOfText};
 
 /// A text is one thing at most at each place: a certificate with its entries, or refused for one reason. The same holds
 /// of what stands behind a header.
 pub fn one_certificate()
-    ensures certificate { (bytes : List ℕ) (place : ℕ) (o p : CertificateOutcome) → ReadsCertificate bytes place o → ReadsCertificate bytes place p → o ≡ p }
-    ensures entries { (bytes : List ℕ) (place : ℕ) (o p : CertificateOutcome) → ReadsEntries bytes place o → ReadsEntries bytes place p → o ≡ p }
+    ensures certificate { OneCertificate }
+    ensures entries { OneRest }
 {
     smt_lex::one_reading();
     smt_sexpr::one_outcome();
@@ -27,8 +21,8 @@ pub fn one_certificate()
 /// A certificate that is written behind a gap, up to the end of the text, is read as the entries that were written, where
 /// the numbers are within the limits.
 pub fn certificate_reads_back()
-    ensures text { (entries : List Entry) (bytes gap : List ℕ) (place : ℕ) → All EntryFits entries → IsClosedGap gap → drop place bytes ≡ gap ++ certificate_text entries → ReadsCertificate bytes place (certificate entries) }
-    ensures entry { (entry : Entry) → EntryFits entry → entry_of (entry_sexpr entry) ≡ Some entry }
+    ensures text { CertificateReadsBack }
+    ensures entry { EntryIsItsForm }
 {
     cert_text::reads_back_entry();
 }
@@ -47,12 +41,12 @@ pub fn examples_law()
 /// What is read as an entry has numbers within the limits, and the entry's own form, where no point in it is the greatest
 /// one, as which all greater ones are read.
 pub fn only_entries()
-    ensures fits { (x : Sexpr) (entry : Entry) → IsWritable x → entry_of x ≡ Some entry → EntryFits entry }
-    ensures form { (x : Sexpr) (entry : Entry) → IsWritable x → entry_of x ≡ Some entry → IsPlain entry → x ≡ entry_sexpr entry }
+    ensures fits { ReadEntryFits }
+    ensures form { ReadEntryIsForm }
 {}
 
 /// A numeral's digits are those of its value, and the digits of a number have it as their value.
 pub fn numeral_law()
-    ensures text { (text : List ℕ) → IsToken Numeral text → numeral_text (value_of text) ≡ text }
-    ensures value { (n : ℕ) → value_of (numeral_text n) ≡ n }
+    ensures text { TextOfValue }
+    ensures value { ValueOfText }
 {}

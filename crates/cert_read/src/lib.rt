@@ -12,8 +12,6 @@ mod error;
 mod laws;
 mod number;
 mod part;
-#[cfg(test)]
-mod tests;
 
 pub use certificate::{is_header, read_certificate, read_entries};
 pub use error::{CertReadError, CertificateRefusal};

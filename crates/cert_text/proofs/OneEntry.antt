@@ -4,6 +4,7 @@ use Rattle.std.proofs.lemmas.Bool.{ne_eqb}
 use Rattle.std.proofs.lemmas.Int.Digits.{number_digits_of}
 use Rattle.std.specs.Int.Digits.{digits_of, number_from_digits_after}
 use Rattle.smt_lex.specs.Numbers.{value_from, value_of}
+use Rattle.smt_sexpr.specs.Laws.{OneValue, SexprReadsBack}
 use Rattle.smt_sexpr.specs.Tree.{Sexpr, Items, leaf, list, none, more}
 use Rattle.smt_sexpr.specs.Reading.{Spells}
 use Rattle.smt_sexpr.specs.Printing.{text_of}
@@ -17,7 +18,8 @@ use Rattle.cert_text.specs.declared.entry.Entry.{Entry}
 use Rattle.cert_text.specs.declared.entry.Entry.TheVariants.{Sat, Unsat}
 use Rattle.cert_text.specs.Form.{numeral_text, numeral, bound_sexprs, number_of_value, literal_sexpr, step_sexpr, lemma_sexpr, value_sexpr, entry_sexpr, line_of}
 use Rattle.smt_sexpr.specs.Shapes.{items_of}
-use Rattle.cert_text.proofs.Writable.{ReadsBack, entry_back}
+use Rattle.cert_text.specs.Laws.{OneEntry, OneLine}
+use Rattle.cert_text.proofs.Writable.{entry_back}
 
 -- ---- the value of a numeral
 
@@ -122,7 +124,7 @@ value_one (Truth false) (Int (pos m)) e = absurd cc
 value_one (Truth true) (Int (negsuc m)) e = absurd cc
 value_one (Truth false) (Int (negsuc m)) e = absurd cc
 
-pub entry_one : (e f : Entry) → entry_sexpr e ≡ entry_sexpr f → e ≡ f
+pub entry_one : OneEntry
 entry_one (Sat vs) (Sat ws) e = ap Sat (each_one value_sexpr value_one vs ws (ap (λ x. others (parts x)) e))
 entry_one (Unsat ls) (Unsat ks) e = ap Unsat (each_one lemma_sexpr lemma_one ls ks (ap (λ x. others (parts x)) e))
 entry_one (Sat vs) (Unsat ks) e = absurd (omega (arith, ap first_byte e))
@@ -130,11 +132,7 @@ entry_one (Unsat ls) (Sat ws) e = absurd (omega (arith, ap first_byte e))
 
 -- ---- lines
 
--- what the laws of s-expressions say
-abbrev pub OneValue : Type 0
-OneValue = (bytes : List ℕ) (place : ℕ) (x y : Sexpr) (m n : ℕ) → Spells bytes place x m → Spells bytes place y n → (x ≡ y) × (m ≡ n)
-
-pub line_one : OneValue → ReadsBack → (e f : Entry) → line_of (entry_sexpr e) ≡ line_of (entry_sexpr f) → e ≡ f
+pub line_one : OneValue → SexprReadsBack → OneLine
 line_one one back e f same =
     let m = length (text_of (entry_sexpr e)) in
     let n = length (text_of (entry_sexpr f)) in

@@ -20,6 +20,8 @@ use Rattle.refute_tree.specs.declared.step.Step.TheVariants.{Cycle, Input, Lemma
 use Rattle.refute_tree.specs.declared.lemma.Lemma.{Lemma}
 use Rattle.cert_text.specs.declared.entry.Entry.{Entry}
 use Rattle.cert_text.specs.declared.entry.Entry.TheVariants.{Sat, Unsat}
+use Rattle.smt_sexpr.specs.Laws.{SexprReadsBack}
+use Rattle.cert_text.specs.Laws.{EntryIsWritable, EntryReadsBack, LineReadsBack}
 use Rattle.cert_text.specs.Form.{numeral_text, numeral, number_of_value, literal_sexpr, step_sexpr, lemma_sexpr, value_sexpr, header_sexpr, entry_sexpr, end_sexpr, line_of}
 use Rattle.smt_sexpr.specs.Shapes.{items_of}
 
@@ -76,7 +78,7 @@ value_writable (Int n) = number_writable n
 value_writable (Truth true) = refl
 value_writable (Truth false) = refl
 
-pub entry_writable : (entry : Entry) → IsWritable (entry_sexpr entry)
+pub entry_writable : EntryIsWritable
 unfolding is_quoted_byte
 entry_writable (Sat values) = (refl, each_writable value_sexpr value_writable values)
 entry_writable (Unsat lemmas) = (refl, each_writable lemma_sexpr lemma_writable lemmas)
@@ -91,15 +93,11 @@ end_writable = (refl, tt)
 
 -- ---- read again
 
--- what the law of s-expressions says
-abbrev pub ReadsBack : Type 0
-ReadsBack = (x : Sexpr) (before after : List ℕ) → IsWritable x → EndsSexpr x after → Spells (before ++ (text_of x ++ after)) (length before) x (length before + length (text_of x))
-
-pub line_back : ReadsBack → (x : Sexpr) → ((rest : List ℕ) → EndsSexpr x rest) → IsWritable x → (before after : List ℕ) → Spells (before ++ (line_of x ++ after)) (length before) x (length before + length (text_of x))
+pub line_back : SexprReadsBack → (x : Sexpr) → ((rest : List ℕ) → EndsSexpr x rest) → IsWritable x → LineReadsBack x
 line_back back x ends w before after =
     let same : before ++ (text_of x ++ 10 ∷ after) ≡ before ++ (line_of x ++ after) = ap (λ bytes. before ++ bytes) (sym (append_assoc (text_of x) (10 ∷ []) after)) in
     subst (λ bytes. Spells bytes (length before) x (length before + length (text_of x))) same (back x before (10 ∷ after) w (ends (10 ∷ after)))
 
-pub entry_back : ReadsBack → (entry : Entry) (before after : List ℕ) → Spells (before ++ (line_of (entry_sexpr entry) ++ after)) (length before) (entry_sexpr entry) (length before + length (text_of (entry_sexpr entry)))
+pub entry_back : SexprReadsBack → EntryReadsBack
 entry_back back (Sat values) = line_back back (entry_sexpr (Sat values)) (λ rest. tt) (entry_writable (Sat values))
 entry_back back (Unsat lemmas) = line_back back (entry_sexpr (Unsat lemmas)) (λ rest. tt) (entry_writable (Unsat lemmas))

@@ -8,8 +8,6 @@
 mod entry;
 mod laws;
 mod number;
-#[cfg(test)]
-mod tests;
 mod writer;
 
 pub use entry::{Entry, write_end, write_entry, write_header};

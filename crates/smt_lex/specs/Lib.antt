@@ -5,3 +5,4 @@ pub mod Grammar
 pub mod Lexing
 pub mod Symbols
 pub mod Numbers
+pub mod Laws

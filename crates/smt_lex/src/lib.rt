@@ -29,6 +29,3 @@ pub use lexer::Lexer;
 pub use numeral::{numeral_digits, numeral_value};
 pub use symbol::{content_of_symbol, symbol_content};
 pub use token::{LexError, LexErrorKind, Token, TokenKind};
-
-#[cfg(test)]
-mod tests;

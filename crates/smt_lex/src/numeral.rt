@@ -1,9 +1,8 @@
 //! The number that a numeral stands for.
-ghost use Rattle.std.specs.Prelude.{◌≡◌, List, ℕ, ◌^◌, ◌<◌, ◌≤◌, IsTrue, IfSome, IsNone};
+ghost use Rattle.std.specs.Prelude.{◌≡◌, ◌^◌, ◌<◌, ◌≤◌, IsTrue, IfSome, IsNone};
 ghost use Rattle.std.specs.Char.{is_ascii_digit};
 ghost use Rattle.std.specs.List.{list_all};
-ghost use Rattle.smt_lex.specs.Grammar.{IsToken};
-ghost use Rattle.smt_lex.specs.declared.token.TokenKind.TheVariants.{Numeral};
+ghost use Rattle.smt_lex.specs.Laws.{NumeralIsDigits};
 ghost use Rattle.smt_lex.specs.Numbers.{value_of};
 
 /// The number that the digits stand for, or `None` where it is 2^64 or more. Leading zeros may
@@ -24,5 +23,5 @@ pub fn numeral_value(digits: &[u8]) -> Option<u64>
 
 /// A numeral's token is digits alone, so [`numeral_value`] may be asked for its value.
 pub fn numeral_digits()
-    ensures { (text : List ℕ) → IsToken Numeral text → IsTrue (list_all is_ascii_digit text) }
+    ensures { NumeralIsDigits }
 {}

@@ -1,9 +1,7 @@
 //! Symbols, whichever way they are written.
-ghost use Rattle.std.specs.Prelude.{◌≡◌, List, ℕ, ◌⊎◌, ◌++◌, ◌∷◌, [], IsTrue};
-ghost use Rattle.std.specs.List.{list_all};
-ghost use Rattle.smt_lex.specs.Bytes.{is_quoted_byte};
-ghost use Rattle.smt_lex.specs.Grammar.{IsToken, is_simple_symbol};
-ghost use Rattle.smt_lex.specs.declared.token.TokenKind.TheVariants.{Symbol};
+ghost use Rattle.std.specs.Prelude.{◌≡◌, List, ℕ, ◌++◌, ◌∷◌, [], IsTrue};
+ghost use Rattle.smt_lex.specs.Grammar.{is_simple_symbol};
+ghost use Rattle.smt_lex.specs.Laws.{ContentOfSymbol};
 ghost use Rattle.smt_lex.specs.Symbols.{symbol_content};
 
 /// The bytes of a symbol's token without its bars, so that `|x|` and `x` are one symbol. Two symbols
@@ -21,9 +19,7 @@ pub fn symbol_content(text: &[u8]) -> &[u8]
 /// The content of a symbol's token is the token itself, which is a simple symbol, or it is what
 /// stands between its bars, which is neither a bar nor a backslash.
 pub fn content_of_symbol()
-    ensures cases { (text : List ℕ) → IsToken Symbol text
-        → (IsTrue (is_simple_symbol text) × (symbol_content text ≡ text))
-        ⊎ (IsTrue (list_all is_quoted_byte (symbol_content text)) × (text ≡ 124 ∷ symbol_content text ++ 124 ∷ [])) }
+    ensures cases { ContentOfSymbol }
     ensures plain { (text : List ℕ) → IsTrue (is_simple_symbol text) → symbol_content text ≡ text }
     ensures barred { (content : List ℕ) → symbol_content (124 ∷ content ++ 124 ∷ []) ≡ content }
 {}

@@ -5,11 +5,13 @@ use Rattle.smt_lex.specs.declared.token.TokenKind.TheVariants.{Left, Right}
 use Rattle.smt_lex.specs.declared.token.Token.{Token}
 use Rattle.smt_lex.specs.declared.token.LexError.{LexError}
 use Rattle.smt_lex.specs.Grammar.{Reads}
+use Rattle.smt_lex.specs.Laws.{OneReading}
+use Rattle.smt_sexpr.specs.Laws.{OneOutcome}
 use Rattle.smt_sexpr.specs.Tree.{Sexpr, Items, leaf, list, none, more}
 use Rattle.smt_sexpr.specs.declared.error.SexprRefusal.{SexprRefusal}
 use Rattle.smt_sexpr.specs.declared.error.SexprRefusal.TheVariants.{Lex, UnclosedList, StrayClose}
 use Rattle.smt_sexpr.specs.Reading.{ReadsToken, Spells, SpellsEach, IsInside, reached, behind, deeper, IsOpen, Refuses, Outcome, expression, finished, refused, Outcomes}
-use Rattle.smt_sexpr.proofs.OneValue.{OneReading, same_token, not_right, not_left, spells_same}
+use Rattle.smt_sexpr.proofs.OneValue.{same_token, not_right, not_left, spells_same}
 
 -- no token is read
 abbrev IsDead : Result (Option Token) LexError → Type 0
@@ -182,5 +184,5 @@ module _ (one : OneReading) (bytes : List ℕ) where
   outcome_here place (refused why) finished m n h k = absurd (finished_not_refused place why n m k h)
   outcome_here place (refused why) (refused other) m n h k = let same = refusal_one place why other m n h k in (ap refused same.0, same.1)
 
-pub outcomes_one : OneReading → (bytes : List ℕ) (place : ℕ) (o p : Outcome) (m n : ℕ) → Outcomes bytes place o m → Outcomes bytes place p n → (o ≡ p) × (m ≡ n)
+pub outcomes_one : OneReading → OneOutcome
 outcomes_one one bytes place o p m n h k = outcome_here one bytes place o p m n h k

@@ -5,13 +5,10 @@ use Rattle.smt_lex.specs.declared.token.TokenKind.{TokenKind}
 use Rattle.smt_lex.specs.declared.token.TokenKind.TheVariants.{Left, Right}
 use Rattle.smt_lex.specs.declared.token.Token.{Token}
 use Rattle.smt_lex.specs.declared.token.LexError.{LexError}
-use Rattle.smt_lex.specs.Grammar.{Reads}
+use Rattle.smt_lex.specs.Laws.{OneReading}
+use Rattle.smt_sexpr.specs.Laws.{OneValue}
 use Rattle.smt_sexpr.specs.Tree.{Sexpr, Items, leaf, list, none, more, leaf_text}
 use Rattle.smt_sexpr.specs.Reading.{ReadsToken, Spells, SpellsEach}
-
--- what the lexer's law says
-abbrev pub OneReading : Type 0
-OneReading = (bytes : List ℕ) (place : ℕ) (r s : Result (Option Token) LexError) (m n : ℕ) → Reads bytes place r m → Reads bytes place s n → (r ≡ s) × (m ≡ n)
 
 module _ (one : OneReading) (bytes : List ℕ) where
   pub same_token : (place : ℕ) (t u : Token) (m n : ℕ) → ReadsToken bytes place t m → ReadsToken bytes place u n → (t ≡ u) × (m ≡ n)
@@ -65,5 +62,5 @@ module _ (one : OneReading) (bytes : List ℕ) where
         let rest = each_same mid xs ys last end m n c d each pc pr (subst (λ (here : ℕ). SpellsEach bytes here ys end) (sym first.1) each') qd qr in
         (more_same x y xs ys first.0 rest.0, rest.1)
 
-pub spells_one : OneReading → (bytes : List ℕ) (place : ℕ) (x y : Sexpr) (m n : ℕ) → Spells bytes place x m → Spells bytes place y n → (x ≡ y) × (m ≡ n)
+pub spells_one : OneReading → OneValue
 spells_one one bytes place x y m n p q = spells_same one bytes place x y m n p q

@@ -6,17 +6,12 @@ use Rattle.smt_lex.specs.declared.token.TokenKind.{TokenKind}
 use Rattle.smt_lex.specs.declared.token.TokenKind.TheVariants.{Left, Right}
 use Rattle.smt_lex.specs.declared.token.Token.{Token}
 use Rattle.smt_lex.specs.Grammar.{IsToken, Reads}
+use Rattle.smt_lex.specs.Laws.{ReadsBefore, ReadsClosing}
+use Rattle.smt_sexpr.specs.Laws.{ListIsWithin, ListReadsOn}
 use Rattle.smt_sexpr.specs.Tree.{Sexpr, Items, leaf, list, none, more, leaf_text}
 use Rattle.smt_sexpr.specs.Reading.{ReadsToken, Spells, SpellsEach}
 use Rattle.smt_sexpr.proofs.Leaves.{token_forward}
 use Rattle.smt_sexpr.proofs.Loop.{each_forward}
-
--- what the lexer's law says
-abbrev pub ReadsBefore : Type 0
-ReadsBefore = (front rest other : List ℕ) (place : ℕ) (t : Token) (after : ℕ) → Reads (front ++ 41 ∷ rest) place (Ok (Some t)) after → after ≤ length front → Reads (front ++ 41 ∷ other) place (Ok (Some t)) after
-
-abbrev pub ReadsClosing : Type 0
-ReadsClosing = (front rest other : List ℕ) (place : ℕ) (t : Token) (after : ℕ) → Reads (front ++ 41 ∷ rest) place (Ok (Some t)) after → t.start ≡ length front → Reads (front ++ 41 ∷ other) place (Ok (Some t)) after
 
 take_front : (n : ℕ) (xs ys : List ℕ) → n ≤ length xs → take n (xs ++ ys) ≡ take n xs
 take_front zero xs ys le = refl
@@ -93,11 +88,11 @@ module _ (before : ReadsBefore) (front rest other : List ℕ) where
 token_start : (bytes : List ℕ) (place : ℕ) (t : Token) (after : ℕ) → ReadsToken bytes place t after → place ≤ t.start
 token_start bytes place t after (n, gap, (start, m, longest, end, behind)) = omega arith
 
-pub list_within : (bytes : List ℕ) (place after : ℕ) (xs : Items) → Spells bytes place (list xs) after → after ≤ length bytes
+pub list_within : ListIsWithin
 unfolding Spells
 list_within bytes place after xs (opening, mid, last, closing, p, l, each, c, k) = (closed bytes last closing after c k).within
 
-pub list_on : ReadsBefore → ReadsClosing → (bytes added : List ℕ) (place after : ℕ) (xs : Items) → Spells bytes place (list xs) after → Spells (bytes ++ added) place (list xs) after
+pub list_on : ReadsBefore → ReadsClosing → ListReadsOn
 unfolding Spells
 list_on before close bytes added place after xs (opening, mid, last, closing, p, l, each, c, k) =
     let h = closed bytes last closing after c k in

@@ -6,6 +6,8 @@ use Rattle.smt_lex.specs.declared.token.TokenKind.{TokenKind}
 use Rattle.smt_lex.specs.declared.token.TokenKind.TheVariants.{Left, Right}
 use Rattle.smt_lex.specs.declared.token.Token.{Token}
 use Rattle.smt_lex.specs.Grammar.{IsToken, EndsToken, Reads}
+use Rattle.smt_lex.specs.Laws.{ReadsBack}
+use Rattle.smt_sexpr.specs.Laws.{SexprReadsBack}
 use Rattle.smt_sexpr.specs.Tree.{Sexpr, Items, leaf, list, none, more, leaf_text, IsLeaf}
 use Rattle.smt_sexpr.specs.Reading.{ReadsToken, Spells, SpellsEach}
 use Rattle.smt_sexpr.specs.Printing.{written, text_of, text_behind, IsWritable, AreWritable, EndsSexpr}
@@ -13,11 +15,6 @@ use Rattle.smt_sexpr.proofs.Leaves.{leaf_apart, written_token, written_text, tok
 
 abbrev token : TokenKind → ℕ → ℕ → Token
 token kind start end = record { kind = kind; start = start; end = end }
-
--- what the lexer's law says
-abbrev pub ReadsBack : Type 0
-ReadsBack = (kind : TokenKind) (before gap text after : List ℕ) → (gap ≡ []) ⊎ (gap ≡ 32 ∷ []) → IsToken kind text → EndsToken kind after
-    → Reads (before ++ (gap ++ (text ++ after))) (length before) (Ok (Some (token kind (length before + length gap) (length before + length gap + length text)))) (length before + length gap + length text)
 
 -- what was written is at its place
 text_is : (bytes before gap text after : List ℕ) (place end : ℕ) → bytes ≡ before ++ (gap ++ (text ++ after)) → place ≡ length before → end ≡ place + length gap + length text → slice_range bytes (place + length gap) end ≡ text
@@ -107,7 +104,7 @@ module _ (back : ReadsBack) where
         let rest = each_back xs bytes (before ++ (32 ∷ text_of x)) after mid end (grouped ∙ sym (append_assoc before (32 ∷ text_of x) (text_behind xs ++ after))) (omega (arith, length-append before (32 ∷ text_of x))) (omega (arith, length-append (text_of x) (text_behind xs))) w.1 in
         (rest.0, rest.1, (mid, first, rest.2), rest.3, rest.4)
 
-pub list_back : ReadsBack → (x : Sexpr) (before after : List ℕ) → IsWritable x → EndsSexpr x after → Spells (before ++ (text_of x ++ after)) (length before) x (length before + length (text_of x))
+pub list_back : ReadsBack → SexprReadsBack
 list_back back x before after w h = spells_back back x (before ++ (text_of x ++ after)) before [] after (length before) (length before + length (text_of x)) refl refl (omega arith) (inl refl) w h
 
 -- ---- what is read can be written

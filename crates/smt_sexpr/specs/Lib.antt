@@ -4,6 +4,7 @@ pub mod Shapes
 pub mod Reading
 pub mod Printing
 pub mod Commands
+pub mod Laws
 pub use Rattle.smt_lex.specs.Bytes
 pub use Rattle.smt_lex.specs.Grammar
 pub use Rattle.smt_lex.specs.Lexing

@@ -2,7 +2,7 @@
 use Rattle.std.specs.Prelude.{ℕ, zero, suc, IsTrue, Option, Some, None, List}
 use Rattle.std.specs.List.{list_all}
 use Rattle.smt_lex.specs.declared.token.TokenKind.{TokenKind}
-use Rattle.smt_lex.specs.declared.token.TokenKind.TheVariants.{Left, Right, Numeral, Symbol}
+use Rattle.smt_lex.specs.declared.token.TokenKind.TheVariants.{Left, Right, Numeral, Symbol, Keyword}
 use Rattle.smt_lex.specs.Bytes.{is_quoted_byte}
 use Rattle.smt_lex.specs.Grammar.{IsToken}
 use Rattle.smt_lex.specs.Symbols.{symbol_content}
@@ -38,6 +38,11 @@ leaf_of (list xs) = None
 abbrev pub symbol_of : Sexpr → Option (List ℕ)
 symbol_of (leaf Symbol text) = Some text
 symbol_of x = None
+
+-- the bytes of a keyword, with its colon
+abbrev pub keyword_of : Sexpr → Option (List ℕ)
+keyword_of (leaf Keyword text) = Some text
+keyword_of x = None
 
 -- the digits of a numeral
 abbrev pub numeral_of : Sexpr → Option (List ℕ)

@@ -26,6 +26,3 @@ pub use laws::{
 };
 pub use node::{Node, SexprId};
 pub use sexprs::Sexprs;
-
-#[cfg(test)]
-mod tests;

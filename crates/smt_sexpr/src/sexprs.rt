@@ -1,7 +1,7 @@
 ghost use Rattle.std.specs.Prelude.{◌≡◌, ◌<◌, ◌≤◌, ◌++◌, length, IfSome, IfOk, Ok, Err, OnOk, OnErr, Some, None, [], ℕ, IsTrue, option_map};
 ghost use Rattle.smt_lex.specs.declared.token.LexError.{LexError};
 ghost use Rattle.smt_lex.specs.Grammar.{is_numeral};
-ghost use Rattle.smt_sexpr.specs.Tree.{Sexpr, leaf_of, symbol_of, numeral_of, item_of};
+ghost use Rattle.smt_sexpr.specs.Tree.{Sexpr, leaf_of, symbol_of, keyword_of, numeral_of, item_of};
 ghost use Rattle.smt_sexpr.specs.Table.{Means, HasMeaning, HasItem, IsNodeOf, ItemsAre, Grows};
 ghost use Rattle.smt_sexpr.specs.Reading.{Finds, failed_of};
 ghost use Rattle.smt_sexpr.specs.Printing.{text_of};
@@ -138,6 +138,17 @@ impl<'a> Sexprs<'a> {
     {
         match self.leaf(id) {
             Some((TokenKind::Symbol, text)) => Some(text),
+            _ => None,
+        }
+    }
+
+    /// A keyword's bytes with its colon, or `None` for all else.
+    pub fn keyword(&self, id: SexprId) -> Option<&'a [u8]>
+        requires { HasMeaning self.now id }
+        ensures { (x : Sexpr) → Means self.now id x → option_map (λ text. text.now) result ≡ keyword_of x }
+    {
+        match self.leaf(id) {
+            Some((TokenKind::Keyword, text)) => Some(text),
             _ => None,
         }
     }

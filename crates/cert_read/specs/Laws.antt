@@ -1,0 +1,48 @@
+-- What the laws of reading a certificate say.
+use Rattle.std.specs.Prelude.{◌≡◌, ℕ, All, drop, List, ◌++◌, Some}
+use Rattle.smt_lex.specs.declared.token.TokenKind.TheVariants.{Numeral}
+use Rattle.smt_lex.specs.Grammar.{IsToken}
+use Rattle.smt_lex.specs.Numbers.{value_of}
+use Rattle.smt_sexpr.specs.Printing.{IsWritable}
+use Rattle.smt_sexpr.specs.Tree.{Sexpr}
+use Rattle.cert_text.specs.declared.entry.Entry.{Entry}
+use Rattle.cert_text.specs.Form.{entry_sexpr, numeral_text}
+use Rattle.cert_text.specs.Limits.{EntryFits, IsPlain}
+use Rattle.cert_read.specs.Certificates.{CertificateOutcome, ReadsCertificate, ReadsEntries, certificate}
+use Rattle.cert_read.specs.Parts.{entry_of}
+use Rattle.cert_read.specs.Written.{IsClosedGap, certificate_text}
+
+-- a text is one thing at most, as a certificate
+abbrev pub OneCertificate : Type 0
+OneCertificate = (bytes : List ℕ) (place : ℕ) (o p : CertificateOutcome)
+    → ReadsCertificate bytes place o → ReadsCertificate bytes place p → o ≡ p
+
+-- and as what stands behind a header
+abbrev pub OneRest : Type 0
+OneRest = (bytes : List ℕ) (place : ℕ) (o p : CertificateOutcome)
+    → ReadsEntries bytes place o → ReadsEntries bytes place p → o ≡ p
+
+-- a certificate that is written behind a gap, up to the end of the text, is read as the entries that were written
+abbrev pub CertificateReadsBack : Type 0
+CertificateReadsBack = (entries : List Entry) (bytes gap : List ℕ) (place : ℕ) → All EntryFits entries → IsClosedGap gap
+    → drop place bytes ≡ gap ++ certificate_text entries → ReadsCertificate bytes place (certificate entries)
+
+-- the s-expression of an entry within the limits stands for this entry
+abbrev pub EntryIsItsForm : Type 0
+EntryIsItsForm = (entry : Entry) → EntryFits entry → entry_of (entry_sexpr entry) ≡ Some entry
+
+-- what is read as an entry is within the limits
+abbrev pub ReadEntryFits : Type 0
+ReadEntryFits = (x : Sexpr) (entry : Entry) → IsWritable x → entry_of x ≡ Some entry → EntryFits entry
+
+-- and has the entry's own form, where no point in it is the greatest one
+abbrev pub ReadEntryIsForm : Type 0
+ReadEntryIsForm = (x : Sexpr) (entry : Entry) → IsWritable x → entry_of x ≡ Some entry → IsPlain entry → x ≡ entry_sexpr entry
+
+-- a numeral's digits are those of its value
+abbrev pub TextOfValue : Type 0
+TextOfValue = (text : List ℕ) → IsToken Numeral text → numeral_text (value_of text) ≡ text
+
+-- the digits of a number have it as their value
+abbrev pub ValueOfText : Type 0
+ValueOfText = (n : ℕ) → value_of (numeral_text n) ≡ n
