@@ -9,7 +9,7 @@ use Rattle.smt_script.specs.declared.attribute.Awaited.{Awaited}
 use Rattle.smt_script.specs.declared.attribute.Awaited.TheVariants as awaited
 use Rattle.smt_script.specs.declared.error.Refusal.{Refusal}
 use Rattle.smt_script.specs.declared.error.Refusal.TheVariants.{IllFormedCommand}
-use Rattle.smt_script.proofs.Arguments.{next_of, none_of}
+use Rattle.smt_sexpr.proofs.Shapes.{next_of, none_of}
 
 abbrev pub left_after : Attributes → Items → Option Named
 left_after a xs = named_after (shown_awaited a.awaited) (shown_name a.name) xs

@@ -38,10 +38,6 @@ abbrev pub error_of_term : TermError → ScriptError
 error_of_term term.OutOfMemory = OutOfMemory
 error_of_term (term.Refused why) = Refused (Term why)
 
--- ids that stand for s-expressions
-abbrev pub HaveMeaning : Table → List ℕ → Type 0
-HaveMeaning t ids = (xs : Items) × MeansEach t ids xs
-
 -- ---- options
 
 -- the id of a value, where there is one

@@ -4,7 +4,8 @@ ghost use Rattle.smt_sexpr.specs.Tree.{Sexpr, Items};
 ghost use Rattle.smt_sexpr.specs.Table.{Means, MeansEach, HasMeaning};
 ghost use Rattle.smt_script.specs.Attributes.{keyword_text, named_in};
 ghost use Rattle.smt_script.specs.Commands.{keyword_of};
-ghost use Rattle.smt_script.specs.Shapes.{HaveMeaning, AttributeIs, AttributesAre};
+ghost use Rattle.smt_script.specs.Shapes.{AttributeIs, AttributesAre};
+ghost use Rattle.smt_sexpr.specs.Shapes.{HaveMeaning};
 
 use crate::error::Refusal;
 use smt_lex::TokenKind;

@@ -3,7 +3,8 @@ ghost use Rattle.std.specs.Prelude.{◌≡◌, Ok, ℕ};
 ghost use Rattle.smt_sexpr.specs.Tree.{Sexpr, Items};
 ghost use Rattle.smt_sexpr.specs.Table.{Table, Means, MeansEach, HasMeaning};
 ghost use Rattle.smt_script.specs.Commands.{Command, alone, logic_command, option_command, info_command, constant_command, function_command, definition_command, annotation_in, annotation_command, assertion_command, level_command, command_by, without_name, command_of};
-ghost use Rattle.smt_script.specs.Shapes.{HaveMeaning, HeadIs, SignatureIs, AnnotationIs, CommandIs, LevelsAre, RequestIs};
+ghost use Rattle.smt_script.specs.Shapes.{HeadIs, SignatureIs, AnnotationIs, CommandIs, LevelsAre, RequestIs};
+ghost use Rattle.smt_sexpr.specs.Shapes.{HaveMeaning};
 
 use crate::attribute::{keyword, named_in};
 use crate::command_name::{CommandName, command_name, is_unsupported, left_out_of};

@@ -2,7 +2,7 @@ use Rattle.std.proofs.Common.{arith}
 use Rattle.std.proofs.lemmas.Result.{err_from_is_err_and}
 use Rattle.std.proofs.lemmas.List.{drop_all}
 use Rattle.smt_script.specs.Attributes.{named_in}
-use Rattle.smt_script.proofs.Arguments.{next_of}
+use Rattle.smt_sexpr.proofs.Shapes.{next_of}
 use Rattle.smt_script.proofs.Annotations.{left_more, left_refused, name_left, no_name_left}
 use Rattle.smt_script.proofs.attribute.named_in.Goals as goal
 

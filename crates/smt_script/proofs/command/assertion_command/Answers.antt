@@ -1,6 +1,7 @@
 use Rattle.std.proofs.Common.{ap, ◌∙◌}
 use Rattle.smt_script.specs.Commands.{assertion_command}
-use Rattle.smt_script.proofs.Arguments.{one_of, plain_is, annotation_of}
+use Rattle.smt_script.proofs.Arguments.{plain_is, annotation_of}
+use Rattle.smt_sexpr.proofs.Shapes.{one_of}
 use Rattle.smt_script.proofs.command.assertion_command.Goals as goal
 
 pub annotation-requires : goal.annotation-requires

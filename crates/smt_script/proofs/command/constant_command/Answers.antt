@@ -1,7 +1,7 @@
 use Rattle.std.proofs.Common.{refl, sym, ap, ◌∙◌, List, ℕ, Option}
 use Rattle.smt_sexpr.specs.Tree.{none}
 use Rattle.smt_script.specs.Commands.{declaring, with_name, constant_command}
-use Rattle.smt_script.proofs.Arguments.{two_of}
+use Rattle.smt_sexpr.proofs.Shapes.{two_of}
 use Rattle.smt_script.proofs.command.constant_command.Goals as goal
 
 pub symbol-requires : goal.symbol-requires

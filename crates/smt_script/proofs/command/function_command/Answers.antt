@@ -1,7 +1,8 @@
 use Rattle.std.proofs.Common.{ap, ◌∙◌, ◌≡◌, Err}
 use Rattle.std.proofs.lemmas.Result.{err_from_is_err_and}
 use Rattle.smt_script.specs.Commands.{function_command}
-use Rattle.smt_script.proofs.Arguments.{three_of, function_is}
+use Rattle.smt_script.proofs.Arguments.{function_is}
+use Rattle.smt_sexpr.proofs.Shapes.{three_of}
 use Rattle.smt_script.proofs.command.function_command.Goals as goal
 
 pub signature_of-requires-clause-name : goal.signature_of-requires-clause-name

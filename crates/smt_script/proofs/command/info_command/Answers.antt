@@ -1,4 +1,4 @@
-use Rattle.smt_script.proofs.Arguments.{begun}
+use Rattle.smt_sexpr.proofs.Shapes.{begun}
 use Rattle.smt_script.proofs.command.info_command.Goals as goal
 
 pub keyword-requires : goal.keyword-requires

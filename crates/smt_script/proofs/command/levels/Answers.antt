@@ -1,7 +1,8 @@
 use Rattle.std.proofs.Common.{sym, ap, ◌∙◌, List, ℕ, Option}
 use Rattle.smt_lex.specs.Numbers.{value_of}
 use Rattle.smt_script.specs.Commands.{with_count, level_command}
-use Rattle.smt_script.proofs.Arguments.{one_of, count_is}
+use Rattle.smt_script.proofs.Arguments.{count_is}
+use Rattle.smt_sexpr.proofs.Shapes.{one_of}
 use Rattle.smt_script.proofs.command.levels.Goals as goal
 
 pub numeral-requires : goal.numeral-requires

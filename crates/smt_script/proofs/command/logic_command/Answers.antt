@@ -1,6 +1,6 @@
 use Rattle.std.proofs.Common.{ap}
 use Rattle.smt_script.specs.Commands.{logic_command}
-use Rattle.smt_script.proofs.Arguments.{one_of}
+use Rattle.smt_sexpr.proofs.Shapes.{one_of}
 use Rattle.smt_script.proofs.command.logic_command.Goals as goal
 
 pub returns-in-len1 : goal.returns-in-len1

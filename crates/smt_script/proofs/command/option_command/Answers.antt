@@ -1,6 +1,6 @@
 use Rattle.std.proofs.Common.{sym, ap, ◌∙◌, List, ℕ, Option, Some}
 use Rattle.smt_script.specs.Commands.{setting_option, with_keyword, option_command}
-use Rattle.smt_script.proofs.Arguments.{one_of, two_of}
+use Rattle.smt_sexpr.proofs.Shapes.{one_of, two_of}
 use Rattle.smt_script.proofs.command.option_command.Goals as goal
 
 pub keyword-requires : goal.keyword-requires
