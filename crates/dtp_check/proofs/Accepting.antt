@@ -40,10 +40,10 @@ use Rattle.smt_script.specs.Options.{OptionEffect, printing_success, no_effect, 
 use Rattle.smt_script.specs.States.{State, start_state, Step, after_option, is_taken, sort_of, after_declaration, is_of_sort, defined_by, after_definition, asserted_by, named_by, levels_of, after_by, after, settled}
 use Rattle.smt_answer.specs.Kinds.{kind_of}
 use Rattle.smt_answer.specs.Texts.{error_line}
-use Rattle.dtp_session.specs.declared.report.Report.TheVariants.{Certificate}
-use Rattle.dtp_session.specs.Entries.{verdict_of, IsRight, IsEntryOf}
-use Rattle.dtp_session.specs.Transcripts.{Answers, Stops, GoesOn, Follows, IsReport}
-use Rattle.dtp_session.proofs.Verdicts.{sorts_count}
+use Rattle.dtp_entry.specs.declared.report.Report.TheVariants.{Certificate}
+use Rattle.dtp_entry.specs.Entries.{verdict_of, IsRight, IsEntryOf}
+use Rattle.dtp_entry.specs.Transcripts.{Answers, Stops, GoesOn, Follows, IsReport}
+use Rattle.dtp_entry.proofs.Verdicts.{sorts_count}
 use Rattle.dtp_check.specs.declared.judgement.EntryFlaw.{EntryFlaw}
 use Rattle.dtp_check.specs.declared.judgement.EntryFlaw.TheVariants.{Flawed}
 use Rattle.dtp_check.specs.declared.judgement.Judgement.TheVariants.{Accepted}

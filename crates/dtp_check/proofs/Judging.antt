@@ -31,11 +31,11 @@ use Rattle.smt_script.specs.Commands.{Command, command_of, is_exiting, is_exit}
 use Rattle.smt_script.specs.Kept.{Kept, StandsFor, Steps}
 use Rattle.smt_script.specs.States.{State, Step, IsMadeState, after, after_by, settled}
 use Rattle.smt_answer.specs.Kinds.{kind_of}
-use Rattle.dtp_session.specs.Entries.{verdict_of}
-use Rattle.dtp_session.specs.Turns.{Stands}
+use Rattle.dtp_entry.specs.Entries.{verdict_of}
+use Rattle.dtp_entry.specs.Standing.{Stands}
 use Rattle.smt_script.specs.Laws.{StepMade, SettledMade, OnlyExitEnds}
-use Rattle.dtp_session.proofs.Turning.{stands_after}
-use Rattle.dtp_session.proofs.Verdicts.{ScopeLaw, RootsLaw, ExactLaw, sorts_count}
+use Rattle.dtp_entry.proofs.Standing.{stands_after}
+use Rattle.dtp_entry.proofs.Verdicts.{ScopeLaw, RootsLaw, ExactLaw, sorts_count}
 use Rattle.dtp_check.specs.declared.judge.Turn.{Turn}
 use Rattle.dtp_check.specs.declared.judge.Turn.TheVariants.{Going, Judged}
 use Rattle.dtp_check.specs.Turns.{IsCheckTurn, IsJudgedTurn}

@@ -8,9 +8,9 @@ use Rattle.cert_read.specs.declared.error.CertReadError.TheVariants.{Refused, Ou
 use Rattle.cert_read.specs.declared.error.CertificateRefusal.{CertificateRefusal}
 use Rattle.smt_answer.specs.declared.kind.Kind.{Kind}
 use Rattle.smt_script.specs.States.{start_state}
-use Rattle.dtp_session.specs.Transcripts.{IsFront}
-use Rattle.dtp_session.specs.Written.{Writes}
-use Rattle.dtp_session.proofs.Turning.{appends_nothing}
+use Rattle.dtp_entry.specs.Written.{IsFront}
+use Rattle.dtp_entry.specs.Written.{Writes}
+use Rattle.dtp_entry.proofs.Written.{appends_nothing}
 use Rattle.dtp_check.specs.Answered.{checked_of, IsAnswerPart}
 use Rattle.dtp_check.specs.Texts.{judgement_line}
 use Rattle.dtp_check.specs.declared.behind.Behind.{Behind as Found}

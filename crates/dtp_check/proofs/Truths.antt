@@ -21,9 +21,9 @@ use Rattle.smt_script.specs.declared.state.Effect.{Effect}
 use Rattle.smt_script.specs.declared.state.Effect.TheVariants.{CheckSat, Exit, Tell}
 use Rattle.smt_script.specs.States.{State, start_state, Step, IsMadeState, after, settled}
 use Rattle.smt_answer.specs.Kinds.{kind_of}
-use Rattle.dtp_session.specs.Entries.{points_of, problem_of, verdict_of}
+use Rattle.dtp_entry.specs.Entries.{points_of, problem_of, verdict_of}
 use Rattle.smt_script.specs.Laws.{StepMade, SettledMade}
-use Rattle.dtp_session.proofs.Verdicts.{ScopeLaw, RootsLaw, ExactLaw, HoldsLaw, RefutationLaw, refuted_unsatisfiable, sorts_count}
+use Rattle.dtp_entry.proofs.Verdicts.{ScopeLaw, RootsLaw, ExactLaw, HoldsLaw, RefutationLaw, refuted_unsatisfiable, sorts_count}
 use Rattle.dtp_check.specs.declared.judgement.EntryFlaw.{EntryFlaw}
 use Rattle.dtp_check.specs.declared.judgement.EntryFlaw.TheVariants.{WrongCount, WrongSort, FalseAssertion, Flawed}
 use Rattle.dtp_check.specs.declared.judgement.Judgement.{Judgement}

@@ -1,6 +1,6 @@
 -- The answer to a script with its certificate: a line, and whether it accepts.
 use Rattle.std.specs.Prelude.{◌≡◌, ◌⊎◌, List, [], ℕ}
-use Rattle.dtp_session.specs.Transcripts.{IsFront}
+use Rattle.dtp_entry.specs.Written.{IsFront}
 use Rattle.dtp_check.specs.declared.check.Checked.{Checked}
 use Rattle.dtp_check.specs.declared.check.Checked.TheVariants as checked
 use Rattle.dtp_check.specs.declared.judgement.Judgement.{Judgement}

@@ -23,7 +23,7 @@ use Rattle.smt_script.specs.declared.state.Effect.TheVariants.{CheckSat, Exit, T
 use Rattle.smt_script.specs.Commands.{is_exit}
 use Rattle.smt_script.specs.States.{State, start_state, after, settled}
 use Rattle.smt_answer.specs.Kinds.{kind_of, kind_of_unreadable}
-use Rattle.dtp_session.specs.Entries.{points_of, problem_of, verdict_of}
+use Rattle.dtp_entry.specs.Entries.{points_of, problem_of, verdict_of}
 use Rattle.dtp_check.specs.declared.judgement.CertificateFlaw.{CertificateFlaw}
 use Rattle.dtp_check.specs.declared.judgement.CertificateFlaw.TheVariants as flaw
 use Rattle.dtp_check.specs.declared.judgement.EntryFlaw.{EntryFlaw}

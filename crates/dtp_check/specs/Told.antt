@@ -7,7 +7,7 @@ use Rattle.idl_term.specs.Contexts.{Context, IsSatisfiable}
 use Rattle.smt_script.specs.declared.state.Effect.{Effect}
 use Rattle.smt_script.specs.declared.state.Effect.TheVariants.{CheckSat, Exit, Tell}
 use Rattle.smt_script.specs.States.{State, after, settled}
-use Rattle.dtp_session.specs.Entries.{verdict_of}
+use Rattle.dtp_entry.specs.Entries.{verdict_of}
 
 -- a sat entry says that some schedule satisfies the assertions, an unsat entry that none does
 abbrev pub Tells : Context → Entry → Type 0

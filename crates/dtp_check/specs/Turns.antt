@@ -6,7 +6,7 @@ use Rattle.cert_text.specs.declared.entry.Entry.{Entry}
 use Rattle.smt_script.specs.Commands.{is_exit}
 use Rattle.smt_script.specs.Kept.{Kept}
 use Rattle.smt_script.specs.States.{State}
-use Rattle.dtp_session.specs.Turns.{Stands}
+use Rattle.dtp_entry.specs.Standing.{Stands}
 use Rattle.dtp_check.specs.declared.judge.Turn.{Turn}
 use Rattle.dtp_check.specs.declared.judge.Turn.TheVariants.{Going, Judged}
 use Rattle.dtp_check.specs.declared.judgement.Judgement.{Judgement}

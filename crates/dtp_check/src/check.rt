@@ -2,7 +2,7 @@
 ghost use Rattle.std.specs.Prelude.{◌≡◌, ◌≤◌, IfOk, OnErr, Err};
 ghost use Rattle.std.specs.Io.KnownBytes.{Appends};
 ghost use Rattle.dtp_io.specs.Faults.{Rose};
-ghost use Rattle.dtp_session.specs.Written.{Writes};
+ghost use Rattle.dtp_entry.specs.Written.{Writes};
 ghost use Rattle.dtp_check.specs.Judged.{IsJudged};
 ghost use Rattle.dtp_check.specs.Answered.{IsAnswer, IsAnswerPart};
 
@@ -11,8 +11,8 @@ use crate::judge::judge;
 use crate::judgement::{CertificateFlaw, Judgement};
 use crate::part::{PartEnd, read_part};
 use crate::text::judgement_line;
+use dtp_entry::{SessionError, write_text};
 use dtp_io::Sink;
-use dtp_session::{SessionError, write_text};
 use smt_lex::Lexer;
 use std::alloc::{AllocError, Global};
 

@@ -2,9 +2,9 @@
 ghost use Rattle.std.specs.Prelude.{◌≡◌, ◌++◌, List, ℕ};
 ghost use Rattle.smt_sexpr.specs.Tree.{Sexpr};
 ghost use Rattle.cert_text.specs.declared.entry.Entry.{Entry};
-ghost use Rattle.dtp_session.specs.declared.report.Report.TheVariants as report;
+ghost use Rattle.dtp_entry.specs.declared.report.Report.TheVariants as report;
 ghost use Rattle.smt_script.specs.States.{start_state};
-ghost use Rattle.dtp_session.specs.Transcripts.{IsReport};
+ghost use Rattle.dtp_entry.specs.Transcripts.{IsReport};
 ghost use Rattle.dtp_check.specs.declared.judgement.Judgement.{Judgement};
 ghost use Rattle.dtp_check.specs.declared.judgement.Judgement.TheVariants.{Accepted};
 ghost use Rattle.dtp_check.specs.declared.part.PartEnd.{PartEnd};

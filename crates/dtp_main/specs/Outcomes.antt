@@ -5,9 +5,9 @@ use Rattle.dtp_io.specs.Faults.{Rose, AddsFront}
 use Rattle.dtp_io.specs.Reading.{Stops}
 use Rattle.dtp_io.specs.declared.all.ReadError.{ReadError}
 use Rattle.dtp_io.specs.declared.all.ReadError.TheVariants.{OutOfMemory as NoMemory, ReadFault as Failing, TooLong as Over}
-use Rattle.dtp_session.specs.Transcripts.{IsReport, IsReportPart}
-use Rattle.dtp_session.specs.declared.report.Report.{Report}
-use Rattle.dtp_session.specs.declared.report.Report.TheVariants.{Verdicts, Certificate}
+use Rattle.dtp_entry.specs.Transcripts.{IsReport, IsReportPart}
+use Rattle.dtp_entry.specs.declared.report.Report.{Report}
+use Rattle.dtp_entry.specs.declared.report.Report.TheVariants.{Verdicts, Certificate}
 use Rattle.dtp_check.specs.Answered.{IsAnswer, IsAnswerPart}
 use Rattle.dtp_check.specs.declared.check.Checked.{Checked}
 use Rattle.dtp_check.specs.declared.check.Checked.TheVariants.{Accepted, NotAccepted as Unaccepted}

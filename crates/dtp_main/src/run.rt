@@ -7,8 +7,9 @@ ghost use Rattle.dtp_main.specs.Outcomes.{IsRun, IsOutcome, IsReported, IsChecke
 use crate::status::Status;
 use command_line::{Line, NoLine, Search, read_line};
 use dtp_check::{Checked, check_pair};
+use dtp_entry::{Report, SessionError};
 use dtp_io::{ReadError, Sink, Source, read_all, write_all_of};
-use dtp_session::{Gate, Report, SessionError, Solved, certify_script, solve_script};
+use dtp_session::{Gate, Solved, certify_script, solve_script};
 use std::alloc::Global;
 use std::sync::Wait;
 use std::thread::Threads;

@@ -4,8 +4,8 @@ use Rattle.smt_sexpr.specs.Tree.{Sexpr}
 use Rattle.smt_sexpr.specs.declared.error.SexprRefusal.{SexprRefusal}
 use Rattle.smt_sexpr.specs.Reading.{Spells, Outcome, expression, finished, refused, Outcomes}
 use Rattle.smt_sexpr.specs.Commands.{Commands, Ending, ended, stopped, unread, EndsAs}
-use Rattle.dtp_session.specs.declared.report.Report.TheVariants.{Verdicts}
-use Rattle.dtp_session.specs.Transcripts.{IsVerdict, Answers, Closes, Stops, GoesOn, Follows, IsTranscript}
+use Rattle.dtp_entry.specs.declared.report.Report.TheVariants.{Verdicts}
+use Rattle.dtp_entry.specs.Transcripts.{IsVerdict, Answers, Closes, Stops, GoesOn, Follows, IsTranscript}
 use Rattle.idl_term.specs.Contexts.{Context}
 use Rattle.smt_answer.specs.Kinds.{kind_of, kind_of_unreadable}
 use Rattle.smt_answer.specs.Texts.{error_line}

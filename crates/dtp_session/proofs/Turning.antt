@@ -11,7 +11,7 @@ use Rattle.smt_sexpr.specs.Commands.{Ending, ended, stopped, unread}
 use Rattle.smt_sexpr.specs.declared.error.SexprError.{SexprError}
 use Rattle.smt_sexpr.specs.declared.error.SexprError.TheVariants.{Refused, OutOfMemory}
 use Rattle.smt_sexpr.specs.declared.error.SexprRefusal.{SexprRefusal}
-use Rattle.dtp_session.specs.declared.report.Report.{Report}
+use Rattle.dtp_entry.specs.declared.report.Report.{Report}
 use Rattle.dtp_session.specs.declared.session.Turn.{Turn}
 use Rattle.dtp_session.specs.declared.session.Turn.TheVariants.{Going, Ended, Stopped}
 use Rattle.smt_answer.specs.declared.kind.Kind.{Kind}
@@ -26,17 +26,14 @@ use Rattle.smt_script.specs.declared.state.Satisfiability.{Satisfiability}
 use Rattle.smt_script.specs.Laws.{StepMade, SettledMade}
 use Rattle.smt_script.specs.Kept.{Kept, StandsFor, Steps}
 use Rattle.smt_script.specs.States.{State, start_state, Step, IsMadeState, after, settled}
-use Rattle.dtp_session.specs.Transcripts.{IsDecided, IsDecidedSome, IsAnswer, Answers, silent_answer, unsupported_answer, opening, closing, Closes, GoesOn, GoesOnPart, Follows, FollowsPart, IsFront, IsPartOf, TranscribesFrom, TranscribesPartFrom, IsReport, IsReportPart}
-use Rattle.dtp_session.specs.Turns.{Stands, IsAnswered, IsCarriedOut, IsCutShort, IsTurn}
-use Rattle.dtp_session.specs.Written.{Writes}
-
-pub is_false : (b : Bool) → b ≡ false → b ≡ true → ⊥
-is_false true e f = absurd cc
-is_false false e f = absurd cc
-
-pub on_err : {A E : Type 0} (r : Result A E) (P : Type 0) → P → OnErr r P
-on_err (Ok x) P h = tt
-on_err (Err e) P h = h
+use Rattle.dtp_entry.specs.Transcripts.{IsDecided, IsDecidedSome, IsAnswer, Answers, silent_answer, unsupported_answer, opening, closing, Closes, GoesOn, GoesOnPart, Follows, FollowsPart, TranscribesFrom, TranscribesPartFrom, IsReport, IsReportPart}
+use Rattle.dtp_entry.specs.Written.{IsFront, IsPartOf}
+use Rattle.dtp_entry.specs.Standing.{Stands}
+use Rattle.dtp_session.specs.Turns.{IsAnswered, IsCarriedOut, IsCutShort, IsTurn}
+use Rattle.dtp_entry.specs.Written.{Writes}
+use Rattle.dtp_entry.proofs.Reading.{explained}
+use Rattle.dtp_entry.proofs.Standing.{stands_after}
+use Rattle.dtp_entry.proofs.Written.{on_err, appends_nothing}
 
 -- what a failed call wrote, of a command and of a turn
 abbrev pub CutShort : Report → ℕ → Table → ℕ → Kept → Option (List ℕ) → Option (List ℕ) → Type 0
@@ -51,14 +48,7 @@ CutTurn report bytes place k kept before now = (s : State) → Stands kept s →
 pub on_cut_turn : {A E : Type 0} (r : Result A E) (report : Report) (bytes : List ℕ) (place k : ℕ) (kept : Kept) (before now : Option (List ℕ)) → CutTurn report bytes place k kept before now → OnErr r (CutTurn report bytes place k kept before now)
 on_cut_turn r report bytes place k kept before now h = on_err r (CutTurn report bytes place k kept before now) h
 
-pub appends_nothing : (held : Option (List ℕ)) → Appends held held []
-appends_nothing None = tt
-appends_nothing (Some bytes) = sym (append-nil bytes)
-
 -- ---- what is active goes on coming about by declarations, definitions and assertions
-
-pub stands_after : StepMade → (s : State) (x : Sexpr) (effect : Effect) (kept : Kept) (h : Steps s x effect kept) → IsMadeState s → Stands kept h.state
-stands_after law s x effect kept h made = record { stands = h.stands; made = law s x (record { state = h.state; effect = effect }) made h.leads }
 
 -- ---- one command more
 
@@ -93,9 +83,6 @@ pub refusal_done : (report : Report) (s : State) (k : ℕ) (x : Sexpr) (added : 
 refusal_done report s k x added kept why leads e = (why, leads, e)
 
 -- ---- one command whose answer is cut short
-
-pub part_of : (Legal : List ℕ → Type 0) (whole added : List ℕ) → Legal whole → IsFront added whole → IsPartOf Legal added
-part_of Legal whole added legal front = inr (whole, legal, front)
 
 -- a decision is an answer
 decided_part : (report : Report) (s : State) (added : List ℕ) → IsPartOf (IsDecidedSome report s.context) added → IsPartOf (IsAnswer report s CheckSat) added
@@ -245,11 +232,6 @@ cut_by report bytes place behind s k why kind added h e front = record {
   answers = part_end report s k (unread why) added (inr (error_line k kind, (1, (ap (error_line k) (sym e), refl)), front));
 }
 
--- what the reader refuses, by the kind that its error line has
-pub explained : (bytes : List ℕ) (place behind : ℕ) (error : SexprError) (kind : Kind) → Explains bytes place error behind → kind_of_error error ≡ Some kind → (why : SexprRefusal) × Outcomes bytes place (refused why) behind × (kind_of_unreadable why ≡ kind)
-explained bytes place behind (Refused why) kind h e = let same : kind_of_unreadable why ≡ kind = cc in (why, h, same)
-explained bytes place behind OutOfMemory kind h e = absurd cc
-
 pub turn_refused : (report : Report) (bytes : List ℕ) (place behind : ℕ) (s : State) (k : ℕ) (error : SexprError) (kind : Kind) → Explains bytes place error behind → kind_of_error error ≡ Some kind
     → TranscribesFrom report bytes place s k (error_line k kind) 1
 turn_refused report bytes place behind s k error kind h e = let w = explained bytes place behind error kind h e in refused_by report bytes place behind s k w.0 kind w.1 w.2
@@ -258,26 +240,6 @@ pub refused_cut : (report : Report) (bytes : List ℕ) (place behind : ℕ) (s :
     → (added ≡ []) ⊎ ((kind : Kind) × (kind_of_error error ≡ Some kind) × IsFront added (error_line k kind)) → TranscribesPartFrom report bytes place s k added
 refused_cut report bytes place behind s k error added h (inl e) = nothing_yet report bytes place s k added e
 refused_cut report bytes place behind s k error added h (inr (kind, e, front)) = let w = explained bytes place behind error kind h e in cut_by report bytes place behind s k w.0 kind added w.1 w.2 front
-
--- ---- what the reader found
-
-pub record IsFound (t : Table) (bytes : List ℕ) (place id behind : ℕ) : Type 0 where
-  pub x : Sexpr
-  pub means : Means t id x
-  pub spells : Spells bytes place x behind
-
-pub found_one : (t : Table) (bytes : List ℕ) (place id behind : ℕ) (found : Option ℕ) → t.bytes ≡ bytes → found ≡ Some id → Finds t place (Ok found) behind → IsFound t bytes place id behind
-found_one t bytes place id behind found e f h =
-    let one : Finds t place (Ok (Some id)) behind = subst (λ (r : Option ℕ). Finds t place (Ok r) behind) f h in
-    record { x = one.0; means = one.1; spells = subst (λ (b : List ℕ). Spells b place one.0 behind) e one.2 }
-
-pub found_none : (t : Table) (bytes : List ℕ) (place behind : ℕ) (found : Option ℕ) → t.bytes ≡ bytes → found ≡ None → Finds t place (Ok found) behind → Outcomes bytes place finished behind
-found_none t bytes place behind found e f h =
-    let nothing : Finds t place (Ok None) behind = subst (λ (r : Option ℕ). Finds t place (Ok r) behind) f h in
-    subst (λ (b : List ℕ). Outcomes b place finished behind) e nothing
-
-pub found_error : (t : Table) (bytes : List ℕ) (place behind : ℕ) (error : SexprError) → t.bytes ≡ bytes → Finds t place (Err error) behind → Explains bytes place error behind
-found_error t bytes place behind error e h = subst (λ (b : List ℕ). Explains b place error behind) e h
 
 -- ---- the loop
 

@@ -1,7 +1,4 @@
 pub mod Ends
-pub mod Entries
-pub mod Transcripts
-pub mod Written
 pub mod Turns
 pub mod Solving
 pub use Rattle.dtp_io.specs.Faults

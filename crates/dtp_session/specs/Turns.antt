@@ -3,22 +3,18 @@
 use Rattle.std.specs.Prelude.{◌≡◌, ◌≢◌, ℕ, ◌+◌, List, [], ◌∷◌, ◌++◌, ◌⊎◌, Ok, Err}
 use Rattle.smt_sexpr.specs.Tree.{Sexpr}
 use Rattle.smt_sexpr.specs.Commands.{stopped}
-use Rattle.dtp_session.specs.declared.report.Report.{Report}
+use Rattle.dtp_entry.specs.declared.report.Report.{Report}
 use Rattle.dtp_session.specs.declared.session.Turn.{Turn}
 use Rattle.dtp_session.specs.declared.session.Turn.TheVariants.{Going, Ended, Stopped}
-use Rattle.dtp_session.specs.Transcripts.{Answers, closing, FollowsPart, TranscribesFrom, TranscribesPartFrom}
+use Rattle.dtp_entry.specs.Standing.{Stands}
+use Rattle.dtp_entry.specs.Transcripts.{Answers, closing, FollowsPart, TranscribesFrom, TranscribesPartFrom}
 use Rattle.smt_script.specs.declared.error.Refusal.{Refusal}
 use Rattle.smt_script.specs.declared.state.Effect.{Effect}
 use Rattle.smt_script.specs.declared.state.Effect.TheVariants.{Exit}
-use Rattle.smt_script.specs.Kept.{Kept, StandsFor}
-use Rattle.smt_script.specs.States.{State, IsMadeState, after}
+use Rattle.smt_script.specs.Kept.{Kept}
+use Rattle.smt_script.specs.States.{State, after}
 use Rattle.smt_answer.specs.Kinds.{kind_of}
 use Rattle.smt_answer.specs.Texts.{error_line}
-
--- what is kept stands for a state that came about by declarations, definitions and assertions
-pub record Stands (kept : Kept) (s : State) : Type 0 where
-  pub stands : StandsFor kept s
-  pub made : IsMadeState s
 
 -- the command is answered, and the script goes on in the next state
 pub record IsAnswered (report : Report) (s : State) (x : Sexpr) (added : List ℕ) (next : State) : Type 0 where

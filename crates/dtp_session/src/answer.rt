@@ -4,61 +4,18 @@ ghost use Rattle.std.specs.Io.KnownBytes.{Appends};
 ghost use Rattle.dtp_io.specs.Faults.{Rose};
 ghost use Rattle.smt_answer.specs.Texts.{error_line};
 ghost use Rattle.smt_script.specs.States.{State as Meaning};
-ghost use Rattle.dtp_session.specs.Transcripts.{opening, closing, silent_answer, unsupported_answer, IsDecided, IsDecidedSome, IsFront, IsPartOf};
-ghost use Rattle.dtp_session.specs.Turns.{Stands};
-ghost use Rattle.dtp_session.specs.Written.{Writes};
+ghost use Rattle.dtp_entry.specs.Transcripts.{opening, closing, silent_answer, unsupported_answer, IsDecided, IsDecidedSome};
+ghost use Rattle.dtp_entry.specs.Written.{IsFront, IsPartOf};
+ghost use Rattle.dtp_entry.specs.Standing.{Stands};
+ghost use Rattle.dtp_entry.specs.Written.{Writes};
 
 use crate::decision::decision_line;
-use crate::report::Report;
 use crate::text::{closing, error_line, opening, silent_answer, unsupported_answer};
-use dtp_io::{Sink, WriteFault, write_all_of};
+use dtp_entry::{Report, SessionError, write_text};
+use dtp_io::Sink;
 use smt_answer::Kind;
 use smt_script::{Satisfiability, State};
-use std::alloc::{AllocError, Global};
-
-/// Why a script isn't answered to its end.
-#[derive(Clone, Copy, Debug, PartialEq, Eq)]
-pub enum SessionError {
-    /// There was no memory. Answers that were written before it stay.
-    OutOfMemory,
-    /// The sink failed. A front of the line that was to be written may have gone out.
-    WriteFault,
-}
-
-impl From<AllocError> for SessionError {
-    ghost use Rattle.std.specs.Prelude.{◌≡◌};
-    ghost use Rattle.dtp_session.specs.declared.answer.SessionError.TheVariants.{OutOfMemory};
-
-    ghost from_gives = { λ _ e. e ≡ OutOfMemory };
-
-    fn from(_error: AllocError) -> Self {
-        SessionError::OutOfMemory
-    }
-}
-
-impl From<WriteFault> for SessionError {
-    ghost use Rattle.std.specs.Prelude.{◌≡◌};
-    ghost use Rattle.dtp_session.specs.declared.answer.SessionError.TheVariants.{WriteFault};
-
-    ghost from_gives = { λ _ e. e ≡ WriteFault };
-
-    fn from(_fault: WriteFault) -> Self {
-        SessionError::WriteFault
-    }
-}
-
-/// Writes a text. Where the sink fails, a front of the text is written.
-pub fn write_text<K: Sink>(sink: &mut K, text: &[u8]) -> Result<(), SessionError>
-    ensures ok { OnOk result (Appends (K.holds sink.old) (K.holds sink.new) text.now) }
-    ensures err { OnErr result (Writes (K.holds sink.old) (K.holds sink.new) (λ added. IsFront added text.now)) }
-    ensures fault { OnErr result (Rose (K.faults sink.old) (K.faults sink.new)) }
-    ensures later { K.faults sink.old ≤ K.faults sink.new }
-{
-    match write_all_of(sink, text) {
-        Ok(()) => Ok(()),
-        Err(fault) => Err(SessionError::from(fault)),
-    }
-}
+use std::alloc::Global;
 
 /// Writes what stands before the first command's answer.
 pub fn write_opening<K: Sink>(

@@ -2,30 +2,19 @@
 ghost use Rattle.std.specs.Prelude.{◌≡◌, IfOk};
 ghost use Rattle.plain_search.specs.Verdicts.{IsVerdict as IsSolved};
 ghost use Rattle.smt_script.specs.States.{State as Meaning};
-ghost use Rattle.dtp_session.specs.Entries.{IsEntry, IsEntryOf, points_of, problem_of};
-ghost use Rattle.dtp_session.specs.Transcripts.{IsDecided, IsVerdict};
-ghost use Rattle.dtp_session.specs.Turns.{Stands};
+ghost use Rattle.dtp_entry.specs.Entries.{IsEntry, IsEntryOf, points_of, problem_of};
+ghost use Rattle.dtp_entry.specs.Transcripts.{IsDecided, IsVerdict};
+ghost use Rattle.dtp_entry.specs.Standing.{Stands};
 
-use crate::report::Report;
 use cert_text::{Entry, write_entry};
-use clause_form::{problem_of, restrict};
+use clause_form::restrict;
+use dtp_entry::{Report, problem};
 use inc_paths::Network;
 use plain_search::{Verdict, decide};
 use smt_answer::verdict_text;
 use smt_script::{Satisfiability, State};
 use std::alloc::{AllocError, Global};
 use stn_core::Problem;
-
-/// The problem of the assertions.
-pub fn problem(alloc: Global, state: &State) -> Result<Problem, AllocError>
-    requires { (s : Meaning) × Stands state.now s }
-    ensures { IfOk result (λ problem. (s : Meaning) → Stands state.now s → (problem.points ≡ points_of s.context) × (problem.clauses ≡ problem_of s.context)) }
-{
-    idl_term::context_law();
-    clause_form::clause_form_law();
-    let points = state.names().len() as u32 + 1;
-    problem_of(alloc, points, state.nodes(), state.roots())
-}
 
 /// A solution of the problem, or a refutation of it. It is a search, whose time may grow with the number of ways to choose a
 /// literal of each clause.

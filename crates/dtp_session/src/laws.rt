@@ -1,6 +1,6 @@
 //! Laws of the definitions alone.
 ghost use Rattle.std.specs.Prelude.{◌≡◌, List, ℕ};
-ghost use Rattle.dtp_session.specs.Transcripts.{IsTranscript};
+ghost use Rattle.dtp_entry.specs.Transcripts.{IsTranscript};
 
 /// A script has one transcript at most: its bytes alone decide what is written, and the status.
 pub fn one_transcript()

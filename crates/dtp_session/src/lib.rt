@@ -13,16 +13,13 @@ mod answer;
 mod decision;
 mod gate;
 mod laws;
-mod report;
 mod session;
 mod solve;
 mod text;
 
-pub use answer::{SessionError, write_text};
-pub use decision::problem;
+pub use dtp_entry::{Report, SessionError};
 pub use gate::{Gate, NoGate};
 pub use laws::one_transcript;
-pub use report::Report;
 pub use session::Solved;
 pub use solve::{certify_script, solve_script};
 

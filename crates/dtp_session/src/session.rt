@@ -9,16 +9,18 @@ ghost use Rattle.smt_answer.specs.Kinds.{kind_of, kind_of_error};
 ghost use Rattle.smt_answer.specs.Texts.{error_line};
 ghost use Rattle.smt_answer.specs.declared.kind.Kind.{Kind as Cause};
 ghost use Rattle.smt_script.specs.States.{State as Meaning, start_state};
-ghost use Rattle.dtp_session.specs.Transcripts.{IsFront, IsReport, IsReportPart, TranscribesFrom, TranscribesPartFrom};
+ghost use Rattle.dtp_entry.specs.Written.{IsFront};
+ghost use Rattle.dtp_entry.specs.Transcripts.{IsReport, IsReportPart, TranscribesFrom, TranscribesPartFrom};
 ghost use Rattle.dtp_session.specs.Ends.{status_of};
-ghost use Rattle.dtp_session.specs.Turns.{Stands, IsCarriedOut, IsCutShort, IsTurn};
-ghost use Rattle.dtp_session.specs.Written.{Writes};
+ghost use Rattle.dtp_entry.specs.Standing.{Stands};
+ghost use Rattle.dtp_session.specs.Turns.{IsCarriedOut, IsCutShort, IsTurn};
+ghost use Rattle.dtp_entry.specs.Written.{Writes};
 
 use crate::answer::{
-    SessionError, write_closing, write_decision, write_error, write_opening, write_silent,
+    write_closing, write_decision, write_error, write_opening, write_silent,
     write_unsupported,
 };
-use crate::report::Report;
+use dtp_entry::{Report, SessionError};
 use dtp_io::Sink;
 use smt_answer::{Kind, kind_of_error};
 use smt_lex::Lexer;

@@ -1,12 +1,11 @@
 //! The call that decides a script.
 ghost use Rattle.std.specs.Prelude.{◌≤◌};
-ghost use Rattle.dtp_session.specs.declared.report.Report.TheVariants.{Verdicts, Certificate};
+ghost use Rattle.dtp_entry.specs.declared.report.Report.TheVariants.{Verdicts, Certificate};
 ghost use Rattle.dtp_session.specs.Solving.{IsSolved};
 
-use crate::answer::SessionError;
 use crate::gate::Gate;
-use crate::report::Report;
 use crate::session::{Solved, answer_script};
+use dtp_entry::{Report, SessionError};
 use dtp_io::Sink;
 use std::alloc::Global;
 use std::sync::Wait;

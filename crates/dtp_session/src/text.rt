@@ -1,10 +1,10 @@
 //! The texts that open and close a report, and those of its answers.
 ghost use Rattle.std.specs.Prelude.{◌≡◌, IfOk};
 ghost use Rattle.smt_answer.specs.Texts.{error_line};
-ghost use Rattle.dtp_session.specs.Transcripts.{opening, closing, silent_answer, unsupported_answer};
+ghost use Rattle.dtp_entry.specs.Transcripts.{opening, closing, silent_answer, unsupported_answer};
 
-use crate::report::Report;
 use cert_text::{write_end, write_header};
+use dtp_entry::Report;
 use smt_answer::{Kind, error_text, success_text, unsupported_text};
 use std::alloc::{AllocError, Global};
 

@@ -1,5 +1,5 @@
 use Rattle.std.proofs.Common.{◌∙◌}
-use Rattle.dtp_session.proofs.Turning.{on_err}
+use Rattle.dtp_entry.proofs.Written.{on_err}
 use Rattle.dtp_check.proofs.Telling.{nothing_written, line_cut}
 use Rattle.dtp_check.proofs.check.check_pair.Goals as goal
 

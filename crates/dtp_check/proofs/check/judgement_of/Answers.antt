@@ -1,6 +1,6 @@
 use Rattle.std.proofs.Common.{◌≡◌, ◌∙◌, subst, ap, refl, List, ℕ}
 use Rattle.cert_text.specs.declared.entry.Entry.{Entry as Shown}
-use Rattle.dtp_session.specs.States.{start_state}
+use Rattle.smt_script.specs.States.{start_state}
 use Rattle.dtp_check.specs.Judged.{ScriptPart, judged}
 use Rattle.dtp_check.specs.Parts.{IsReadable}
 use Rattle.dtp_check.proofs.Telling.{readable_by, stands, found_flaw, judged_entries}

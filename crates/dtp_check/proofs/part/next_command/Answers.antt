@@ -1,6 +1,6 @@
 use Rattle.std.proofs.Common.{◌≡◌, ◌∙◌, sym, ap}
 use Rattle.smt_sexpr.specs.Table.{Table}
-use Rattle.dtp_session.proofs.Turning.{explained, found_error}
+use Rattle.dtp_entry.proofs.Reading.{explained, found_error}
 use Rattle.dtp_check.proofs.part.next_command.Goals as goal
 
 pub returns-in-Some-clause-next : goal.returns-in-Some-clause-next

@@ -8,8 +8,9 @@ use Rattle.idl_node.specs.declared.sort.Sort.{Sort}
 use Rattle.idl_term.specs.Scopes.{Scope, sorts_of}
 use Rattle.plain_search.specs.Verdicts.{IsSolution, IsOfInputs}
 use Rattle.refute_tree.specs.Trees.{IsRefutation}
-use Rattle.dtp_session.specs.Entries.{points_of, problem_of}
-use Rattle.dtp_session.proofs.Verdicts.{as_found, sorts_count, sat_entry, unsat_entry}
+use Rattle.dtp_entry.specs.Entries.{points_of, problem_of}
+use Rattle.dtp_session.proofs.Verdicts.{as_found, sat_entry, unsat_entry}
+use Rattle.dtp_entry.proofs.Verdicts.{sorts_count}
 use Rattle.dtp_session.proofs.decision.entry.Goals as goal
 
 pub restrict-requires-clause-some : goal.restrict-requires-clause-some

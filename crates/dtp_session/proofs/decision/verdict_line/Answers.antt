@@ -2,8 +2,9 @@ use Rattle.std.proofs.Common.{◌∙◌, ◌++◌, ap, ℕ, List, true, false}
 use Rattle.plain_search.specs.Verdicts.{IsSolution, IsOfInputs}
 use Rattle.refute_tree.specs.Trees.{IsRefutation}
 use Rattle.smt_answer.specs.Texts.{verdict_line}
-use Rattle.dtp_session.specs.Entries.{points_of, problem_of}
-use Rattle.dtp_session.proofs.Verdicts.{as_found, solution_satisfies, refuted_unsatisfiable}
+use Rattle.dtp_entry.specs.Entries.{points_of, problem_of}
+use Rattle.dtp_session.proofs.Verdicts.{as_found, solution_satisfies}
+use Rattle.dtp_entry.proofs.Verdicts.{refuted_unsatisfiable}
 use Rattle.dtp_session.proofs.decision.verdict_line.Goals as goal
 
 pub returns-in-Sat : goal.returns-in-Sat

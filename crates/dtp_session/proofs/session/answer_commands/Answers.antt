@@ -1,7 +1,8 @@
 use Rattle.std.proofs.Common.{◌≡◌, ◌∙◌, ◌≤◌, ◌<◌, ◌+◌, sym, ap, subst, arith, length, List, ℕ, Ok}
 use Rattle.smt_lex.specs.Lexing.{Lexing}
 use Rattle.smt_sexpr.specs.Table.{Table}
-use Rattle.dtp_session.proofs.Turning.{on_err, cut_turn, IsSoFar, so_far_starts, turn_goes_on, last_turn, stopping_turn}
+use Rattle.dtp_entry.proofs.Written.{on_err}
+use Rattle.dtp_session.proofs.Turning.{cut_turn, IsSoFar, so_far_starts, turn_goes_on, last_turn, stopping_turn}
 use Rattle.dtp_session.proofs.session.answer_commands.Goals as goal
 
 pub commands-init : goal.commands-init

@@ -1,4 +1,5 @@
-use Rattle.dtp_session.proofs.Turning.{on_err, opened, opened_part, opening_cut}
+use Rattle.dtp_entry.proofs.Written.{on_err}
+use Rattle.dtp_session.proofs.Turning.{opened, opened_part, opening_cut}
 use Rattle.dtp_session.proofs.session.answer_script.Goals as goal
 
 pub returns-in_err-write_opening-clause-part : goal.returns-in_err-write_opening-clause-part

@@ -9,8 +9,10 @@ use Rattle.std.specs.Io.KnownBytes.{Appends}
 use Rattle.smt_answer.specs.declared.kind.Kind.{Kind}
 use Rattle.smt_answer.specs.Kinds.{kind_of}
 use Rattle.smt_answer.specs.Texts.{error_line}
-use Rattle.dtp_session.specs.Transcripts.{IsFront, closing, silent_answer, unsupported_answer}
-use Rattle.dtp_session.proofs.Turning.{on_cut, stands_after, silent_done, unsupported_done, check_done, exit_done, refusal_done, silent_cut, unsupported_cut, check_cut, exit_cut, refusal_cut}
+use Rattle.dtp_entry.specs.Written.{IsFront}
+use Rattle.dtp_entry.specs.Transcripts.{closing, silent_answer, unsupported_answer}
+use Rattle.dtp_session.proofs.Turning.{on_cut, silent_done, unsupported_done, check_done, exit_done, refusal_done, silent_cut, unsupported_cut, check_cut, exit_cut, refusal_cut}
+use Rattle.dtp_entry.proofs.Standing.{stands_after}
 use Rattle.dtp_session.proofs.session.carry_out.Goals as goal
 
 steps : (s : Meaning) (x : Sexpr) (effect is : Effect) (kept : Kept) → effect ≡ is → Steps s x effect kept → Steps s x is kept

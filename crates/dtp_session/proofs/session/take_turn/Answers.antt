@@ -2,9 +2,10 @@ use Rattle.std.proofs.Common.{◌≡◌, ◌∙◌, sym, ap, subst}
 use Rattle.smt_sexpr.specs.Table.{Table}
 use Rattle.dtp_session.specs.declared.session.Turn.{Turn}
 use Rattle.smt_answer.specs.Texts.{error_line}
-use Rattle.dtp_session.specs.Transcripts.{closing}
+use Rattle.dtp_entry.specs.Transcripts.{closing}
 use Rattle.dtp_session.specs.Turns.{IsTurn}
-use Rattle.dtp_session.proofs.Turning.{on_cut_turn, turn_done, turn_cut, turn_ends, end_cut, turn_refused, refused_cut, found_one, found_none, found_error}
+use Rattle.dtp_session.proofs.Turning.{on_cut_turn, turn_done, turn_cut, turn_ends, end_cut, turn_refused, refused_cut}
+use Rattle.dtp_entry.proofs.Reading.{found_one, found_none, found_error}
 use Rattle.dtp_session.proofs.session.take_turn.Goals as goal
 
 pub returns-in_err-turn-in-Ok-Some-clause-err : goal.returns-in_err-turn-in-Ok-Some-clause-err

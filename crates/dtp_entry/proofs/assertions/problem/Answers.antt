@@ -1,7 +1,7 @@
 use Rattle.std.proofs.Common.{◌∙◌, ◌≡◌, ◌+◌, sym, ap, ℕ, List, length}
 use Rattle.idl_term.specs.Scopes.{Declaration, Scope, sorts_of}
-use Rattle.dtp_session.proofs.Verdicts.{sorts_count, table_over}
-use Rattle.dtp_session.proofs.decision.problem.Goals as goal
+use Rattle.dtp_entry.proofs.Verdicts.{sorts_count, table_over}
+use Rattle.dtp_entry.proofs.assertions.problem.Goals as goal
 
 pub problem_of-requires-clause-table : goal.problem_of-requires-clause-table
 problem_of-requires-clause-table c =

@@ -4,8 +4,8 @@
 use Rattle.std.specs.Prelude.{◌≡◌, ℕ, ◌+◌, List, [], ◌∷◌, ◌++◌, ◌⊎◌, Bool, true, false, Ok, Err}
 use Rattle.smt_sexpr.specs.Tree.{Sexpr}
 use Rattle.smt_sexpr.specs.Commands.{Commands, Ending, ended, stopped, unread, EndsAs}
-use Rattle.dtp_session.specs.declared.report.Report.{Report}
-use Rattle.dtp_session.specs.declared.report.Report.TheVariants.{Verdicts, Certificate}
+use Rattle.dtp_entry.specs.declared.report.Report.{Report}
+use Rattle.dtp_entry.specs.declared.report.Report.TheVariants.{Verdicts, Certificate}
 use Rattle.smt_script.specs.declared.state.Effect.{Effect}
 use Rattle.smt_script.specs.declared.state.Effect.TheVariants.{CheckSat, Exit, Tell}
 use Rattle.smt_script.specs.declared.state.Notice.TheVariants.{Success, Unsupported}
@@ -15,7 +15,8 @@ use Rattle.smt_script.specs.States.{State, start_state, after, settled}
 use Rattle.smt_answer.specs.Kinds.{kind_of, kind_of_unreadable}
 use Rattle.smt_answer.specs.Texts.{verdict_line, success_line, unsupported_line, error_line}
 use Rattle.cert_text.specs.Form.{header_sexpr, end_sexpr, line_of}
-use Rattle.dtp_session.specs.Entries.{IsEntry}
+use Rattle.dtp_entry.specs.Entries.{IsEntry}
+use Rattle.dtp_entry.specs.Written.{IsFront, IsPartOf}
 use Rattle.idl_term.specs.Contexts.{Context, IsSatisfiable}
 
 -- `sat` where some schedule satisfies all the assertions, else `unsat`
@@ -103,13 +104,6 @@ abbrev pub IsCertificate : List ℕ → List ℕ → ℕ → Type 0
 IsCertificate script out status = IsReport Certificate script out status
 
 -- ---- what a run that is cut short has written
-
-abbrev pub IsFront : List ℕ → List ℕ → Type 0
-IsFront front whole = (rest : List ℕ) × (whole ≡ front ++ rest)
-
--- nothing, or a front of a legal text
-abbrev pub IsPartOf : (List ℕ → Type 0) → List ℕ → Type 0
-IsPartOf IsLegal out = (out ≡ []) ⊎ ((whole : List ℕ) × IsLegal whole × IsFront out whole)
 
 abbrev pub IsAnswer : Report → State → Effect → List ℕ → Type 0
 IsAnswer report s effect text = (next : State) × Answers report s effect text next

@@ -1,0 +1,5 @@
+pub mod Reading
+pub mod Roots
+pub mod Standing
+pub mod Verdicts
+pub mod Written

@@ -1,0 +1,35 @@
+-- What the reader of s-expressions found.
+use Rattle.std.proofs.Common.{subst, ◌≡◌, ℕ, List, Option, Some, None, Ok, Err}
+use Rattle.smt_sexpr.specs.Tree.{Sexpr}
+use Rattle.smt_sexpr.specs.Table.{Table, Means}
+use Rattle.smt_sexpr.specs.Reading.{Finds, Spells, Outcomes, finished, refused, Explains}
+use Rattle.smt_sexpr.specs.declared.error.SexprError.{SexprError}
+use Rattle.smt_sexpr.specs.declared.error.SexprError.TheVariants.{Refused, OutOfMemory}
+use Rattle.smt_sexpr.specs.declared.error.SexprRefusal.{SexprRefusal}
+use Rattle.smt_answer.specs.declared.kind.Kind.{Kind}
+use Rattle.smt_answer.specs.Kinds.{kind_of_unreadable, kind_of_error}
+
+-- what the reader refuses, by the kind that its error line has
+pub explained : (bytes : List ℕ) (place behind : ℕ) (error : SexprError) (kind : Kind) → Explains bytes place error behind → kind_of_error error ≡ Some kind → (why : SexprRefusal) × Outcomes bytes place (refused why) behind × (kind_of_unreadable why ≡ kind)
+explained bytes place behind (Refused why) kind h e = let same : kind_of_unreadable why ≡ kind = cc in (why, h, same)
+explained bytes place behind OutOfMemory kind h e = absurd cc
+
+-- ---- what the reader found
+
+pub record IsFound (t : Table) (bytes : List ℕ) (place id behind : ℕ) : Type 0 where
+  pub x : Sexpr
+  pub means : Means t id x
+  pub spells : Spells bytes place x behind
+
+pub found_one : (t : Table) (bytes : List ℕ) (place id behind : ℕ) (found : Option ℕ) → t.bytes ≡ bytes → found ≡ Some id → Finds t place (Ok found) behind → IsFound t bytes place id behind
+found_one t bytes place id behind found e f h =
+    let one : Finds t place (Ok (Some id)) behind = subst (λ (r : Option ℕ). Finds t place (Ok r) behind) f h in
+    record { x = one.0; means = one.1; spells = subst (λ (b : List ℕ). Spells b place one.0 behind) e one.2 }
+
+pub found_none : (t : Table) (bytes : List ℕ) (place behind : ℕ) (found : Option ℕ) → t.bytes ≡ bytes → found ≡ None → Finds t place (Ok found) behind → Outcomes bytes place finished behind
+found_none t bytes place behind found e f h =
+    let nothing : Finds t place (Ok None) behind = subst (λ (r : Option ℕ). Finds t place (Ok r) behind) f h in
+    subst (λ (b : List ℕ). Outcomes b place finished behind) e nothing
+
+pub found_error : (t : Table) (bytes : List ℕ) (place behind : ℕ) (error : SexprError) → t.bytes ≡ bytes → Finds t place (Err error) behind → Explains bytes place error behind
+found_error t bytes place behind error e h = subst (λ (b : List ℕ). Explains b place error behind) e h

@@ -1,0 +1,14 @@
+pub mod Entries
+pub mod Standing
+pub mod Transcripts
+pub mod Written
+pub use Rattle.dtp_io.specs.Faults
+pub use Rattle.smt_sexpr.specs.Tree
+pub use Rattle.smt_sexpr.specs.Table
+pub use Rattle.stn_core.specs.Literal
+pub use Rattle.idl_node.specs.Nodes
+pub use Rattle.idl_term.specs.Values
+pub use Rattle.idl_term.specs.Contexts
+pub use Rattle.cert_text.specs.Limits
+pub use Rattle.smt_script.specs.States
+pub use Rattle.smt_answer.specs.Kinds

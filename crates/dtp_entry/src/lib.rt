@@ -1,0 +1,15 @@
+//! What the calls that write and that check a script's answers both stand on: the problem of a state's assertions, the
+//! definitions of entries and of what is written of a script, and the texts that go to a sink.
+//!
+//! Nothing here searches, so a checker that stands on this crate doesn't stand on a search.
+#![tactic(auto)]
+
+mod assertions;
+mod error;
+mod report;
+mod write;
+
+pub use assertions::problem;
+pub use error::SessionError;
+pub use report::Report;
+pub use write::write_text;
