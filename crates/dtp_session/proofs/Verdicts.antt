@@ -61,4 +61,4 @@ module _ (c : Context) (context : IsContext c) where
       let over = law (sorts_of c.declared) c.nodes c.roots (scope c context).table (roots c context) in
       let named : All (λ (clause : List Literal). All (IsOver (points_of c)) clause) (problem_of c) =
       subst (λ (n : ℕ). All (λ (clause : List Literal). All (IsOver (clause_form.points_of (n + 1) c.nodes c.roots)) clause) (clause_form.clauses_of (n + 1) c.nodes c.roots)) (sorts_count c.declared) over in
-      (h, refutation_within kept (points_of c) (few_points scope few) (problem_of c) few_clauses named lemmas h inputs)
+      (h, refutation_within kept (points_of c) (few_points c context scope few) (problem_of c) few_clauses named lemmas h inputs)
