@@ -2,6 +2,7 @@
 use Rattle.std.proofs.Common.{arith, ◌≡◌, ◌<◌, ◌-◌, ℕ, zero, suc, List, [], ◌∷◌, ◌++◌, length, map, take, Option, Some, None, Bool, true, false, ◌==◌, refl, sym, ap, ◌∙◌, subst, append-nil, append_assoc}
 use Rattle.std.specs.Prelude.{slice_get, if◌then◌else◌}
 use Rattle.std.proofs.lemmas.Bool.{eqb-true, eq-eqb}
+use Rattle.std.proofs.lemmas.Option.{same_Some, slice_get_within}
 use Rattle.stn_core.specs.declared.literal.Literal.{Literal}
 use Rattle.refute_tree.specs.declared.lemma.Lemma.{Lemma}
 use Rattle.refute_tree.specs.Trees.{IsRefuted, IsRefutation, stated}
@@ -32,6 +33,11 @@ last_back : (lemmas : List Lemma) → 0 < length lemmas → ((lemma : Lemma) →
 last_back [] some last = absurd (omega arith)
 last_back (m ∷ []) some last = eq-eqb _ _ (ap (λ (c : List Literal). length c) (last m refl))
 last_back (m ∷ n ∷ lemmas) some last = last_back (n ∷ lemmas) (omega arith) (λ lemma is. last lemma (last_index m n lemmas ∙ is))
+
+pub ends_at : (lemmas : List Lemma) (lemma : Lemma) → slice_get lemmas (length lemmas - 1) ≡ Some lemma → lemma.clause ≡ [] → ends_empty (map stated lemmas) ≡ true
+ends_at lemmas lemma is empty =
+    let within = slice_get_within lemmas (length lemmas - 1) lemma is in
+    last_back lemmas (omega arith) (λ other at. (let s : lemma ≡ other = same_Some lemma other (sym is ∙ at) in subst (λ (t : Lemma). t.clause ≡ []) s empty))
 
 -- what the code finds of the last lemma
 pub ends_tested : (lemmas : List Lemma) (lemma : Lemma) (clause : List Literal) (b : Bool) → Some lemma ≡ slice_get lemmas (length lemmas - 1) → clause ≡ lemma.clause → b ≡ (length clause == 0) → b ≡ ends_empty (map stated lemmas)

@@ -6,3 +6,4 @@ pub mod Stacks
 pub mod Steps
 pub mod FirstFalse
 pub mod Places
+pub mod FirstFlaws

@@ -43,11 +43,11 @@ module _ (points : ℕ) (clauses earlier : List (List Literal)) where
   OnPoints steps = All (StepIsOnPoints points) steps
 
   -- a step that opens these cases
-  data Opens (assumed : List Literal) : Step → List (List Literal) → Type 0 where
+  pub data Opens (assumed : List Literal) : Step → List (List Literal) → Type 0 where
     as_leaf : {cycle : List Literal} → IsCycleAmong assumed cycle → Opens assumed (Cycle cycle) []
     as_cases : {step : Step} {clause : List Literal} → clause_of clauses earlier step ≡ Some clause → StepIsOnPoints points step → Opens assumed step (cases_of assumed clause)
 
-  abbrev OpensBy : List Literal → Step → Result (List (List Literal)) FlawKind → Type 0
+  abbrev pub OpensBy : List Literal → Step → Result (List (List Literal)) FlawKind → Type 0
   OpensBy assumed step found = (opening : List (List Literal)) → found ≡ Ok opening → Opens assumed step opening
 
   leaf_opens : (assumed cycle : List Literal) (a b : Bool) → list_all (is_assumed assumed) cycle ≡ a → is_negative_cycle cycle ≡ b → OpensBy assumed (Cycle cycle) (leaf_opened a b)
@@ -69,7 +69,7 @@ module _ (points : ℕ) (clauses earlier : List (List Literal)) where
       subst (Opens assumed (Either l)) s (as_cases refl ((is_on_points_decides points l).0 e))
   either_opens assumed l false e opening is = absurd (cc)
 
-  step_opens : (assumed : List Literal) (step : Step) → OpensBy assumed step (opened points clauses earlier assumed step)
+  pub step_opens : (assumed : List Literal) (step : Step) → OpensBy assumed step (opened points clauses earlier assumed step)
   step_opens assumed (Cycle cycle) = leaf_opens assumed cycle (list_all (is_assumed assumed) cycle) (is_negative_cycle cycle) refl refl
   step_opens assumed (Input i) = clause_opens assumed (Input i) (slice_get clauses i) refl tt
   step_opens assumed (Earlier j) = clause_opens assumed (Earlier j) (slice_get earlier j) refl tt
@@ -89,7 +89,7 @@ module _ (points : ℕ) (clauses earlier : List (List Literal)) where
       ap (λ (b : Bool). if b then Ok (cases_of assumed (l ∷ negation_of l ∷ [])) else Err NoSuchPoint) ((is_on_points_decides points l).1 p)
       ∙ ap (λ (c : List Literal). Ok (cases_of assumed c)) s
 
-  gathers : (assumed clause : List Literal) (others : List (List Literal)) (steps : List Step) → Reads (cases_of assumed clause ++ others) steps → (rest : List Step) × Forest clauses earlier assumed clause steps rest × Reads others rest
+  pub gathers : (assumed clause : List Literal) (others : List (List Literal)) (steps : List Step) → Reads (cases_of assumed clause ++ others) steps → (rest : List Step) × Forest clauses earlier assumed clause steps rest × Reads others rest
   gathers assumed [] others steps r = (steps, none, r)
   gathers assumed (l ∷ clause) others steps r = let t = gathers (assumed ++ negation_of l ∷ []) clause others r.0 r.2 in (t.0, more r.1 t.1, t.2)
 

@@ -1,5 +1,7 @@
 pub mod Tests
 pub mod Flaws
+pub mod FirstFlaws
+pub mod Laws
 pub mod FlawExamples
 pub mod Schedules
 pub mod Walks

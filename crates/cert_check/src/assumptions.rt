@@ -7,8 +7,8 @@ use std::alloc::{AllocFailed, Global};
 use std::marker::Model;
 use stn_core::Literal;
 
-// The literals that are assumed where the walk stands, each once, in the order in which they came. They are found by
-// hash, and given up from the end.
+/// The literals that are assumed where the walk stands, each once, in the order in which they came. They are found by
+/// hash, and given up from the end.
 #[derive(Drop)]
 pub struct Assumptions {
     set: IndexSet<Literal>,
@@ -52,7 +52,7 @@ impl Assumptions {
         Ok(())
     }
 
-    // Keeps the first ones, so many.
+    /// Keeps the first ones, so many.
     pub fn cut(&mut self, len: usize)
         ensures { self.new ≡ take len self.old }
     {

@@ -10,8 +10,8 @@ use neg_cycle::is_cycle;
 use refute_tree::{Earlier, Step};
 use stn_core::{Literal, Problem, negate};
 
-// The clause whose cases are read, borrowed from the problem or from an earlier lemma, or the literal of an `Either`
-// step, which stands for the clause of it and its negation.
+/// The clause whose cases are read, borrowed from the problem or from an earlier lemma, or the literal of an `Either`
+/// step, which stands for the clause of it and its negation.
 #[derive(Clone, Copy)]
 pub enum Cases<'a> {
     Clause(&'a [Literal]),
@@ -40,14 +40,14 @@ impl<'a> Cases<'a> {
     }
 }
 
-// Whether the literal's time points are among so many.
+/// Whether the literal's time points are among so many.
 fn is_on_points(points: u32, literal: Literal) -> bool
     ensures { result ≡ is_on_points points literal }
 {
     literal.x < points && literal.y < points
 }
 
-// Whether the time points of all of the literals are among so many.
+/// Whether the time points of all of the literals are among so many.
 pub fn are_on_points(points: u32, literals: &[Literal]) -> bool
     ensures { result ≡ list_all (is_on_points points) literals.now }
 {
@@ -62,7 +62,7 @@ fn are_assumed(assumed: &Assumptions, literals: &[Literal]) -> bool
     literals.iter().all(|literal| assumed.contains(*literal))
 }
 
-// A leaf: its literals are all assumed, and a negative cycle.
+/// A leaf: its literals are all assumed, and a negative cycle.
 fn check_leaf(assumed: &Assumptions, cycle: &[Literal]) -> Result<(), FlawKind>
     ensures ok { OnOk result (opened_by_cycle assumed.now cycle.now ≡ Ok []) }
     ensures flaw { IfErr result (λ kind. opened_by_cycle assumed.now cycle.now ≡ Err kind) }
@@ -76,7 +76,7 @@ fn check_leaf(assumed: &Assumptions, cycle: &[Literal]) -> Result<(), FlawKind>
     Ok(())
 }
 
-// The clause whose cases the step opens. A leaf stands for the clause without literals.
+/// The clause whose cases the step opens. A leaf stands for the clause without literals.
 pub fn cases_of_step<'a, E: Earlier>(
     problem: &'a Problem,
     earlier: &'a E,

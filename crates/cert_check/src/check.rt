@@ -17,7 +17,7 @@ fn flawed(lemma: usize, step: usize, kind: FlawKind) -> Result<(), CheckError>
     Err(CheckError::Refused(Flaw { lemma, step, kind }))
 }
 
-// The lemma's steps, of which its tree is to be made.
+/// The lemma's steps, of which its tree is to be made.
 fn check_steps<E: Earlier>(
     alloc: Global,
     problem: &Problem,
@@ -69,7 +69,7 @@ pub fn check_lemma<E: Earlier>(
     check_steps(alloc, problem, earlier, lemma)
 }
 
-// Whether the last lemma has no literals, and there is one.
+/// Whether the last lemma has no literals, and there is one.
 fn ends_empty(lemmas: &[Lemma]) -> bool
     ensures { result ≡ ends_empty (map stated lemmas.now) }
 {

@@ -8,8 +8,6 @@ mod check;
 mod flaw;
 mod laws;
 mod schedule;
-#[cfg(test)]
-mod tests;
 mod walk;
 
 pub use check::{check_lemma, check_refutation};

@@ -3,10 +3,10 @@ ghost use Rattle.stn_core.specs.Problem.{ClauseHolds, ProblemHolds};
 ghost use Rattle.stn_core.specs.Literal.{IsOver};
 ghost use Rattle.cert_check.specs.Schedules.{IsFirstFalse};
 
-use stn_core::{Literal, Problem, Schedule, holds};
+use stn_core::{Literal, Problem, Schedule, Value, holds};
 
-// Whether some literal of the clause holds on the values.
-fn clause_holds(clause: &[Literal], values: &[i64]) -> bool
+/// Whether some literal of the clause holds on the values.
+fn clause_holds(clause: &[Literal], values: &[Value]) -> bool
     requires { All (IsOver (length values.now)) clause.now }
     ensures { IsTrue result ↔ ClauseHolds values.now clause.now }
 {

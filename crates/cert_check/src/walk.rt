@@ -11,8 +11,8 @@ use refute_tree::{Earlier, Step};
 use std::alloc::{AllocFailed, Global};
 use stn_core::{Literal, Problem, negate};
 
-// A clause whose cases are being read: the one at `place` now, the later ones when that has been read. Its first
-// assumptions, so many as `base`, are those of the case at `place` but for its literal.
+/// A clause whose cases are being read: the one at `place` now, the later ones when that has been read. Its first
+/// assumptions, so many as `base`, are those of the case at `place` but for its literal.
 #[derive(Clone, Copy, Drop)]
 pub struct Frame<'a> {
     pub cases: Cases<'a>,
@@ -20,7 +20,7 @@ pub struct Frame<'a> {
     pub base: usize,
 }
 
-// Why a step can't be read.
+/// Why a step can't be read.
 #[derive(Clone, Copy)]
 pub enum WalkError {
     OutOfMemory,
@@ -49,8 +49,8 @@ impl From<FlawKind> for WalkError {
     }
 }
 
-// The way through a tree: what is assumed in the case that is read now, and the clauses with cases that wait, the last
-// opened last.
+/// The way through a tree: what is assumed in the case that is read now, and the clauses with cases that wait, the last
+/// opened last.
 #[derive(Drop)]
 pub struct Walk<'a> {
     pub assumed: Assumptions,
@@ -58,7 +58,7 @@ pub struct Walk<'a> {
 }
 
 impl<'a> Walk<'a> {
-    // At the root of a lemma's tree, where its literals are denied.
+    /// At the root of a lemma's tree, where its literals are denied.
     pub fn new(alloc: Global, clause: &[Literal]) -> Result<Self, WalkError>
         ensures stack { IfOk result (λ walk. IsStack 0 walk.frames.items (length walk.assumed)) }
         ensures cases { IfOk result (λ walk. AreAlike (open_cases true walk.frames.items walk.assumed) (map negation_of clause.now ∷ [])) }
@@ -72,7 +72,7 @@ impl<'a> Walk<'a> {
         Ok(Walk { assumed, frames })
     }
 
-    // Goes into the case of the literal at `place`, and leaves those of the later literals waiting.
+    /// Goes into the case of the literal at `place`, and leaves those of the later literals waiting.
     fn enter(&mut self, cases: Cases<'a>, place: usize) -> Result<(), WalkError>
         requires stack { IsStack 0 self.old.frames.items (length self.old.assumed) }
         requires place { place < length (clause_in cases) }
@@ -86,7 +86,7 @@ impl<'a> Walk<'a> {
         Ok(())
     }
 
-    // Goes to the first case that waits, and tells whether there is one.
+    /// Goes to the first case that waits, and tells whether there is one.
     fn advance(&mut self) -> Result<bool, WalkError>
         requires { IsStack 0 self.old.frames.items (length self.old.assumed) }
         ensures stack { OnOk result (IsStack 0 self.new.frames.items (length self.new.assumed)) }
@@ -106,7 +106,7 @@ impl<'a> Walk<'a> {
         Ok(false)
     }
 
-    // Reads a step in the case that is open, and tells whether a case is open then.
+    /// Reads a step in the case that is open, and tells whether a case is open then.
     pub fn read<E: Earlier>(
         &mut self,
         problem: &'a Problem,

@@ -4,13 +4,7 @@
 mod clauses;
 mod frame;
 mod path;
-#[cfg(test)]
-mod plain_reader;
-#[cfg(test)]
-mod random_tests;
 mod search;
-#[cfg(test)]
-mod tests;
 mod units;
 mod verdict;
 

@@ -6,8 +6,6 @@
 
 mod fate;
 mod rules;
-#[cfg(test)]
-mod tests;
 
 pub use fate::{Fate, Fates, Subsumed};
 pub use rules::{forward_check, is_subsumed};

@@ -6,7 +6,7 @@ use crate::fate::{Fate, Fates, Subsumed};
 use std::alloc::{AllocError, Global};
 use stn_core::{Added, Clause, Literal, Net, negate};
 
-// The fate of one literal: it is added and taken back.
+/// The fate of one literal: it is added and taken back.
 fn fate_of<N: Net>(net: &mut N, literal: Literal) -> Result<Fate, AllocError>
     requires { IsOver (N.points_of net.old) literal }
     ensures fate { IfOk result (IsFate (N.points_of net.old) (N.literals_of net.old) literal) }
@@ -25,7 +25,7 @@ fn fate_of<N: Net>(net: &mut N, literal: Literal) -> Result<Fate, AllocError>
 
 /// For each literal of the clause, whether the net is consistent with it, or a negative cycle that it closes.
 ///
-/// The literals' points are among the net's, and their bounds are from -2^40 - 1 to 2^40. Each literal is added to the
+/// The literals' points are among the net's, and their bounds are from `-BOUND_LIMIT - 1` to `BOUND_LIMIT`. Each literal is added to the
 /// net once and taken back, so the net's list is as before, also after an error, and its count of adds moves on. The one
 /// error is want of memory.
 pub fn forward_check<N: Net>(
@@ -47,7 +47,7 @@ pub fn forward_check<N: Net>(
 
 /// The first literal of the clause that the net implies, if it implies one. Such a clause needs no choice.
 ///
-/// The literals' points are among the net's, and their bounds are from -2^40 - 1 to 2^40. The negation of each literal,
+/// The literals' points are among the net's, and their bounds are from `-BOUND_LIMIT - 1` to `BOUND_LIMIT`. The negation of each literal,
 /// up to that one, is added to the net once and taken back, so the net's list is as before, also after an error, and its
 /// count of adds moves on. The one error is want of memory.
 pub fn is_subsumed<N: Net>(net: &mut N, clause: &Clause) -> Result<Option<Subsumed>, AllocError>

@@ -7,8 +7,6 @@ mod earlier;
 mod laws;
 mod lemma;
 mod step;
-#[cfg(test)]
-mod tests;
 mod tree;
 
 pub use conjunction::conjunction_refutation;

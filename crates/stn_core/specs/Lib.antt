@@ -5,5 +5,6 @@ pub mod Cycle
 pub mod Schedule
 pub mod Answer
 pub mod Net
+pub mod Laws
 pub mod Rounds
 pub mod RoundsNet

@@ -6,8 +6,8 @@ use crate::label::Label;
 use crate::literal::Literals;
 use std::alloc::{AllocError, Global};
 
-// Goes from a point to the one that its last literal leads to, and on, until a point comes up again: the walk
-// between is a negative cycle. There may be none, where a point comes up that no round has lowered.
+/// Goes from a point to the one that its last literal leads to, and on, until a point comes up again: the walk
+/// between is a negative cycle. There may be none, where a point comes up that no round has lowered.
 pub fn cycle_from(
     alloc: Global,
     labels: &[Label],

@@ -6,18 +6,18 @@ ghost use Rattle.stn_core.specs.Rounds.{begun, IsRound, NoneLowered, IsLoweredIn
 use crate::limits::Value;
 use crate::literal::Literal;
 
-// What the rounds keep for a time point (its label, as in label-correcting algorithms for shortest paths).
+/// What the rounds keep for a time point (its label, as in label-correcting algorithms for shortest paths).
 #[derive(Clone, Copy)]
 pub struct Label {
-    // its value now, and as the round began
+    /// its value now, and as the round began
     pub value: Value,
     pub last: Value,
-    // the round in which the value was lowered last, or 0, and the literal that lowered it
+    /// the round in which the value was lowered last, or 0, and the literal that lowered it
     pub round: u32,
     pub by: Literal,
 }
 
-// A point that no round has lowered.
+/// A point that no round has lowered.
 pub const INITIAL: Label = Label {
     value: 0,
     last: 0,
@@ -25,7 +25,7 @@ pub const INITIAL: Label = Label {
     by: Literal { x: 0, y: 0, c: 0 },
 };
 
-// Every value as it is now becomes the one that the next round begins with.
+/// Every value as it is now becomes the one that the next round begins with.
 pub fn begin_round(labels: &mut [Label])
     ensures { labels.new ≡ map begun labels.old }
 {
@@ -34,8 +34,8 @@ pub fn begin_round(labels: &mut [Label])
     }
 }
 
-// One round: each literal is applied to the values that the round began with. The answer is a point that it lowered,
-// if there is one. No value falls by more than one bound a round, so no sum leaves its range.
+/// One round: each literal is applied to the values that the round began with. The answer is a point that it lowered,
+/// if there is one. No value falls by more than one bound a round, so no sum leaves its range.
 pub fn lower(labels: &mut [Label], literals: &[Literal], round: u32) -> Option<u32>
     requires points { length labels.old ≤ points_limit }
     requires first { 1 ≤ round }

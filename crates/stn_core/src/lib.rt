@@ -10,14 +10,10 @@ mod limits;
 mod literal;
 mod named;
 mod net;
-#[cfg(test)]
-mod net_tests;
 mod problem;
 mod rounds_net;
 mod schedule;
 mod solve;
-#[cfg(test)]
-mod tests;
 
 pub use laws::{cycle_law, greatest_range_law, negation_kept, negation_law, one_greatest_law};
 pub use limits::{BOUND_LIMIT, POINTS_LIMIT, VALUE_LIMIT, Value};

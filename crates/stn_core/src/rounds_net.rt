@@ -16,7 +16,7 @@ use std::marker::Model;
 pub struct RoundsNet {
     points: u32,
     literals: Vec<Literal>,
-    // of no literal, of the first one, of the first two, and so on
+    /// of no literal, of the first one, of the first two, and so on
     schedules: Vec<Schedule>,
     adds: u64,
 }

@@ -23,8 +23,8 @@ fn schedule_of(alloc: Global, labels: &[Label]) -> Result<Schedule, AllocError>
     Ok(Schedule::new(values_of(alloc, labels)?))
 }
 
-// Rounds, until one of them lowers nothing or there were as many as points: a value that the last of these lowers
-// comes of a path with as many literals as there are points, and such a path has a cycle.
+/// Rounds, until one of them lowers nothing or there were as many as points: a value that the last of these lowers
+/// comes of a path with as many literals as there are points, and such a path has a cycle.
 fn run(
     alloc: Global,
     labels: &mut [Label],

@@ -1,0 +1,10 @@
+//! One short run of each public call that takes memory and that no script reaches, with ample memory: of nets, cycles,
+//! pruning, refutation trees and the checker.
+#![tactic(auto)]
+
+#[cfg(test)]
+mod cycles;
+#[cfg(test)]
+mod lemmas;
+#[cfg(test)]
+mod nets;
