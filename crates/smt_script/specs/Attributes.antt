@@ -1,52 +1,57 @@
--- The attributes of an annotated term (SMT-LIB 2.6, section 3.4 and section 3.6.5): keywords, each with at most one value that
+-- The attributes of an annotated term (SMT-LIB 2.6, section 3.4 and section 3.6.5): keywords, each with at most one value, which
 -- is no keyword. `:named` takes a symbol, and stands at most once.
-use Rattle.std.specs.Prelude.{ℕ, List, codes, if◌then◌else◌, Option, None, Some}
+use Rattle.std.specs.Prelude.{ℕ, List, [], ◌∷◌, codes, if◌then◌else◌, Option, None, Some}
 use Rattle.std.specs.Str.{bytes_eq}
 use Rattle.smt_lex.specs.declared.token.TokenKind.TheVariants.{Keyword}
 use Rattle.smt_sexpr.specs.Tree.{Sexpr, Items, leaf, none, more, symbol_of}
 
--- the name that attributes give, where they give one
-pub record Named : Type 0 where
-  pub name : Option (List ℕ)
+-- a keyword's text
+abbrev pub keyword_of : Sexpr → Option (List ℕ)
+keyword_of (leaf Keyword text) = Some text
+keyword_of x = None
 
--- what stands before an attribute: a keyword that may have a value still, and the name that was given so far
-pub data Before : Type 0 where
-  -- the keyword `:named`, which wants its symbol
-  wants_name : Before
-  -- another keyword, which may have one value
-  may_have_value : Before
-  -- a whole attribute
-  whole : Before
+pub record Attribute : Type 0 where
+  pub keyword : List ℕ
+  pub value : Option Sexpr
 
-abbrev pub keyword_text : Sexpr → Option (List ℕ)
-keyword_text (leaf Keyword text) = Some text
-keyword_text x = None
+-- an attribute with those behind it
+abbrev pub with_attribute : Option (List ℕ) → Option Sexpr → Option (List Attribute) → Option (List Attribute)
+with_attribute (Some keyword) value (Some behind) = Some (record { keyword = keyword; value = value } ∷ behind)
+with_attribute _ _ _ = None
 
-abbrev pub after_keyword : List ℕ → Before
-after_keyword text = if bytes_eq text (codes ":named") then wants_name else may_have_value
-
--- `:named` may not come again
-abbrev pub may_begin : Option (List ℕ) → Before → Option Before
-may_begin (Some name) wants_name = None
-may_begin given before = Some before
-
--- the name, where what is left are attributes; there is none where they are ill-formed
-abbrev pub named_after : Before → Option (List ℕ) → Items → Option Named
-named_after wants_name given none = None
-named_after _ given none = Some (record { name = given })
-named_after wants_name given (more x xs) = elim (symbol_of x) [
-  | None ↦ None
-  | Some name ↦ named_after whole (Some name) xs
-]
-named_after may_have_value given (more x xs) = elim (keyword_text x) [
-  | None ↦ named_after whole given xs
-  | Some text ↦ elim (may_begin given (after_keyword text)) [ None ↦ None | Some before ↦ named_after before given xs ]
-]
-named_after whole given (more x xs) = elim (keyword_text x) [
-  | None ↦ None
-  | Some text ↦ elim (may_begin given (after_keyword text)) [ None ↦ None | Some before ↦ named_after before given xs ]
+-- the attributes that the items are; nothing where they are none
+abbrev pub attributes_of : Items → Option (List Attribute)
+attributes_of none = Some []
+attributes_of (more k none) = with_attribute (keyword_of k) None (Some [])
+attributes_of (more k (more v rest)) = elim (keyword_of v) [
+  | None ↦ with_attribute (keyword_of k) (Some v) (attributes_of rest)
+  | Some next ↦ with_attribute (keyword_of k) None (attributes_of (more v rest))
 ]
 
--- of attributes from the first on
+-- what attributes give the term: no name, or a name
+pub data Named : Type 0 where
+  unnamed : Named
+  named : (name : List ℕ) → Named
+
+abbrev pub symbol_in : Option Sexpr → Option (List ℕ)
+symbol_in None = None
+symbol_in (Some v) = symbol_of v
+
+-- a name, where the attributes behind it give none
+abbrev pub only_name : Option (List ℕ) → Option Named → Option Named
+only_name (Some name) (Some unnamed) = Some (named name)
+only_name _ _ = None
+
+abbrev pub name_given : List Attribute → Option Named
+name_given [] = Some unnamed
+name_given (a ∷ rest) =
+    if bytes_eq a.keyword (codes ":named") then only_name (symbol_in a.value) (name_given rest)
+    else name_given rest
+
+abbrev pub name_by : Option (List Attribute) → Option Named
+name_by (Some attributes) = name_given attributes
+name_by None = None
+
+-- nothing where the items are no attributes, or where a `:named` has no symbol or is the second
 abbrev pub named_in : Items → Option Named
-named_in attributes = named_after whole None attributes
+named_in items = name_by (attributes_of items)

@@ -1,16 +1,15 @@
 -- What a command asks for (SMT-LIB 2.6, section 3.9). First its name is looked at, then its shape.
 use Rattle.std.specs.Prelude.{ℕ, List, codes, Bool, true, false, if◌then◌else◌, Option, None, Some, Result, Ok, Err}
 use Rattle.std.specs.Str.{bytes_eq}
-use Rattle.smt_lex.specs.declared.token.TokenKind.TheVariants.{Keyword}
 use Rattle.smt_lex.specs.Numbers.{value_of}
-use Rattle.smt_sexpr.specs.Tree.{Sexpr, Items, leaf, list, none, more, symbol_of, numeral_of}
+use Rattle.smt_sexpr.specs.Tree.{Sexpr, Items, list, none, more, symbol_of, numeral_of}
 use Rattle.smt_script.specs.declared.command_name.CommandName.{CommandName}
 use Rattle.smt_script.specs.declared.command_name.CommandName.TheVariants as name
 use Rattle.smt_script.specs.declared.error.LeftOutCommand.{LeftOutCommand}
 use Rattle.smt_script.specs.declared.error.LeftOutCommand.TheVariants as left_out
 use Rattle.smt_script.specs.declared.error.Refusal.{Refusal}
 use Rattle.smt_script.specs.declared.error.Refusal.TheVariants.{UnknownCommand, IllFormedCommand, LeftOut, NotYet}
-use Rattle.smt_script.specs.Attributes.{Named, named_in}
+use Rattle.smt_script.specs.Attributes.{keyword_of, Named, unnamed, named, named_in}
 
 pub data Command : Type 0 where
   -- (set-logic s)
@@ -38,28 +37,46 @@ pub data Command : Type 0 where
   -- a command that answers `unsupported` whatever follows its name
   unsupported : Command
 
--- the commands that there are
-unfoldable pub command_name : List ℕ → Option CommandName
-command_name text =
+-- the commands that set and name
+unfoldable pub naming_command : List ℕ → Option CommandName
+naming_command text =
     if bytes_eq text (codes "set-logic") then Some name.SetLogic
     else (if bytes_eq text (codes "set-option") then Some name.SetOption
     else (if bytes_eq text (codes "set-info") then Some name.SetInfo
     else (if bytes_eq text (codes "declare-const") then Some name.DeclareConst
     else (if bytes_eq text (codes "declare-fun") then Some name.DeclareFun
     else (if bytes_eq text (codes "define-fun") then Some name.DefineFun
-    else (if bytes_eq text (codes "assert") then Some name.Assert
+    else None)))))
+
+-- the commands that change what is active, and `exit`
+unfoldable pub changing_command : List ℕ → Option CommandName
+changing_command text =
+    if bytes_eq text (codes "assert") then Some name.Assert
     else (if bytes_eq text (codes "push") then Some name.Push
     else (if bytes_eq text (codes "pop") then Some name.Pop
-    else (if bytes_eq text (codes "check-sat") then Some name.CheckSat
+    else (if bytes_eq text (codes "reset-assertions") then Some name.ResetAssertions
+    else (if bytes_eq text (codes "reset") then Some name.Reset
+    else (if bytes_eq text (codes "exit") then Some name.Exit
+    else None)))))
+
+-- the commands that ask
+unfoldable pub asking_command : List ℕ → Option CommandName
+asking_command text =
+    if bytes_eq text (codes "check-sat") then Some name.CheckSat
     else (if bytes_eq text (codes "get-model") then Some name.GetModel
     else (if bytes_eq text (codes "get-value") then Some name.GetValue
     else (if bytes_eq text (codes "get-proof") then Some name.GetProof
     else (if bytes_eq text (codes "get-info") then Some name.GetInfo
     else (if bytes_eq text (codes "echo") then Some name.Echo
-    else (if bytes_eq text (codes "reset-assertions") then Some name.ResetAssertions
-    else (if bytes_eq text (codes "reset") then Some name.Reset
-    else (if bytes_eq text (codes "exit") then Some name.Exit
-    else None)))))))))))))))))
+    else None)))))
+
+abbrev pub or_else : Option CommandName → Option CommandName → Option CommandName
+or_else (Some found) other = Some found
+or_else None other = other
+
+-- the commands that there are
+abbrev pub command_name : List ℕ → Option CommandName
+command_name text = or_else (naming_command text) (or_else (changing_command text) (asking_command text))
 
 -- the commands that answer `unsupported`
 unfoldable pub is_unsupported : List ℕ → Bool
@@ -86,11 +103,6 @@ abbrev pub ill_formed : Result Command Refusal
 ill_formed = Err IllFormedCommand
 
 -- ---- shapes, behind the command's name
-
--- a keyword's text
-abbrev pub keyword_of : Sexpr → Option (List ℕ)
-keyword_of (leaf Keyword text) = Some text
-keyword_of x = None
 
 -- a command without arguments
 abbrev pub alone : Command → Items → Result Command Refusal
@@ -138,10 +150,8 @@ definition_command _ = ill_formed
 -- an annotated term: its name, where it has one
 abbrev pub annotated : Sexpr → Option Named → Result Command Refusal
 annotated term None = ill_formed
-annotated term (Some named) = Ok (elim named.name [
-  | None ↦ asserting term
-  | Some text ↦ naming term text
-])
+annotated term (Some unnamed) = Ok (asserting term)
+annotated term (Some (named text)) = Ok (naming term text)
 
 -- what stands behind a `!`: a term, and one or more attributes
 abbrev pub annotation_command : Items → Result Command Refusal

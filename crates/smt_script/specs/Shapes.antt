@@ -1,7 +1,8 @@
 -- How the code sees commands: by the ids of their parts. These are words of the code's inner contracts, and no part of the
 -- meaning.
-use Rattle.std.specs.Prelude.{◌≡◌, ℕ, ◌≤◌, ◌^◌, List, Bool, true, false, if◌then◌else◌, Option, Some, None, option_map, Result, Ok, Err}
+use Rattle.std.specs.Prelude.{◌≡◌, ℕ, ◌≤◌, ◌^◌, List, codes, Bool, true, false, if◌then◌else◌, Option, Some, None, option_map, Result, Ok, Err}
 use Rattle.std.specs.Borrow.{Bor}
+use Rattle.std.specs.Str.{bytes_eq}
 use Rattle.smt_sexpr.specs.Tree.{Sexpr, Items, list, none, more, symbol_of}
 use Rattle.smt_sexpr.specs.Table.{Table, Means, MeansEach}
 use Rattle.idl_node.specs.Nodes.{NodeValue}
@@ -13,8 +14,7 @@ use Rattle.idl_term.specs.declared.error.TermRefusal.{TermRefusal}
 use Rattle.idl_term.specs.declared.error.TermRefusal.TheVariants.{WrongSort}
 use Rattle.idl_term.specs.declared.error.TermError.{TermError}
 use Rattle.idl_term.specs.declared.error.TermError.TheVariants as term
-use Rattle.smt_script.specs.Attributes
-use Rattle.smt_script.specs.Attributes.{Before, Named}
+use Rattle.smt_script.specs.Attributes.{keyword_of, Named, unnamed, named}
 use Rattle.smt_script.specs.Commands.{Command, ill_formed, setting_logic, setting_option, informing, declaring, defining, asserting, naming, pushing, popping, checking, resetting_assertions, resetting, exiting, unsupported, function_command, definition_command, annotation_in, command_of}
 use Rattle.smt_script.specs.Kept.{Kept, StandsFor}
 use Rattle.smt_script.specs.Options
@@ -57,22 +57,49 @@ shown_effect IllFormed = Options.ill_formed_value
 
 -- ---- attributes
 
-abbrev pub shown_awaited : Awaited → Before
-shown_awaited awaited.Name = Attributes.wants_name
-shown_awaited awaited.Value = Attributes.may_have_value
-shown_awaited awaited.Keyword = Attributes.whole
-
 abbrev pub shown_name : Option (Bor (List ℕ)) → Option (List ℕ)
 shown_name name = option_map (λ (text : Bor (List ℕ)). text.now) name
 
+abbrev pub named_as : Option (List ℕ) → Named
+named_as None = unnamed
+named_as (Some name) = named name
+
+abbrev pub after_keyword : List ℕ → Awaited
+after_keyword text = if bytes_eq text (codes ":named") then awaited.Name else awaited.Value
+
+-- `:named` may not come again
+abbrev pub may_come : Option (List ℕ) → Awaited → Option Awaited
+may_come (Some name) awaited.Name = None
+may_come given next = Some next
+
+-- the name behind the items that are left, by what is awaited of them and the name so far
+abbrev pub named_after : Awaited → Option (List ℕ) → Items → Option Named
+named_after awaited.Name given none = None
+named_after _ given none = Some (named_as given)
+named_after awaited.Name given (more x xs) = elim (symbol_of x) [
+  | None ↦ None
+  | Some name ↦ named_after awaited.Keyword (Some name) xs
+]
+named_after awaited.Value given (more x xs) = elim (keyword_of x) [
+  | None ↦ named_after awaited.Keyword given xs
+  | Some text ↦ elim (may_come given (after_keyword text)) [ None ↦ None | Some next ↦ named_after next given xs ]
+]
+named_after awaited.Keyword given (more x xs) = elim (keyword_of x) [
+  | None ↦ None
+  | Some text ↦ elim (may_come given (after_keyword text)) [ None ↦ None | Some next ↦ named_after next given xs ]
+]
+
+abbrev pub left_after : AttributesRead → Items → Option Named
+left_after read xs = named_after read.awaited (shown_name read.name) xs
+
 -- one more item leads from these attributes to those
 abbrev pub AttributeIs : AttributesRead → Sexpr → Result AttributesRead Refusal → Type 0
-AttributeIs before x (Ok after) = (xs : Items) → Attributes.named_after (shown_awaited before.awaited) (shown_name before.name) (more x xs) ≡ Attributes.named_after (shown_awaited after.awaited) (shown_name after.name) xs
-AttributeIs before x (Err why) = (why ≡ IllFormedCommand) × ((xs : Items) → Attributes.named_after (shown_awaited before.awaited) (shown_name before.name) (more x xs) ≡ None)
+AttributeIs before x (Ok after) = (xs : Items) → left_after before (more x xs) ≡ left_after after xs
+AttributeIs before x (Err why) = (why ≡ IllFormedCommand) × ((xs : Items) → left_after before (more x xs) ≡ None)
 
 abbrev pub AttributesAre : Option Named → Result (Option (Bor (List ℕ))) Refusal → Type 0
-AttributesAre named (Ok name) = named ≡ Some (record { name = shown_name name })
-AttributesAre named (Err why) = (why ≡ IllFormedCommand) × (named ≡ None)
+AttributesAre found (Ok name) = found ≡ Some (named_as (shown_name name))
+AttributesAre found (Err why) = (why ≡ IllFormedCommand) × (found ≡ None)
 
 -- ---- commands
 

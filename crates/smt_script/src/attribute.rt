@@ -2,8 +2,7 @@
 ghost use Rattle.std.specs.Prelude.{◌≡◌, option_map, IfErr};
 ghost use Rattle.smt_sexpr.specs.Tree.{Sexpr, Items};
 ghost use Rattle.smt_sexpr.specs.Table.{Means, MeansEach, HasMeaning};
-ghost use Rattle.smt_script.specs.Attributes.{keyword_text, named_in};
-ghost use Rattle.smt_script.specs.Commands.{keyword_of};
+ghost use Rattle.smt_script.specs.Attributes.{keyword_of, named_in};
 ghost use Rattle.smt_script.specs.Shapes.{AttributeIs, AttributesAre};
 ghost use Rattle.smt_sexpr.specs.Shapes.{HaveMeaning};
 
@@ -32,8 +31,7 @@ pub struct Attributes<'a> {
 /// A keyword's text.
 pub fn keyword<'a>(sexprs: &Sexprs<'a>, id: SexprId) -> Option<&'a [u8]>
     requires { HasMeaning sexprs.now id }
-    ensures text { (x : Sexpr) → Means sexprs.now id x → option_map (λ text. text.now) result ≡ keyword_text x }
-    ensures keyword { (x : Sexpr) → Means sexprs.now id x → option_map (λ text. text.now) result ≡ keyword_of x }
+    ensures { (x : Sexpr) → Means sexprs.now id x → option_map (λ text. text.now) result ≡ keyword_of x }
 {
     match sexprs.leaf(id) {
         Some((TokenKind::Keyword, text)) => Some(text),

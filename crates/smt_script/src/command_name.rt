@@ -1,6 +1,6 @@
 //! The names of commands.
 ghost use Rattle.std.specs.Prelude.{◌≡◌};
-ghost use Rattle.smt_script.specs.Commands.{command_name, is_unsupported, left_out_of};
+ghost use Rattle.smt_script.specs.Commands.{naming_command, changing_command, asking_command, command_name, is_unsupported, left_out_of};
 
 use crate::error::LeftOutCommand;
 
@@ -27,10 +27,10 @@ pub enum CommandName {
     Exit,
 }
 
-/// The command that the symbol names.
-#[tactic(auto, unfolding(crate::specs::Commands::command_name))]
-pub fn command_name(name: &[u8]) -> Option<CommandName>
-    ensures { result ≡ command_name name.now }
+/// The commands that set and name.
+#[tactic(auto, unfolding(crate::specs::Commands::naming_command))]
+fn naming_command(name: &[u8]) -> Option<CommandName>
+    ensures { result ≡ naming_command name.now }
 {
     if name == b"set-logic".as_slice() {
         Some(CommandName::SetLogic)
@@ -44,13 +44,39 @@ pub fn command_name(name: &[u8]) -> Option<CommandName>
         Some(CommandName::DeclareFun)
     } else if name == b"define-fun".as_slice() {
         Some(CommandName::DefineFun)
-    } else if name == b"assert".as_slice() {
+    } else {
+        None
+    }
+}
+
+/// The commands that change what is active, and `exit`.
+#[tactic(auto, unfolding(crate::specs::Commands::changing_command))]
+fn changing_command(name: &[u8]) -> Option<CommandName>
+    ensures { result ≡ changing_command name.now }
+{
+    if name == b"assert".as_slice() {
         Some(CommandName::Assert)
     } else if name == b"push".as_slice() {
         Some(CommandName::Push)
     } else if name == b"pop".as_slice() {
         Some(CommandName::Pop)
-    } else if name == b"check-sat".as_slice() {
+    } else if name == b"reset-assertions".as_slice() {
+        Some(CommandName::ResetAssertions)
+    } else if name == b"reset".as_slice() {
+        Some(CommandName::Reset)
+    } else if name == b"exit".as_slice() {
+        Some(CommandName::Exit)
+    } else {
+        None
+    }
+}
+
+/// The commands that ask.
+#[tactic(auto, unfolding(crate::specs::Commands::asking_command))]
+fn asking_command(name: &[u8]) -> Option<CommandName>
+    ensures { result ≡ asking_command name.now }
+{
+    if name == b"check-sat".as_slice() {
         Some(CommandName::CheckSat)
     } else if name == b"get-model".as_slice() {
         Some(CommandName::GetModel)
@@ -62,14 +88,21 @@ pub fn command_name(name: &[u8]) -> Option<CommandName>
         Some(CommandName::GetInfo)
     } else if name == b"echo".as_slice() {
         Some(CommandName::Echo)
-    } else if name == b"reset-assertions".as_slice() {
-        Some(CommandName::ResetAssertions)
-    } else if name == b"reset".as_slice() {
-        Some(CommandName::Reset)
-    } else if name == b"exit".as_slice() {
-        Some(CommandName::Exit)
     } else {
         None
+    }
+}
+
+/// The command that the symbol names.
+pub fn command_name(name: &[u8]) -> Option<CommandName>
+    ensures { result ≡ command_name name.now }
+{
+    match naming_command(name) {
+        Some(command) => Some(command),
+        None => match changing_command(name) {
+            Some(command) => Some(command),
+            None => asking_command(name),
+        },
     }
 }
 

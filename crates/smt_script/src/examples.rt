@@ -13,7 +13,7 @@ ghost use Rattle.smt_script.specs.declared.state.Effect.TheVariants.{CheckSat, E
 ghost use Rattle.smt_script.specs.declared.state.Notice.TheVariants.{Success, Unsupported};
 
 /// Names and assertions. `with_x` is the state behind `(declare-const x Int)`, `with_p` that behind `(declare-const p Bool)`.
-#[tactic(auto, unfolding(crate::specs::States::after, crate::specs::Commands::command_of, crate::specs::Commands::command_name, crate::specs::Commands::is_unsupported, crate::specs::Commands::left_out_of, idl_term::specs::Operators::operator_of, idl_term::specs::Operators::left_out_of, idl_term::specs::Operators::theory_symbols, idl_term::specs::Operators::reserved_words, idl_term::specs::Lowered::lowered, idl_term::specs::Lowered::lowered_leaf, idl_term::specs::Lowered::head_of, idl_term::specs::Lowered::is_let, smt_lex::specs::Numbers::value_from, smt_lex::specs::Symbols::symbol_content))]
+#[tactic(auto, unfolding(crate::specs::States::after, crate::specs::Commands::command_of, crate::specs::Commands::naming_command, crate::specs::Commands::changing_command, crate::specs::Commands::asking_command, crate::specs::Commands::is_unsupported, crate::specs::Commands::left_out_of, idl_term::specs::Operators::operator_of, idl_term::specs::Operators::left_out_of, idl_term::specs::Operators::theory_symbols, idl_term::specs::Operators::reserved_words, idl_term::specs::Lowered::lowered, idl_term::specs::Lowered::lowered_leaf, idl_term::specs::Lowered::head_of, idl_term::specs::Lowered::is_let, smt_lex::specs::Numbers::value_from, smt_lex::specs::Symbols::symbol_content))]
 pub fn worked_names()
     ensures declares { after start_state (declares x (codes "Int")) ≡ Ok (record { state = with_x; effect = Tell Success }) }
     ensures function { after start_state (apply (codes "declare-fun") (x ∷ no_parameters ∷ symbol (codes "Int") ∷ [])) ≡ Ok (record { state = with_x; effect = Tell Success }) }
@@ -36,7 +36,7 @@ pub fn worked_names()
 {}
 
 /// Options, levels and the other commands.
-#[tactic(auto, unfolding(crate::specs::States::after, crate::specs::Commands::command_of, crate::specs::Commands::command_name, crate::specs::Commands::is_unsupported, crate::specs::Commands::left_out_of, crate::specs::Options::option_effect, crate::specs::Options::is_production, smt_lex::specs::Numbers::value_from))]
+#[tactic(auto, unfolding(crate::specs::States::after, crate::specs::Commands::command_of, crate::specs::Commands::naming_command, crate::specs::Commands::changing_command, crate::specs::Commands::asking_command, crate::specs::Commands::is_unsupported, crate::specs::Commands::left_out_of, crate::specs::Options::option_effect, crate::specs::Options::is_production, smt_lex::specs::Numbers::value_from))]
 pub fn worked_commands()
     ensures logic { after start_state (apply (codes "set-logic") (symbol (codes "QF_IDL") ∷ [])) ≡ Ok (record { state = start_state; effect = Tell Success }) }
     ensures other_logic { after start_state (apply (codes "set-logic") (symbol (codes "QF_LIA") ∷ [])) ≡ Err LogicNotSupported }

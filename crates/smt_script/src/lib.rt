@@ -20,6 +20,3 @@ pub use exit::is_exit;
 pub use laws::{exit_law, state_law};
 pub use state::{Effect, Level, Mode, Notice, Satisfiability, State};
 pub use value::TermValue;
-
-#[cfg(test)]
-mod tests;

@@ -5,14 +5,13 @@ ghost use Rattle.smt_sexpr.specs.Table.{Means, HasMeaning};
 ghost use Rattle.idl_term.specs.Contexts.{IsScheduleFor, environment, scope_of};
 ghost use Rattle.idl_term.specs.Limits.{names_limit};
 ghost use Rattle.idl_term.specs.Lowered.{lowered};
-ghost use Rattle.idl_term.specs.Values.{value as value_of};
 ghost use Rattle.idl_term.specs.declared.error.TermRefusal.{TermRefusal};
 ghost use Rattle.smt_script.specs.Commands.{Command};
 ghost use Rattle.smt_script.specs.Kept.{StandsFor, Steps, cut_to};
 ghost use Rattle.smt_script.specs.Options.{option_effect};
 ghost use Rattle.smt_script.specs.Shapes.{ValueIs, HasValue, IsSignature, HasSignature, CountIs, CommandIs, Agrees};
 ghost use Rattle.smt_script.specs.States.{State as Meaning, start_state, after_logic, after_option, sort_of, after_declaration, after_definition, asserted_by, named_by, after_push, after_pop, after_by, after, settled, IsMadeState};
-ghost use Rattle.smt_script.specs.TermValues.{value_shown};
+ghost use Rattle.smt_script.specs.TermValues.{IsAccepted, IsRefused, IsValue};
 ghost use Rattle.smt_script.specs.declared.error.Refusal.{Refusal as Why};
 ghost use Rattle.smt_script.specs.declared.state.Level.{Level as Before};
 
@@ -304,22 +303,32 @@ impl<'a> State<'a> {
         }
     }
 
-    /// `reset-assertions`: the options stay.
-    fn reset_assertions(&mut self)
-        ensures { (s : Meaning) → StandsFor self.old s → StandsFor self.new (record start_state { print_success = s.print_success }) }
+    /// Nothing is declared, defined or asserted any more. What took memory keeps it for what comes.
+    fn clear(&mut self, print_success: bool)
+        ensures { StandsFor self.new (record start_state { print_success = print_success }) }
     {
         self.scope.cut(0, 0);
         self.nodes.cut(0);
         self.roots.truncate(0);
         self.levels.truncate(0);
         self.mode = Mode::Nothing;
+        self.print_success = print_success;
+    }
+
+    /// `reset-assertions`: the options stay.
+    fn reset_assertions(&mut self)
+        ensures { (s : Meaning) → StandsFor self.old s
+            → StandsFor self.new (record start_state { print_success = s.print_success }) }
+    {
+        let print_success = self.print_success;
+        self.clear(print_success);
     }
 
     /// `reset`.
     fn reset(&mut self)
         ensures { StandsFor self.new start_state }
     {
-        *self = State::new(self.alloc);
+        self.clear(false);
     }
 
     /// What a command asks for.
@@ -388,8 +397,12 @@ impl<'a> State<'a> {
     ) -> Result<TermValue, TermError>
         requires meaning { HasMeaning sexprs.now id }
         requires state { (s : Meaning) × StandsFor self.old s × IsMadeState s × IsScheduleFor s.context values.now }
-        ensures ok { IfOk result (λ v. (s : Meaning) (x : Sexpr) → StandsFor self.old s → IsMadeState s → IsScheduleFor s.context values.now → Means sexprs.now id x → value_of (environment s.context values.now) x ≡ value_shown v) }
-        ensures refused { (why : TermRefusal) → result ≡ Err (TermError.Refused why) → (s : Meaning) (x : Sexpr) → StandsFor self.old s → Means sexprs.now id x → lowered (scope_of s.context) s.context.nodes x ≡ Err why }
+        ensures accepted { IfOk result (λ v. (s : Meaning) (x : Sexpr) → StandsFor self.old s → Means sexprs.now id x
+            → IsAccepted s x) }
+        ensures ok { IfOk result (λ v. (s : Meaning) (x : Sexpr) → StandsFor self.old s → Means sexprs.now id x
+            → IsMadeState s → IsScheduleFor s.context values.now → IsValue s values.now x v) }
+        ensures refused { (why : TermRefusal) → result ≡ Err (TermError.Refused why) → (s : Meaning) (x : Sexpr)
+            → StandsFor self.old s → Means sexprs.now id x → IsRefused s x why }
         ensures same { self.new ≡ self.old }
     {
         context_law();
@@ -428,6 +441,13 @@ impl<'a> State<'a> {
         ensures { result ≡ self.now.print_success }
     {
         self.print_success
+    }
+
+    /// What the last check-sat was answered, where nothing was changed since.
+    pub fn mode(&self) -> Mode
+        ensures { result ≡ self.now.mode }
+    {
+        self.mode
     }
 
     /// The number of levels above the bottom.

@@ -44,6 +44,3 @@ pub fn term_value(
         }
     }
 }
-
-#[cfg(test)]
-mod tests;

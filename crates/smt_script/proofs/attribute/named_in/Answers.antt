@@ -1,10 +1,13 @@
-use Rattle.std.proofs.Common.{arith}
+use Rattle.std.proofs.Common.{refl, arith}
 use Rattle.std.proofs.lemmas.Result.{err_from_is_err_and}
 use Rattle.std.proofs.lemmas.List.{drop_all}
 use Rattle.smt_script.specs.Attributes.{named_in}
 use Rattle.smt_sexpr.proofs.Shapes.{next_of}
-use Rattle.smt_script.proofs.Annotations.{left_more, left_refused, name_left, no_name_left}
+use Rattle.smt_script.proofs.Annotations.{left_first, left_more, left_refused, name_left, no_name_left}
 use Rattle.smt_script.proofs.attribute.named_in.Goals as goal
+
+pub loop-id-init : goal.loop-id-init
+loop-id-init c = λ xs means. left_first c.args.sexprs.now c.args.attributes.now _ xs refl refl means
 
 pub with-requires : goal.with-requires
 with-requires c =

@@ -1,6 +1,6 @@
 use Rattle.std.proofs.Common.{ap, ◌∙◌, Some}
 use Rattle.std.proofs.lemmas.Result.{err_from_is_err_and}
-use Rattle.smt_script.specs.Shapes.{shown_name}
+use Rattle.smt_script.specs.Shapes.{named_as, shown_name}
 use Rattle.smt_script.proofs.Arguments.{annotated_is}
 use Rattle.smt_sexpr.proofs.Shapes.{begun}
 use Rattle.smt_script.proofs.command.annotated_command.Goals as goal
@@ -20,11 +20,11 @@ returns-in_err-name-in-len1-up c = λ xs means.
 pub returns-in-Some : goal.returns-in-Some
 returns-in-Some c = λ xs means.
     let p = begun c.args.sexprs.now c.args.annotation.now xs means c.in-len1-up.len_at_least in
-    let e = c.in_ok-name-in-len1-up.ensures p.others p.means ∙ ap (λ name. Some (record { name = shown_name name })) c.in-Some.is in
+    let e = c.in_ok-name-in-len1-up.ensures p.others p.means ∙ ap (λ name. Some (named_as (shown_name name))) c.in-Some.is in
     (p.first, p.first_means, annotated_is c.args.sexprs.now _ xs p.first p.others _ p.is p.means c.if-not-is_empty.ensures e)
 
 pub returns-in-None : goal.returns-in-None
 returns-in-None c = λ xs means.
     let p = begun c.args.sexprs.now c.args.annotation.now xs means c.in-len1-up.len_at_least in
-    let e = c.in_ok-name-in-len1-up.ensures p.others p.means ∙ ap (λ name. Some (record { name = shown_name name })) c.in-None.is in
+    let e = c.in_ok-name-in-len1-up.ensures p.others p.means ∙ ap (λ name. Some (named_as (shown_name name))) c.in-None.is in
     (p.first, p.first_means, annotated_is c.args.sexprs.now _ xs p.first p.others _ p.is p.means c.if-not-is_empty.ensures e)

@@ -16,4 +16,4 @@ keyword-requires-in-len2 c =
 pub returns-in-Some-keyword : goal.returns-in-Some-keyword
 returns-in-Some-keyword c = λ xs means.
     let p = two_of c.args.sexprs.now c.args.arguments.now xs means c.in-len2.len_at_least c.in-len2.len_below in
-    (Some p.second, p.second_means, ap option_command p.is ∙ ap (λ (k : Option (List ℕ)). with_keyword k (λ keyword. setting_option keyword (Some p.second))) (sym (c.in-Some-keyword.ensures.keyword p.first p.first_means)))
+    (Some p.second, p.second_means, ap option_command p.is ∙ ap (λ (k : Option (List ℕ)). with_keyword k (λ keyword. setting_option keyword (Some p.second))) (sym (c.in-Some-keyword.ensures p.first p.first_means)))

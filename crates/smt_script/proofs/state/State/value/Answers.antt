@@ -17,7 +17,7 @@ term_value-value-requires c =
     (sorts_of s.context.declared, c.requires.state.3, is.table, is.term)
 
 pub returns-clause-ok : goal.returns-clause-ok
-returns-clause-ok c = λ s t stands made fits means.
+returns-clause-ok c = λ s t stands means made fits.
     let values = c.args.values.now in
     let h = subst (λ (k : Kept). StandsFor k s) (sym c.self.view_is) stands in
     let m : Made = record { nodes = c.lower.new.nodes; is = shown_term c.in_ok-term.term } in
@@ -25,3 +25,8 @@ returns-clause-ok c = λ s t stands made fits means.
     let agrees = c.context_law.ensures.agrees s.context values made.context fits in
     c.lowered_law.ensures.value (scope_of s.context) s.context.nodes t m values (environment s.context values) over fits agrees (term_same _ s h t ∙ c.in_ok-term.ensures.lowers t means)
     ∙ c.in_ok-value.ensures
+
+pub returns-clause-accepted : goal.returns-clause-accepted
+returns-clause-accepted c = λ s t stands means.
+    let h = subst (λ (k : Kept). StandsFor k s) (sym c.self.view_is) stands in
+    (_, term_same _ s h t ∙ c.in_ok-term.ensures.lowers t means)
