@@ -87,17 +87,23 @@ fn fixed_text(kind: Kind) -> &'static str
     }
 }
 
-/// Appends what an error's line says of it; when memory ends, perhaps a part.
+/// Appends what an error's line says of it.
 pub fn kind_text(kind: Kind, out: &mut Vec<u8>) -> Result<(), AllocError>
     ensures ok { OnOk result (out.new.items ≡ out.old.items ++ kind_text kind) }
-    ensures front { take (vec_len out.old) out.new.items ≡ out.old.items }
+    ensures err { OnErr result (out.new.items ≡ out.old.items) }
 {
+    let before = out.len();
     out.push_str(fixed_text(kind).as_bytes())?;
-    match kind {
-        Kind::LeftOut(construct) => out.push_str(left_out_text(construct).as_bytes())?,
-        _ => {}
+    let Kind::LeftOut(construct) = kind else {
+        return Ok(());
+    };
+    match out.push_str(left_out_text(construct).as_bytes()) {
+        Ok(()) => Ok(()),
+        Err(error) => {
+            out.truncate(before);
+            Err(error)
+        }
     }
-    Ok(())
 }
 
 #[tactic(auto, unfolding(crate::specs::Texts::error_line))]

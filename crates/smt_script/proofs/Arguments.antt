@@ -1,8 +1,7 @@
 -- What the ids of some items say of the items.
-use Rattle.std.proofs.Common.{refl, sym, subst, ap, arith, ◌∙◌, ◌≡◌, ◌<◌, ◌≤◌, ◌^◌, ◌+◌, ◌-◌, ℕ, List, [], ◌∷◌, length, take, drop, get_or, Option, Some, None, Ok, false, ◌==◌, Bor}
+use Rattle.std.proofs.Common.{refl, sym, ap, arith, ◌∙◌, ◌≡◌, ◌<◌, ◌≤◌, ◌^◌, ℕ, List, [], ◌∷◌, length, Option, Some, None, Ok, false, ◌==◌, Bor}
 use Rattle.std.specs.Prelude.{IfSome, IsNone, codes, if◌then◌else◌}
 use Rattle.std.specs.Str.{bytes_eq}
-use Rattle.std.proofs.lemmas.List.{take_all, drop_more}
 use Rattle.smt_sexpr.specs.Tree.{Sexpr, Items, leaf, list, none, more, symbol_of}
 use Rattle.smt_sexpr.specs.Table.{Table, MeansEach, ItemsAre}
 use Rattle.smt_sexpr.proofs.Shapes.{begun}
