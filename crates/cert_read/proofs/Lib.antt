@@ -1,7 +1,7 @@
-pub mod Each
-pub mod Numbers
-pub mod Lines
-pub mod Texts
+pub mod EachItem
+pub mod NegativeNumbers
+pub mod HeaderAndEnd
+pub mod CertificateLines
 pub mod OneCertificate
 pub mod EntryBack
 pub mod WrittenBack

@@ -1,7 +1,5 @@
 -- A text is one thing at most.
-use Rattle.std.proofs.Common.{◌⊎◌, inl, inr, ◌≡◌, ◌∙◌, refl, sym, ap, subst, ℕ, ◌+◌, List, [], ◌∷◌, length, Option, Some, None, Result, Ok}
-use Rattle.smt_lex.specs.declared.token.Token.{Token}
-use Rattle.smt_lex.specs.declared.token.LexError.{LexError}
+use Rattle.std.proofs.Common.{◌⊎◌, inl, inr, ◌≡◌, ◌∙◌, refl, sym, ap, subst, ℕ, ◌+◌, List, [], ◌∷◌, length, Option, Some, None, Ok}
 use Rattle.smt_lex.specs.Grammar.{Reads}
 use Rattle.smt_lex.specs.Laws.{OneReading}
 use Rattle.smt_sexpr.specs.Laws.{OneOutcome}

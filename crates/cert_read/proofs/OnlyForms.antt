@@ -23,7 +23,7 @@ use Rattle.cert_text.specs.Form.{numeral_text, numeral, bound_sexprs, number_of_
 use Rattle.smt_sexpr.specs.Shapes.{symbol, items_of, is_symbol, headed_of}
 use Rattle.cert_read.specs.Parts.{limit, index_of, point_of, negative, negative_of, number_of, put, each_of, literal_with, bound_of, literal_of, clause_of, single_of, step_named, step_of, lemma_with, lemma_named, lemma_of, truth_named, named_value_of, entry_named, entry_of}
 use Rattle.cert_read.specs.Written.{NumberFits, LiteralWithin, StepWithin, LemmaWithin, ValueFits, EntryFits, IsPlain}
-use Rattle.cert_read.proofs.Lines.{symbol_is}
+use Rattle.cert_read.proofs.HeaderAndEnd.{symbol_is}
 use Rattle.cert_read.proofs.NumeralTexts.{text_of_value}
 
 -- ---- options

@@ -22,7 +22,8 @@ pub data CertificateOutcome : Type 0 where
 -- from the place up to here the bytes hold these entries, one behind the other
 abbrev pub HoldsEntries : List ℕ → ℕ → List Entry → ℕ → Type 0
 HoldsEntries bytes place [] here = place ≡ here
-HoldsEntries bytes place (e ∷ es) here = (x : Sexpr) × (mid : ℕ) × Spells bytes place x mid × (entry_of x ≡ Some e) × HoldsEntries bytes mid es here
+HoldsEntries bytes place (e ∷ es) here =
+    (x : Sexpr) × (mid : ℕ) × Spells bytes place x mid × (entry_of x ≡ Some e) × HoldsEntries bytes mid es here
 
 -- what stands at the place is an s-expression that is neither an entry nor the end, or it can't be read
 abbrev pub IsStrange : Outcome → Type 0
@@ -43,8 +44,10 @@ RefusesBehind bytes count here TextAfterEnd = (mid : ℕ) × Spells bytes here e
 
 -- what stands behind the header, from the place on
 abbrev pub ReadsEntries : List ℕ → ℕ → CertificateOutcome → Type 0
-ReadsEntries bytes place (certificate entries) = (here : ℕ) × (mid : ℕ) × (after : ℕ) × HoldsEntries bytes place entries here × Spells bytes here end_sexpr mid × Reads bytes mid (Ok None) after
-ReadsEntries bytes place (no_certificate why) = (entries : List Entry) × (here : ℕ) × HoldsEntries bytes place entries here × RefusesBehind bytes (length entries) here why
+ReadsEntries bytes place (certificate entries) =
+    (here : ℕ) × (mid : ℕ) × (after : ℕ) × HoldsEntries bytes place entries here × Spells bytes here end_sexpr mid × Reads bytes mid (Ok None) after
+ReadsEntries bytes place (no_certificate why) =
+    (entries : List Entry) × (here : ℕ) × HoldsEntries bytes place entries here × RefusesBehind bytes (length entries) here why
 
 -- what stands at the place isn't the header
 abbrev pub LacksHeader : List ℕ → ℕ → Type 0

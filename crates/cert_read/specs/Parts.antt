@@ -8,7 +8,7 @@
 --
 -- A number is a numeral, or (- n) with n at least 1. The indices i and j and the points x and y are numerals. No number
 -- and no numeral goes beyond the limit. What has none of these forms stands for nothing.
-use Rattle.std.specs.Prelude.{ℕ, Bool, zero, suc, min, nat_le, ℤ, pos, negsuc, true, false, if◌then◌else◌, List, [], ◌∷◌, codes, Option, Some, None, option_map, option_and_then}
+use Rattle.std.specs.Prelude.{ℕ, zero, suc, min, nat_le, ℤ, pos, negsuc, true, false, if◌then◌else◌, List, [], ◌∷◌, codes, Option, Some, None, option_map, option_and_then}
 use Rattle.std.specs.Option.{option_or}
 use Rattle.std.specs.Str.{bytes_eq}
 use Rattle.smt_lex.specs.Numbers.{value_of}

@@ -5,9 +5,8 @@ use Rattle.std.specs.Option.{option_map_or}
 use Rattle.std.specs.Str.{bytes_eq}
 use Rattle.smt_sexpr.specs.declared.error.SexprError.{SexprError}
 use Rattle.smt_sexpr.specs.declared.error.SexprError.TheVariants as sexpr
-use Rattle.smt_sexpr.specs.Tree.{Sexpr, Items, numeral_of}
+use Rattle.smt_sexpr.specs.Tree.{Sexpr, numeral_of}
 use Rattle.smt_sexpr.specs.Reading.{Spells}
-use Rattle.smt_sexpr.specs.Table.{Table, MeansEach}
 use Rattle.cert_text.specs.Form.{end_sexpr}
 use Rattle.cert_read.specs.Parts.{entry_of}
 use Rattle.cert_read.specs.declared.certificate.Line.{Line}

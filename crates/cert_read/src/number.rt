@@ -29,7 +29,11 @@ fn magnitude(table: &Sexprs, id: SexprId) -> Option<u64>
 {
     smt_lex::numeral_digits();
     let value = numeral_value(table.numeral(id)?)?;
-    if value <= NUMBER_LIMIT { Some(value) } else { None }
+    if value <= NUMBER_LIMIT {
+        Some(value)
+    } else {
+        None
+    }
 }
 
 /// An index.

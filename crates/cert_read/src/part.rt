@@ -18,6 +18,7 @@ use stn_core::{Clause, Literal, Literals, NamedValue, NamedValues};
 pub(crate) trait Part {
     ghost meant: { Sexpr → Option Self };
 
+    /// What the s-expression stands for.
     fn read(alloc: Global, table: &Sexprs, id: SexprId) -> Result<Self, PartError>
         requires { HasMeaning table.now id }
         ensures ok { IfOk result (λ part. (x : Sexpr) → Means table.now id x → meant x ≡ Some part) }
@@ -31,8 +32,10 @@ pub(crate) fn read_each<T: Part + Drop>(
     ids: &[SexprId],
 ) -> Result<Vec<T>, PartError>
     requires { HaveMeaning table.now ids.now }
-    ensures ok { IfOk result (λ parts. (xs : Items) → MeansEach table.now ids.now xs → each_of (λ x. T.meant x) xs ≡ Some parts.items) }
-    ensures err { IfErr result (λ e. (xs : Items) → MeansEach table.now ids.now xs → Lacks (each_of (λ x. T.meant x) xs) e) }
+    ensures ok { IfOk result (λ parts. (xs : Items) → MeansEach table.now ids.now xs
+        → each_of (λ x. T.meant x) xs ≡ Some parts.items) }
+    ensures err { IfErr result (λ e. (xs : Items) → MeansEach table.now ids.now xs
+        → Lacks (each_of (λ x. T.meant x) xs) e) }
 {
     let mut parts = Vec::with_capacity(alloc, ids.len())?;
     for id in ids {
@@ -92,8 +95,10 @@ fn single(table: &Sexprs, ids: &[SexprId]) -> Option<usize>
 /// A step, by its name and what follows it.
 fn step(alloc: Global, table: &Sexprs, name: &[u8], ids: &[SexprId]) -> Result<Step, PartError>
     requires { HaveMeaning table.now ids.now }
-    ensures ok { IfOk result (λ step. (xs : Items) → MeansEach table.now ids.now xs → step_named name.now xs ≡ Some step) }
-    ensures err { IfErr result (λ e. (xs : Items) → MeansEach table.now ids.now xs → Lacks (step_named name.now xs) e) }
+    ensures ok { IfOk result (λ step. (xs : Items) → MeansEach table.now ids.now xs
+        → step_named name.now xs ≡ Some step) }
+    ensures err { IfErr result (λ e. (xs : Items) → MeansEach table.now ids.now xs
+        → Lacks (step_named name.now xs) e) }
 {
     if name == b"cycle".as_slice() {
         let literals = read_each(alloc, table, ids)?;

@@ -1,4 +1,4 @@
 pub mod Numerals
-pub mod Parts
+pub mod KeptFronts
 pub mod Writable
 pub mod OneEntry

@@ -18,7 +18,6 @@ use Rattle.stn_core.specs.declared.named.NamedValue.TheVariants.{Int, Truth}
 use Rattle.refute_tree.specs.declared.step.Step.{Step}
 use Rattle.refute_tree.specs.declared.step.Step.TheVariants.{Cycle, Input, Lemma as Earlier, Either}
 use Rattle.refute_tree.specs.declared.lemma.Lemma.{Lemma}
-use Rattle.cert_text.specs.declared.entry.Entry.{Entry}
 use Rattle.cert_text.specs.declared.entry.Entry.TheVariants.{Sat, Unsat}
 use Rattle.smt_sexpr.specs.Laws.{SexprReadsBack}
 use Rattle.cert_text.specs.Laws.{EntryIsWritable, EntryReadsBack, LineReadsBack}

@@ -18,6 +18,7 @@ use stn_core::{Literal, NamedValue};
 pub(crate) trait Part {
     ghost sexpr: { Self → Sexpr };
 
+    /// Appends its text; when memory ends, perhaps a part of it.
     fn write(&self, out: &mut Vec<u8>) -> Result<(), AllocError>
         ensures ok { OnOk result (out.new.items ≡ out.old.items ++ text_of (sexpr self.now)) }
         ensures front { take (vec_len out.old) out.new.items ≡ out.old.items };
@@ -26,7 +27,8 @@ pub(crate) trait Part {
 /// Appends what stands in a list behind its first item: the other items, each behind a space, and the closing
 /// parenthesis.
 pub(crate) fn write_behind<T: Part>(items: &[T], out: &mut Vec<u8>) -> Result<(), AllocError>
-    ensures ok { OnOk result (out.new.items ≡ out.old.items ++ text_behind (items_of (map (λ x. T.sexpr x) items.now))) }
+    ensures ok { OnOk result (out.new.items
+        ≡ out.old.items ++ text_behind (items_of (map (λ x. T.sexpr x) items.now))) }
     ensures front { take (vec_len out.old) out.new.items ≡ out.old.items }
 {
     for item in items {
@@ -38,7 +40,8 @@ pub(crate) fn write_behind<T: Part>(items: &[T], out: &mut Vec<u8>) -> Result<()
 
 /// Appends the points and the bound of a literal, and the closing parenthesis.
 fn write_bound(literal: Literal, out: &mut Vec<u8>) -> Result<(), AllocError>
-    ensures ok { OnOk result (out.new.items ≡ out.old.items ++ text_of (numeral literal.x) ++ text_behind (items_of (numeral literal.y ∷ number_of_value literal.c ∷ []))) }
+    ensures ok { OnOk result (out.new.items ≡ out.old.items
+        ++ text_of (numeral literal.x) ++ text_behind (items_of (numeral literal.y ∷ number_of_value literal.c ∷ []))) }
     ensures front { take (vec_len out.old) out.new.items ≡ out.old.items }
 {
     write_numeral(u64::from(literal.x), out)?;

@@ -10,9 +10,9 @@ use Rattle.smt_lex.specs.Bytes.{is_binary_digit, is_symbol_byte, is_quoted_byte,
 use Rattle.smt_lex.specs.Grammar.{IsToken, is_run, is_numeral, is_inside_text, EndsToken, LongestGap, LongestToken, Reads}
 use Rattle.smt_lex.specs.Scan.{gap_len}
 use Rattle.smt_lex.specs.Front.{Front, marked, fraction_of, number_of, based_of, text_of, quoted_end_of, quoted_of, front_of}
-use Rattle.smt_lex.proofs.Starts.{starts, token_starts, no_token_empty}
+use Rattle.smt_lex.proofs.FirstBytes.{starts, token_starts, no_token_empty}
 use Rattle.smt_lex.proofs.Gaps.{gap_is}
-use Rattle.smt_lex.proofs.Complete.{token_sound}
+use Rattle.smt_lex.proofs.OneFront.{token_sound}
 use Rattle.smt_lex.proofs.Runs.{run_stops}
 use Rattle.smt_lex.proofs.Texts.{text_inside, open_mark, shut_plain}
 

@@ -59,7 +59,8 @@ abbrev pub IsToken : TokenKind → List ℕ → Type 0
 IsToken Left text = text ≡ 40 ∷ []
 IsToken Right text = text ≡ 41 ∷ []
 IsToken Numeral text = IsTrue (is_numeral text)
-IsToken Decimal text = (whole : List ℕ) × (fraction : List ℕ) × (text ≡ whole ++ 46 ∷ fraction) × IsTrue (is_numeral whole) × IsTrue (is_run is_ascii_digit fraction)
+IsToken Decimal text =
+    (whole : List ℕ) × (fraction : List ℕ) × (text ≡ whole ++ 46 ∷ fraction) × IsTrue (is_numeral whole) × IsTrue (is_run is_ascii_digit fraction)
 IsToken Hex text = (digits : List ℕ) × (text ≡ 35 ∷ 120 ∷ digits) × IsTrue (is_run is_ascii_hexdigit digits)
 IsToken Binary text = (digits : List ℕ) × (text ≡ 35 ∷ 98 ∷ digits) × IsTrue (is_run is_binary_digit digits)
 IsToken Text text = (inside : List ℕ) × (text ≡ 34 ∷ inside ++ 34 ∷ []) × IsTrue (is_inside_text inside)
@@ -70,11 +71,13 @@ IsToken Keyword text = (name : List ℕ) × (text ≡ 58 ∷ name) × IsTrue (is
 
 -- a backslash in a quoted symbol, n bytes off
 abbrev pub HasBackslash : List ℕ → ℕ → Type 0
-HasBackslash bytes n = (inside : List ℕ) × (rest : List ℕ) × (bytes ≡ 124 ∷ inside ++ 92 ∷ rest) × IsTrue (list_all is_quoted_byte inside) × (n ≡ 1 + length inside)
+HasBackslash bytes n =
+    (inside : List ℕ) × (rest : List ℕ) × (bytes ≡ 124 ∷ inside ++ 92 ∷ rest) × IsTrue (list_all is_quoted_byte inside) × (n ≡ 1 + length inside)
 
 -- no token begins, and neither a text nor a quoted symbol is opened
 abbrev pub BeginsNothing : List ℕ → Type 0
-BeginsNothing bytes = (b : ℕ) × (rest : List ℕ) × (bytes ≡ b ∷ rest) × (b ≢ 34) × (b ≢ 124) × ((kind : TokenKind) (m : ℕ) → m ≤ length bytes → IsToken kind (take m bytes) → ⊥)
+BeginsNothing bytes =
+    (b : ℕ) × (rest : List ℕ) × (bytes ≡ b ∷ rest) × (b ≢ 34) × (b ≢ 124) × ((kind : TokenKind) (m : ℕ) → m ≤ length bytes → IsToken kind (take m bytes) → ⊥)
 
 -- the bytes are refused for this, and the place is n bytes off
 abbrev pub Refuses : List ℕ → LexErrorKind → ℕ → Type 0
@@ -95,7 +98,8 @@ pub record LongestToken (bytes : List ℕ) (kind : TokenKind) (n : ℕ) : Type 0
 -- A gap of n bytes, and then the end, a token or a refusal; after is the place behind it.
 abbrev pub ReadsBehind : List ℕ → ℕ → Result (Option Token) LexError → ℕ → Type 0
 ReadsBehind bytes start (Ok None) after = (start ≡ length bytes) × (after ≡ start)
-ReadsBehind bytes start (Ok (Some t)) after = (t.start ≡ start) × (n : ℕ) × LongestToken (drop start bytes) t.kind n × (t.end ≡ start + n) × (after ≡ t.end)
+ReadsBehind bytes start (Ok (Some t)) after =
+    (t.start ≡ start) × (n : ℕ) × LongestToken (drop start bytes) t.kind n × (t.end ≡ start + n) × (after ≡ t.end)
 ReadsBehind bytes start (Err e) after = (n : ℕ) × Refuses (drop start bytes) e.kind n × (e.place ≡ start + n) × (after ≡ start)
 
 -- From the place on the longest gap is left out; what stands behind it is read.

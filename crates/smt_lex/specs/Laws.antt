@@ -23,7 +23,7 @@ token_at kind text start = record { kind = kind; start = start; end = start + le
 abbrev pub ReadsBack : Type 0
 ReadsBack = (kind : TokenKind) (before gap text after : List ℕ) → (gap ≡ []) ⊎ (gap ≡ 32 ∷ []) → IsToken kind text → EndsToken kind after
     → Reads (before ++ (gap ++ (text ++ after))) (length before) (Ok (Some (token_at kind text (length before + length gap))))
-        (length before + length gap + length text)
+    (length before + length gap + length text)
 
 -- what is read in front of a closing parenthesis is read the same whatever follows the parenthesis
 abbrev pub ReadsBefore : Type 0

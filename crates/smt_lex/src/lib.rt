@@ -27,5 +27,5 @@ mod token;
 pub use laws::{one_reading, reads_back, reads_on};
 pub use lexer::Lexer;
 pub use numeral::{numeral_digits, numeral_value};
-pub use symbol::{content_of_symbol, symbol_content};
+pub use symbol::{content_of_symbol, is_simple_symbol, symbol_content};
 pub use token::{LexError, LexErrorKind, Token, TokenKind};

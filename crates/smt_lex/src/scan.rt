@@ -87,7 +87,7 @@ pub fn quoted_bytes(bytes: &[u8]) -> usize
 }
 
 /// How many bytes of white space and comments stand at the front.
-#[tactic(auto, using(crate::proofs::ScanLaws::gap_steps))]
+#[tactic(auto, using(crate::proofs::ScanSteps::gap_steps))]
 fn gap_bytes(bytes: &[u8]) -> usize
     ensures value { result ≡ gap_len false bytes.now }
     ensures within { result ≤ length bytes.now }
@@ -115,7 +115,7 @@ pub fn gap(bytes: &[u8]) -> usize
 
 /// Behind an opening mark, how many bytes a string takes with its closing mark; `None` where that
 /// doesn't come.
-#[tactic(auto, using(crate::proofs::ScanLaws::text_steps))]
+#[tactic(auto, using(crate::proofs::ScanSteps::text_steps))]
 pub fn text(bytes: &[u8]) -> Option<usize>
     ensures value { result ≡ text_len true bytes.now }
     ensures within { IfSome result (λ n. n ≤ length bytes.now) }

@@ -8,7 +8,7 @@ use Rattle.smt_sexpr.specs.declared.node.Node.{Node}
 use Rattle.smt_sexpr.specs.declared.node.Node.TheVariants.{Leaf, List as ListOf}
 use Rattle.smt_sexpr.specs.Tree.{Sexpr, Items, leaf, list, none, more, item_at, item_of}
 use Rattle.smt_sexpr.specs.Table.{Table, Means, MeansEach, Shows, IsNodeOf}
-use Rattle.smt_sexpr.proofs.Growth.{means_within}
+use Rattle.smt_sexpr.proofs.TableGrowth.{means_within}
 
 token_is : (a b : Token) (x : Option Node) → x ≡ Some (Leaf a) → x ≡ Some (Leaf b) → a ≡ b
 token_is a b x p q = cc

@@ -1,10 +1,9 @@
 -- The bytes spell one s-expression at most.
-use Rattle.std.proofs.Common.{◌≡◌, ◌≢◌, ℕ, List, Option, Some, Result, Ok, refl, sym, ap, subst, ◌∙◌}
+use Rattle.std.proofs.Common.{◌≡◌, ◌≢◌, ℕ, List, Some, Ok, refl, sym, ap, subst, ◌∙◌}
 use Rattle.std.specs.Prelude.{slice_range}
 use Rattle.smt_lex.specs.declared.token.TokenKind.{TokenKind}
 use Rattle.smt_lex.specs.declared.token.TokenKind.TheVariants.{Left, Right}
 use Rattle.smt_lex.specs.declared.token.Token.{Token}
-use Rattle.smt_lex.specs.declared.token.LexError.{LexError}
 use Rattle.smt_lex.specs.Laws.{OneReading}
 use Rattle.smt_sexpr.specs.Laws.{OneValue}
 use Rattle.smt_sexpr.specs.Tree.{Sexpr, Items, leaf, list, none, more, leaf_text}

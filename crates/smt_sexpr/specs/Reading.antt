@@ -18,8 +18,12 @@ ReadsToken bytes place token after = Reads bytes place (Ok (Some token)) after
 unfoldable mutual
   -- at the place the bytes spell the s-expression, and after is the place behind it
   pub Spells : List ℕ → ℕ → Sexpr → ℕ → Type 0
-  Spells bytes place (leaf kind text) after = (token : Token) × ReadsToken bytes place token after × (token.kind ≡ kind) × (kind ≢ Left) × (kind ≢ Right) × (leaf_text kind (slice_range bytes token.start token.end) ≡ text)
-  Spells bytes place (list xs) after = (opening : Token) × (mid : ℕ) × (last : ℕ) × (closing : Token) × ReadsToken bytes place opening mid × (opening.kind ≡ Left) × SpellsEach bytes mid xs last × ReadsToken bytes last closing after × (closing.kind ≡ Right)
+  Spells bytes place (leaf kind text) after =
+      (token : Token) × ReadsToken bytes place token after × (token.kind ≡ kind) × (kind ≢ Left) × (kind ≢ Right)
+      × (leaf_text kind (slice_range bytes token.start token.end) ≡ text)
+  Spells bytes place (list xs) after =
+      (opening : Token) × (mid : ℕ) × (last : ℕ) × (closing : Token) × ReadsToken bytes place opening mid × (opening.kind ≡ Left)
+      × SpellsEach bytes mid xs last × ReadsToken bytes last closing after × (closing.kind ≡ Right)
 
   -- one s-expression after the other
   pub SpellsEach : List ℕ → ℕ → Items → ℕ → Type 0
@@ -30,18 +34,22 @@ unfoldable mutual
 pub data IsInside (bytes : List ℕ) (here : ℕ) : ℕ → Type 0 where
   reached : (place : ℕ) → place ≡ here → IsInside bytes here place
   behind : (place : ℕ) (x : Sexpr) (mid : ℕ) → Spells bytes place x mid → IsInside bytes here mid → IsInside bytes here place
-  deeper : (place : ℕ) (opening : Token) (mid : ℕ) → ReadsToken bytes place opening mid → opening.kind ≡ Left → IsInside bytes here mid → IsInside bytes here place
+  deeper : (place : ℕ) (opening : Token) (mid : ℕ) → ReadsToken bytes place opening mid → opening.kind ≡ Left
+      → IsInside bytes here mid → IsInside bytes here place
 
 -- at the place a list is opened, its parenthesis stands at outer, and here is inside it
 abbrev pub IsOpen : List ℕ → ℕ → ℕ → ℕ → Type 0
-IsOpen bytes place outer here = (opening : Token) × (mid : ℕ) × ReadsToken bytes place opening mid × (opening.kind ≡ Left) × (opening.start ≡ outer) × IsInside bytes here mid
+IsOpen bytes place outer here =
+    (opening : Token) × (mid : ℕ) × ReadsToken bytes place opening mid × (opening.kind ≡ Left) × (opening.start ≡ outer) × IsInside bytes here mid
 
 -- why there is no s-expression: no token can be read; or the text ends in a list, whose outermost parenthesis stands at
 -- outer; or a closing parenthesis, which stands at start, closes nothing
 abbrev pub Refuses : List ℕ → ℕ → SexprRefusal → ℕ → Type 0
-Refuses bytes place (Lex error) after = (here : ℕ) × ((place ≡ here) ⊎ ((outer : ℕ) × IsOpen bytes place outer here)) × Reads bytes here (Err error) after
+Refuses bytes place (Lex error) after =
+    (here : ℕ) × ((place ≡ here) ⊎ ((outer : ℕ) × IsOpen bytes place outer here)) × Reads bytes here (Err error) after
 Refuses bytes place (UnclosedList outer) after = (here : ℕ) × IsOpen bytes place outer here × Reads bytes here (Ok None) after
-Refuses bytes place (StrayClose start) after = (token : Token) × ReadsToken bytes place token after × (token.kind ≡ Right) × (token.start ≡ start)
+Refuses bytes place (StrayClose start) after =
+    (token : Token) × ReadsToken bytes place token after × (token.kind ≡ Right) × (token.start ≡ start)
 
 pub data Outcome : Type 0 where
   expression : (x : Sexpr) → Outcome

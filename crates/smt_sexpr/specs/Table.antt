@@ -14,6 +14,9 @@ pub record Table : Type 0 where
   -- the ids of the items of all lists, those of one list side by side
   pub items : List ℕ
 
+abbrev pub table_of : List ℕ → List Node → List ℕ → Table
+table_of bytes nodes items = record { bytes = bytes; nodes = nodes; items = items }
+
 -- the token's bytes are those of a leaf of this kind with this text
 pub record Shows (bytes : List ℕ) (token : Token) (kind : TokenKind) (text : List ℕ) : Type 0 where
   pub same_kind : token.kind ≡ kind

@@ -1,3 +1,5 @@
+//! The entries of the table.
+
 use smt_lex::Token;
 
 /// The number of an s-expression in its table.

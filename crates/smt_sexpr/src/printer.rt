@@ -8,8 +8,7 @@ ghost use Rattle.smt_sexpr.specs.Printing.{written, text_of};
 
 use crate::node::SexprId;
 use crate::sexprs::Sexprs;
-use crate::text::is_simple_symbol;
-use smt_lex::TokenKind;
+use smt_lex::{TokenKind, is_simple_symbol};
 use std::alloc::{AllocError, Global};
 
 /// A list that is being written, and the number of its items that have been.
@@ -61,7 +60,8 @@ fn begin(
     ensures leaf { OnOk result ((kind : Kind) (text : List ℕ) → Means table.now id (leaf kind text)
         → (out.new.items ≡ out.old.items ++ written kind text) × (stack.new.items ≡ stack.old.items)) }
     ensures list { OnOk result ((xs : Items) → Means table.now id (list xs)
-        → (out.new.items ≡ out.old.items ++ 40 ∷ []) × (stack.new.items ≡ stack.old.items ++ record { id = id; next = 0 } ∷ [])) }
+        → (out.new.items ≡ out.old.items ++ 40 ∷ [])
+        × (stack.new.items ≡ stack.old.items ++ record { id = id; next = 0 } ∷ [])) }
     ensures front { take (vec_len out.old) out.new.items ≡ out.old.items }
 {
     match table.leaf(id) {
@@ -82,7 +82,8 @@ pub(crate) fn write(
     out: &mut Vec<u8>,
 ) -> Result<(), AllocError>
     requires { HasMeaning table.now id }
-    ensures ok { OnOk result ((x : Sexpr) → Means table.now id x → out.new.items ≡ out.old.items ++ text_of x) }
+    ensures ok { OnOk result ((x : Sexpr) → Means table.now id x
+        → out.new.items ≡ out.old.items ++ text_of x) }
     ensures front { take (vec_len out.old) out.new.items ≡ out.old.items }
 {
     let mut stack: Vec<OpenList> = Vec::new(alloc);

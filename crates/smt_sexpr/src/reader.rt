@@ -1,6 +1,6 @@
 //! The reader: one s-expression from a lexer, with the open lists on a stack of its own.
 ghost use Rattle.std.specs.Prelude.{◌≡◌, ◌-◌, ◌≤◌, ◌<◌, ◌++◌, ◌∷◌, [], length, take, drop, List, ℕ, OnOk, OnErr, IfOk, IfErr, Ok, Some, None};
-ghost use Rattle.smt_sexpr.specs.Table.{Grows};
+ghost use Rattle.smt_sexpr.specs.Table.{Grows, table_of};
 ghost use Rattle.smt_sexpr.specs.Reading.{Finds, failed_of};
 
 use crate::error::{SexprError, SexprRefusal};
@@ -24,7 +24,8 @@ fn close_list(
 ) -> Result<SexprId, SexprError>
     requires { first ≤ length pending.old.items }
     ensures id { IfOk result (λ id. id ≡ length nodes.old.items) }
-    ensures nodes { OnOk result (nodes.new.items ≡ nodes.old.items ++ Node.List (length items.old.items) (length pending.old.items - first) ∷ []) }
+    ensures nodes { OnOk result (nodes.new.items
+        ≡ nodes.old.items ++ Node.List (length items.old.items) (length pending.old.items - first) ∷ []) }
     ensures items { OnOk result (items.new.items ≡ items.old.items ++ drop first pending.old.items) }
     ensures pending { OnOk result (pending.new.items ≡ take first pending.old.items) }
     ensures nodes_stay { OnErr result (nodes.new.items ≡ nodes.old.items) }
@@ -48,10 +49,13 @@ pub(crate) fn read(
     lexer: &mut Lexer,
 ) -> Result<Option<SexprId>, SexprError>
     requires { lexer.old.failed ≡ None }
-    ensures finds { Finds (record { bytes = lexer.old.bytes; nodes = nodes.new.items; items = items.new.items }) lexer.old.place result lexer.new.place }
+    ensures finds { Finds (table_of lexer.old.bytes nodes.new.items items.new.items)
+        lexer.old.place result lexer.new.place }
     ensures failed { lexer.new.failed ≡ failed_of result }
-    ensures grows { Grows (record { bytes = lexer.old.bytes; nodes = nodes.old.items; items = items.old.items }) (record { bytes = lexer.new.bytes; nodes = nodes.new.items; items = items.new.items }) }
-    ensures idle { result ≡ Ok None → (nodes.new.items ≡ nodes.old.items) × (items.new.items ≡ items.old.items) }
+    ensures grows { Grows (table_of lexer.old.bytes nodes.old.items items.old.items)
+        (table_of lexer.new.bytes nodes.new.items items.new.items) }
+    ensures idle { result ≡ Ok None
+        → (nodes.new.items ≡ nodes.old.items) × (items.new.items ≡ items.old.items) }
     ensures forward { (id : ℕ) → result ≡ Ok (Some id) → lexer.old.place < lexer.new.place }
     ensures within { lexer.new.place ≤ length lexer.new.bytes }
 {
@@ -63,7 +67,9 @@ pub(crate) fn read(
             Ok(None) => {
                 return match stack.first() {
                     None => Ok(None),
-                    Some(frame) => Err(SexprError::Refused(SexprRefusal::UnclosedList(frame.place))),
+                    Some(frame) => Err(SexprError::Refused(SexprRefusal::UnclosedList(
+                        frame.place,
+                    ))),
                 };
             }
             Ok(Some(token)) => token,

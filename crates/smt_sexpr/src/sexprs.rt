@@ -1,3 +1,4 @@
+//! The table, its parts and its readers.
 ghost use Rattle.std.specs.Prelude.{◌≡◌, ◌<◌, ◌≤◌, ◌++◌, length, IfSome, IfOk, Ok, Err, OnOk, OnErr, Some, None, [], ℕ, IsTrue, option_map};
 ghost use Rattle.smt_lex.specs.declared.token.LexError.{LexError};
 ghost use Rattle.smt_lex.specs.Grammar.{is_numeral};
@@ -50,14 +51,16 @@ impl<'a> Sexprs<'a> {
 
     /// Reads the next s-expression, or gives `None` at the end of the text.
     ///
-    /// After an error of the lexer each call gives that error again. Want of memory leaves table and lexer as they were.
+    /// After an error of the lexer each call gives that error again. Want of memory leaves table and lexer as they
+    /// were.
     pub fn read_one(&mut self, lexer: &mut Lexer) -> Result<Option<SexprId>, SexprError>
         requires same { lexer.old.bytes ≡ self.old.bytes }
         ensures finds { lexer.old.failed ≡ None → Finds self.new lexer.old.place result lexer.new.place }
         ensures failed { lexer.old.failed ≡ None → lexer.new.failed ≡ failed_of result }
         ensures forward { (id : ℕ) → result ≡ Ok (Some id) → lexer.old.place < lexer.new.place }
         ensures within { lexer.old.failed ≡ None → lexer.new.place ≤ length lexer.new.bytes }
-        ensures again { (e : LexError) → lexer.old.failed ≡ Some e → (result ≡ Err (SexprError.Refused (SexprRefusal.Lex e))) × (lexer.new ≡ lexer.old) }
+        ensures again { (e : LexError) → lexer.old.failed ≡ Some e
+            → (result ≡ Err (SexprError.Refused (SexprRefusal.Lex e))) × (lexer.new ≡ lexer.old) }
         ensures bytes { lexer.new.bytes ≡ lexer.old.bytes }
         ensures grows { Grows self.old self.new }
         // Only an s-expression adds to the table.
@@ -101,7 +104,8 @@ impl<'a> Sexprs<'a> {
     /// The ids of a list's items in order, or `None` for a leaf.
     pub fn items(&self, id: SexprId) -> Option<&[SexprId]>
         requires { HasMeaning self.now id }
-        ensures { (x : Sexpr) → Means self.now id x → ItemsAre self.now x (option_map (λ ids. ids.now) result) }
+        ensures { (x : Sexpr) → Means self.now id x
+            → ItemsAre self.now x (option_map (λ ids. ids.now) result) }
     {
         match self.node(id) {
             Node::Leaf(_) => None,
@@ -123,7 +127,8 @@ impl<'a> Sexprs<'a> {
     /// A leaf's kind and its text, of a quoted symbol without the bars; `None` for a list.
     pub fn leaf(&self, id: SexprId) -> Option<(TokenKind, &'a [u8])>
         requires { HasMeaning self.now id }
-        ensures { (x : Sexpr) → Means self.now id x → option_map (λ leaf. (leaf.0, leaf.1.now)) result ≡ leaf_of x }
+        ensures { (x : Sexpr) → Means self.now id x
+            → option_map (λ leaf. (leaf.0, leaf.1.now)) result ≡ leaf_of x }
     {
         match self.node(id) {
             Node::Leaf(token) => Some((token.kind, leaf_text(self.bytes, token))),
@@ -156,7 +161,8 @@ impl<'a> Sexprs<'a> {
     /// A numeral's digits, or `None` for all else.
     pub fn numeral(&self, id: SexprId) -> Option<&'a [u8]>
         requires { HasMeaning self.now id }
-        ensures value { (x : Sexpr) → Means self.now id x → option_map (λ text. text.now) result ≡ numeral_of x }
+        ensures value { (x : Sexpr) → Means self.now id x
+            → option_map (λ text. text.now) result ≡ numeral_of x }
         ensures digits { IfSome result (λ text. IsTrue (is_numeral text.now)) }
     {
         match self.leaf(id) {
@@ -179,7 +185,8 @@ impl<'a> Sexprs<'a> {
     /// Of a list that begins with a symbol: its bytes, and the ids of what follows it.
     pub fn headed(&self, id: SexprId) -> Option<(&'a [u8], &[SexprId])>
         requires { HasMeaning self.now id }
-        ensures { (x : Sexpr) → Means self.now id x → HeadIs self.now x (option_map (λ p. (p.0.now, p.1.now)) result) }
+        ensures { (x : Sexpr) → Means self.now id x
+            → HeadIs self.now x (option_map (λ p. (p.0.now, p.1.now)) result) }
     {
         match self.items(id) {
             Some([head, rest @ ..]) => Some((self.symbol(*head)?, rest)),
@@ -190,7 +197,8 @@ impl<'a> Sexprs<'a> {
     /// Appends the s-expression as it is written: one space between the items of a list, bars where they are needed.
     pub fn print(&self, id: SexprId, out: &mut Vec<u8>) -> Result<(), AllocError>
         requires { HasMeaning self.now id }
-        ensures ok { OnOk result ((x : Sexpr) → Means self.now id x → out.new.items ≡ out.old.items ++ text_of x) }
+        ensures ok { OnOk result ((x : Sexpr) → Means self.now id x
+            → out.new.items ≡ out.old.items ++ text_of x) }
         ensures err { OnErr result (out.new.items ≡ out.old.items) }
     {
         let before = out.len();

@@ -1,7 +1,7 @@
 use Rattle.std.proofs.Common.{◌≡◌, ◌∙◌, sym, ap}
 use Rattle.smt_sexpr.specs.Tree.{list, none, more}
 use Rattle.smt_sexpr.proofs.Shapes.{listed, one_of}
-use Rattle.cert_read.proofs.Lines.{is_end_line, end_line_is}
+use Rattle.cert_read.proofs.HeaderAndEnd.{is_end_line, end_line_is}
 use Rattle.cert_read.proofs.certificate.is_end.Goals as goal
 
 pub is_symbol-requires : goal.is_symbol-requires

@@ -1,7 +1,7 @@
 use Rattle.std.proofs.Common.{◌≡◌, ◌∙◌, sym, ap, true≢false}
 use Rattle.smt_sexpr.specs.Tree.{list, none, more}
 use Rattle.smt_sexpr.proofs.Shapes.{listed, two_of}
-use Rattle.cert_read.proofs.Lines.{is_header_line, header_line_is, version_is}
+use Rattle.cert_read.proofs.HeaderAndEnd.{is_header_line, header_line_is, version_is}
 use Rattle.cert_read.proofs.certificate.is_header.Goals as goal
 
 pub is_symbol-requires : goal.is_symbol-requires

@@ -1,7 +1,7 @@
 use Rattle.std.proofs.Common.{◌≡◌, ◌∙◌, sym, ap, refl, Ok, Some, None, true≢false}
 use Rattle.smt_sexpr.specs.Reading.{expression}
 use Rattle.cert_read.specs.Parts.{entry_of}
-use Rattle.cert_read.proofs.Texts.{finds_end, finds_one, finds_error, refuses_error, lacks_any}
+use Rattle.cert_read.proofs.CertificateLines.{finds_end, finds_one, finds_error, refuses_error, lacks_any}
 use Rattle.cert_read.proofs.certificate.read_line.Goals as goal
 
 pub returns-in-Ok-None-clause-refused : goal.returns-in-Ok-None-clause-refused

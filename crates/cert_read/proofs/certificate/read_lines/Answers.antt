@@ -1,5 +1,5 @@
 use Rattle.std.proofs.Common.{◌≡◌, ◌∙◌, length, arith, rules}
-use Rattle.cert_read.proofs.Texts.{refused_behind, holds_line, certificate_ends}
+use Rattle.cert_read.proofs.CertificateLines.{refused_behind, holds_line, certificate_ends}
 use Rattle.cert_read.proofs.certificate.read_lines.Goals as goal
 
 pub returns-in_err-entry-clause-refused : goal.returns-in_err-entry-clause-refused

@@ -1,6 +1,6 @@
 use Rattle.std.proofs.Common.{◌≡◌, ◌∙◌, sym, ap, Ok, Some, None, false, true≢false, rules}
 use Rattle.cert_text.specs.Form.{header_sexpr}
-use Rattle.cert_read.proofs.Texts.{still_fresh, finds_end, finds_one, finds_error, no_header_error, no_header_at_end, another_first, refused_with_header, certificate_with_header}
+use Rattle.cert_read.proofs.CertificateLines.{still_fresh, finds_end, finds_one, finds_error, no_header_error, no_header_at_end, another_first, refused_with_header, certificate_with_header}
 use Rattle.cert_read.proofs.certificate.read_whole.Goals as goal
 
 pub returns-in-Ok-None-clause-refused : goal.returns-in-Ok-None-clause-refused

@@ -4,7 +4,7 @@ use Rattle.std.proofs.lemmas.Int.{ints}
 use Rattle.smt_sexpr.specs.Tree.{list}
 use Rattle.cert_read.specs.Parts.{number_of}
 use Rattle.smt_sexpr.specs.Shapes.{is_symbol}
-use Rattle.cert_read.proofs.Numbers.{negative_number}
+use Rattle.cert_read.proofs.NegativeNumbers.{negative_number}
 use Rattle.smt_sexpr.proofs.Shapes.{listed, two_of}
 use Rattle.cert_read.proofs.number.number.Goals as goal
 

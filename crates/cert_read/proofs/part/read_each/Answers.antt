@@ -1,5 +1,5 @@
 use Rattle.std.proofs.Common.{rules, arith, ◌<◌, length}
-use Rattle.cert_read.proofs.Each.{each_means, each_goes_on, each_lacks, each_ends}
+use Rattle.cert_read.proofs.EachItem.{each_means, each_goes_on, each_lacks, each_ends}
 use Rattle.cert_read.proofs.part.read_each.Goals as goal
 
 pub read-requires : goal.read-requires

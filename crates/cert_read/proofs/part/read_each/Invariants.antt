@@ -1,4 +1,4 @@
-use Rattle.cert_read.proofs.Each.{IsReadUpTo}
+use Rattle.cert_read.proofs.EachItem.{IsReadUpTo}
 use Rattle.cert_read.proofs.part.read_each.Given as goal
 
 abbrev pub invariant-loop-id : goal.invariant-loop-id

@@ -1,6 +1,6 @@
 use Rattle.std.proofs.Common.{◌≡◌, length, take, arith}
 use Rattle.std.specs.Vec.{vec_len}
-use Rattle.cert_text.proofs.Parts.{front_behind, front_kept}
+use Rattle.cert_text.proofs.KeptFronts.{front_behind, front_kept}
 use Rattle.cert_text.proofs.writer.write_behind.Goals as goal
 
 pub returns-in_err-write-clause-front : goal.returns-in_err-write-clause-front

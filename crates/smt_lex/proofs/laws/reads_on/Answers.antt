@@ -1,4 +1,4 @@
-use Rattle.smt_lex.proofs.Local.{reads_before, reads_closing}
+use Rattle.smt_lex.proofs.BeforeClosing.{reads_before, reads_closing}
 use Rattle.smt_lex.proofs.laws.reads_on.Goals as goal
 
 pub returns-clause-before : goal.returns-clause-before

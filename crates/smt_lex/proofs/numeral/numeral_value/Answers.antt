@@ -1,6 +1,6 @@
 use Rattle.std.proofs.Common.{◌≡◌, ◌+◌, ◌-◌, ◌*◌, get_or, sym, ◌∙◌, arith}
 use Rattle.smt_lex.specs.Numbers.{value_of}
-use Rattle.smt_lex.proofs.Values.{value_at_most, value_from_step, value_from_end}
+use Rattle.smt_lex.proofs.NumeralValues.{value_at_most, value_from_step, value_from_end}
 use Rattle.smt_lex.proofs.numeral.numeral_value.Goals as goal
 
 pub returns-in_err-checked_mul-clause-none : goal.returns-in_err-checked_mul-clause-none

@@ -1,4 +1,4 @@
-use Rattle.smt_sexpr.proofs.Growth.{means_writable}
+use Rattle.smt_sexpr.proofs.TableGrowth.{means_writable}
 use Rattle.smt_sexpr.proofs.laws.meaning_is_writable.Goals as goal
 
 pub returns : goal.returns

@@ -1,4 +1,4 @@
-use Rattle.smt_sexpr.proofs.Growth.{means_grows}
+use Rattle.smt_sexpr.proofs.TableGrowth.{means_grows}
 use Rattle.smt_sexpr.proofs.laws.meaning_stays.Goals as goal
 
 pub returns : goal.returns

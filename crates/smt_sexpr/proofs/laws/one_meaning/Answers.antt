@@ -1,4 +1,4 @@
-use Rattle.smt_sexpr.proofs.Growth.{means_one}
+use Rattle.smt_sexpr.proofs.TableGrowth.{means_one}
 use Rattle.smt_sexpr.proofs.laws.one_meaning.Goals as goal
 
 pub returns : goal.returns

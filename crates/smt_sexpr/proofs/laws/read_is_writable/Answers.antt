@@ -1,4 +1,4 @@
-use Rattle.smt_sexpr.proofs.Printed.{spells_writable}
+use Rattle.smt_sexpr.proofs.ReadBack.{spells_writable}
 use Rattle.smt_sexpr.proofs.laws.read_is_writable.Goals as goal
 
 pub returns : goal.returns

@@ -1,4 +1,4 @@
-use Rattle.smt_sexpr.proofs.Onward.{list_within, list_on}
+use Rattle.smt_sexpr.proofs.ListsReadOn.{list_within, list_on}
 use Rattle.smt_sexpr.proofs.laws.reads_on.Goals as goal
 
 pub returns-clause-list : goal.returns-clause-list

@@ -2,7 +2,7 @@ use Rattle.std.proofs.Common.{◌<◌, ◌≤◌, ◌+◌, [], ◌∷◌, ◌≡
 use Rattle.std.proofs.lemmas.Option.{slice_get_read}
 use Rattle.std.proofs.lemmas.List.{length-append, nil_from_length as empty_list}
 use Rattle.std.specs.Vec.{vec_len}
-use Rattle.smt_sexpr.proofs.Writing.{size, Writing, writing_starts, top_means, listed, writing_closes, writing_goes, item_means, writing_ends, writing_bound, writing_front, front_of_more}
+use Rattle.smt_sexpr.proofs.PrinterLoop.{size, Writing, writing_starts, top_means, listed, writing_closes, writing_goes, item_means, writing_ends, writing_bound, writing_front, front_of_more}
 use Rattle.smt_sexpr.proofs.printer.write.Goals as goal
 use Rattle.smt_sexpr.proofs.printer.write.Goals.{In_ok-push-in-None, In_ok-begin-in-Some-get}
 

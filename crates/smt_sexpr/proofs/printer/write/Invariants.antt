@@ -1,6 +1,6 @@
 use Rattle.std.proofs.Common.{◌-◌, ◌+◌}
 use Rattle.std.specs.Vec.{vec_len}
-use Rattle.smt_sexpr.proofs.Writing.{size, Writing}
+use Rattle.smt_sexpr.proofs.PrinterLoop.{size, Writing}
 use Rattle.smt_sexpr.proofs.printer.write.Given as goal
 
 abbrev pub invariant-lists : goal.invariant-lists

@@ -1,10 +1,11 @@
 use Rattle.std.proofs.Common.{List, Ok, Err, Some, None, refl, sym, ap, ◌∙◌, arith}
-use Rattle.smt_sexpr.proofs.Loop.{table, answered, Found, reading_starts, reading_opens, found_leaf, found_list, frame_within, found_alone, found_forward, found_inside, reading_alone, reading_open, reading_within, read_here}
+use Rattle.smt_sexpr.specs.Table.{table_of}
+use Rattle.smt_sexpr.proofs.ReadingLoop.{answered, Found, reading_starts, reading_opens, found_leaf, found_list, frame_within, found_alone, found_forward, found_inside, reading_alone, reading_open, reading_within, read_here}
 use Rattle.std.proofs.lemmas.List.{nil_from_length as empty_list}
 use Rattle.std.proofs.lemmas.Bool.{eqb-true, eqb-false}
 use Rattle.std.specs.Prelude.{slice_get}
 use Rattle.smt_sexpr.specs.declared.reader.Frame.{Frame}
-use Rattle.smt_sexpr.proofs.Growth.{get_none, get_some}
+use Rattle.smt_sexpr.proofs.TableGrowth.{get_none, get_some}
 use Rattle.smt_sexpr.proofs.reader.read.Goals as goal
 use Rattle.smt_sexpr.proofs.reader.read.Goals.{Joined-token, in-Right+in-Some-pop+in_ok-id-in-Some-pop, in_default+in_ok-push-in_default, in-None, in-Some}
 
@@ -28,7 +29,7 @@ returns-in-Ok-None-clause-finds c =
 pub tokens-preserved-in-Left : goal.tokens-preserved-in-Left
 tokens-preserved-in-Left c =
     let a = answered c.tokens.lexer c.next.new.self c.next.result (Ok (Some c.in-Ok-Some.token)) c.next.ensures.bytes c.next.ensures.reads c.next.ensures.failed c.tokens.invariant.fresh (cc) in
-    reading_opens c.args.lexer.now (table c.args.lexer.now.bytes c.args.nodes.now.items c.args.items.now.items) c.tokens.lexer c.next.new.self c.tokens.nodes.items c.tokens.items.items c.tokens.stack.items c.push.new.self.items c.tokens.pending.items
+    reading_opens c.args.lexer.now (table_of c.args.lexer.now.bytes c.args.nodes.now.items c.args.items.now.items) c.tokens.lexer c.next.new.self c.tokens.nodes.items c.tokens.items.items c.tokens.stack.items c.push.new.self.items c.tokens.pending.items
     c.in-Ok-Some.token _ c.tokens.invariant a c.in-Left.is refl (omega (arith, c.len-first.ensures)) c.in_ok-push-in-Left.ensures.items
 
 pub returns-in-None-pop-clause-finds : goal.returns-in-None-pop-clause-finds
@@ -42,17 +43,17 @@ close_list-requires c =
     let a = answered c.tokens.lexer c.next.new.self c.next.result (Ok (Some c.in-Ok-Some.token)) c.next.ensures.bytes c.next.ensures.reads c.next.ensures.failed c.tokens.invariant.fresh (cc) in
     frame_within c.args.lexer.now _ c.tokens.lexer c.next.new.self c.tokens.nodes.items c.tokens.items.items c.tokens.stack.items c.pop.new.self.items c.tokens.pending.items c.in-Ok-Some.token c.in-Some-pop.frame c.tokens.invariant a c.in-Right.is c.in-Some-pop.ensures.items
 
-found : (c : Joined-token) → Found c.args.lexer.now (table c.args.lexer.now.bytes c.args.nodes.now.items c.args.items.now.items) c.next.new.self c.match-token.nodes.items c.match-token.items.items c.match-token.stack.items c.match-token.pending.items c.match-token.id
+found : (c : Joined-token) → Found c.args.lexer.now (table_of c.args.lexer.now.bytes c.args.nodes.now.items c.args.items.now.items) c.next.new.self c.match-token.nodes.items c.match-token.items.items c.match-token.stack.items c.match-token.pending.items c.match-token.id
 found c =
     let a = answered c.tokens.lexer c.next.new.self c.next.result (Ok (Some c.in-Ok-Some.token)) c.next.ensures.bytes c.next.ensures.reads c.next.ensures.failed c.tokens.invariant.fresh (cc) in
     elim c.match-token.branch [
       | in-Right+in-Some-pop+in_ok-id-in-Some-pop w ↦
           rw (w.nodes-is, w.items-is, w.stack-is, w.pending-is, w.id-is)
-          (found_list c.args.lexer.now (table c.args.lexer.now.bytes c.args.nodes.now.items c.args.items.now.items) c.tokens.lexer c.next.new.self c.tokens.nodes.items _ c.tokens.items.items _ c.tokens.stack.items w.pop.new.self.items c.tokens.pending.items _ c.in-Ok-Some.token w.in-Some-pop.frame _
+          (found_list c.args.lexer.now (table_of c.args.lexer.now.bytes c.args.nodes.now.items c.args.items.now.items) c.tokens.lexer c.next.new.self c.tokens.nodes.items _ c.tokens.items.items _ c.tokens.stack.items w.pop.new.self.items c.tokens.pending.items _ c.in-Ok-Some.token w.in-Some-pop.frame _
           c.tokens.invariant a w.in-Right.is w.in-Some-pop.ensures.items w.in_ok-id-in-Some-pop.ensures.nodes w.in_ok-id-in-Some-pop.ensures.items w.in_ok-id-in-Some-pop.ensures.pending w.in_ok-id-in-Some-pop.ensures.id)
       | in_default+in_ok-push-in_default w ↦
           rw (w.nodes-is, w.items-is, w.stack-is, w.pending-is, w.id-is)
-          (found_leaf c.args.lexer.now (table c.args.lexer.now.bytes c.args.nodes.now.items c.args.items.now.items) c.tokens.lexer c.next.new.self c.tokens.nodes.items _ c.tokens.items.items c.tokens.stack.items c.tokens.pending.items c.in-Ok-Some.token _
+          (found_leaf c.args.lexer.now (table_of c.args.lexer.now.bytes c.args.nodes.now.items c.args.items.now.items) c.tokens.lexer c.next.new.self c.tokens.nodes.items _ c.tokens.items.items c.tokens.stack.items c.tokens.pending.items c.in-Ok-Some.token _
           c.tokens.invariant a w.in_default.not-Left w.in_default.not-Right w.in_ok-push-in_default.ensures.items (omega (arith, w.len-leaf.ensures)))
     ]
 

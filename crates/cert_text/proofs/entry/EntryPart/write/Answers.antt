@@ -2,7 +2,7 @@ use Rattle.std.proofs.Common.{◌≡◌, length, arith, rules, append_assoc}
 use Rattle.std.proofs.lemmas.Result.{IfOk-equal}
 use Rattle.std.specs.Vec.{vec_len}
 use Rattle.smt_lex.specs.Bytes.{is_symbol_byte}
-use Rattle.cert_text.proofs.Parts.{front_behind}
+use Rattle.cert_text.proofs.KeptFronts.{front_behind}
 use Rattle.cert_text.proofs.entry.EntryPart.write.Goals as goal
 
 pub returns-in_ok-push_str-in-Unsat-clause-ok : goal.returns-in_ok-push_str-in-Unsat-clause-ok

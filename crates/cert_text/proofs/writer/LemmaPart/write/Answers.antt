@@ -1,6 +1,6 @@
 use Rattle.std.proofs.Common.{◌≡◌, length, arith}
 use Rattle.std.specs.Vec.{vec_len}
-use Rattle.cert_text.proofs.Parts.{front_behind}
+use Rattle.cert_text.proofs.KeptFronts.{front_behind}
 use Rattle.cert_text.proofs.writer.LemmaPart.write.Goals as goal
 
 pub returns-clause-front : goal.returns-clause-front

@@ -3,8 +3,8 @@ use Rattle.std.proofs.Common.{◌≡◌, ℕ, zero, suc, ◌+◌, ◌<◌, ◌�
 use Rattle.std.proofs.lemmas.Bool.{ne_eqb}
 use Rattle.std.specs.Prelude.{◌==◌, if◌then◌else◌, reverse, option_map, unwrap_or, slice_get, slice_range}
 use Rattle.std.proofs.lemmas.List.{append_assoc, append-nil, length-append, reverse-append, take-append-drop, take_at}
-use Rattle.smt_sexpr.proofs.Leaves.{written_some}
-use Rattle.smt_sexpr.proofs.Growth.{means_writable, means_one}
+use Rattle.smt_sexpr.proofs.LeafTexts.{written_some}
+use Rattle.smt_sexpr.proofs.TableGrowth.{means_writable, means_one}
 use Rattle.smt_lex.specs.declared.token.TokenKind.{TokenKind}
 use Rattle.smt_lex.specs.declared.token.Token.{Token}
 use Rattle.smt_sexpr.specs.declared.node.Node.{Node}

@@ -14,7 +14,7 @@ use Rattle.smt_lex.specs.Scan.{gap_len, text_len, one_more}
 use Rattle.smt_lex.specs.Front.{Front, marked, fraction_of, number_of, based_of, text_of, quoted_end_of, quoted_of, front_of}
 use Rattle.smt_lex.proofs.Runs.{run_passes}
 use Rattle.smt_lex.proofs.Gaps.{gap_sound, gap_unique, gap_is}
-use Rattle.smt_lex.proofs.Complete.{token_found, token_sound}
+use Rattle.smt_lex.proofs.OneFront.{token_found, token_sound}
 use Rattle.smt_lex.proofs.Printed.{quoted_before}
 
 -- a token of so many bytes at most that the one gives is given by the other

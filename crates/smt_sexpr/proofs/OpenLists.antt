@@ -7,7 +7,7 @@ use Rattle.smt_sexpr.specs.declared.reader.Frame.{Frame}
 use Rattle.smt_sexpr.specs.Tree.{Sexpr, Items, list, none, more}
 use Rattle.smt_sexpr.specs.Table.{Table, Means, MeansEach, Grows}
 use Rattle.smt_sexpr.specs.Reading.{ReadsToken, Spells, SpellsEach, IsInside, reached, behind, deeper, IsOpen}
-use Rattle.smt_sexpr.proofs.Growth.{push, means_each_grows, means_each_push}
+use Rattle.smt_sexpr.proofs.TableGrowth.{push, means_each_grows, means_each_push}
 
 -- From the place to here the frames are open, the innermost first; pending are the ids of their items.
 unfoldable pub Stacked : Table → ℕ → List Frame → List ℕ → ℕ → Type 0

@@ -1,17 +1,17 @@
 -- What is written is read again.
-use Rattle.std.proofs.Common.{◌≡◌, ◌≢◌, ◌⊎◌, ℕ, ◌+◌, ◌-◌, List, [], ◌∷◌, ◌++◌, length, drop, Some, Ok, refl, sym, ap, subst, ◌∙◌, arith, inl, inr}
+use Rattle.std.proofs.Common.{◌≡◌, ◌≢◌, ◌⊎◌, ℕ, ◌+◌, ◌-◌, List, [], ◌∷◌, ◌++◌, length, drop, refl, sym, ap, subst, ◌∙◌, arith, inl, inr}
 use Rattle.std.specs.Prelude.{slice_range}
 use Rattle.std.proofs.lemmas.List.{append_assoc, length-append, drop_at, take_at}
 use Rattle.smt_lex.specs.declared.token.TokenKind.{TokenKind}
 use Rattle.smt_lex.specs.declared.token.TokenKind.TheVariants.{Left, Right}
 use Rattle.smt_lex.specs.declared.token.Token.{Token}
-use Rattle.smt_lex.specs.Grammar.{IsToken, EndsToken, Reads}
+use Rattle.smt_lex.specs.Grammar.{IsToken, EndsToken}
 use Rattle.smt_lex.specs.Laws.{ReadsBack}
 use Rattle.smt_sexpr.specs.Laws.{SexprReadsBack}
 use Rattle.smt_sexpr.specs.Tree.{Sexpr, Items, leaf, list, none, more, leaf_text, IsLeaf}
 use Rattle.smt_sexpr.specs.Reading.{ReadsToken, Spells, SpellsEach}
 use Rattle.smt_sexpr.specs.Printing.{written, text_of, text_behind, IsWritable, AreWritable, EndsSexpr}
-use Rattle.smt_sexpr.proofs.Leaves.{leaf_apart, written_token, written_text, token_shows}
+use Rattle.smt_sexpr.proofs.LeafTexts.{leaf_apart, written_token, written_text, token_shows}
 
 abbrev token : TokenKind → ℕ → ℕ → Token
 token kind start end = record { kind = kind; start = start; end = end }

@@ -1,17 +1,17 @@
 -- A list is read the same whatever follows it.
-use Rattle.std.proofs.Common.{◌≡◌, ℕ, zero, suc, ◌+◌, ◌-◌, ◌≤◌, List, [], ◌∷◌, ◌++◌, length, take, drop, Some, Ok, refl, sym, ap, subst, ◌∙◌, arith}
+use Rattle.std.proofs.Common.{◌≡◌, ℕ, zero, suc, ◌+◌, ◌-◌, ◌≤◌, List, [], ◌∷◌, ◌++◌, length, take, drop, refl, sym, ap, subst, ◌∙◌, arith}
 use Rattle.std.specs.Prelude.{slice_range}
 use Rattle.std.proofs.lemmas.List.{append_assoc, drop-append-le, take-append-drop, length-drop, length-take, length-take-le, drop-drop}
 use Rattle.smt_lex.specs.declared.token.TokenKind.{TokenKind}
 use Rattle.smt_lex.specs.declared.token.TokenKind.TheVariants.{Left, Right}
 use Rattle.smt_lex.specs.declared.token.Token.{Token}
-use Rattle.smt_lex.specs.Grammar.{IsToken, Reads}
+use Rattle.smt_lex.specs.Grammar.{IsToken}
 use Rattle.smt_lex.specs.Laws.{ReadsBefore, ReadsClosing}
 use Rattle.smt_sexpr.specs.Laws.{ListIsWithin, ListReadsOn}
 use Rattle.smt_sexpr.specs.Tree.{Sexpr, Items, leaf, list, none, more, leaf_text}
 use Rattle.smt_sexpr.specs.Reading.{ReadsToken, Spells, SpellsEach}
-use Rattle.smt_sexpr.proofs.Leaves.{token_forward}
-use Rattle.smt_sexpr.proofs.Loop.{each_forward}
+use Rattle.smt_sexpr.proofs.LeafTexts.{token_forward}
+use Rattle.smt_sexpr.proofs.ReadingLoop.{each_forward}
 
 take_front : (n : ℕ) (xs ys : List ℕ) → n ≤ length xs → take n (xs ++ ys) ≡ take n xs
 take_front zero xs ys le = refl
