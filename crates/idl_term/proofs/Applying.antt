@@ -2,11 +2,10 @@
 use Rattle.std.proofs.Common.{refl, sym, ap, ◌∙◌, ◌≡◌, ℕ, suc, List, [], ◌∷◌, ◌++◌, length, map, Bor, Option, Some, None}
 use Rattle.std.specs.Prelude.{option_map}
 use Rattle.idl_linear.specs.Linear.{LinearValue}
-use Rattle.idl_term.specs.declared.lowered.Lowered.{Lowered}
-use Rattle.idl_term.specs.declared.lowered.Lowered.TheVariants.{Truth, Number}
+use Rattle.idl_scope.specs.declared.lowered.Lowered.{Lowered}
+use Rattle.idl_scope.specs.declared.lowered.Lowered.TheVariants.{Truth, Number}
 use Rattle.idl_term.specs.Applied.{formulas_in, formula_before}
-use Rattle.idl_term.specs.Scopes.{shown_term}
-use Rattle.idl_term.specs.Shapes.{shown_terms}
+use Rattle.idl_scope.specs.Scopes.{shown_term, shown_terms}
 
 -- what was found, behind what was found before
 abbrev pub behind : {A : Type 0} → List A → Option (List A) → Option (List A)

@@ -1,8 +1,7 @@
 -- The value of a linear term, summand by summand, and how large it may be; and values of the names' sorts.
-use Rattle.std.proofs.Common.{refl, ap, sym, subst, ◌∙◌, arith, ◌≡◌, ◌<◌, ◌≤◌, ◌+◌, ◌*◌, ◌^◌, ℕ, zero, suc, List, [], ◌∷◌, length, drop, get_or, slice_get, Some, true, ℤ, pos, negsuc, neg_ℤ, ◌+ℤ◌, ◌*ℤ◌, ◌≤ℤ◌, FitsSigned, w64, to_z, of_z}
+use Rattle.std.proofs.Common.{refl, ap, sym, subst, ◌∙◌, arith, ◌≡◌, ◌<◌, ◌≤◌, ◌+◌, ◌*◌, ◌^◌, ℕ, zero, suc, List, [], ◌∷◌, length, drop, get_or, slice_get, Some, true, ℤ, pos, negsuc, neg_ℤ, ◌+ℤ◌, ◌*ℤ◌, ◌≤ℤ◌, FitsSigned, w64, to_z, of_z, unsigned_abs}
 use Rattle.std.proofs.lemmas.Int.{ints, unsigned_abs-mul, fits_signed_mul, to_z-of_z}
 use Rattle.std.specs.Int.{w128}
-use Rattle.std.proofs.Common.{unsigned_abs}
 use Rattle.idl_linear.proofs.Merging.{within_low, within_high}
 use Rattle.std.proofs.lemmas.Nat.{mul-le}
 use Rattle.std.proofs.lemmas.List.{at_drop_more}
@@ -17,8 +16,8 @@ use Rattle.idl_node.specs.Sorts.{IsIntPoint, IsAtomFor, AreOfSorts}
 use Rattle.idl_node.specs.Tables.{IsTableOf, IsTableOver}
 use Rattle.idl_node.proofs.Keeping.{table_of-better}
 use Rattle.idl_term.specs.Meanings.{IsTermIn}
-use Rattle.idl_term.specs.Guarded.{CaseValue}
-use Rattle.idl_term.specs.Scopes.{numeric}
+use Rattle.idl_scope.specs.Guarded.{CaseValue}
+use Rattle.idl_scope.specs.Scopes.{numeric}
 use Rattle.idl_linear.specs.declared.summand.Summand.{Summand}
 use Rattle.idl_linear.specs.Forms.{AscendAbove, IsLinear}
 use Rattle.idl_linear.specs.Limits.{points_limit, coefficient_limit}

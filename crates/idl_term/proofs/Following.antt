@@ -6,7 +6,7 @@ use Rattle.idl_node.specs.Nodes.{NodeValue}
 use Rattle.idl_term.specs.Applied.{Made}
 use Rattle.idl_term.specs.Comparing.{follows}
 use Rattle.idl_term.specs.Lowered.{MadeEach, put_first}
-use Rattle.idl_term.specs.Scopes.{LoweredTerm}
+use Rattle.idl_scope.specs.Scopes.{LoweredTerm}
 use Rattle.idl_term.specs.Walks.{gathered}
 use Rattle.idl_term.specs.declared.error.TermRefusal.{TermRefusal}
 

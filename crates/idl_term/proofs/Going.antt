@@ -8,21 +8,22 @@ use Rattle.idl_node.specs.Nodes.{NodeValue}
 use Rattle.idl_term.specs.Applied.{Made}
 use Rattle.idl_term.specs.Comparing.{follows}
 use Rattle.idl_term.specs.Lowered.{lowered, is_binding, are_bindings, variable_in}
-use Rattle.idl_term.specs.Scopes.{LoweredTerm, Scope, Binding, bindings_of, shown_term}
-use Rattle.idl_term.specs.Shapes.{Lowers, shown_terms}
+use Rattle.idl_scope.specs.Scopes.{LoweredTerm, Scope, Binding, bindings_of, shown_term, shown_terms}
+use Rattle.idl_term.specs.Shapes.{Lowers}
 use Rattle.idl_term.specs.Trees.{tree_of, trees_of, IsTree, AreTrees, size_of, sizes_of}
-use Rattle.idl_term.specs.Walks.{Inner, Walk, scope_at, ended, finished, outcome, outcome_from, outcome_of, AreFrames, IsReady, IsWaiting, without, weight, Goes, Steps, with_frame, bound_to}
+use Rattle.idl_scope.specs.LocalNames.{Inner, without}
+use Rattle.idl_term.specs.Walks.{Walk, scope_at, ended, finished, outcome, outcome_from, outcome_of, AreFrames, IsReady, IsWaiting, weight, Goes, Steps, with_frame, bound_to}
 use Rattle.idl_term.specs.declared.error.TermError.{TermError}
 use Rattle.idl_term.specs.declared.error.TermError.TheVariants.{Refused, OutOfMemory}
 use Rattle.idl_term.specs.declared.error.TermRefusal.{TermRefusal}
-use Rattle.idl_term.specs.declared.lowered.Lowered.{Lowered}
+use Rattle.idl_scope.specs.declared.lowered.Lowered.{Lowered}
 use Rattle.idl_term.specs.declared.operator.Operator.{Operator}
 use Rattle.idl_term.specs.declared.machine.Frame.{Frame}
 use Rattle.idl_term.specs.declared.machine.Frame.TheVariants.{Apply, Bind, Unbind}
 use Rattle.idl_term.proofs.Treeing.{tree_is}
 use Rattle.idl_term.proofs.Following.{drop_within, take_within, take_all}
 use Rattle.idl_term.proofs.Walking.{error_is, steps_from, seen, next_argument, last_argument}
-use Rattle.idl_term.specs.Limits.{names_limit}
+use Rattle.idl_scope.specs.Limits.{names_limit}
 use Rattle.idl_term.proofs.Letting.{both, both_right, IsTermOf, next_binding, IsBody, unbinds}
 use Rattle.idl_term.proofs.Differing.{variables, all_bind, variables_count, variables_append, bind_append}
 

@@ -11,9 +11,9 @@ use Rattle.idl_node.specs.Nodes.{NodeValue, atom, placed}
 use Rattle.idl_term.specs.Applied.{as_formula}
 use Rattle.idl_term.specs.Lowered.{lowered_name, lowered_found, lowered_leaf, lowered_numeral}
 use Rattle.idl_term.specs.Operators.{is_reserved}
-use Rattle.idl_term.specs.Scopes.{Scope, Found, declared_at, stands_for, unknown, found}
-use Rattle.idl_term.specs.Shapes.{FoundIs}
-use Rattle.idl_term.specs.declared.scope.FoundName.TheVariants as name
+use Rattle.idl_scope.specs.Scopes.{Scope, Found, declared_at, stands_for, unknown, found}
+use Rattle.idl_scope.specs.Kept.{FoundIs}
+use Rattle.idl_scope.specs.declared.scope.FoundName.TheVariants as name
 use Rattle.idl_term.specs.declared.error.TermRefusal.TheVariants.{IllFormedTerm}
 
 -- a declared Bool name

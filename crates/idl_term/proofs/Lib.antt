@@ -1,5 +1,3 @@
-pub mod NamesKept
-pub mod NamesFound
 pub mod BelowLinear
 pub mod MeaningAtoms
 pub mod MeaningOperators
@@ -20,5 +18,4 @@ pub mod Going
 pub mod Opening
 pub mod Differing
 pub mod Heading
-pub mod Hiding
 pub mod Evaluating

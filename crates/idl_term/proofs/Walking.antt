@@ -8,15 +8,16 @@ use Rattle.idl_term.specs.Applied.{Made, applied}
 use Rattle.idl_term.specs.Comparing.{follows}
 use Rattle.idl_term.specs.Lowered.{lowered, lowered_each}
 use Rattle.idl_term.specs.Operators.{takes_count}
-use Rattle.idl_term.specs.Scopes.{LoweredTerm, shown_term}
-use Rattle.idl_term.specs.Shapes.{Lowers, shown_terms}
+use Rattle.idl_scope.specs.Scopes.{LoweredTerm, shown_term, shown_terms}
+use Rattle.idl_term.specs.Shapes.{Lowers}
 use Rattle.idl_term.specs.Trees.{tree_of, trees_of, IsTree, AreTrees, sizes_of}
-use Rattle.idl_term.specs.Walks.{Inner, Walk, scope_at, gathered, finished, outcome, outcome_behind, outcome_from, outcome_of, AreFrames, IsReady, IsReadyWith, IsWaiting, weight, Goes, Steps, with_frame, application_made}
+use Rattle.idl_scope.specs.LocalNames.{Inner}
+use Rattle.idl_term.specs.Walks.{Walk, scope_at, gathered, finished, outcome, outcome_behind, outcome_from, outcome_of, AreFrames, IsReady, IsReadyWith, IsWaiting, weight, Goes, Steps, with_frame, application_made}
 use Rattle.idl_term.specs.declared.error.TermError.{TermError}
 use Rattle.idl_term.specs.declared.error.TermError.TheVariants.{OutOfMemory, Refused}
 use Rattle.idl_term.specs.declared.error.TermRefusal.{TermRefusal}
 use Rattle.idl_term.specs.declared.error.TermRefusal.TheVariants.{WrongCount}
-use Rattle.idl_term.specs.declared.lowered.Lowered.{Lowered}
+use Rattle.idl_scope.specs.declared.lowered.Lowered.{Lowered}
 use Rattle.idl_term.specs.declared.operator.Operator.{Operator}
 use Rattle.idl_term.specs.declared.machine.Frame.{Frame}
 use Rattle.idl_term.specs.declared.machine.Frame.TheVariants.{Apply}

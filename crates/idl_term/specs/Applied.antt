@@ -5,7 +5,7 @@ use Rattle.idl_linear.specs.Linear.{LinearValue, sum_of, less_others, is_limited
 use Rattle.idl_node.specs.Making.{denied, conjoined, disjoined, chosen, exclusive, implied, all_equal, all_different}
 use Rattle.idl_node.specs.Nodes.{NodeValue, Placed}
 use Rattle.idl_term.specs.Comparing.{follows, or_too_large, all_compared}
-use Rattle.idl_term.specs.Scopes.{LoweredTerm, formula, numeric, linear_term}
+use Rattle.idl_scope.specs.Scopes.{LoweredTerm, formula, numeric, linear_term}
 use Rattle.idl_term.specs.declared.error.LeftOutTerm.TheVariants.{Ite}
 use Rattle.idl_term.specs.declared.error.TermRefusal.{TermRefusal}
 use Rattle.idl_term.specs.declared.error.TermRefusal.TheVariants.{WrongSort, BoundTooLarge, LeftOut}

@@ -9,10 +9,10 @@ use Rattle.idl_node.specs.declared.sort.Sort.{Sort}
 use Rattle.idl_node.specs.Nodes.{NodeValue}
 use Rattle.idl_node.specs.Sorts.{AreOfSorts}
 use Rattle.idl_term.specs.Applied.{Made}
-use Rattle.idl_term.specs.Limits.{names_limit}
+use Rattle.idl_scope.specs.Limits.{names_limit}
 use Rattle.idl_term.specs.Lowered.{lowered}
 use Rattle.idl_term.specs.Operators.{is_reserved}
-use Rattle.idl_term.specs.Scopes.{LoweredTerm, formula, Declaration, Binding, Scope, is_known, sorts_of}
+use Rattle.idl_scope.specs.Scopes.{LoweredTerm, formula, Declaration, Binding, Scope, is_known, sorts_of}
 use Rattle.idl_term.specs.Values.{Value, whole, truth, Named, value}
 
 -- a defined name, its term, and what that is made into

@@ -4,7 +4,7 @@ use Rattle.smt_lex.specs.declared.token.TokenKind.TheVariants.{Numeral, Symbol}
 use Rattle.smt_sexpr.specs.Tree.{Sexpr, Items, leaf, list, none, more}
 use Rattle.stn_core.specs.declared.literal.Literal.{Literal}
 use Rattle.idl_node.specs.declared.sort.Sort.TheVariants as sort
-use Rattle.idl_term.specs.Scopes.{Scope}
+use Rattle.idl_scope.specs.Scopes.{Scope}
 use Rattle.idl_term.specs.Values.{Named, whole, truth}
 
 abbrev pub symbol : List ℕ → Sexpr

@@ -6,10 +6,11 @@ use Rattle.smt_sexpr.specs.Tree.{Items}
 use Rattle.idl_node.specs.Nodes.{NodeValue}
 use Rattle.idl_term.specs.Applied.{Made, applied}
 use Rattle.idl_term.specs.Comparing.{follows}
-use Rattle.idl_term.specs.Limits.{names_limit}
+use Rattle.idl_scope.specs.Limits.{names_limit}
+use Rattle.idl_scope.specs.LocalNames.{Inner, scope_in, without}
 use Rattle.idl_term.specs.Lowered.{lowered, lowered_each, lowered_bound, lowered_let, is_let, with_bound, variables_in, are_bindings, count_of}
 use Rattle.idl_term.specs.Operators.{takes_count}
-use Rattle.idl_term.specs.Scopes.{LoweredTerm, Binding, bindings_of, Scope}
+use Rattle.idl_scope.specs.Scopes.{LoweredTerm, Binding, bindings_of, Scope}
 use Rattle.idl_term.specs.Trees.{tree_of, trees_of, IsTree, AreTrees, size_of, sizes_of}
 use Rattle.idl_term.specs.declared.error.TermError.{TermError}
 use Rattle.idl_term.specs.declared.error.TermError.TheVariants.{OutOfMemory, Refused}
@@ -18,14 +19,6 @@ use Rattle.idl_term.specs.declared.error.TermRefusal.TheVariants.{IllFormedTerm,
 use Rattle.idl_term.specs.declared.operator.Operator.{Operator}
 use Rattle.idl_term.specs.declared.machine.Frame.{Frame}
 use Rattle.idl_term.specs.declared.machine.Frame.TheVariants.{Apply, Bind, Unbind}
-
--- a scope, and the variables of the `let`s inside which a term is read, the innermost first
-pub record Inner : Type 0 where
-  pub outer : Scope
-  pub variables : List Binding
-
-abbrev pub scope_in : Inner → Scope
-scope_in i = record { declared = i.outer.declared; bound = i.variables ++ i.outer.bound }
 
 -- the machine at rest
 pub record Walk : Type 0 where
@@ -38,10 +31,6 @@ pub record Walk : Type 0 where
 
 abbrev pub scope_at : Walk → Scope
 scope_at w = scope_in w.inner
-
--- the innermost variables go out of scope
-abbrev pub without : ℕ → Inner → Inner
-without count i = record i { variables = drop count i.variables }
 
 -- the values from base on become one
 abbrev pub gathered : ℕ → List LoweredTerm → LoweredTerm → List LoweredTerm

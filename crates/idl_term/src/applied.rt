@@ -3,12 +3,13 @@ ghost use Rattle.std.specs.Prelude.{◌≡◌, length, map, option_map, take, tr
 ghost use Rattle.idl_node.specs.Made.{Makes};
 ghost use Rattle.idl_term.specs.Applied.{applied, formulas_in, linears_in, formula_of, of_formulas, number_made, of_numbers, of_first_sort, of_branches};
 ghost use Rattle.idl_term.specs.Operators.{takes_count};
-ghost use Rattle.idl_term.specs.Shapes.{Lowers, shown_terms};
+ghost use Rattle.idl_term.specs.Shapes.{Lowers};
+ghost use Rattle.idl_scope.specs.Scopes.{shown_terms};
 
 use crate::arithmetic::{add, subtract};
 use crate::comparing::compare_all;
 use crate::error::{LeftOutTerm, TermError, TermRefusal};
-use crate::lowered::Lowered;
+use idl_scope::Lowered;
 use crate::operator::{Operator, Relation};
 use idl_linear::Linear;
 use idl_node::{NodeError, Nodes};

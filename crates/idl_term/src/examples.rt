@@ -5,7 +5,7 @@ ghost use Rattle.idl_term.specs.declared.error.LeftOutTerm.TheVariants.{Ite, Tim
 ghost use Rattle.idl_term.specs.declared.error.TermRefusal.TheVariants.{UnknownSymbol, IllFormedTerm, WrongCount, WrongSort, NotADifference, BoundTooLarge, LeftOut};
 ghost use Rattle.idl_term.specs.Examples.{symbol, numeral, x, y, p, z, apply, binding, let_of, names, scope, literal};
 ghost use Rattle.idl_term.specs.Lowered.{lowered};
-ghost use Rattle.idl_term.specs.Scopes.{formula};
+ghost use Rattle.idl_scope.specs.Scopes.{formula};
 ghost use Rattle.idl_term.specs.Values.{whole, truth, nothing, value};
 
 /// Values where x is 4, y is 7 and p is true.

@@ -1,15 +1,15 @@
 //! What a list begins with.
 ghost use Rattle.std.specs.Prelude.{◌≡◌, ◌≤◌, length};
 ghost use Rattle.idl_term.specs.Heads.{head_meaning};
-ghost use Rattle.idl_term.specs.Limits.{names_limit};
+ghost use Rattle.idl_scope.specs.Limits.{names_limit};
 ghost use Rattle.idl_term.specs.Lowered.{head_of, symbol_head, list_head, no_operator};
 ghost use Rattle.idl_term.specs.Trees.{tree_of, trees_of, IsTree, AreTrees};
-ghost use Rattle.idl_term.specs.Walks.{scope_in};
+ghost use Rattle.idl_scope.specs.LocalNames.{scope_in};
 
 use crate::error::{LeftOutTerm, TermRefusal};
-use crate::locals::Locals;
+use idl_scope::Locals;
 use crate::operator::{Operator, is_reserved, left_out_of, operator_of};
-use crate::scope::FoundName;
+use idl_scope::FoundName;
 use smt_sexpr::{SexprId, Sexprs};
 
 /// What a list begins with.

@@ -9,7 +9,7 @@ ghost use Rattle.idl_term.specs.Applied.{Made};
 ghost use Rattle.idl_term.specs.Contexts.{Context, IsContext, IsScheduleFor, environment, scope_of};
 ghost use Rattle.idl_term.specs.Lowered.{lowered};
 ghost use Rattle.idl_term.specs.Meanings.{IsScopeOver, IsMadeIn, Agrees, AreRoots, lowered_value};
-ghost use Rattle.idl_term.specs.Scopes.{Scope, sorts_of};
+ghost use Rattle.idl_scope.specs.Scopes.{Scope, sorts_of};
 ghost use Rattle.idl_term.specs.Values.{Named, value};
 
 /// What a term is made into is worth what the term is worth, on every schedule; the table grows, and stays one of atoms over

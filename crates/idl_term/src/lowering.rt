@@ -2,14 +2,14 @@
 ghost use Rattle.std.specs.Prelude.{◌≡◌, ◌≤◌, length, take, OnErr};
 ghost use Rattle.smt_sexpr.specs.Table.{Means, HasMeaning};
 ghost use Rattle.smt_sexpr.specs.Tree.{Sexpr};
-ghost use Rattle.idl_term.specs.Limits.{names_limit};
+ghost use Rattle.idl_scope.specs.Limits.{names_limit};
 ghost use Rattle.idl_term.specs.Lowered.{lowered};
 ghost use Rattle.idl_term.specs.Shapes.{Lowers};
 
 use crate::error::TermError;
-use crate::lowered::Lowered;
+use idl_scope::Lowered;
 use crate::machine::Machine;
-use crate::scope::Scope;
+use idl_scope::Scope;
 use idl_node::Nodes;
 use smt_sexpr::{SexprId, Sexprs};
 use std::alloc::Global;

@@ -1,9 +1,8 @@
 //! A machine that lowers a term, with stacks of its own in place of recursion.
 ghost use Rattle.std.specs.Prelude.{◌≡◌, ◌<◌, ◌≤◌, ◌+◌, ◌-◌, ◌∷◌, [], List, length, take, true, OnOk, Ok, Err};
-ghost use Rattle.smt_sexpr.specs.Tree.{more, none};
-ghost use Rattle.smt_sexpr.specs.Tree.{IsLeaf};
+ghost use Rattle.smt_sexpr.specs.Tree.{more, none, IsLeaf};
 ghost use Rattle.idl_node.specs.Nodes.{NodeValue};
-ghost use Rattle.idl_term.specs.Limits.{names_limit};
+ghost use Rattle.idl_scope.specs.Limits.{names_limit};
 ghost use Rattle.idl_term.specs.Lowered.{lowered, lowered_leaf, lowered_list, are_bindings, is_binding};
 ghost use Rattle.idl_term.specs.Shapes.{Lowers};
 ghost use Rattle.idl_term.specs.Trees.{tree_of, trees_of, IsTree, AreTrees, size_of, sizes_of};
@@ -18,10 +17,10 @@ use crate::binding::let_parts;
 use crate::error::{TermError, TermRefusal};
 use crate::head::{Head, head_of};
 use crate::leaf::{lower_symbol, lower_token};
-use crate::locals::Locals;
-use crate::lowered::Lowered;
+use idl_scope::Locals;
+use idl_scope::Lowered;
 use crate::operator::Operator;
-use crate::scope::Scope;
+use idl_scope::Scope;
 use idl_node::Nodes;
 use smt_lex::TokenKind;
 use smt_sexpr::{SexprId, Sexprs};
@@ -67,7 +66,7 @@ pub(crate) struct Machine<'s, 'a> {
 impl<'s, 'a> Model for Machine<'s, 'a> {
     ghost use Rattle.std.specs.Prelude.{reverse};
     ghost use Rattle.idl_term.specs.Walks.{Walk};
-    ghost use Rattle.idl_term.specs.Shapes.{shown_terms};
+    ghost use Rattle.idl_scope.specs.Scopes.{shown_terms};
 
     ghost Value = { Walk };
 

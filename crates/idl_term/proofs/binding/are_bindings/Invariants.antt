@@ -1,5 +1,5 @@
 use Rattle.std.proofs.Common.{take}
-use Rattle.idl_term.proofs.NamesKept.{texts}
+use Rattle.idl_scope.proofs.NamesKept.{texts}
 use Rattle.idl_term.proofs.Differing.{SoFar}
 use Rattle.idl_term.proofs.binding.are_bindings.Given as goal
 

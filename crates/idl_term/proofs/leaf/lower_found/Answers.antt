@@ -1,10 +1,11 @@
 use Rattle.std.proofs.Common.{sym, ap, subst, ◌∙◌}
 use Rattle.std.specs.Prelude.{Result}
 use Rattle.idl_term.specs.Applied.{Made}
-use Rattle.idl_term.specs.Shapes.{FoundIs, Lowers}
+use Rattle.idl_scope.specs.Kept.{FoundIs}
+use Rattle.idl_term.specs.Shapes.{Lowers}
 use Rattle.idl_term.specs.declared.error.TermRefusal.{TermRefusal}
-use Rattle.idl_term.specs.declared.scope.FoundName.{FoundName}
-use Rattle.idl_term.specs.declared.scope.FoundName.TheVariants.{Declared}
+use Rattle.idl_scope.specs.declared.scope.FoundName.{FoundName}
+use Rattle.idl_scope.specs.declared.scope.FoundName.TheVariants.{Declared}
 use Rattle.idl_term.proofs.Leaves.{found_bool}
 use Rattle.idl_term.proofs.leaf.lower_found.Goals as goal
 

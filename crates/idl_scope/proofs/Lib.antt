@@ -1,0 +1,3 @@
+pub mod NamesKept
+pub mod NamesFound
+pub mod LocalsKept

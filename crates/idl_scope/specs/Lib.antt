@@ -1,0 +1,6 @@
+pub mod Limits
+pub mod Guarded
+pub mod Scopes
+pub mod Kept
+pub mod LocalNames
+pub use Rattle.idl_linear.specs.Linear

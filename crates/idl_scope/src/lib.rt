@@ -1,0 +1,14 @@
+//! The names that terms of difference logic use, and what they stand for: declared names, defined ones, and variables of `let`s.
+#![tactic(auto)]
+
+mod cases;
+mod locals;
+mod lowered;
+mod names;
+mod scope;
+
+pub use cases::{Case, Cases};
+pub use locals::Locals;
+pub use lowered::Lowered;
+pub use names::Names;
+pub use scope::{FoundName, Scope};

@@ -1,0 +1,93 @@
+//! The declared names.
+ghost use Rattle.std.specs.Prelude.{◌≡◌, ◌≤◌, ◌<◌, ◌++◌, ◌∷◌, [], length, take, slice_get, Some, IfSome, OnOk, OnErr};
+ghost use Rattle.idl_scope.specs.Kept.{found_place, names_of};
+ghost use Rattle.idl_scope.specs.Scopes.{Declaration, found_declared, sorts_of, unknown};
+
+use idl_node::Sort;
+use indexmap::IndexSet;
+use std::alloc::{AllocError, Global};
+use std::marker::Model;
+
+/// The declared names in order of declaration, with their sorts, found by hash. They are borrowed from the script.
+#[derive(Drop)]
+pub struct Names<'a> {
+    set: IndexSet<&'a [u8]>,
+    // of each name, in the same order
+    sorts: Vec<Sort>,
+}
+
+impl<'a> Model for Names<'a> {
+    ghost use Rattle.std.specs.Prelude.{◌≡◌, List, length, map};
+    ghost use Rattle.idl_scope.specs.Scopes.{Declaration};
+    ghost use Rattle.idl_scope.specs.Kept.{declarations_of};
+
+    ghost Value = { List Declaration };
+
+    ghost view = { λ n. declarations_of (map (λ k. k.now) n.set.keys) n.sorts.items };
+
+    ghost invariant = { λ n. length n.set.keys ≡ length n.sorts.items };
+}
+
+impl<'a> Names<'a> {
+    /// No names. It takes no memory yet.
+    pub fn new(alloc: Global) -> Self
+        ensures { result ≡ [] }
+    {
+        Names {
+            set: IndexSet::new(alloc),
+            sorts: Vec::new(alloc),
+        }
+    }
+
+    /// How many names are declared.
+    pub fn len(&self) -> usize
+        ensures { result ≡ length self.now }
+    {
+        self.sorts.len()
+    }
+
+    /// The sorts of the names, in order of declaration.
+    pub fn sorts(&self) -> &[Sort]
+        ensures { result.now ≡ sorts_of self.now }
+    {
+        &self.sorts
+    }
+
+    /// The place of a name, from 0, and its sort; found by hash, in a time in proportion to the name's length.
+    pub fn find(&self, name: &[u8]) -> Option<(usize, Sort)>
+        ensures found { found_declared name.now 0 self.now ≡ found_place result }
+        ensures within { IfSome result (λ f. f.0 < length self.now) }
+    {
+        let place = self.set.get_index_of(name)?;
+        Some((place, self.sorts[place]))
+    }
+
+    /// The name at a place, from 0.
+    pub fn name(&self, place: usize) -> &'a [u8]
+        requires { place < length self.now }
+        ensures { slice_get (names_of self.now) place ≡ Some result.now }
+    {
+        *self.set.get_index(place).unwrap()
+    }
+
+    /// One more name, which isn't there yet.
+    pub fn add(&mut self, name: &'a [u8], sort: Sort) -> Result<(), AllocError>
+        requires { found_declared name.now 0 self.old ≡ unknown }
+        ensures ok { OnOk result (self.new ≡ self.old ++ record { name = name.now; sort = sort } ∷ []) }
+        ensures err { OnErr result (self.new ≡ self.old) }
+    {
+        self.sorts.reserve(1)?;
+        self.set.insert(name)?;
+        self.sorts.push_reserved(sort);
+        Ok(())
+    }
+
+    /// The first names stay.
+    pub fn cut(&mut self, count: usize)
+        requires { count ≤ length self.old }
+        ensures { self.new ≡ take count self.old }
+    {
+        self.set.truncate(count);
+        self.sorts.truncate(count);
+    }
+}

@@ -1,0 +1,128 @@
+//! The names that terms may use.
+ghost use Rattle.std.specs.Prelude.{◌≡◌, ◌≤◌, ◌++◌, ◌∷◌, [], length, take, false, OnOk, OnErr};
+ghost use Rattle.idl_scope.specs.Kept.{IsPlaceBelow, FoundIs};
+ghost use Rattle.idl_scope.specs.Scopes.{Scope as Meaning, found, is_known, shown_term};
+
+use crate::lowered::Lowered;
+use crate::names::Names;
+use idl_node::Sort;
+use indexmap::IndexSet;
+use std::alloc::{AllocError, Global};
+use std::marker::Model;
+
+#[cfg(test)]
+mod tests;
+
+/// What a name is.
+#[derive(Clone, Copy)]
+pub enum FoundName<'s> {
+    /// A declared one, by its place, from 0.
+    Declared(usize, Sort),
+    /// One that stands for a term.
+    Bound(&'s Lowered),
+    Unknown,
+}
+
+/// The declared names, and the defined ones with what they stand for; all found by hash.
+#[derive(Drop)]
+pub struct Scope<'a> {
+    names: Names<'a>,
+    defined: IndexSet<&'a [u8]>,
+    // of each defined name, in the same order
+    terms: Vec<Lowered>,
+}
+
+impl<'a> Model for Scope<'a> {
+    ghost use Rattle.std.specs.Prelude.{◌≡◌, length, map};
+    ghost use Rattle.idl_scope.specs.Scopes.{Scope as Meaning};
+    ghost use Rattle.idl_scope.specs.Kept.{definitions_of};
+
+    ghost Value = { Meaning };
+
+    ghost view = { λ s. record { declared = s.names; bound = definitions_of (map (λ k. k.now) s.defined.keys) s.terms.items } };
+
+    ghost invariant = { λ s. length s.defined.keys ≡ length s.terms.items };
+}
+
+impl<'a> Scope<'a> {
+    /// No names. It takes no memory yet.
+    pub fn new(alloc: Global) -> Self
+        ensures { result ≡ record { declared = []; bound = [] } }
+    {
+        Scope {
+            names: Names::new(alloc),
+            defined: IndexSet::new(alloc),
+            terms: Vec::new(alloc),
+        }
+    }
+
+    /// The declared names.
+    pub fn names(&self) -> &Names<'a>
+        ensures { result.now ≡ self.now.declared }
+    {
+        &self.names
+    }
+
+    /// How many names are defined.
+    pub fn defined(&self) -> usize
+        ensures { result ≡ length self.now.bound }
+    {
+        self.terms.len()
+    }
+
+    /// What a name is: a defined one, else a declared one.
+    pub fn find(&self, name: &[u8]) -> FoundName<'_>
+        ensures found { FoundIs (found self.now name.now) result }
+        ensures near { IsPlaceBelow (length self.now.declared) result }
+    {
+        match self.defined.get_index_of(name) {
+            Some(place) => FoundName::Bound(&self.terms[place]),
+            None => match self.names.find(name) {
+                Some((place, sort)) => FoundName::Declared(place, sort),
+                None => FoundName::Unknown,
+            },
+        }
+    }
+
+    /// Whether the name is declared or defined.
+    pub fn is_known(&self, name: &[u8]) -> bool
+        ensures { result ≡ is_known self.now name.now }
+    {
+        match self.find(name) {
+            FoundName::Unknown => false,
+            _ => true,
+        }
+    }
+
+    /// One more declared name, which isn't known yet.
+    pub fn declare(&mut self, name: &'a [u8], sort: Sort) -> Result<(), AllocError>
+        requires { is_known self.old name.now ≡ false }
+        ensures ok { OnOk result (self.new ≡ record { declared = self.old.declared ++ record { name = name.now; sort = sort } ∷ []; bound = self.old.bound }) }
+        ensures err { OnErr result (self.new ≡ self.old) }
+    {
+        self.names.add(name, sort)
+    }
+
+    /// One more defined name, which isn't known yet, with what it stands for.
+    pub fn define(&mut self, name: &'a [u8], term: Lowered) -> Result<(), AllocError>
+        requires { is_known self.old name.now ≡ false }
+        ensures ok { OnOk result (self.new ≡ record { declared = self.old.declared; bound = self.old.bound ++ record { name = name.now; stands = shown_term term } ∷ [] }) }
+        ensures err { OnErr result (self.new ≡ self.old) }
+    {
+        self.terms.reserve(1)?;
+        self.defined.insert(name)?;
+        self.terms.push_reserved(term);
+        Ok(())
+    }
+
+    /// The first declared names and the first defined ones stay.
+    pub fn cut(&mut self, names: usize, defined: usize)
+        requires names { names ≤ length self.old.declared }
+        requires defined { defined ≤ length self.old.bound }
+        ensures { self.new ≡ record { declared = take names self.old.declared; bound = take defined self.old.bound } }
+    {
+        self.names.cut(names);
+        self.defined.truncate(defined);
+        self.terms.truncate(defined);
+    }
+}

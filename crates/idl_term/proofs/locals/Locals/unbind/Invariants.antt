@@ -1,6 +1,0 @@
-use Rattle.std.proofs.Common.{◌≡◌}
-use Rattle.idl_term.specs.Walks.{without}
-use Rattle.idl_term.proofs.locals.Locals.unbind.Given as goal
-
-abbrev pub invariant-loop : goal.invariant-loop
-invariant-loop l = l.self ≡ without l.counter l.fn.self
