@@ -2,10 +2,16 @@ use std::alloc::{AllocError, AllocFailed};
 
 /// Why there is no node.
 #[derive(Clone, Copy, Debug, PartialEq, Eq)]
-pub enum NodeError {
-    OutOfMemory,
+pub enum NodeRefusal {
     /// The table has 2^20 nodes.
     TooLarge,
+}
+
+/// Why no node is made.
+#[derive(Clone, Copy, Debug, PartialEq, Eq)]
+pub enum NodeError {
+    Refused(NodeRefusal),
+    OutOfMemory,
 }
 
 impl<T: Drop> From<AllocFailed<T>> for NodeError {

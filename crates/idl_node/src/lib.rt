@@ -11,13 +11,10 @@ mod nodes;
 mod sort;
 mod truth;
 
-pub use error::NodeError;
+pub use error::{NodeError, NodeRefusal};
 pub use examples::{worked_formulas, worked_truths};
 pub use laws::{list_making_law, making_law, truth_law};
 pub use node::Node;
 pub use nodes::Nodes;
 pub use sort::Sort;
 pub use truth::{eval, point_value};
-
-#[cfg(test)]
-mod tests;

@@ -1,7 +1,8 @@
 //! The nodes of formulas over nodes that are there (SMT-LIB 2.6, theory Core). Each call takes numbers of nodes of the table
 //! and gives the number of a node, which may have been there before. There is an error where memory is wanting, or where the
-//! table is full on the way. After an error the table may be longer than before it: the caller cuts it.
-ghost use Rattle.std.specs.Prelude.{◌≡◌, ◌∷◌, [], length, take, if◌then◌else◌};
+//! table is full on the way. After an error of a public call the table is as it was. The private ones that add several nodes
+//! leave some behind.
+ghost use Rattle.std.specs.Prelude.{◌≡◌, ◌∷◌, [], length, take, OnErr, if◌then◌else◌};
 ghost use Rattle.idl_node.specs.Made.{Makes};
 ghost use Rattle.idl_node.specs.Making.{denied, conjoined, disjoined, equal, different, chosen, exclusive, implied, all_equal, all_different, constant, falsehood, not_or, or_not, and_not, not_and};
 ghost use Rattle.idl_node.specs.Nodes.{placed, conjunction, disjunction};
@@ -12,18 +13,33 @@ use crate::nodes::Nodes;
 use std::alloc::Global;
 
 impl Nodes {
-    /// `true`, or `false` as the node that denies it. It adds two nodes at most.
-    pub fn constant(&mut self, value: bool) -> Result<u32, NodeError>
-        ensures makes { Makes self.new (if value then constant self.old else falsehood self.old) result }
+    /// The node that denies `true`.
+    fn add_falsehood(&mut self) -> Result<u32, NodeError>
+        ensures makes { Makes self.new (falsehood self.old) result }
         ensures front { take (length self.old) self.new ≡ self.old }
     {
         let yes = self.place(Node::True)?;
-        if value { Ok(yes) } else { self.negate(yes) }
+        self.negate(yes)
+    }
+
+    /// `true`, or `false` as the node that denies it. It adds two nodes at most.
+    pub fn constant(&mut self, value: bool) -> Result<u32, NodeError>
+        ensures makes { Makes self.new (if value then constant self.old else falsehood self.old) result }
+        ensures err { OnErr result (self.new ≡ self.old) }
+        ensures front { take (length self.old) self.new ≡ self.old }
+    {
+        if value {
+            return self.place(Node::True);
+        }
+        let before = self.len();
+        let made = self.add_falsehood();
+        self.settle(before, made)
     }
 
     /// `not`: of an atom the atom of the negation, of a `not` its member. It adds one node at most.
     pub fn negate(&mut self, number: u32) -> Result<u32, NodeError>
         ensures makes { Makes self.new (denied self.old number) result }
+        ensures err { OnErr result (self.new ≡ self.old) }
         ensures front { take (length self.old) self.new ≡ self.old }
     {
         let Some(node) = self.as_slice().get(number as usize) else {
@@ -42,6 +58,7 @@ impl Nodes {
     /// `and`; of one node that node, of none a node that is true.
     pub fn conjoin(&mut self, members: Vec<u32>) -> Result<u32, NodeError>
         ensures makes { Makes self.new (conjoined self.old members.items) result }
+        ensures err { OnErr result (self.new ≡ self.old) }
         ensures front { take (length self.old) self.new ≡ self.old }
     {
         if members.len() != 1 {
@@ -53,6 +70,7 @@ impl Nodes {
     /// `or`; of one node that node, of none a node that is false.
     pub fn disjoin(&mut self, members: Vec<u32>) -> Result<u32, NodeError>
         ensures makes { Makes self.new (disjoined self.old members.items) result }
+        ensures err { OnErr result (self.new ≡ self.old) }
         ensures front { take (length self.old) self.new ≡ self.old }
     {
         if members.len() != 1 {
@@ -135,14 +153,8 @@ impl Nodes {
         self.either(alloc, first, second)
     }
 
-    /// `ite` of three formulas: `yes` where the condition is true, else `no`. It adds four nodes at most.
-    pub fn choose(
-        &mut self,
-        alloc: Global,
-        condition: u32,
-        yes: u32,
-        no: u32,
-    ) -> Result<u32, NodeError>
+    /// `yes` where the condition is true, else `no`.
+    fn add_choice(&mut self, alloc: Global, condition: u32, yes: u32, no: u32) -> Result<u32, NodeError>
         ensures makes { Makes self.new (chosen self.old condition yes no) result }
         ensures front { take (length self.old) self.new ≡ self.old }
     {
@@ -151,8 +163,19 @@ impl Nodes {
         self.both(alloc, then, otherwise)
     }
 
-    /// `xor` of the first and the others, from the left. It adds at most five nodes for each of the others.
-    pub fn exclude(&mut self, alloc: Global, first: u32, others: &[u32]) -> Result<u32, NodeError>
+    /// `ite` of three formulas: `yes` where the condition is true, else `no`. It adds four nodes at most.
+    pub fn choose(&mut self, alloc: Global, condition: u32, yes: u32, no: u32) -> Result<u32, NodeError>
+        ensures makes { Makes self.new (chosen self.old condition yes no) result }
+        ensures err { OnErr result (self.new ≡ self.old) }
+        ensures front { take (length self.old) self.new ≡ self.old }
+    {
+        let before = self.len();
+        let made = self.add_choice(alloc, condition, yes, no);
+        self.settle(before, made)
+    }
+
+    /// `xor`, from the left.
+    fn add_exclusion(&mut self, alloc: Global, first: u32, others: &[u32]) -> Result<u32, NodeError>
         ensures makes { Makes self.new (exclusive self.old first others.now) result }
         ensures front { take (length self.old) self.new ≡ self.old }
     {
@@ -163,8 +186,19 @@ impl Nodes {
         Ok(number)
     }
 
-    /// `=>`: an `or` in which each but the last is denied. Of no member it is false.
-    pub fn imply(&mut self, alloc: Global, members: &[u32]) -> Result<u32, NodeError>
+    /// `xor` of the first and the others, from the left. It adds at most five nodes for each of the others.
+    pub fn exclude(&mut self, alloc: Global, first: u32, others: &[u32]) -> Result<u32, NodeError>
+        ensures makes { Makes self.new (exclusive self.old first others.now) result }
+        ensures err { OnErr result (self.new ≡ self.old) }
+        ensures front { take (length self.old) self.new ≡ self.old }
+    {
+        let before = self.len();
+        let made = self.add_exclusion(alloc, first, others);
+        self.settle(before, made)
+    }
+
+    /// An `or` in which each but the last is denied.
+    fn add_implication(&mut self, alloc: Global, members: &[u32]) -> Result<u32, NodeError>
         ensures makes { Makes self.new (implied self.old [] members.now) result }
         ensures front { take (length self.old) self.new ≡ self.old }
     {
@@ -179,8 +213,19 @@ impl Nodes {
         self.disjoin(alternatives)
     }
 
-    /// `=` of formulas: each equals its neighbour. It adds at most five nodes for each two neighbours, and one.
-    pub fn equate(&mut self, alloc: Global, members: &[u32]) -> Result<u32, NodeError>
+    /// `=>`: an `or` in which each but the last is denied. Of no member it is false.
+    pub fn imply(&mut self, alloc: Global, members: &[u32]) -> Result<u32, NodeError>
+        ensures makes { Makes self.new (implied self.old [] members.now) result }
+        ensures err { OnErr result (self.new ≡ self.old) }
+        ensures front { take (length self.old) self.new ≡ self.old }
+    {
+        let before = self.len();
+        let made = self.add_implication(alloc, members);
+        self.settle(before, made)
+    }
+
+    /// Each equals its neighbour.
+    fn add_equality(&mut self, alloc: Global, members: &[u32]) -> Result<u32, NodeError>
         ensures makes { Makes self.new (all_equal self.old members.now) result }
         ensures front { take (length self.old) self.new ≡ self.old }
     {
@@ -191,8 +236,19 @@ impl Nodes {
         self.conjoin(parts)
     }
 
-    /// `distinct` of formulas: all pairs differ. It adds at most five nodes for each pair, and one.
-    pub fn tell_apart(&mut self, alloc: Global, members: &[u32]) -> Result<u32, NodeError>
+    /// `=` of formulas: each equals its neighbour. It adds at most five nodes for each two neighbours, and one.
+    pub fn equate(&mut self, alloc: Global, members: &[u32]) -> Result<u32, NodeError>
+        ensures makes { Makes self.new (all_equal self.old members.now) result }
+        ensures err { OnErr result (self.new ≡ self.old) }
+        ensures front { take (length self.old) self.new ≡ self.old }
+    {
+        let before = self.len();
+        let made = self.add_equality(alloc, members);
+        self.settle(before, made)
+    }
+
+    /// All pairs differ.
+    fn add_difference(&mut self, alloc: Global, members: &[u32]) -> Result<u32, NodeError>
         ensures makes { Makes self.new (all_different self.old members.now) result }
         ensures front { take (length self.old) self.new ≡ self.old }
     {
@@ -203,5 +259,16 @@ impl Nodes {
             }
         }
         self.conjoin(parts)
+    }
+
+    /// `distinct` of formulas: all pairs differ. It adds at most five nodes for each pair, and one.
+    pub fn tell_apart(&mut self, alloc: Global, members: &[u32]) -> Result<u32, NodeError>
+        ensures makes { Makes self.new (all_different self.old members.now) result }
+        ensures err { OnErr result (self.new ≡ self.old) }
+        ensures front { take (length self.old) self.new ≡ self.old }
+    {
+        let before = self.len();
+        let made = self.add_difference(alloc, members);
+        self.settle(before, made)
     }
 }

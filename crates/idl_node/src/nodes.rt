@@ -1,10 +1,10 @@
 //! The node table.
-ghost use Rattle.std.specs.Prelude.{◌≡◌, ◌≤◌, [], ◌<◌, length, take, IfOk, OnErr, Err, Some, None, Option};
+ghost use Rattle.std.specs.Prelude.{◌≡◌, ◌≤◌, [], ◌<◌, length, take, OnOk, OnErr};
 ghost use Rattle.idl_node.specs.Limits.{nodes_limit};
 ghost use Rattle.idl_node.specs.Made.{Makes};
-ghost use Rattle.idl_node.specs.Nodes.{node_value, number_in, placed, shown};
+ghost use Rattle.idl_node.specs.Nodes.{node_value, placed, shown};
 
-use crate::error::NodeError;
+use crate::error::{NodeError, NodeRefusal};
 use crate::node::Node;
 use indexmap::IndexSet;
 use std::alloc::Global;
@@ -55,31 +55,17 @@ impl Nodes {
         self.set.as_slice()
     }
 
-    /// The number of the node that equals this one.
-    fn number(&self, node: &Node) -> Option<u32>
-        ensures { result ≡ number_in self.now (node_value node.now) }
-    {
-        match self.set.get_index_of(node) {
-            Some(place) => Some(place as u32),
-            None => None,
-        }
-    }
-
-    /// The number of the node that equals this one, which may be new.
+    /// The number of the node that equals this one, which may be new. It takes one look-up.
     pub fn place(&mut self, node: Node) -> Result<u32, NodeError>
         ensures makes { Makes self.new (placed self.old (node_value node)) result }
         ensures err { OnErr result (self.new ≡ self.old) }
         ensures front { take (length self.old) self.new ≡ self.old }
     {
-        match self.number(&node) {
-            Some(number) => return Ok(number),
-            None => {}
-        }
-        let number = self.set.len();
+        let (number, _added) = self.set.insert_full(node)?;
         if number >= NODES_LIMIT {
-            return Err(NodeError::TooLarge);
+            self.set.truncate(NODES_LIMIT);
+            return Err(NodeError::Refused(NodeRefusal::TooLarge));
         }
-        self.set.insert(node)?;
         Ok(number as u32)
     }
 
@@ -89,5 +75,24 @@ impl Nodes {
         ensures { self.new ≡ take count self.old }
     {
         self.set.truncate(count);
+    }
+
+    /// What was made stays; after an error the table is cut to so many nodes.
+    pub(crate) fn settle(
+        &mut self,
+        count: usize,
+        made: Result<u32, NodeError>,
+    ) -> Result<u32, NodeError>
+        ensures same { result ≡ made }
+        ensures ok { OnOk made (self.new ≡ self.old) }
+        ensures err { OnErr made (self.new ≡ take count self.old) }
+    {
+        match made {
+            Ok(number) => Ok(number),
+            Err(error) => {
+                self.set.truncate(count);
+                Err(error)
+            }
+        }
     }
 }

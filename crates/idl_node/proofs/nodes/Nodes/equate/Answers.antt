@@ -1,17 +1,24 @@
-use Rattle.std.proofs.Common.{refl, arith, sym, ap, subst, ◌∙◌, ◌≡◌, ◌≤◌, ◌-◌, ℕ, List, [], ◌∷◌, length, drop, length-drop, Option}
+use Rattle.std.proofs.Common.{subst, sym, ◌≡◌, ℕ}
+use Rattle.std.specs.Prelude.{Result, OnErr}
+use Rattle.idl_node.specs.declared.error.NodeError.{NodeError}
 use Rattle.idl_node.specs.Made.{Makes}
-use Rattle.idl_node.specs.Making.{equal, neighbours, each_pair}
-use Rattle.idl_node.specs.Nodes.{Placed}
+use Rattle.idl_node.specs.Making.{all_equal}
+use Rattle.idl_node.proofs.Steps.{settled_makes, settled_front, settled_err}
 use Rattle.idl_node.proofs.nodes.Nodes.equate.Goals as goal
-
--- one member has no neighbour
-neighbours_none : (members : List ℕ) → length members ≤ 1 → neighbours members ≡ []
-neighbours_none [] h = refl
-neighbours_none (a ∷ []) h = refl
-neighbours_none (a ∷ b ∷ rest) h = absurd (omega arith)
 
 pub returns-clause-makes : goal.returns-clause-makes
 returns-clause-makes c =
-    let few : length (drop (c.loop-i.i - 1) c.args.members.now) ≤ 1 = omega (arith, length-drop (c.loop-i.i - 1) c.args.members.now) in
-    subst (λ (o : Option Placed). Makes c.conjoin.new.self o c.conjoin.result)
-    (sym (c.loop-i.invariant.rest ∙ ap (each_pair equal c.loop-i.self c.loop-i.parts.items) (neighbours_none _ few))) c.conjoin.ensures.makes
+    subst (λ (r : Result ℕ NodeError). Makes c.settle.new.self (all_equal c.args.self.now c.args.members.now) r) (sym c.settle.ensures.same)
+    (settled_makes c.args.self.now c.add_equality-made.new.self c.settle.new.self c.len-before.result c.len-before.ensures.count
+    c.add_equality-made.ensures.front (all_equal c.args.self.now c.args.members.now) c.add_equality-made.result c.settle.ensures.ok c.add_equality-made.ensures.makes)
+
+pub returns-clause-err : goal.returns-clause-err
+returns-clause-err c =
+    subst (λ (r : Result ℕ NodeError). OnErr r (c.settle.new.self ≡ c.args.self.now)) (sym c.settle.ensures.same)
+    (settled_err c.args.self.now c.add_equality-made.new.self c.settle.new.self c.len-before.result c.len-before.ensures.count
+    c.add_equality-made.ensures.front c.add_equality-made.result c.settle.ensures.err)
+
+pub returns-clause-front : goal.returns-clause-front
+returns-clause-front c =
+    settled_front c.args.self.now c.add_equality-made.new.self c.settle.new.self c.len-before.result c.len-before.ensures.count
+    c.add_equality-made.ensures.front c.add_equality-made.result c.settle.ensures.ok c.settle.ensures.err

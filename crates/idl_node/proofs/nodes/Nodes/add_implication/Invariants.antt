@@ -1,6 +1,6 @@
 use Rattle.std.proofs.Common.{◌≡◌, ◌∷◌, [], ◌++◌, length, take, drop}
 use Rattle.idl_node.specs.Making.{implied}
-use Rattle.idl_node.proofs.nodes.Nodes.imply.Given as goal
+use Rattle.idl_node.proofs.nodes.Nodes.add_implication.Given as goal
 
 abbrev pub invariant-loop-premise : goal.invariant-loop-premise
 invariant-loop-premise l = record {

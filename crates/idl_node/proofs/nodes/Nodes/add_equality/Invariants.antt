@@ -1,6 +1,6 @@
 use Rattle.std.proofs.Common.{◌≡◌, ◌-◌, length, take, drop}
 use Rattle.idl_node.specs.Making.{all_equal, each_pair, equal, neighbours}
-use Rattle.idl_node.proofs.nodes.Nodes.equate.Given as goal
+use Rattle.idl_node.proofs.nodes.Nodes.add_equality.Given as goal
 
 abbrev pub invariant-loop-i : goal.invariant-loop-i
 invariant-loop-i l = record {

@@ -1,6 +1,6 @@
 use Rattle.std.proofs.Common.{◌≡◌, length, take, drop}
 use Rattle.idl_node.specs.Making.{exclusive}
-use Rattle.idl_node.proofs.nodes.Nodes.exclude.Given as goal
+use Rattle.idl_node.proofs.nodes.Nodes.add_exclusion.Given as goal
 
 abbrev pub invariant-loop-other : goal.invariant-loop-other
 invariant-loop-other l = record {

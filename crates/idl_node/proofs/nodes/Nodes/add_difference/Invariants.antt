@@ -1,6 +1,6 @@
 use Rattle.std.proofs.Common.{◌≡◌, ◌++◌, ◌+◌, length, take, drop, map}
 use Rattle.idl_node.specs.Making.{all_different, each_pair, different, pairs}
-use Rattle.idl_node.proofs.nodes.Nodes.tell_apart.Given as goal
+use Rattle.idl_node.proofs.nodes.Nodes.add_difference.Given as goal
 
 abbrev pub invariant-loop-second : goal.invariant-loop-second
 invariant-loop-second l = record {
