@@ -8,14 +8,14 @@ ghost use Rattle.clause_form.specs.Polarity.{Polarity, is_among, spread, body_at
 use idl_node::Node;
 use std::alloc::{AllocError, Global};
 
-// The asserted and the denied nodes.
+/// The asserted and the denied nodes.
 #[derive(Drop)]
 pub struct PolarityMarks {
     pub asserted: Vec<bool>,
     pub denied: Vec<bool>,
 }
 
-// All of them.
+/// All of them.
 #[derive(Drop)]
 pub struct NodeMarks {
     pub polarity: PolarityMarks,
@@ -41,7 +41,7 @@ fn mark_all(marks: &mut [bool], numbers: &[u32])
     }
 }
 
-// What one node adds: an asserted `and` asserts its members, a denied `or` denies them, and a `not` turns its member.
+/// What one node adds: an asserted `and` asserts its members, a denied `or` denies them, and a `not` turns its member.
 fn spread(asserted: &mut [bool], denied: &mut [bool], node: &Node, number: usize)
     requires in_asserted { number < length asserted.old }
     requires same { length denied.old ≡ length asserted.old }
@@ -72,7 +72,7 @@ fn spread(asserted: &mut [bool], denied: &mut [bool], node: &Node, number: usize
     }
 }
 
-// Marks for so many nodes, none of them set.
+/// Marks for so many nodes, none of them set.
 fn no_marks(alloc: Global, count: usize) -> Result<Vec<bool>, AllocError>
     ensures { IfOk result (λ marks. AreMarks count marks.items []) }
 {
@@ -80,7 +80,7 @@ fn no_marks(alloc: Global, count: usize) -> Result<Vec<bool>, AllocError>
     Ok(marks)
 }
 
-// The member of a `not`, else the node itself.
+/// The member of a `not`, else the node itself.
 fn body_of(nodes: &[Node], number: u32) -> u32
     ensures { result ≡ body_at (shown nodes.now) number }
 {
@@ -108,7 +108,7 @@ fn mark_compounds(marks: &mut [bool], nodes: &[Node], members: &[u32])
     }
 }
 
-// The members of whose literals clauses are made.
+/// The members of whose literals clauses are made.
 fn needed_members(node: &Node, asserted: bool, denied: bool, inner: bool) -> &[u32]
     ensures { (nodes : List NodeValue) → inner_of asserted denied inner nodes (node_value node.now) ≡ compounds nodes result.now }
 {
@@ -119,7 +119,7 @@ fn needed_members(node: &Node, asserted: bool, denied: bool, inner: bool) -> &[u
     }
 }
 
-// One pass, from the last node down: a node's members have smaller numbers, so that what a node is stands when it is reached.
+/// One pass, from the last node down: a node's members have smaller numbers, so that what a node is stands when it is reached.
 fn mark_nodes(
     asserted: &mut [bool],
     denied: &mut [bool],
@@ -144,7 +144,7 @@ fn mark_nodes(
     }
 }
 
-// The asserted, the denied and the inner nodes, where these are the roots.
+/// The asserted, the denied and the inner nodes, where these are the roots.
 pub fn node_marks(alloc: Global, nodes: &[Node], roots: &[u32]) -> Result<NodeMarks, AllocError>
     requires table { (points : ℕ) × IsTableOver points (shown nodes.now) }
     ensures { IfOk result (λ marks. AreNodeMarks (length nodes.now) marks.polarity.asserted.items marks.polarity.denied.items marks.inner.items (shown nodes.now) roots.now) }

@@ -5,16 +5,16 @@ ghost use Rattle.clause_form.specs.ClauseForm.{fresh_point};
 
 use std::alloc::{AllocError, Global};
 
-// The points of a problem.
+/// The points of a problem.
 #[derive(Drop)]
 pub struct Numbering {
-    // for each node the point that is next: an inner node's fresh point
+    /// For each node the point that is next: an inner node's fresh point.
     pub fresh: Vec<u32>,
-    // how many there are, the fresh ones among them
+    /// How many there are, the fresh ones among them.
     pub points: u32,
 }
 
-// Fresh points follow so many points, by ascending node numbers.
+/// Fresh points follow so many points, by ascending node numbers.
 pub fn number_points(alloc: Global, points: u32, inner: &[bool]) -> Result<Numbering, AllocError>
     requires few { points + length inner.now ≤ 2 ^ 21 }
     ensures points { IfOk result (λ numbering. (numbers : List ℕ) → AreMarks (length inner.now) inner.now numbers → numbering.points ≡ fresh_point points numbers (length inner.now)) }

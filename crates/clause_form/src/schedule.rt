@@ -7,7 +7,7 @@ use idl_node::Sort;
 use std::alloc::{AllocError, Global};
 use stn_core::{NamedValue, NamedValues};
 
-// The value of a name by its time point's and the zero point's.
+/// The value of a name by its time point's and the zero point's.
 fn named_value(sort: Sort, value: i64, zero_value: i64) -> NamedValue
     requires value { IsInRange value }
     requires zero_value { IsInRange zero_value }

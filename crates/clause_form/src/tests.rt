@@ -35,7 +35,7 @@ fn place(nodes: &mut Nodes, node: Node) -> Result<(), AllocError>
     }
 }
 
-// (not (or p q)), (or (not (or p q)) (and p q)), (and p q)
+/// (not (or p q)), (or (not (or p q)) (and p q)), (and p q).
 fn mixed_table(alloc: Global) -> Result<Nodes, AllocError>
     ensures { IfOk result (λ nodes. nodes ≡ mixed_nodes) }
 {

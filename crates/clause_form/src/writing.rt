@@ -11,7 +11,7 @@ use idl_node::Node;
 use std::alloc::{AllocError, Global};
 use stn_core::{Clause, Literal, negate};
 
-// The nodes, and for each the fresh point that it has where it's inner.
+/// The nodes, and for each the fresh point that it has where it's inner.
 #[derive(Clone, Copy)]
 pub struct Form<'a> {
     pub nodes: &'a [Node],
@@ -19,7 +19,7 @@ pub struct Form<'a> {
     pub ghost same: { length fresh.now ≡ length nodes.now },
 }
 
-// Whether a node is asserted, denied and inner.
+/// Whether a node is asserted, denied and inner.
 #[derive(Clone, Copy)]
 pub struct Marks {
     pub asserted: bool,
@@ -27,7 +27,7 @@ pub struct Marks {
     pub inner: bool,
 }
 
-// That an inner node is true, by its fresh point, or that it's false.
+/// That an inner node is true, by its fresh point, or that it's false.
 fn stands(point: u32) -> Literal
     ensures { result ≡ stands point }
 {
@@ -54,7 +54,7 @@ fn unit_clause(alloc: Global, literal: Literal) -> Result<Clause, AllocError>
     Ok(Clause::new(vec![in alloc; literal]?))
 }
 
-// The member of a `not`.
+/// The member of a `not`.
 fn denied_member(nodes: &[Node], number: u32) -> Option<u32>
     ensures { result ≡ denied_member (node_at (shown nodes.now) number) }
 {
@@ -65,7 +65,7 @@ fn denied_member(nodes: &[Node], number: u32) -> Option<u32>
 }
 
 impl<'a> Form<'a> {
-    // The literal of a node that is no `not`.
+    /// The literal of a node that is no `not`.
     fn body_literal(&self, number: u32) -> Literal
         ensures { (points : ℕ) (inner : List ℕ) → IsNumbering points inner (length self.now.nodes.now) self.now.fresh.now → result ≡ body_literal points inner number (node_at (shown self.now.nodes.now) number) }
     {
@@ -86,7 +86,7 @@ impl<'a> Form<'a> {
         }
     }
 
-    // The literal, or its negation.
+    /// The literal, or its negation.
     fn signed_literal(&self, number: u32, denied: bool) -> Literal
         ensures { (points : ℕ) (inner : List ℕ) → IsNumbering points inner (length self.now.nodes.now) self.now.fresh.now → result ≡ signed_literal denied points (shown self.now.nodes.now) inner number }
     {
@@ -108,7 +108,7 @@ impl<'a> Form<'a> {
         Ok(())
     }
 
-    // One clause: the members' literals, or their negations.
+    /// One clause: the members' literals, or their negations.
     fn members_clause(
         &self,
         alloc: Global,
@@ -122,7 +122,7 @@ impl<'a> Form<'a> {
         Ok(Clause::new(literals))
     }
 
-    // One clause: this literal, and behind it the members'.
+    /// One clause: this literal, and behind it the members'.
     fn longer_clause(
         &self,
         alloc: Global,
@@ -150,7 +150,7 @@ impl<'a> Form<'a> {
         Ok(Clause::new(vec![in alloc; first, second]?))
     }
 
-    // A clause for each member: this literal, and the member's.
+    /// A clause for each member: this literal, and the member's.
     fn append_pairs(
         &self,
         alloc: Global,
@@ -201,7 +201,7 @@ impl<'a> Form<'a> {
         Ok(())
     }
 
-    // An inner node is true exactly where its members say so.
+    /// An inner node is true exactly where its members say so.
     fn append_inner(
         &self,
         alloc: Global,
@@ -225,7 +225,7 @@ impl<'a> Form<'a> {
         Ok(())
     }
 
-    // The clauses of a node: where it's asserted, where it's denied, where it's inner.
+    /// The clauses of a node: where it's asserted, where it's denied, where it's inner.
     fn append_node(
         &self,
         alloc: Global,
@@ -249,7 +249,7 @@ impl<'a> Form<'a> {
         Ok(())
     }
 
-    // The clauses of all nodes, by ascending number.
+    /// The clauses of all nodes, by ascending number.
     pub fn clauses(
         &self,
         alloc: Global,

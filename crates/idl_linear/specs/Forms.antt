@@ -1,9 +1,9 @@
 -- What holds of every linear term that the code makes.
-use Rattle.std.specs.Prelude.{◌≡◌, ◌≢◌, ℕ, ◌<◌, ◌*◌, List, [], ◌∷◌, true, ℤ, pos, neg_ℤ, ◌≤ℤ◌}
+use Rattle.std.specs.Prelude.{◌≡◌, ◌≢◌, ℕ, ◌<◌, ◌+◌, ◌*◌, List, [], ◌∷◌, ◌++◌, map, true, ℤ, pos, neg_ℤ, ◌+ℤ◌, ◌≤ℤ◌}
 use Rattle.std.specs.List.{AllByRecursion}
 use Rattle.idl_linear.specs.declared.summand.Summand.{Summand}
 use Rattle.idl_linear.specs.Limits.{coefficient_limit, constant_limit, points_limit}
-use Rattle.idl_linear.specs.Linear.{LinearValue, is_limited, is_within}
+use Rattle.idl_linear.specs.Linear.{LinearValue, collected, negative_summand, is_limited, is_within}
 
 -- time points ascend above this one, and coefficients aren't 0
 abbrev pub AscendAbove : ℕ → List Summand → Type 0
@@ -33,3 +33,22 @@ pub record IsSum (s : SumValue) : Type 0 where
   pub each : AllByRecursion IsSummand s.summands
   pub low : neg_ℤ (pos (constant_limit * s.terms)) ≤ℤ s.constant
   pub high : s.constant ≤ℤ pos (constant_limit * s.terms)
+
+-- one more term in a sum, and the negative of one more
+abbrev pub with_term : SumValue → LinearValue → SumValue
+with_term s l = record {
+  summands = s.summands ++ l.summands;
+  constant = s.constant +ℤ l.constant;
+  terms = s.terms + 1;
+}
+
+abbrev pub with_negative : SumValue → LinearValue → SumValue
+with_negative s l = record {
+  summands = s.summands ++ map negative_summand l.summands;
+  constant = s.constant +ℤ neg_ℤ l.constant;
+  terms = s.terms + 1;
+}
+
+-- the term that a sum is, where it is within the limits
+abbrev pub term_of : SumValue → LinearValue
+term_of s = record { summands = collected s.summands; constant = s.constant }

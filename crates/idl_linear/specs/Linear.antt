@@ -54,9 +54,12 @@ less_others (l ∷ m ∷ ms) = sum_of (l ∷ map negative_of (m ∷ ms))
 abbrev pub is_within : ℕ → ℤ → Bool
 is_within limit n = int_le (neg_ℤ (pos limit)) n && int_le n (pos limit)
 
+abbrev pub are_limited : List Summand → Bool
+are_limited summands = list_all (λ (s : Summand). is_within coefficient_limit s.coefficient) summands
+
 -- the coefficients and the constant of an Int term are within their limits
 abbrev pub is_limited : LinearValue → Bool
-is_limited l = list_all (λ (s : Summand). is_within coefficient_limit s.coefficient) l.summands && is_within constant_limit l.constant
+is_limited l = are_limited l.summands && is_within constant_limit l.constant
 
 -- a whole number, and a name's time point
 abbrev pub number_alone : ℤ → LinearValue

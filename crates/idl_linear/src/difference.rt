@@ -48,7 +48,7 @@ pub fn compare(a: &Linear, b: &Linear) -> Result<Difference, DifferenceRefusal>
     }
 }
 
-// The time points that were met with coefficient 1 and with -1; the zero point where there is none.
+/// The time points that were met with coefficient 1 and with -1; the zero point where there is none.
 #[derive(Clone, Copy)]
 struct Ends {
     x: u32,

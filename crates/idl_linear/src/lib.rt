@@ -11,11 +11,9 @@ mod merge;
 mod runs;
 mod sum;
 mod summand;
-#[cfg(test)]
-mod tests;
 
 pub use difference::{Difference, compare};
-pub use error::{DifferenceRefusal, LinearError};
+pub use error::{DifferenceRefusal, LinearRefusal};
 pub use examples::{worked_comparisons, worked_linear_terms};
 pub use laws::{comparison_law, linear_law};
 pub use linear::Linear;

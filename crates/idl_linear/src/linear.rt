@@ -11,7 +11,7 @@ use std::marker::Model;
 /// A linear term: time points with coefficients, and a constant. Coefficients are within 2^20 and the constant within 2^62.
 #[derive(Drop)]
 pub struct Linear {
-    // by ascending time points, none with the coefficient 0
+    /// By ascending time points, none with the coefficient 0.
     summands: Vec<Summand>,
     constant: i64,
 }

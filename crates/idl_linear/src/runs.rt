@@ -1,18 +1,15 @@
 //! Runs of equal time points in sorted summands.
-ghost use Rattle.std.specs.Prelude.{◌≡◌, ◌<◌, ◌≤◌, length, drop, true, false, OnOk, OnErr, IfErr};
-ghost use Rattle.std.specs.List.{AllByRecursion, list_all};
-ghost use Rattle.idl_linear.specs.declared.error.LinearError.TheVariants.{BoundTooLarge};
-ghost use Rattle.idl_linear.specs.declared.summand.Summand.{Summand};
-ghost use Rattle.idl_linear.specs.Limits.{coefficient_limit};
-ghost use Rattle.idl_linear.specs.Linear.{collected, put_before, is_within};
+ghost use Rattle.std.specs.Prelude.{◌≡◌, ◌<◌, ◌≤◌, length, drop, true, false, OnOk, OnErr};
+ghost use Rattle.std.specs.List.{AllByRecursion};
+ghost use Rattle.idl_linear.specs.Linear.{collected, put_before, are_limited};
 ghost use Rattle.idl_linear.specs.Forms.{IsSummand};
 ghost use Rattle.idl_linear.specs.Steps.{RiseFrom};
 
-use crate::error::LinearError;
+use crate::error::LinearRefusal;
 use crate::limits::{COEFFICIENT_LIMIT, within};
 use crate::summand::Summand;
 
-// The first so many summands, which have one time point, and the sum of their coefficients.
+/// The first so many summands, which have one time point, and the sum of their coefficients.
 #[derive(Clone, Copy)]
 struct Run {
     len: usize,
@@ -40,13 +37,12 @@ fn first_run(summands: &[Summand]) -> Run
 
 /// Collects summands that are sorted by time points, in place. Where a coefficient is beyond its limit, what is left of
 /// them says nothing.
-pub(crate) fn combine(summands: &mut Vec<Summand>) -> Result<(), LinearError>
+pub(crate) fn combine(summands: &mut Vec<Summand>) -> Result<(), LinearRefusal>
     requires each { AllByRecursion IsSummand summands.old.items }
     requires rises { RiseFrom 1 summands.old.items }
     ensures collected { OnOk result (summands.new.items ≡ collected summands.old.items) }
-    ensures limited { OnOk result (list_all (λ (s : Summand). is_within coefficient_limit s.coefficient) (collected summands.old.items) ≡ true) }
-    ensures refused { OnErr result (list_all (λ (s : Summand). is_within coefficient_limit s.coefficient) (collected summands.old.items) ≡ false) }
-    ensures error { IfErr result (λ e. e ≡ BoundTooLarge) }
+    ensures limited { OnOk result (are_limited (collected summands.old.items) ≡ true) }
+    ensures refused { OnErr result (are_limited (collected summands.old.items) ≡ false) }
 {
     let mut kept = 0;
     let mut start = 0;
@@ -54,7 +50,7 @@ pub(crate) fn combine(summands: &mut Vec<Summand>) -> Result<(), LinearError>
         let run = first_run(&summands[start..]);
         let coefficient = match within(COEFFICIENT_LIMIT, run.sum) {
             Some(coefficient) => coefficient,
-            None => return Err(LinearError::BoundTooLarge),
+            None => return Err(LinearRefusal::BoundTooLarge),
         };
         if coefficient != 0 {
             summands[kept] = Summand {

@@ -1,10 +1,10 @@
 //! Sums of linear terms.
-ghost use Rattle.std.specs.Prelude.{◌≡◌, ◌+◌, ◌<◌, ◌^◌, ◌++◌, map, [], true, false, pos, ◌+ℤ◌, neg_ℤ, length, take, OnOk, OnErr, IfOk, IfErr, Err};
+ghost use Rattle.std.specs.Prelude.{◌≡◌, ◌+◌, ◌<◌, ◌^◌, ◌++◌, map, [], true, false, pos, length, take, OnOk, OnErr, IfOk};
 ghost use Rattle.std.specs.List.{AllByRecursion};
-ghost use Rattle.idl_linear.specs.Linear.{collected, negative_summand, is_limited};
-ghost use Rattle.idl_linear.specs.Forms.{SumValue, IsSummand};
+ghost use Rattle.idl_linear.specs.Linear.{negative_summand, is_limited};
+ghost use Rattle.idl_linear.specs.Forms.{IsSummand, with_term, with_negative, term_of};
 
-use crate::error::LinearError;
+use crate::error::LinearRefusal;
 use crate::limits::{CONSTANT_LIMIT, within};
 use crate::linear::Linear;
 use crate::runs::combine;
@@ -15,10 +15,10 @@ use std::marker::Model;
 /// A sum of linear terms that is being made. The limits hold of the whole sum alone, and not of its parts.
 #[derive(Drop)]
 pub struct LinearSum {
-    // in any order
+    /// In any order.
     summands: Vec<Summand>,
     constant: i128,
-    // how many terms there are
+    /// How many terms there are.
     terms: u64,
 }
 
@@ -47,7 +47,7 @@ impl LinearSum {
     /// One more term. Without memory the sum stays as it was.
     pub fn add(&mut self, term: &Linear) -> Result<(), AllocError>
         requires { self.old.terms + 1 < 2 ^ 64 }
-        ensures ok { OnOk result (self.new ≡ record { summands = self.old.summands ++ term.now.summands; constant = self.old.constant +ℤ term.now.constant; terms = self.old.terms + 1 }) }
+        ensures ok { OnOk result (self.new ≡ with_term self.old term.now) }
         ensures err { OnErr result (self.new ≡ self.old) }
     {
         self.summands.extend_from_slice(term.summands())?;
@@ -59,7 +59,7 @@ impl LinearSum {
     /// The negative of one more term. Without memory the sum stays as it was.
     pub fn subtract(&mut self, term: &Linear) -> Result<(), AllocError>
         requires { self.old.terms + 1 < 2 ^ 64 }
-        ensures ok { OnOk result (self.new ≡ record { summands = self.old.summands ++ map negative_summand term.now.summands; constant = self.old.constant +ℤ neg_ℤ term.now.constant; terms = self.old.terms + 1 }) }
+        ensures ok { OnOk result (self.new ≡ with_negative self.old term.now) }
         ensures err { OnErr result (self.new ≡ self.old) }
     {
         extend_by_negatives(&mut self.summands, term.summands())?;
@@ -69,23 +69,22 @@ impl LinearSum {
     }
 
     /// The sum as a linear term. It takes no memory, and a time of n log n for n summands.
-    pub fn finish(self) -> Result<Linear, LinearError>
-        ensures ok { IfOk result (λ l. l ≡ record { summands = collected self.summands; constant = self.constant }) }
-        ensures limited { IfOk result (λ l. is_limited l ≡ true) }
-        ensures refused { result ≡ Err LinearError.BoundTooLarge → is_limited (record { summands = collected self.summands; constant = self.constant }) ≡ false }
-        ensures error { IfErr result (λ e. e ≡ LinearError.BoundTooLarge) }
+    pub fn finish(self) -> Result<Linear, LinearRefusal>
+        ensures ok { IfOk result (λ l. l ≡ term_of self) }
+        ensures limited { OnOk result (is_limited (term_of self) ≡ true) }
+        ensures refused { OnErr result (is_limited (term_of self) ≡ false) }
     {
         let mut summands = self.summands;
         summands.sort_unstable_by_key(|summand| summand.point);
         combine(&mut summands)?;
         match within(CONSTANT_LIMIT, self.constant) {
             Some(constant) => Ok(Linear::from_parts(summands, constant)),
-            None => Err(LinearError::BoundTooLarge),
+            None => Err(LinearRefusal::BoundTooLarge),
         }
     }
 }
 
-// Without memory the list stays as it was.
+/// Without memory the list stays as it was.
 fn extend_by_negatives(list: &mut Vec<Summand>, summands: &[Summand]) -> Result<(), AllocError>
     requires { AllByRecursion IsSummand summands.now }
     ensures ok { OnOk result (list.new.items ≡ list.old.items ++ map negative_summand summands.now) }

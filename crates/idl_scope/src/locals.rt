@@ -15,7 +15,7 @@ use std::marker::Model;
 struct Variable<'a> {
     name: &'a [u8],
     term: Lowered,
-    // the place of the variable of the same name that this one hides
+    /// The place of the variable of the same name that this one hides.
     hidden: Option<usize>,
 }
 
@@ -23,9 +23,9 @@ struct Variable<'a> {
 #[derive(Drop)]
 pub struct Locals<'s, 'a> {
     scope: &'s Scope<'a>,
-    // the innermost last
+    /// The innermost last.
     variables: Vec<Variable<'a>>,
-    // of each name the place of its innermost variable
+    /// Of each name the place of its innermost variable.
     latest: IndexMap<&'a [u8], usize>,
 }
 

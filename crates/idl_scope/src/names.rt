@@ -12,7 +12,7 @@ use std::marker::Model;
 #[derive(Drop)]
 pub struct Names<'a> {
     set: IndexSet<&'a [u8]>,
-    // of each name, in the same order
+    /// Of each name, in the same order.
     sorts: Vec<Sort>,
 }
 

@@ -28,7 +28,7 @@ pub enum FoundName<'s> {
 pub struct Scope<'a> {
     names: Names<'a>,
     defined: IndexSet<&'a [u8]>,
-    // of each defined name, in the same order
+    /// Of each defined name, in the same order.
     terms: Vec<Lowered>,
 }
 

@@ -58,7 +58,7 @@ pub(crate) struct Machine<'s, 'a> {
     alloc: Global,
     sexprs: &'s Sexprs<'a>,
     locals: Locals<'s, 'a>,
-    // the innermost last
+    /// The innermost last.
     frames: Vec<Frame<'s>>,
     values: Vec<Lowered>,
 }
