@@ -12,4 +12,3 @@ pub mod Means
 pub mod Passes
 pub mod Pieces
 pub mod Problems
-pub mod Small

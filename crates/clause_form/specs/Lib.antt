@@ -5,6 +5,7 @@ pub mod Restricting
 pub mod Marking
 pub mod Marked
 pub mod Examples
+pub mod Laws
 pub use Rattle.stn_core.specs.Literal
 pub use Rattle.stn_core.specs.Problem
 pub use Rattle.idl_node.specs.Nodes

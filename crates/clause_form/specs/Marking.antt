@@ -1,6 +1,6 @@
 -- Of the code and not of the meaning: lists of marks and of points, one for each node. Contracts of private functions alone
 -- cite it.
-use Rattle.std.specs.Prelude.{◌≡◌, ℕ, ◌<◌, List, [], ◌∷◌, length, Bool, false, if◌then◌else◌, slice_index, slice_index_or, Option, Some, None}
+use Rattle.std.specs.Prelude.{◌≡◌, ℕ, ◌<◌, List, [], ◌∷◌, length, Bool, false, ◌||◌, if◌then◌else◌, slice_index, slice_index_or, Option, Some, None}
 use Rattle.stn_core.specs.declared.literal.Literal.{Literal}
 use Rattle.idl_node.specs.Nodes.{NodeValue, denial}
 use Rattle.clause_form.specs.Polarity.{is_among, Polarity, polarity_of, inner_nodes}
@@ -10,6 +10,11 @@ use Rattle.clause_form.specs.ClauseForm.{fresh_point, literal_of, denied_literal
 pub record AreMarks (count : ℕ) (marks : List Bool) (numbers : List ℕ) : Type 0 where
   pub count_is : length marks ≡ count
   pub each : (k : ℕ) → k < count → slice_index_or marks k false ≡ is_among k numbers
+
+-- the marks that were there, and those of the numbers that pass the test
+abbrev pub MarksMore : List Bool → List Bool → (ℕ → Bool) → Type 0
+MarksMore old new test =
+    (k : ℕ) → k < length old → slice_index_or new k false ≡ (test k || slice_index_or old k false)
 
 pub record ArePolarityMarks (count : ℕ) (asserted denied : List Bool) (p : Polarity) : Type 0 where
   pub asserted_are : AreMarks count asserted p.asserted

@@ -7,8 +7,6 @@ mod laws;
 mod marks;
 mod numbering;
 mod schedule;
-#[cfg(test)]
-mod tests;
 mod writing;
 
 pub use clauses::problem_of;

@@ -1,8 +1,8 @@
 //! Which nodes are asserted, denied and inner: marks, one for each node. Roots and members beyond the table have none.
-ghost use Rattle.std.specs.Prelude.{◌≡◌, ◌<◌, ◌≤◌, ◌||◌, ◌++◌, ℕ, List, [], length, IfOk, slice_index_or, false, nat_eq};
+ghost use Rattle.std.specs.Prelude.{◌≡◌, ◌<◌, ℕ, List, [], length, IfOk, nat_eq};
 ghost use Rattle.idl_node.specs.Nodes.{NodeValue, node_value, shown};
 ghost use Rattle.idl_node.specs.Tables.{IsTableOver};
-ghost use Rattle.clause_form.specs.Marking.{AreMarks, AreNodeMarks, ArePolarityMarks};
+ghost use Rattle.clause_form.specs.Marking.{AreMarks, AreNodeMarks, ArePolarityMarks, MarksMore};
 ghost use Rattle.clause_form.specs.Polarity.{Polarity, is_among, spread, body_at, is_compound, node_at, compounds, inner_of};
 
 use idl_node::Node;
@@ -24,7 +24,7 @@ pub struct NodeMarks {
 
 fn mark(marks: &mut [bool], number: u32)
     ensures count { length marks.new ≡ length marks.old }
-    ensures each { (k : ℕ) → k < length marks.old → slice_index_or marks.new k false ≡ (nat_eq k number || slice_index_or marks.old k false) }
+    ensures each { MarksMore marks.old marks.new (λ k. nat_eq k number) }
 {
     let place = number as usize;
     if place < marks.len() {
@@ -34,7 +34,7 @@ fn mark(marks: &mut [bool], number: u32)
 
 fn mark_all(marks: &mut [bool], numbers: &[u32])
     ensures count { length marks.new ≡ length marks.old }
-    ensures each { (k : ℕ) → k < length marks.old → slice_index_or marks.new k false ≡ (is_among k numbers.now || slice_index_or marks.old k false) }
+    ensures each { MarksMore marks.old marks.new (λ k. is_among k numbers.now) }
 {
     for number in numbers {
         mark(marks, *number);
@@ -45,7 +45,9 @@ fn mark_all(marks: &mut [bool], numbers: &[u32])
 fn spread(asserted: &mut [bool], denied: &mut [bool], node: &Node, number: usize)
     requires in_asserted { number < length asserted.old }
     requires same { length denied.old ≡ length asserted.old }
-    ensures { (p : Polarity) → ArePolarityMarks (length asserted.old) asserted.old denied.old p → ArePolarityMarks (length asserted.old) asserted.new denied.new (spread number (node_value node.now) p) }
+    ensures { (p : Polarity) → ArePolarityMarks (length asserted.old) asserted.old denied.old p
+        → ArePolarityMarks (length asserted.old) asserted.new denied.new
+            (spread number (node_value node.now) p) }
 {
     let is_asserted = asserted[number];
     let is_denied = denied[number];
@@ -98,7 +100,7 @@ fn is_compound(nodes: &[Node], number: u32) -> bool
 
 fn mark_compounds(marks: &mut [bool], nodes: &[Node], members: &[u32])
     ensures count { length marks.new ≡ length marks.old }
-    ensures each { (k : ℕ) → k < length marks.old → slice_index_or marks.new k false ≡ (is_among k (compounds (shown nodes.now) members.now) || slice_index_or marks.old k false) }
+    ensures each { MarksMore marks.old marks.new (λ k. is_among k (compounds (shown nodes.now) members.now)) }
 {
     for member in members {
         let body = body_of(nodes, *member);
@@ -110,7 +112,8 @@ fn mark_compounds(marks: &mut [bool], nodes: &[Node], members: &[u32])
 
 /// The members of whose literals clauses are made.
 fn needed_members(node: &Node, asserted: bool, denied: bool, inner: bool) -> &[u32]
-    ensures { (nodes : List NodeValue) → inner_of asserted denied inner nodes (node_value node.now) ≡ compounds nodes result.now }
+    ensures { (nodes : List NodeValue)
+        → inner_of asserted denied inner nodes (node_value node.now) ≡ compounds nodes result.now }
 {
     match node {
         Node::And(members) if inner || denied => members,
@@ -147,7 +150,9 @@ fn mark_nodes(
 /// The asserted, the denied and the inner nodes, where these are the roots.
 pub fn node_marks(alloc: Global, nodes: &[Node], roots: &[u32]) -> Result<NodeMarks, AllocError>
     requires table { (points : ℕ) × IsTableOver points (shown nodes.now) }
-    ensures { IfOk result (λ marks. AreNodeMarks (length nodes.now) marks.polarity.asserted.items marks.polarity.denied.items marks.inner.items (shown nodes.now) roots.now) }
+    ensures { IfOk result (λ marks. AreNodeMarks (length nodes.now)
+        marks.polarity.asserted.items marks.polarity.denied.items marks.inner.items (shown nodes.now)
+            roots.now) }
 {
     let mut asserted = no_marks(alloc, nodes.len())?;
     let mut denied = no_marks(alloc, nodes.len())?;

@@ -17,10 +17,14 @@ pub struct Numbering {
 /// Fresh points follow so many points, by ascending node numbers.
 pub fn number_points(alloc: Global, points: u32, inner: &[bool]) -> Result<Numbering, AllocError>
     requires few { points + length inner.now ≤ 2 ^ 21 }
-    ensures points { IfOk result (λ numbering. (numbers : List ℕ) → AreMarks (length inner.now) inner.now numbers → numbering.points ≡ fresh_point points numbers (length inner.now)) }
+    ensures points { IfOk result (λ numbering. (numbers : List ℕ)
+        → AreMarks (length inner.now) inner.now numbers
+        → numbering.points ≡ fresh_point points numbers (length inner.now)) }
     ensures count { IfOk result (λ numbering. length numbering.fresh.items ≡ length inner.now) }
     ensures few { IfOk result (λ numbering. numbering.points ≤ points + length inner.now) }
-    ensures fresh { IfOk result (λ numbering. (numbers : List ℕ) → AreMarks (length inner.now) inner.now numbers → IsNumbering points numbers (length inner.now) numbering.fresh.items) }
+    ensures fresh { IfOk result (λ numbering. (numbers : List ℕ)
+        → AreMarks (length inner.now) inner.now numbers
+        → IsNumbering points numbers (length inner.now) numbering.fresh.items) }
 {
     let mut fresh = Vec::with_capacity(alloc, inner.len())?;
     let mut next = points;

@@ -1,8 +1,8 @@
 //! The clauses of a node, written behind others.
 ghost use Rattle.std.specs.Prelude.{◌≡◌, ◌<◌, ◌∷◌, ◌++◌, [], ℕ, List, length, map, IfOk, OnOk, slice_index, true};
 ghost use Rattle.idl_node.specs.Nodes.{NodeValue, node_value, shown};
-ghost use Rattle.clause_form.specs.Marked.{marked_clauses};
-ghost use Rattle.clause_form.specs.Marking.{AreMarks, ArePolarityMarks, IsNumbering, denied_member, literal_pair, signed_literal};
+ghost use Rattle.clause_form.specs.Marked.{marked_clauses, table_of, ForNumbers, Appends};
+ghost use Rattle.clause_form.specs.Marking.{AreMarks, ArePolarityMarks, denied_member, literal_pair, signed_literal};
 ghost use Rattle.clause_form.specs.Polarity.{Polarity, node_at};
 ghost use Rattle.clause_form.specs.ClauseForm.{stands, fails, body_literal, literal_of, asserted_clauses, denied_clauses, inner_clauses, clauses_below};
 
@@ -67,7 +67,8 @@ fn denied_member(nodes: &[Node], number: u32) -> Option<u32>
 impl<'a> Form<'a> {
     /// The literal of a node that is no `not`.
     fn body_literal(&self, number: u32) -> Literal
-        ensures { (points : ℕ) (inner : List ℕ) → IsNumbering points inner (length self.now.nodes.now) self.now.fresh.now → result ≡ body_literal points inner number (node_at (shown self.now.nodes.now) number) }
+        ensures { ForNumbers self.now (λ points inner.
+            result ≡ body_literal points inner number (node_at (table_of self.now) number)) }
     {
         let place = number as usize;
         match self.nodes.get(place) {
@@ -78,7 +79,8 @@ impl<'a> Form<'a> {
     }
 
     fn literal(&self, number: u32) -> Literal
-        ensures { (points : ℕ) (inner : List ℕ) → IsNumbering points inner (length self.now.nodes.now) self.now.fresh.now → result ≡ literal_of points (shown self.now.nodes.now) inner number }
+        ensures { ForNumbers self.now (λ points inner.
+            result ≡ literal_of points (table_of self.now) inner number) }
     {
         match denied_member(self.nodes, number) {
             Some(member) => negate(self.body_literal(member)),
@@ -88,7 +90,8 @@ impl<'a> Form<'a> {
 
     /// The literal, or its negation.
     fn signed_literal(&self, number: u32, denied: bool) -> Literal
-        ensures { (points : ℕ) (inner : List ℕ) → IsNumbering points inner (length self.now.nodes.now) self.now.fresh.now → result ≡ signed_literal denied points (shown self.now.nodes.now) inner number }
+        ensures { ForNumbers self.now (λ points inner.
+            result ≡ signed_literal denied points (table_of self.now) inner number) }
     {
         let literal = self.literal(number);
         if denied { negate(literal) } else { literal }
@@ -100,7 +103,8 @@ impl<'a> Form<'a> {
         members: &[u32],
         denied: bool,
     ) -> Result<(), AllocError>
-        ensures { OnOk result ((points : ℕ) (inner : List ℕ) → IsNumbering points inner (length self.now.nodes.now) self.now.fresh.now → literals.new.items ≡ literals.old.items ++ map (signed_literal denied points (shown self.now.nodes.now) inner) members.now) }
+        ensures { OnOk result (Appends self.now literals.old.items literals.new.items
+            (λ points inner. map (signed_literal denied points (table_of self.now) inner) members.now)) }
     {
         for member in members {
             literals.push(self.signed_literal(*member, denied))?;
@@ -115,7 +119,8 @@ impl<'a> Form<'a> {
         members: &[u32],
         denied: bool,
     ) -> Result<Clause, AllocError>
-        ensures { IfOk result (λ clause. (points : ℕ) (inner : List ℕ) → IsNumbering points inner (length self.now.nodes.now) self.now.fresh.now → clause ≡ map (signed_literal denied points (shown self.now.nodes.now) inner) members.now) }
+        ensures { IfOk result (λ clause. ForNumbers self.now (λ points inner.
+            clause ≡ map (signed_literal denied points (table_of self.now) inner) members.now)) }
     {
         let mut literals = Vec::with_capacity(alloc, members.len())?;
         self.append_literals(&mut literals, members, denied)?;
@@ -130,7 +135,8 @@ impl<'a> Form<'a> {
         members: &[u32],
         denied: bool,
     ) -> Result<Clause, AllocError>
-        ensures { IfOk result (λ clause. (points : ℕ) (inner : List ℕ) → IsNumbering points inner (length self.now.nodes.now) self.now.fresh.now → clause ≡ first ∷ map (signed_literal denied points (shown self.now.nodes.now) inner) members.now) }
+        ensures { IfOk result (λ clause. ForNumbers self.now (λ points inner.
+            clause ≡ first ∷ map (signed_literal denied points (table_of self.now) inner) members.now)) }
     {
         let mut literals = vec![in alloc; first]?;
         self.append_literals(&mut literals, members, denied)?;
@@ -144,7 +150,8 @@ impl<'a> Form<'a> {
         number: u32,
         denied: bool,
     ) -> Result<Clause, AllocError>
-        ensures { IfOk result (λ clause. (points : ℕ) (inner : List ℕ) → IsNumbering points inner (length self.now.nodes.now) self.now.fresh.now → clause ≡ literal_pair first denied points (shown self.now.nodes.now) inner number) }
+        ensures { IfOk result (λ clause. ForNumbers self.now (λ points inner.
+            clause ≡ literal_pair first denied points (table_of self.now) inner number)) }
     {
         let second = self.signed_literal(number, denied);
         Ok(Clause::new(vec![in alloc; first, second]?))
@@ -159,7 +166,8 @@ impl<'a> Form<'a> {
         members: &[u32],
         denied: bool,
     ) -> Result<(), AllocError>
-        ensures { OnOk result ((points : ℕ) (inner : List ℕ) → IsNumbering points inner (length self.now.nodes.now) self.now.fresh.now → clauses.new.items ≡ clauses.old.items ++ map (literal_pair first denied points (shown self.now.nodes.now) inner) members.now) }
+        ensures { OnOk result (Appends self.now clauses.old.items clauses.new.items
+            (λ points inner. map (literal_pair first denied points (table_of self.now) inner) members.now)) }
     {
         for member in members {
             clauses.push(self.pair_clause(alloc, first, *member, denied)?)?;
@@ -173,7 +181,8 @@ impl<'a> Form<'a> {
         clauses: &mut Vec<Clause>,
         node: &Node,
     ) -> Result<(), AllocError>
-        ensures { OnOk result ((k : ℕ) → (points : ℕ) (inner : List ℕ) → IsNumbering points inner (length self.now.nodes.now) self.now.fresh.now → clauses.new.items ≡ clauses.old.items ++ asserted_clauses points (shown self.now.nodes.now) inner k (node_value node.now)) }
+        ensures { OnOk result ((k : ℕ) → Appends self.now clauses.old.items clauses.new.items
+            (λ points inner. asserted_clauses points (table_of self.now) inner k (node_value node.now))) }
     {
         match node {
             Node::True => clauses.push(unit_clause(alloc, stands(0))?)?,
@@ -190,7 +199,8 @@ impl<'a> Form<'a> {
         clauses: &mut Vec<Clause>,
         node: &Node,
     ) -> Result<(), AllocError>
-        ensures { OnOk result ((k : ℕ) → (points : ℕ) (inner : List ℕ) → IsNumbering points inner (length self.now.nodes.now) self.now.fresh.now → clauses.new.items ≡ clauses.old.items ++ denied_clauses points (shown self.now.nodes.now) inner k (node_value node.now)) }
+        ensures { OnOk result ((k : ℕ) → Appends self.now clauses.old.items clauses.new.items
+            (λ points inner. denied_clauses points (table_of self.now) inner k (node_value node.now))) }
     {
         match node {
             Node::True => clauses.push(unit_clause(alloc, negate(stands(0)))?)?,
@@ -209,7 +219,8 @@ impl<'a> Form<'a> {
         point: u32,
         node: &Node,
     ) -> Result<(), AllocError>
-        ensures { OnOk result ((points : ℕ) (inner : List ℕ) → IsNumbering points inner (length self.now.nodes.now) self.now.fresh.now → clauses.new.items ≡ clauses.old.items ++ inner_clauses points (shown self.now.nodes.now) inner point (node_value node.now)) }
+        ensures { OnOk result (Appends self.now clauses.old.items clauses.new.items
+            (λ points inner. inner_clauses points (table_of self.now) inner point (node_value node.now))) }
     {
         match node {
             Node::And(members) => {
@@ -234,7 +245,8 @@ impl<'a> Form<'a> {
         marks: Marks,
     ) -> Result<(), AllocError>
         requires within { number < length self.now.nodes.now }
-        ensures { OnOk result ((points : ℕ) (inner : List ℕ) → IsNumbering points inner (length self.now.nodes.now) self.now.fresh.now → clauses.new.items ≡ clauses.old.items ++ marked_clauses marks points (shown self.now.nodes.now) inner number) }
+        ensures { OnOk result (Appends self.now clauses.old.items clauses.new.items
+            (λ points inner. marked_clauses marks points (table_of self.now) inner number)) }
     {
         let node = &self.nodes[number];
         if marks.asserted {
@@ -259,9 +271,12 @@ impl<'a> Form<'a> {
         requires in_asserted { length polarity.now.asserted.items ≡ length self.now.nodes.now }
         requires in_denied { length polarity.now.denied.items ≡ length self.now.nodes.now }
         requires in_inner { length inner.now ≡ length self.now.nodes.now }
-        ensures { IfOk result (λ clauses. (points : ℕ) (p : Polarity) (numbers : List ℕ) → IsNumbering points numbers (length self.now.nodes.now) self.now.fresh.now
-            → ArePolarityMarks (length self.now.nodes.now) polarity.now.asserted.items polarity.now.denied.items p → AreMarks (length self.now.nodes.now) inner.now numbers
-            → clauses.items ≡ clauses_below points (shown self.now.nodes.now) p numbers (length self.now.nodes.now)) }
+        ensures { IfOk result (λ clauses. (p : Polarity) → ForNumbers self.now (λ points numbers.
+            ArePolarityMarks (length self.now.nodes.now) polarity.now.asserted.items
+                polarity.now.denied.items p
+            → AreMarks (length self.now.nodes.now) inner.now numbers
+            → clauses.items ≡ clauses_below points (table_of self.now) p numbers
+                (length self.now.nodes.now))) }
     {
         let mut clauses = Vec::new(alloc);
         for number in 0..self.nodes.len() {

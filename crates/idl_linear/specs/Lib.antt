@@ -5,3 +5,4 @@ pub mod Differences
 pub mod Values
 pub mod Steps
 pub mod Examples
+pub mod Laws

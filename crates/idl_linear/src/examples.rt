@@ -8,13 +8,16 @@ ghost use Rattle.idl_linear.specs.Examples.{x, y, number, summand, plus, many, d
 /// Sums, differences and their limits, where x is time point 1 and y is time point 2.
 #[tactic(auto, unfolding(crate::specs::Linear::sum_of))]
 pub fn worked_linear_terms()
-    ensures sum { plus x y ≡ record { summands = summand 1 (pos 1) ∷ summand 2 (pos 1) ∷ []; constant = pos 0 } }
+    ensures sum { plus x y
+        ≡ record { summands = summand 1 (pos 1) ∷ summand 2 (pos 1) ∷ []; constant = pos 0 } }
     ensures other_order { plus y x ≡ plus x y }
     ensures twice { plus x x ≡ many (pos 2) }
     ensures back { sum_of (x ∷ x ∷ negative_of x ∷ []) ≡ x }
     ensures cancelled { less_others (x ∷ x ∷ []) ≡ number 0 }
-    ensures others { less_others (number 7 ∷ x ∷ number 3 ∷ []) ≡ record { summands = summand 1 (negsuc 0) ∷ []; constant = pos 4 } }
-    ensures negative { less_others (plus x (number 3) ∷ []) ≡ record { summands = summand 1 (negsuc 0) ∷ []; constant = negsuc 2 } }
+    ensures others { less_others (number 7 ∷ x ∷ number 3 ∷ [])
+        ≡ record { summands = summand 1 (negsuc 0) ∷ []; constant = pos 4 } }
+    ensures negative { less_others (plus x (number 3) ∷ [])
+        ≡ record { summands = summand 1 (negsuc 0) ∷ []; constant = negsuc 2 } }
     ensures greatest_coefficient { is_limited (many (pos 1048576)) ≡ true }
     ensures coefficient_beyond { is_limited (many (pos 1048577)) ≡ false }
     ensures least_coefficient { is_limited (many (negsuc 1048575)) ≡ true }

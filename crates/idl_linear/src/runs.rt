@@ -23,7 +23,9 @@ fn first_run(summands: &[Summand]) -> Run
     requires rises { RiseFrom 1 summands.now }
     ensures some { 0 < result.len }
     ensures len { result.len ≤ length summands.now }
-    ensures sum { collected summands.now ≡ put_before (record { point = result.point; coefficient = result.sum }) (collected (drop result.len summands.now)) }
+    ensures sum { collected summands.now
+        ≡ put_before (record { point = result.point; coefficient = result.sum })
+        (collected (drop result.len summands.now)) }
 {
     let point = summands[0].point;
     let mut len = 0;

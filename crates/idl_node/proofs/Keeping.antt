@@ -1,38 +1,20 @@
 -- Nodes that are equal are one, and a table with a node more is made of earlier nodes still.
-use Rattle.std.proofs.Common.{refl, sym, ap, subst, arith, ◌∙◌, ◌≡◌, ◌<◌, ◌≤◌, inl, inr, ℕ, List, [], ◌∷◌, ◌++◌, length, take, drop, get_or, Bool, true, false, ◌==◌, ◌&&◌, Some, ℤ, length-append}
+use Rattle.std.proofs.Common.{refl, sym, ap, subst, arith, ◌∙◌, ◌≡◌, ◌<◌, ◌≤◌, inl, inr, ℕ, List, [], ◌∷◌, ◌++◌, length, take, drop, get_or, Bool, true, false, Some, length-append}
 use Rattle.std.proofs.Math.ListN.{get_or-append}
-use Rattle.std.specs.Ordering.{int_eq}
 use Rattle.std.proofs.lemmas.Bool.{eqb-true, cases_lt}
-use Rattle.std.proofs.lemmas.Bool.Decides.{Decides-int_eq}
 use Rattle.std.proofs.lemmas.List.{get_or_push, length_push, take-append-drop}
 use Rattle.std.proofs.lemmas.List.Quantifiers.{position-Some}
 use Rattle.std.proofs.lemmas.Slice.Eq.{bytes_eq-Decides}
 use Rattle.stn_core.specs.declared.literal.Literal.{Literal}
-use Rattle.idl_node.specs.Nodes.{NodeValue, always, atom, denial, conjunction, disjunction, same_literal, same_node, number_in}
+use Rattle.stn_core.proofs.SameLiteral.{same_literal_decides}
+use Rattle.idl_node.specs.Nodes.{NodeValue, always, atom, denial, conjunction, disjunction, same_node, number_in}
 use Rattle.idl_node.specs.Tables.{IsDeniable, IsNodeOf, IsTableOf}
 
 -- ---- equal nodes
 
-and_both : (a b : Bool) → (a && b) ≡ true → (a ≡ true) × (b ≡ true)
-and_both true b e = (refl, e)
-and_both false b e = absurd cc
-
-literal_is : (l m : Literal) → l.x ≡ m.x → l.y ≡ m.y → l.c ≡ m.c → l ≡ m
-literal_is l m e f g =
-    let one : l ≡ record { x = m.x; y = l.y; c = l.c } = ap (λ (a : ℕ). record { x = a; y = l.y; c = l.c }) e in
-    let two : record { x = m.x; y = l.y; c = l.c } ≡ record { x = m.x; y = m.y; c = l.c } = ap (λ (b : ℕ). record { x = m.x; y = b; c = l.c }) f in
-    let three : record { x = m.x; y = m.y; c = l.c } ≡ m = ap (λ (c : ℤ). record { x = m.x; y = m.y; c = c }) g in
-    one ∙ two ∙ three
-
-same_literal_is : (l m : Literal) → same_literal l m ≡ true → l ≡ m
-same_literal_is l m e =
-    let first = and_both (l.x == m.x) (l.y == m.y && int_eq l.c m.c) e in
-    let second = and_both (l.y == m.y) (int_eq l.c m.c) first.1 in
-    literal_is l m (eqb-true _ _ first.0) (eqb-true _ _ second.0) ((Decides-int_eq l.c m.c).0 second.1)
-
 pub same_node_is : (a b : NodeValue) → same_node a b ≡ true → a ≡ b
 same_node_is always always e = refl
-same_node_is (atom l) (atom m) e = ap atom (same_literal_is l m e)
+same_node_is (atom l) (atom m) e = ap atom ((same_literal_decides l m).0 e)
 same_node_is (denial k) (denial m) e = ap denial (eqb-true k m e)
 same_node_is (conjunction a) (conjunction b) e = ap conjunction ((bytes_eq-Decides a b).0 e)
 same_node_is (disjunction a) (disjunction b) e = ap disjunction ((bytes_eq-Decides a b).0 e)

@@ -7,4 +7,5 @@ pub mod Tables
 pub mod Sorts
 pub mod Meaning
 pub mod Examples
+pub mod Laws
 pub use Rattle.stn_core.specs.Literal

@@ -1,9 +1,9 @@
 -- The node table: formulas, each by the numbers of the nodes that it is made of. Equal nodes are one.
-use Rattle.std.specs.Prelude.{ℕ, List, [], ◌∷◌, ◌++◌, length, Bool, true, false, map, nat_lt, ◌==◌, ◌&&◌, if◌then◌else◌, Option, Some, None}
+use Rattle.std.specs.Prelude.{ℕ, List, [], ◌∷◌, ◌++◌, length, Bool, true, false, map, nat_lt, ◌==◌, if◌then◌else◌, Option, Some, None}
 use Rattle.std.specs.List.{position}
-use Rattle.std.specs.Ordering.{int_eq}
 use Rattle.std.specs.Str.{bytes_eq}
 use Rattle.stn_core.specs.declared.literal.Literal.{Literal}
+use Rattle.stn_core.specs.Literal.{same_literal}
 use Rattle.idl_node.specs.declared.node.Node.{Node}
 use Rattle.idl_node.specs.declared.node.Node.TheVariants.{True, Atom, Not, And, Or}
 use Rattle.idl_node.specs.Limits.{nodes_limit}
@@ -30,9 +30,6 @@ node_value (Or members) = disjunction members.items
 
 abbrev pub shown : List Node → List NodeValue
 shown nodes = map node_value nodes
-
-abbrev pub same_literal : Literal → Literal → Bool
-same_literal l m = l.x == m.x && (l.y == m.y && int_eq l.c m.c)
 
 -- whether two nodes are one; two lists of numbers are compared item by item, as two texts are
 abbrev pub same_node : NodeValue → NodeValue → Bool

@@ -65,8 +65,10 @@ fn any_holds(members: &[u32], marks: &[bool]) -> bool
 
 /// The truth of a node by the marks of the nodes before it.
 fn node_holds(node: &Node, values: &NamedValues, marks: &[bool]) -> bool
-    requires { (nodes : List NodeValue) × IsNodeOf (IsOver (length values.now + 1)) nodes (length marks.now) (node_value node.now) }
-    ensures { result ≡ node_truth (point_values values.now) (λ j. slice_index_or marks.now j false) (node_value node.now) }
+    requires { (nodes : List NodeValue) × IsNodeOf (IsOver (length values.now + 1)) nodes
+        (length marks.now) (node_value node.now) }
+    ensures { result ≡ node_truth (point_values values.now) (λ j. slice_index_or marks.now j false)
+        (node_value node.now) }
 {
     match node {
         Node::True => true,
@@ -86,7 +88,8 @@ pub fn eval(nodes: &Nodes, number: u32, values: &NamedValues, marks: &mut [bool]
     requires room { length marks.old ≡ length nodes.now }
     ensures truth { result ≡ truth nodes.now (point_values values.now) number }
     ensures room { length marks.new ≡ length nodes.now }
-    ensures each { (k : ℕ) → k ≤ number → slice_index_or marks.new k false ≡ truth nodes.now (point_values values.now) k }
+    ensures each { (k : ℕ) → k ≤ number → slice_index_or marks.new k false
+        ≡ truth nodes.now (point_values values.now) k }
 {
     let slice = nodes.as_slice();
     let end = number as usize + 1;

@@ -66,7 +66,8 @@ impl<'s, 'a> Locals<'s, 'a> {
     /// One more variable, inside all others.
     pub fn bind(&mut self, name: &'a [u8], term: Lowered) -> Result<(), AllocError>
         ensures outer { self.new.outer ≡ self.old.outer }
-        ensures ok { OnOk result (self.new.variables ≡ record { name = name.now; stands = shown_term term } ∷ self.old.variables) }
+        ensures ok { OnOk result (self.new.variables ≡ record { name = name.now; stands = shown_term term }
+            ∷ self.old.variables) }
     {
         self.variables.reserve(1)?;
         let place = self.variables.len();

@@ -97,7 +97,9 @@ impl<'a> Scope<'a> {
     /// One more declared name, which isn't known yet.
     pub fn declare(&mut self, name: &'a [u8], sort: Sort) -> Result<(), AllocError>
         requires { is_known self.old name.now ≡ false }
-        ensures ok { OnOk result (self.new ≡ record { declared = self.old.declared ++ record { name = name.now; sort = sort } ∷ []; bound = self.old.bound }) }
+        ensures ok { OnOk result (self.new
+            ≡ record { declared = self.old.declared ++ record { name = name.now; sort = sort }
+            ∷ []; bound = self.old.bound }) }
         ensures err { OnErr result (self.new ≡ self.old) }
     {
         self.names.add(name, sort)
@@ -106,7 +108,9 @@ impl<'a> Scope<'a> {
     /// One more defined name, which isn't known yet, with what it stands for.
     pub fn define(&mut self, name: &'a [u8], term: Lowered) -> Result<(), AllocError>
         requires { is_known self.old name.now ≡ false }
-        ensures ok { OnOk result (self.new ≡ record { declared = self.old.declared; bound = self.old.bound ++ record { name = name.now; stands = shown_term term } ∷ [] }) }
+        ensures ok { OnOk result (self.new
+            ≡ record { declared = self.old.declared; bound = self.old.bound
+            ++ record { name = name.now; stands = shown_term term } ∷ [] }) }
         ensures err { OnErr result (self.new ≡ self.old) }
     {
         self.terms.reserve(1)?;
@@ -119,7 +123,8 @@ impl<'a> Scope<'a> {
     pub fn cut(&mut self, names: usize, defined: usize)
         requires names { names ≤ length self.old.declared }
         requires defined { defined ≤ length self.old.bound }
-        ensures { self.new ≡ record { declared = take names self.old.declared; bound = take defined self.old.bound } }
+        ensures { self.new ≡ record { declared = take names self.old.declared; bound = take defined
+            self.old.bound } }
     {
         self.names.cut(names);
         self.defined.truncate(defined);

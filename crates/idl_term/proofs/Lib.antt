@@ -19,3 +19,4 @@ pub mod Opening
 pub mod Differing
 pub mod Heading
 pub mod Evaluating
+pub mod ReservedWords

@@ -26,8 +26,8 @@ use Rattle.idl_node.proofs.Growing.{AreThere, are_there_push, made-are_there, ma
 use Rattle.idl_node.proofs.Makers.{and_true, conjoined-made, both-made, either-made}
 use Rattle.idl_node.proofs.Pairs.{neighbours-chain, pairs-all_pairs, neighbours-are, pairs-are}
 use Rattle.idl_node.proofs.Truths.{list_all-agree}
-use Rattle.idl_term.specs.declared.operator.Relation.{Relation}
-use Rattle.idl_term.specs.declared.operator.Relation.TheVariants.{AtMost, Less, AtLeast, Greater, Equal, Distinct}
+use Rattle.idl_term.specs.declared.comparing.Relation.{Relation}
+use Rattle.idl_term.specs.declared.comparing.Relation.TheVariants.{AtMost, Less, AtLeast, Greater, Equal, Distinct}
 use Rattle.idl_term.specs.declared.error.TermRefusal.{TermRefusal}
 use Rattle.idl_term.specs.Comparing.{follows, or_too_large, at_most, below, at_least, above, related, related_by, compared, each_compared}
 use Rattle.idl_term.specs.Meanings.{IsLinearFor}

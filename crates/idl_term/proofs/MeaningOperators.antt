@@ -11,7 +11,7 @@ use Rattle.idl_linear.proofs.Valued.{value-sum, value-less}
 use Rattle.idl_node.specs.declared.sort.Sort.{Sort}
 use Rattle.idl_node.specs.Limits.{nodes_limit}
 use Rattle.idl_node.specs.Nodes.{NodeValue, Placed}
-use Rattle.idl_node.specs.Making.{neighbours, pairs}
+use Rattle.idl_node.specs.Making.{denied, conjoined, disjoined, chosen, exclusive, implied, all_equal, all_different, neighbours, pairs}
 use Rattle.idl_node.specs.Meaning.{IsMade}
 use Rattle.idl_node.specs.Sorts.{IsIntPoint, IsAtomFor}
 use Rattle.idl_node.specs.Tables.{IsTableOf}
@@ -20,19 +20,27 @@ use Rattle.idl_node.specs.Truth as node
 use Rattle.idl_node.proofs.Growing.{AreThere}
 use Rattle.idl_node.proofs.Makers.{denied-made, conjoined-made, disjoined-made, chosen-made, exclusive-made, implied-made}
 use Rattle.idl_node.proofs.Pairs.{all_equal-made, all_different-made}
+use Rattle.idl_term.specs.declared.operator.Connective.{Connective}
+use Rattle.idl_term.specs.declared.operator.Connective.TheVariants as connective
+use Rattle.idl_term.specs.declared.operator.Order.{Order}
+use Rattle.idl_term.specs.declared.operator.Order.TheVariants as order
+use Rattle.idl_term.specs.declared.operator.Sign.{Sign}
+use Rattle.idl_term.specs.declared.operator.Sign.TheVariants as sign
+use Rattle.idl_term.specs.declared.operator.Equality.{Equality}
+use Rattle.idl_term.specs.declared.operator.Equality.TheVariants as equality
 use Rattle.idl_term.specs.declared.operator.Operator.{Operator}
 use Rattle.idl_term.specs.declared.operator.Operator.TheVariants as op
-use Rattle.idl_term.specs.declared.operator.Relation.{Relation}
-use Rattle.idl_term.specs.declared.operator.Relation.TheVariants as relation
+use Rattle.idl_term.specs.declared.comparing.Relation.{Relation}
+use Rattle.idl_term.specs.declared.comparing.Relation.TheVariants as relation
 use Rattle.idl_term.specs.declared.error.TermRefusal.{TermRefusal}
 use Rattle.idl_term.specs.declared.error.TermRefusal.TheVariants.{BoundTooLarge}
-use Rattle.idl_term.specs.Applied.{Made, a_formula, as_formula, as_number, formula_before, linear_before, formulas_in, linears_in, formula_of, of_formulas, compared_formula, number_made, of_numbers, of_first_sort, of_branches, applied}
-use Rattle.idl_term.specs.Comparing.{each_compared}
+use Rattle.idl_term.specs.Applied.{Made, a_formula, as_formula, as_number, formula_before, linear_before, formulas_in, linears_in, connected, equal_formulas, summed, related_numbers, relation_of_order, relation_of_equality, of_sort, of_first_sort, of_branches, applied}
+use Rattle.idl_term.specs.Comparing.{follows, each_compared}
 use Rattle.idl_term.specs.Meanings.{lowered_value, IsLinearFor, IsTermIn}
 use Rattle.idl_term.specs.Operators.{takes_count}
 use Rattle.idl_scope.specs.Guarded.{CaseValue}
 use Rattle.idl_scope.specs.Scopes.{LoweredTerm, formula, numeric, linear_term}
-use Rattle.idl_term.specs.Values.{Value, whole, truth, any_true, all_true, truth_of, total, remainder, number_of, truth_before, whole_before, truths_in, wholes_in, applied_to, operator_value}
+use Rattle.idl_term.specs.Values.{Value, whole, truth, any_true, all_true, connective_value, total, remainder, sum_value, order_value, equal_truths, equal_numbers, choice_value, truth_before, whole_before, truths_in, wholes_in, of_all, equality_value, operator_value}
 use Rattle.idl_term.proofs.BelowLinear.{ArePoints, HavePoints, points_sum, points_others, points_negatives, points_weaker, points_both, points_ascending, ascends_sum}
 use Rattle.idl_term.proofs.MeaningAtoms.{follows-is, atom_negates, relation_test, IsTested, neighbours_made, pairs_made}
 
@@ -162,7 +170,7 @@ module _ (sorts : List Sort) (nodes : List NodeValue) (room : length nodes ≤ n
     number_worth l m worth linear same e = number_by l m worth (is_limited l) refl linear same e
 
     tested_worth : (made : Result Placed TermRefusal) (m : Made) (test : List ℤ → Bool) (worth : List NamedValue → Value) → ((q : Placed) → made ≡ Ok q → IsTested Good nodes q test)
-        → ((schedule : List NamedValue) → truth (test (point_values schedule)) ≡ worth schedule) → compared_formula made ≡ Ok m → IsWorth sorts nodes m worth
+        → ((schedule : List NamedValue) → truth (test (point_values schedule)) ≡ worth schedule) → follows made a_formula ≡ Ok m → IsWorth sorts nodes m worth
     tested_worth made m test worth makes same e =
         let t = follows-is made a_formula m e in
         let q : Placed = t.middle in
@@ -171,65 +179,38 @@ module _ (sorts : List Sort) (nodes : List NodeValue) (room : length nodes ≤ n
 
     -- ---- operators on formulas
 
-    record IsTruthOf (o : Operator) (ks : List ℕ) (p : Placed) : Type 0 where
-      meaning : List ℤ → Bool
-      made : IsMade Good nodes p meaning
-      same : (values : List ℤ) → truth (meaning values) ≡ truth_of o (map (node.truth nodes values) ks)
+    -- what is made of formulas, worth this of their truth
+    abbrev IsTruthOf : Made → (List Bool → Value) → List ℕ → Type 0
+    IsTruthOf m f ks = IsWorth sorts nodes m (λ schedule. f (map (node.truth nodes (point_values schedule)) ks))
 
-    formula_of_made : (o : Operator) (ks : List ℕ) (p : Placed) → AreThere nodes ks → formula_of o nodes ks ≡ Some p → IsTruthOf o ks p
-    formula_of_made op.Not [] p h e = absurd cc
-    formula_of_made op.Not (a ∷ []) p h e = record {
-      meaning = λ values. not (node.truth nodes values a);
-      made = denied-made Good (atom_negates sorts) nodes table a h.0 p e;
-      same = λ values. refl;
-    }
-    formula_of_made op.Not (a ∷ b ∷ rest) p h e = absurd cc
-    formula_of_made op.Implies ks p h e = record {
-      meaning = λ values. implied_truth (map (node.truth nodes values) ks);
-      made = implied-made Good (atom_negates sorts) nodes [] ks p table tt h e;
-      same = λ values. refl;
-    }
-    formula_of_made op.And ks p h e = record {
-      meaning = λ values. list_all (node.truth nodes values) ks;
-      made = conjoined-made Good nodes table ks p h e;
-      same = λ values. ap truth (sym (all_of_map (node.truth nodes values) ks));
-    }
-    formula_of_made op.Or ks p h e = record {
-      meaning = λ values. list_any (node.truth nodes values) ks;
-      made = disjoined-made Good nodes table ks p h e;
-      same = λ values. ap truth (sym (any_of_map (node.truth nodes values) ks));
-    }
-    formula_of_made op.Xor [] p h e = absurd cc
-    formula_of_made op.Xor (a ∷ rest) p h e = record {
-      meaning = λ values. exclusive_truth (node.truth nodes values a) (map (node.truth nodes values) rest);
-      made = exclusive-made Good (atom_negates sorts) nodes a rest p table h.0 h.1 e;
-      same = λ values. refl;
-    }
-    formula_of_made op.Equal ks p h e = record {
-      meaning = λ values. chain equal_truth (map (node.truth nodes values) ks);
-      made = all_equal-made Good (atom_negates sorts) nodes table ks h p e;
-      same = λ values. refl;
-    }
-    formula_of_made op.Distinct ks p h e = record {
-      meaning = λ values. all_pairs different_truth (map (node.truth nodes values) ks);
-      made = all_different-made Good (atom_negates sorts) nodes table ks h p e;
-      same = λ values. refl;
-    }
-    formula_of_made op.Ite [] p h e = absurd cc
-    formula_of_made op.Ite (c ∷ []) p h e = absurd cc
-    formula_of_made op.Ite (c ∷ a ∷ []) p h e = absurd cc
-    formula_of_made op.Ite (c ∷ a ∷ b ∷ []) p h e = record {
-      meaning = λ values. cond (node.truth nodes values c) (node.truth nodes values a) (node.truth nodes values b);
-      made = chosen-made Good (atom_negates sorts) nodes table a b h.1.0 h.1.1.0 c p h.0 e;
-      same = λ values. refl;
-    }
-    formula_of_made op.Ite (c ∷ a ∷ b ∷ d ∷ rest) p h e = absurd cc
-    formula_of_made op.Plus ks p h e = absurd cc
-    formula_of_made op.Minus ks p h e = absurd cc
-    formula_of_made op.AtMost ks p h e = absurd cc
-    formula_of_made op.Less ks p h e = absurd cc
-    formula_of_made op.AtLeast ks p h e = absurd cc
-    formula_of_made op.Greater ks p h e = absurd cc
+    connected_worth : (c : Connective) (ks : List ℕ) (m : Made) → AreThere nodes ks → connected c nodes ks ≡ Ok m → IsTruthOf m (connective_value c) ks
+    connected_worth connective.Not [] m h e = absurd cc
+    connected_worth connective.Not (a ∷ []) m h e =
+        formula_worth (denied nodes a) m (λ values. not (node.truth nodes values a)) (λ schedule. truth (not (node.truth nodes (point_values schedule) a)))
+        (λ p f. denied-made Good (atom_negates sorts) nodes table a h.0 p f) (λ schedule. refl) e
+    connected_worth connective.Not (a ∷ b ∷ rest) m h e = absurd cc
+    connected_worth connective.Implies ks m h e =
+        formula_worth (implied nodes [] ks) m (λ values. implied_truth (map (node.truth nodes values) ks)) (λ schedule. connective_value connective.Implies (map (node.truth nodes (point_values schedule)) ks))
+        (λ p f. implied-made Good (atom_negates sorts) nodes [] ks p table tt h f) (λ schedule. refl) e
+    connected_worth connective.And ks m h e =
+        formula_worth (conjoined nodes ks) m (λ values. list_all (node.truth nodes values) ks) (λ schedule. connective_value connective.And (map (node.truth nodes (point_values schedule)) ks))
+        (λ p f. conjoined-made Good nodes table ks p h f) (λ schedule. ap truth (sym (all_of_map (node.truth nodes (point_values schedule)) ks))) e
+    connected_worth connective.Or ks m h e =
+        formula_worth (disjoined nodes ks) m (λ values. list_any (node.truth nodes values) ks) (λ schedule. connective_value connective.Or (map (node.truth nodes (point_values schedule)) ks))
+        (λ p f. disjoined-made Good nodes table ks p h f) (λ schedule. ap truth (sym (any_of_map (node.truth nodes (point_values schedule)) ks))) e
+    connected_worth connective.Xor [] m h e = absurd cc
+    connected_worth connective.Xor (a ∷ rest) m h e =
+        formula_worth (exclusive nodes a rest) m (λ values. exclusive_truth (node.truth nodes values a) (map (node.truth nodes values) rest))
+        (λ schedule. connective_value connective.Xor (map (node.truth nodes (point_values schedule)) (a ∷ rest)))
+        (λ p f. exclusive-made Good (atom_negates sorts) nodes a rest p table h.0 h.1 f) (λ schedule. refl) e
+
+    equal_formulas_worth : (q : Equality) (ks : List ℕ) (m : Made) → AreThere nodes ks → equal_formulas q nodes ks ≡ Ok m → IsTruthOf m (equal_truths q) ks
+    equal_formulas_worth equality.Equal ks m h e =
+        formula_worth (all_equal nodes ks) m (λ values. chain equal_truth (map (node.truth nodes values) ks)) (λ schedule. equal_truths equality.Equal (map (node.truth nodes (point_values schedule)) ks))
+        (λ p f. all_equal-made Good (atom_negates sorts) nodes table ks h p f) (λ schedule. refl) e
+    equal_formulas_worth equality.Distinct ks m h e =
+        formula_worth (all_different nodes ks) m (λ values. all_pairs different_truth (map (node.truth nodes values) ks)) (λ schedule. equal_truths equality.Distinct (map (node.truth nodes (point_values schedule)) ks))
+        (λ p f. all_different-made Good (atom_negates sorts) nodes table ks h p f) (λ schedule. refl) e
 
     -- terms that are all Bool
     record AreFormulas (ts : List LoweredTerm) (ks : List ℕ) : Type 0 where
@@ -253,19 +234,32 @@ module _ (sorts : List Sort) (nodes : List NodeValue) (room : length nodes ≤ n
         })
     formulas_are (numeric cases ∷ ts) ks h e = absurd cc
 
-    formulas_by : (o : Operator) (ts : List LoweredTerm) (m : Made) (found : Option (List ℕ)) → AllByRecursion (IsTermIn sorts nodes) ts → formulas_in ts ≡ found → of_formulas o nodes found ≡ Ok m
-        → IsWorth sorts nodes m (λ schedule. operator_value o (map (lowered_value nodes schedule) ts))
-    formulas_by o ts m None h f e = absurd cc
-    formulas_by o ts m (Some ks) h f e =
-        let are = formulas_are ts ks h f in
-        let is = as_formula_is (formula_of o nodes ks) m e in
-        let says = formula_of_made o ks is.placed are.there is.begins in
-        placed_worth is.placed m says.meaning (λ schedule. operator_value o (map (lowered_value nodes schedule) ts)) says.made is.same
-        (λ schedule. says.same (point_values schedule) ∙ ap (λ (found : Option (List Bool)). applied_to o found (wholes_in (map (lowered_value nodes schedule) ts))) (sym (are.say schedule)))
+    -- what is made is worth something else that is the same
+    worth_as : (m : Made) (f g : List NamedValue → Value) → IsWorth sorts nodes m f → ((schedule : List NamedValue) → f schedule ≡ g schedule) → IsWorth sorts nodes m g
+    worth_as m f g is same = record {
+      added = is.added;
+      grows = is.grows;
+      room = is.room;
+      table = is.table;
+      term = is.term;
+      says = λ schedule. is.says schedule ∙ same schedule;
+    }
 
-    formulas_worth : (o : Operator) (ts : List LoweredTerm) (m : Made) → AllByRecursion (IsTermIn sorts nodes) ts → of_formulas o nodes (formulas_in ts) ≡ Ok m
-        → IsWorth sorts nodes m (λ schedule. operator_value o (map (lowered_value nodes schedule) ts))
-    formulas_worth o ts m h e = formulas_by o ts m (formulas_in ts) h refl e
+    abbrev truths_on : List LoweredTerm → List NamedValue → Option (List Bool)
+    truths_on ts schedule = truths_in (map (lowered_value nodes schedule) ts)
+
+    abbrev wholes_on : List LoweredTerm → List NamedValue → Option (List ℤ)
+    wholes_on ts schedule = wholes_in (map (lowered_value nodes schedule) ts)
+
+    -- what is made of terms that are all Bool
+    formulas_by : (make : List ℕ → Result Made TermRefusal) (f : List Bool → Value) (m : Made) (ts : List LoweredTerm) (found : Option (List ℕ)) (worth : List NamedValue → Value)
+        → ((ks : List ℕ) → AreThere nodes ks → make ks ≡ Ok m → IsTruthOf m f ks) → ((schedule : List NamedValue) (bs : List Bool) → truths_on ts schedule ≡ Some bs → f bs ≡ worth schedule)
+        → AllByRecursion (IsTermIn sorts nodes) ts → formulas_in ts ≡ found → of_sort make found ≡ Ok m → IsWorth sorts nodes m worth
+    formulas_by make f m ts None worth makes same h g e = absurd cc
+    formulas_by make f m ts (Some ks) worth makes same h g e =
+        let are = formulas_are ts ks h g in
+        worth_as m (λ schedule. f (map (node.truth nodes (point_values schedule)) ks)) worth (makes ks are.there e)
+        (λ schedule. same schedule (map (node.truth nodes (point_values schedule)) ks) (are.say schedule))
 
     -- ---- operators on numbers
 
@@ -273,35 +267,33 @@ module _ (sorts : List Sort) (nodes : List NodeValue) (room : length nodes ≤ n
       abbrev values_on : List NamedValue → List ℤ
       values_on schedule = map (linear_value (point_values schedule)) (l ∷ ls)
 
-      by_neighbours : (relation : Relation) → compared_formula (each_compared relation nodes [] (neighbours (l ∷ ls))) ≡ Ok m → IsWorth sorts nodes m (λ schedule. truth (chain (relation_test relation) (values_on schedule)))
+      by_neighbours : (relation : Relation) → follows (each_compared relation nodes [] (neighbours (l ∷ ls))) a_formula ≡ Ok m → IsWorth sorts nodes m (λ schedule. truth (chain (relation_test relation) (values_on schedule)))
       by_neighbours relation e =
           tested_worth (each_compared relation nodes [] (neighbours (l ∷ ls))) m (λ values. chain (relation_test relation) (map (linear_value values) (l ∷ ls))) (λ schedule. truth (chain (relation_test relation) (values_on schedule)))
           (λ q f. neighbours_made sorts relation nodes table (l ∷ ls) h q f) (λ schedule. refl) e
 
-      by_pairs : (relation : Relation) → compared_formula (each_compared relation nodes [] (pairs (l ∷ ls))) ≡ Ok m → IsWorth sorts nodes m (λ schedule. truth (all_pairs (relation_test relation) (values_on schedule)))
+      by_pairs : (relation : Relation) → follows (each_compared relation nodes [] (pairs (l ∷ ls))) a_formula ≡ Ok m → IsWorth sorts nodes m (λ schedule. truth (all_pairs (relation_test relation) (values_on schedule)))
       by_pairs relation e =
           tested_worth (each_compared relation nodes [] (pairs (l ∷ ls))) m (λ values. all_pairs (relation_test relation) (map (linear_value values) (l ∷ ls))) (λ schedule. truth (all_pairs (relation_test relation) (values_on schedule)))
           (λ q f. pairs_made sorts relation nodes table (l ∷ ls) h q f) (λ schedule. refl) e
 
-      number_made_worth : (o : Operator) → number_made o nodes (l ∷ ls) ≡ Ok m → IsWorth sorts nodes m (λ schedule. number_of o (values_on schedule))
-      number_made_worth op.Plus e =
-          number_worth (sum_of (l ∷ ls)) m (λ schedule. number_of op.Plus (values_on schedule)) (sum_linear sorts (l ∷ ls) (have_points sorts (l ∷ ls) h))
+      summed_worth : (g : Sign) → summed g nodes (l ∷ ls) ≡ Ok m → IsWorth sorts nodes m (λ schedule. sum_value g (values_on schedule))
+      summed_worth sign.Plus e =
+          number_worth (sum_of (l ∷ ls)) m (λ schedule. sum_value sign.Plus (values_on schedule)) (sum_linear sorts (l ∷ ls) (have_points sorts (l ∷ ls) h))
           (λ schedule. ap whole (value-sum (point_values schedule) (l ∷ ls) ∙ sym (total_is (point_values schedule) (l ∷ ls)))) e
-      number_made_worth op.Minus e =
-          number_worth (less_others (l ∷ ls)) m (λ schedule. number_of op.Minus (values_on schedule)) (less_linear sorts l ls (have_points sorts (l ∷ ls) h))
+      summed_worth sign.Minus e =
+          number_worth (less_others (l ∷ ls)) m (λ schedule. sum_value sign.Minus (values_on schedule)) (less_linear sorts l ls (have_points sorts (l ∷ ls) h))
           (λ schedule. ap whole (value-less (point_values schedule) (l ∷ ls)) ∙ sym (remainder_is (point_values schedule) l ls)) e
-      number_made_worth op.AtMost e = by_neighbours relation.AtMost e
-      number_made_worth op.Less e = by_neighbours relation.Less e
-      number_made_worth op.AtLeast e = by_neighbours relation.AtLeast e
-      number_made_worth op.Greater e = by_neighbours relation.Greater e
-      number_made_worth op.Equal e = by_neighbours relation.Equal e
-      number_made_worth op.Distinct e = by_pairs relation.Distinct e
-      number_made_worth op.Not e = absurd cc
-      number_made_worth op.Implies e = absurd cc
-      number_made_worth op.And e = absurd cc
-      number_made_worth op.Or e = absurd cc
-      number_made_worth op.Xor e = absurd cc
-      number_made_worth op.Ite e = absurd cc
+
+      ordered_worth : (o : Order) → related_numbers (relation_of_order o) nodes (l ∷ ls) ≡ Ok m → IsWorth sorts nodes m (λ schedule. order_value o (values_on schedule))
+      ordered_worth order.AtMost e = by_neighbours relation.AtMost e
+      ordered_worth order.Less e = by_neighbours relation.Less e
+      ordered_worth order.AtLeast e = by_neighbours relation.AtLeast e
+      ordered_worth order.Greater e = by_neighbours relation.Greater e
+
+      equal_numbers_worth : (q : Equality) → related_numbers (relation_of_equality q) nodes (l ∷ ls) ≡ Ok m → IsWorth sorts nodes m (λ schedule. equal_numbers q (values_on schedule))
+      equal_numbers_worth equality.Equal e = by_neighbours relation.Equal e
+      equal_numbers_worth equality.Distinct e = by_pairs relation.Distinct e
 
     -- terms that are all Int
     record AreNumbers (ts : List LoweredTerm) (ls : List LinearValue) : Type 0 where
@@ -340,28 +332,17 @@ module _ (sorts : List Sort) (nodes : List NodeValue) (room : length nodes ≤ n
     some_before (numeric (case ∷ [])) (Some ls) e = cc
     some_before (numeric (case ∷ other ∷ cases)) found e = cc
 
-    numbers_by : (o : Operator) (t : LoweredTerm) (ts : List LoweredTerm) (m : Made) (found : Option (List LinearValue)) → AllByRecursion (IsTermIn sorts nodes) (t ∷ ts) → linears_in (t ∷ ts) ≡ found → of_numbers o nodes found ≡ Ok m
-        → IsWorth sorts nodes m (λ schedule. operator_value o (map (lowered_value nodes schedule) (t ∷ ts)))
-    numbers_by o t ts m None h f e = absurd cc
-    numbers_by o t ts m (Some []) h f e = absurd (some_before t (linears_in ts) f)
-    numbers_by o t ts m (Some (l ∷ ls)) h f e =
-        let are = numbers_are (t ∷ ts) (l ∷ ls) h f in
-        let made = number_made_worth l ls are.linear m o e in
-        record {
-          added = made.added;
-          grows = made.grows;
-          room = made.room;
-          table = made.table;
-          term = made.term;
-          says = λ schedule.
-              made.says schedule
-              ∙ ap (applied_to o None) (sym (are.say schedule))
-              ∙ ap (λ (found : Option (List Bool)). applied_to o found (wholes_in (map (lowered_value nodes schedule) (t ∷ ts)))) (sym (no_truths t ts (l ∷ ls) f schedule));
-        }
-
-    numbers_worth : (o : Operator) (t : LoweredTerm) (ts : List LoweredTerm) (m : Made) → AllByRecursion (IsTermIn sorts nodes) (t ∷ ts) → of_numbers o nodes (linears_in (t ∷ ts)) ≡ Ok m
-        → IsWorth sorts nodes m (λ schedule. operator_value o (map (lowered_value nodes schedule) (t ∷ ts)))
-    numbers_worth o t ts m h e = numbers_by o t ts m (linears_in (t ∷ ts)) h refl e
+    -- what is made of one or more terms that are all Int
+    numbers_by : (make : List LinearValue → Result Made TermRefusal) (f : List ℤ → Value) (m : Made) (t : LoweredTerm) (ts : List LoweredTerm) (found : Option (List LinearValue)) (worth : List NamedValue → Value)
+        → ((l : LinearValue) (ls : List LinearValue) → AllByRecursion (IsLinearFor sorts) (l ∷ ls) → make (l ∷ ls) ≡ Ok m → IsWorth sorts nodes m (λ schedule. f (map (linear_value (point_values schedule)) (l ∷ ls))))
+        → ((schedule : List NamedValue) (ns : List ℤ) → truths_on (t ∷ ts) schedule ≡ None → wholes_on (t ∷ ts) schedule ≡ Some ns → f ns ≡ worth schedule)
+        → AllByRecursion (IsTermIn sorts nodes) (t ∷ ts) → linears_in (t ∷ ts) ≡ found → of_sort make found ≡ Ok m → IsWorth sorts nodes m worth
+    numbers_by make f m t ts None worth makes same h g e = absurd cc
+    numbers_by make f m t ts (Some []) worth makes same h g e = absurd (some_before t (linears_in ts) g)
+    numbers_by make f m t ts (Some (l ∷ ls)) worth makes same h g e =
+        let are = numbers_are (t ∷ ts) (l ∷ ls) h g in
+        worth_as m (λ schedule. f (map (linear_value (point_values schedule)) (l ∷ ls))) worth (makes l ls are.linear e)
+        (λ schedule. same schedule (map (linear_value (point_values schedule)) (l ∷ ls)) (no_truths t ts (l ∷ ls) g schedule) (are.say schedule))
 
     -- ---- all operators
 
@@ -369,10 +350,33 @@ module _ (sorts : List Sort) (nodes : List NodeValue) (room : length nodes ≤ n
       abbrev IsApplied : Operator → List LoweredTerm → Type 0
       IsApplied o ts = IsWorth sorts nodes m (λ schedule. operator_value o (map (lowered_value nodes schedule) ts))
 
-      first_sort_worth : (o : Operator) (ts : List LoweredTerm) → AllByRecursion (IsTermIn sorts nodes) ts → of_first_sort o nodes ts ≡ Ok m → IsApplied o ts
-      first_sort_worth o [] h e = absurd cc
-      first_sort_worth o (formula k ∷ ts) h e = formulas_worth o (formula k ∷ ts) m h e
-      first_sort_worth o (numeric cases ∷ ts) h e = numbers_worth o (numeric cases) ts m h e
+      connective_worth : (c : Connective) (ts : List LoweredTerm) → AllByRecursion (IsTermIn sorts nodes) ts → of_sort (connected c nodes) (formulas_in ts) ≡ Ok m → IsApplied (op.Connective c) ts
+      connective_worth c ts h e =
+          formulas_by (connected c nodes) (connective_value c) m ts (formulas_in ts) (λ schedule. of_all (connective_value c) (truths_on ts schedule))
+          (λ ks there made. connected_worth c ks m there made) (λ schedule bs is. sym (ap (of_all (connective_value c)) is)) h refl e
+
+      sum_worth : (g : Sign) (t : LoweredTerm) (ts : List LoweredTerm) → AllByRecursion (IsTermIn sorts nodes) (t ∷ ts) → of_sort (summed g nodes) (linears_in (t ∷ ts)) ≡ Ok m → IsApplied (op.Sum g) (t ∷ ts)
+      sum_worth g t ts h e =
+          numbers_by (summed g nodes) (sum_value g) m t ts (linears_in (t ∷ ts)) (λ schedule. of_all (sum_value g) (wholes_on (t ∷ ts) schedule))
+          (λ l ls linear made. summed_worth l ls linear m g made) (λ schedule ns none is. sym (ap (of_all (sum_value g)) is)) h refl e
+
+      order_worth : (o : Order) (t : LoweredTerm) (ts : List LoweredTerm) → AllByRecursion (IsTermIn sorts nodes) (t ∷ ts) → of_sort (related_numbers (relation_of_order o) nodes) (linears_in (t ∷ ts)) ≡ Ok m
+          → IsApplied (op.Order o) (t ∷ ts)
+      order_worth o t ts h e =
+          numbers_by (related_numbers (relation_of_order o) nodes) (order_value o) m t ts (linears_in (t ∷ ts)) (λ schedule. of_all (order_value o) (wholes_on (t ∷ ts) schedule))
+          (λ l ls linear made. ordered_worth l ls linear m o made) (λ schedule ns none is. sym (ap (of_all (order_value o)) is)) h refl e
+
+      first_sort_worth : (q : Equality) (ts : List LoweredTerm) → AllByRecursion (IsTermIn sorts nodes) ts → of_first_sort q nodes ts ≡ Ok m → IsApplied (op.Equality q) ts
+      first_sort_worth q [] h e = absurd cc
+      first_sort_worth q (formula k ∷ ts) h e =
+          let all : List LoweredTerm = formula k ∷ ts in
+          formulas_by (equal_formulas q nodes) (equal_truths q) m all (formulas_in all) (λ schedule. equality_value q (truths_on all schedule) (wholes_on all schedule))
+          (λ ks there made. equal_formulas_worth q ks m there made) (λ schedule bs is. sym (ap (λ (found : Option (List Bool)). equality_value q found (wholes_on all schedule)) is)) h refl e
+      first_sort_worth q (numeric cases ∷ ts) h e =
+          let all : List LoweredTerm = numeric cases ∷ ts in
+          numbers_by (related_numbers (relation_of_equality q) nodes) (equal_numbers q) m (numeric cases) ts (linears_in all) (λ schedule. equality_value q (truths_on all schedule) (wholes_on all schedule))
+          (λ l ls linear made. equal_numbers_worth l ls linear m q made)
+          (λ schedule ns none is. sym (ap (λ (found : Option (List Bool)). equality_value q found (wholes_on all schedule)) none ∙ ap (of_all (equal_numbers q)) is)) h refl e
 
       branches_worth : (ts : List LoweredTerm) → AllByRecursion (IsTermIn sorts nodes) ts → of_branches nodes ts ≡ Ok m → IsApplied op.Ite ts
       branches_worth [] h e = absurd cc
@@ -380,7 +384,10 @@ module _ (sorts : List Sort) (nodes : List NodeValue) (room : length nodes ≤ n
       branches_worth (formula c ∷ []) h e = absurd cc
       branches_worth (formula c ∷ formula a ∷ []) h e = absurd cc
       branches_worth (formula c ∷ numeric a ∷ []) h e = absurd cc
-      branches_worth (formula c ∷ formula a ∷ formula b ∷ []) h e = formulas_worth op.Ite (formula c ∷ formula a ∷ formula b ∷ []) m h e
+      branches_worth (formula c ∷ formula a ∷ formula b ∷ []) h e =
+          formula_worth (chosen nodes c a b) m (λ values. cond (node.truth nodes values c) (node.truth nodes values a) (node.truth nodes values b))
+          (λ schedule. operator_value op.Ite (map (lowered_value nodes schedule) (formula c ∷ formula a ∷ formula b ∷ [])))
+          (λ p f. chosen-made Good (atom_negates sorts) nodes table a b h.1.0 h.1.1.0 c p h.0 f) (λ schedule. refl) e
       branches_worth (formula c ∷ formula a ∷ numeric b ∷ []) h e = absurd cc
       branches_worth (formula c ∷ numeric a ∷ formula b ∷ []) h e = absurd cc
       branches_worth (formula c ∷ numeric a ∷ numeric b ∷ []) h e = absurd cc
@@ -392,23 +399,10 @@ module _ (sorts : List Sort) (nodes : List NodeValue) (room : length nodes ≤ n
       -- an operator that has its count of arguments
       pub applied_worth : (o : Operator) (ts : List LoweredTerm) → takes_count o (length ts) ≡ true → AllByRecursion (IsTermIn sorts nodes) ts → applied o nodes ts ≡ Ok m → IsApplied o ts
       unfolding applied
-      applied_worth op.Not ts count h e = formulas_worth op.Not ts m h e
-      applied_worth op.Implies ts count h e = formulas_worth op.Implies ts m h e
-      applied_worth op.And ts count h e = formulas_worth op.And ts m h e
-      applied_worth op.Or ts count h e = formulas_worth op.Or ts m h e
-      applied_worth op.Xor ts count h e = formulas_worth op.Xor ts m h e
-      applied_worth op.Equal ts count h e = first_sort_worth op.Equal ts h e
-      applied_worth op.Distinct ts count h e = first_sort_worth op.Distinct ts h e
+      applied_worth (op.Connective c) ts count h e = connective_worth c ts h e
+      applied_worth (op.Sum g) [] count h e = absurd cc
+      applied_worth (op.Sum g) (t ∷ ts) count h e = sum_worth g t ts h e
+      applied_worth (op.Order o) [] count h e = absurd cc
+      applied_worth (op.Order o) (t ∷ ts) count h e = order_worth o t ts h e
+      applied_worth (op.Equality q) ts count h e = first_sort_worth q ts h e
       applied_worth op.Ite ts count h e = branches_worth ts h e
-      applied_worth op.Plus [] count h e = absurd cc
-      applied_worth op.Plus (t ∷ ts) count h e = numbers_worth op.Plus t ts m h e
-      applied_worth op.Minus [] count h e = absurd cc
-      applied_worth op.Minus (t ∷ ts) count h e = numbers_worth op.Minus t ts m h e
-      applied_worth op.AtMost [] count h e = absurd cc
-      applied_worth op.AtMost (t ∷ ts) count h e = numbers_worth op.AtMost t ts m h e
-      applied_worth op.Less [] count h e = absurd cc
-      applied_worth op.Less (t ∷ ts) count h e = numbers_worth op.Less t ts m h e
-      applied_worth op.AtLeast [] count h e = absurd cc
-      applied_worth op.AtLeast (t ∷ ts) count h e = numbers_worth op.AtLeast t ts m h e
-      applied_worth op.Greater [] count h e = absurd cc
-      applied_worth op.Greater (t ∷ ts) count h e = numbers_worth op.Greater t ts m h e

@@ -13,8 +13,8 @@ use Rattle.idl_node.specs.declared.error.NodeError.{NodeError}
 use Rattle.idl_node.specs.Made.{Makes}
 use Rattle.idl_node.specs.Making.{then, neighbours}
 use Rattle.idl_node.specs.Nodes.{NodeValue, atom, conjunction, disjunction, Placed, placed}
-use Rattle.idl_term.specs.declared.operator.Relation.{Relation}
-use Rattle.idl_term.specs.declared.operator.Relation.TheVariants.{Equal, Distinct}
+use Rattle.idl_term.specs.declared.comparing.Relation.{Relation}
+use Rattle.idl_term.specs.declared.comparing.Relation.TheVariants.{Equal, Distinct}
 use Rattle.idl_term.specs.Applying.{both_atoms, either_atom}
 use Rattle.idl_term.specs.Comparing.{at_most, below, at_least, above, related}
 

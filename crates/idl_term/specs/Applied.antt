@@ -8,10 +8,19 @@ use Rattle.idl_term.specs.Comparing.{follows, or_too_large, all_compared}
 use Rattle.idl_scope.specs.Scopes.{LoweredTerm, formula, numeric, linear_term}
 use Rattle.idl_term.specs.declared.error.LeftOutTerm.TheVariants.{Ite}
 use Rattle.idl_term.specs.declared.error.TermRefusal.{TermRefusal}
-use Rattle.idl_term.specs.declared.error.TermRefusal.TheVariants.{WrongSort, BoundTooLarge, LeftOut}
+use Rattle.idl_term.specs.declared.error.TermRefusal.TheVariants.{WrongCount, WrongSort, BoundTooLarge, LeftOut}
+use Rattle.idl_term.specs.declared.operator.Connective.{Connective}
+use Rattle.idl_term.specs.declared.operator.Connective.TheVariants as connective
+use Rattle.idl_term.specs.declared.operator.Order.{Order}
+use Rattle.idl_term.specs.declared.operator.Order.TheVariants as order
+use Rattle.idl_term.specs.declared.operator.Sign.{Sign}
+use Rattle.idl_term.specs.declared.operator.Sign.TheVariants as sign
+use Rattle.idl_term.specs.declared.operator.Equality.{Equality}
+use Rattle.idl_term.specs.declared.operator.Equality.TheVariants as equality
 use Rattle.idl_term.specs.declared.operator.Operator.{Operator}
 use Rattle.idl_term.specs.declared.operator.Operator.TheVariants as op
-use Rattle.idl_term.specs.declared.operator.Relation.TheVariants as relation
+use Rattle.idl_term.specs.declared.comparing.Relation.{Relation}
+use Rattle.idl_term.specs.declared.comparing.Relation.TheVariants as relation
 
 -- a term, with the table that its making left
 pub record Made : Type 0 where
@@ -51,65 +60,61 @@ linears_in (t ∷ ts) = linear_before t (linears_in ts)
 
 -- ---- operators on formulas
 
-abbrev pub formula_of : Operator → List NodeValue → List ℕ → Option Placed
-formula_of op.Not nodes (a ∷ []) = denied nodes a
-formula_of op.Implies nodes members = implied nodes [] members
-formula_of op.And nodes members = conjoined nodes members
-formula_of op.Or nodes members = disjoined nodes members
-formula_of op.Xor nodes (a ∷ rest) = exclusive nodes a rest
-formula_of op.Equal nodes members = all_equal nodes members
-formula_of op.Distinct nodes members = all_different nodes members
-formula_of op.Ite nodes (c ∷ a ∷ b ∷ []) = chosen nodes c a b
-formula_of _ nodes members = None
+-- a connective on as many nodes as it takes; another number of them is refused before
+abbrev pub connected : Connective → List NodeValue → List ℕ → Result Made TermRefusal
+connected connective.Not nodes (a ∷ []) = as_formula (denied nodes a)
+connected connective.Not nodes _ = Err WrongCount
+connected connective.Implies nodes members = as_formula (implied nodes [] members)
+connected connective.And nodes members = as_formula (conjoined nodes members)
+connected connective.Or nodes members = as_formula (disjoined nodes members)
+connected connective.Xor nodes [] = Err WrongCount
+connected connective.Xor nodes (a ∷ rest) = as_formula (exclusive nodes a rest)
 
-abbrev pub of_formulas : Operator → List NodeValue → Option (List ℕ) → Result Made TermRefusal
-of_formulas o nodes None = Err WrongSort
-of_formulas o nodes (Some members) = as_formula (formula_of o nodes members)
+abbrev pub equal_formulas : Equality → List NodeValue → List ℕ → Result Made TermRefusal
+equal_formulas equality.Equal nodes members = as_formula (all_equal nodes members)
+equal_formulas equality.Distinct nodes members = as_formula (all_different nodes members)
 
 -- ---- operators on numbers
 
-abbrev pub compared_formula : Result Placed TermRefusal → Result Made TermRefusal
-compared_formula made = follows made a_formula
+abbrev pub summed : Sign → List NodeValue → List LinearValue → Result Made TermRefusal
+summed sign.Plus nodes ls = as_number nodes (sum_of ls)
+summed sign.Minus nodes ls = as_number nodes (less_others ls)
 
-abbrev pub number_made : Operator → List NodeValue → List LinearValue → Result Made TermRefusal
-number_made op.Plus nodes ls = as_number nodes (sum_of ls)
-number_made op.Minus nodes ls = as_number nodes (less_others ls)
-number_made op.AtMost nodes ls = compared_formula (all_compared relation.AtMost nodes ls)
-number_made op.Less nodes ls = compared_formula (all_compared relation.Less nodes ls)
-number_made op.AtLeast nodes ls = compared_formula (all_compared relation.AtLeast nodes ls)
-number_made op.Greater nodes ls = compared_formula (all_compared relation.Greater nodes ls)
-number_made op.Equal nodes ls = compared_formula (all_compared relation.Equal nodes ls)
-number_made op.Distinct nodes ls = compared_formula (all_compared relation.Distinct nodes ls)
-number_made _ nodes ls = Err WrongSort
+abbrev pub related_numbers : Relation → List NodeValue → List LinearValue → Result Made TermRefusal
+related_numbers r nodes ls = follows (all_compared r nodes ls) a_formula
 
-abbrev pub of_numbers : Operator → List NodeValue → Option (List LinearValue) → Result Made TermRefusal
-of_numbers o nodes None = Err WrongSort
-of_numbers o nodes (Some ls) = number_made o nodes ls
+abbrev pub relation_of_order : Order → Relation
+relation_of_order order.AtMost = relation.AtMost
+relation_of_order order.Less = relation.Less
+relation_of_order order.AtLeast = relation.AtLeast
+relation_of_order order.Greater = relation.Greater
+
+abbrev pub relation_of_equality : Equality → Relation
+relation_of_equality equality.Equal = relation.Equal
+relation_of_equality equality.Distinct = relation.Distinct
+
+-- ---- all operators
+
+-- what is made of arguments that all have the sort
+abbrev pub of_sort : {A : Type 0} → (A → Result Made TermRefusal) → Option A → Result Made TermRefusal
+of_sort make None = Err WrongSort
+of_sort make (Some members) = make members
 
 -- `=` and `distinct`: all arguments have the first one's sort
-abbrev pub of_first_sort : Operator → List NodeValue → List LoweredTerm → Result Made TermRefusal
-of_first_sort o nodes [] = Err WrongSort
-of_first_sort o nodes (formula k ∷ ts) = of_formulas o nodes (formulas_in (formula k ∷ ts))
-of_first_sort o nodes (numeric cases ∷ ts) = of_numbers o nodes (linears_in (numeric cases ∷ ts))
+abbrev pub of_first_sort : Equality → List NodeValue → List LoweredTerm → Result Made TermRefusal
+of_first_sort e nodes [] = Err WrongSort
+of_first_sort e nodes (formula k ∷ ts) = of_sort (equal_formulas e nodes) (formulas_in (formula k ∷ ts))
+of_first_sort e nodes (numeric cases ∷ ts) = of_sort (related_numbers (relation_of_equality e) nodes) (linears_in (numeric cases ∷ ts))
 
 -- `ite`: a Bool condition, and two branches of one sort; those of Int are left out
 abbrev pub of_branches : List NodeValue → List LoweredTerm → Result Made TermRefusal
-of_branches nodes (formula c ∷ formula a ∷ formula b ∷ []) = as_formula (formula_of op.Ite nodes (c ∷ a ∷ b ∷ []))
+of_branches nodes (formula c ∷ formula a ∷ formula b ∷ []) = as_formula (chosen nodes c a b)
 of_branches nodes (formula c ∷ numeric a ∷ numeric b ∷ []) = Err (LeftOut Ite)
 of_branches nodes _ = Err WrongSort
 
 unfoldable pub applied : Operator → List NodeValue → List LoweredTerm → Result Made TermRefusal
-applied op.Not nodes ts = of_formulas op.Not nodes (formulas_in ts)
-applied op.Implies nodes ts = of_formulas op.Implies nodes (formulas_in ts)
-applied op.And nodes ts = of_formulas op.And nodes (formulas_in ts)
-applied op.Or nodes ts = of_formulas op.Or nodes (formulas_in ts)
-applied op.Xor nodes ts = of_formulas op.Xor nodes (formulas_in ts)
-applied op.Equal nodes ts = of_first_sort op.Equal nodes ts
-applied op.Distinct nodes ts = of_first_sort op.Distinct nodes ts
+applied (op.Connective c) nodes ts = of_sort (connected c nodes) (formulas_in ts)
+applied (op.Sum s) nodes ts = of_sort (summed s nodes) (linears_in ts)
+applied (op.Order o) nodes ts = of_sort (related_numbers (relation_of_order o) nodes) (linears_in ts)
+applied (op.Equality e) nodes ts = of_first_sort e nodes ts
 applied op.Ite nodes ts = of_branches nodes ts
-applied op.Plus nodes ts = of_numbers op.Plus nodes (linears_in ts)
-applied op.Minus nodes ts = of_numbers op.Minus nodes (linears_in ts)
-applied op.AtMost nodes ts = of_numbers op.AtMost nodes (linears_in ts)
-applied op.Less nodes ts = of_numbers op.Less nodes (linears_in ts)
-applied op.AtLeast nodes ts = of_numbers op.AtLeast nodes (linears_in ts)
-applied op.Greater nodes ts = of_numbers op.Greater nodes (linears_in ts)

@@ -2,11 +2,12 @@
 use Rattle.std.specs.Prelude.{◌≡◌, List, [], ◌∷◌, true, false, Option, Result, Ok, Err}
 use Rattle.stn_core.specs.declared.literal.Literal.{Literal}
 use Rattle.idl_linear.specs.declared.error.DifferenceRefusal.{DifferenceRefusal}
-use Rattle.idl_linear.specs.declared.error.LinearError.{LinearError}
-use Rattle.idl_linear.specs.declared.error.LinearError.TheVariants as linear
+use Rattle.idl_linear.specs.declared.error.LinearRefusal.{LinearRefusal}
+use Rattle.idl_linear.specs.declared.error.LinearRefusal.TheVariants as linear
 use Rattle.idl_linear.specs.Linear.{LinearValue, is_limited}
 use Rattle.idl_node.specs.declared.error.NodeError.{NodeError}
 use Rattle.idl_node.specs.declared.error.NodeError.TheVariants as node
+use Rattle.idl_node.specs.declared.error.NodeRefusal.TheVariants as full
 use Rattle.idl_node.specs.Making.{then}
 use Rattle.idl_node.specs.Nodes.{NodeValue, atom, conjunction, disjunction, Placed, placed}
 use Rattle.idl_term.specs.Comparing.{refusal_of}
@@ -17,20 +18,19 @@ use Rattle.idl_term.specs.declared.error.TermRefusal.TheVariants.{TooLarge, Boun
 -- the errors of what terms are made of, as errors of terms
 abbrev pub of_node : NodeError → TermError
 of_node node.OutOfMemory = OutOfMemory
-of_node node.TooLarge = Refused TooLarge
+of_node (node.Refused full.TooLarge) = Refused TooLarge
 
-abbrev pub of_linear : LinearError → TermError
-of_linear linear.OutOfMemory = OutOfMemory
+abbrev pub of_linear : LinearRefusal → TermError
 of_linear linear.BoundTooLarge = Refused BoundTooLarge
 
 abbrev pub of_difference : DifferenceRefusal → TermError
 of_difference why = Refused (refusal_of why)
 
 -- the sum, where it is within the limits; want of memory says nothing
-abbrev pub Sums : LinearValue → Result LinearValue LinearError → Type 0
+abbrev pub Sums : LinearValue → Result LinearValue TermError → Type 0
 Sums sum (Ok l) = (l ≡ sum) × (is_limited sum ≡ true)
-Sums sum (Err linear.BoundTooLarge) = is_limited sum ≡ false
-Sums sum (Err linear.OutOfMemory) = Unit {0}
+Sums sum (Err (Refused why)) = (why ≡ BoundTooLarge) × (is_limited sum ≡ false)
+Sums sum (Err OutOfMemory) = Unit {0}
 
 -- both of two bounds, and one of them
 abbrev pub both_atoms : List NodeValue → Literal → Literal → Option Placed

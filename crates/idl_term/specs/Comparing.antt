@@ -9,8 +9,8 @@ use Rattle.idl_linear.specs.Differences.{difference_of}
 use Rattle.idl_linear.specs.Linear.{LinearValue}
 use Rattle.idl_node.specs.Making.{then, conjoined, neighbours, pairs}
 use Rattle.idl_node.specs.Nodes.{NodeValue, atom, conjunction, disjunction, Placed, placed}
-use Rattle.idl_term.specs.declared.operator.Relation.{Relation}
-use Rattle.idl_term.specs.declared.operator.Relation.TheVariants.{AtMost, Less, AtLeast, Greater, Equal, Distinct}
+use Rattle.idl_term.specs.declared.comparing.Relation.{Relation}
+use Rattle.idl_term.specs.declared.comparing.Relation.TheVariants.{AtMost, Less, AtLeast, Greater, Equal, Distinct}
 use Rattle.idl_term.specs.declared.error.TermRefusal.{TermRefusal}
 use Rattle.idl_term.specs.declared.error.TermRefusal.TheVariants.{TooLarge, NotADifference, BoundTooLarge}
 

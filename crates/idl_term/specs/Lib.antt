@@ -1,4 +1,5 @@
 pub mod Operators
+pub mod Reserved
 pub mod Values
 pub mod Comparing
 pub mod Applied
@@ -11,6 +12,7 @@ pub mod Applying
 pub mod Contexts
 pub mod Meanings
 pub mod Examples
+pub mod Laws
 pub use Rattle.idl_scope.specs.Limits
 pub use Rattle.idl_scope.specs.Guarded
 pub use Rattle.idl_scope.specs.Scopes

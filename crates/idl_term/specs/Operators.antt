@@ -1,31 +1,63 @@
 -- The operators of terms, and the other symbols that stand in terms (SMT-LIB 2.6, theories Core and Ints, and section 3.1).
-use Rattle.std.specs.Prelude.{ℕ, List, [], ◌∷◌, Bool, false, ◌||◌, ◌==◌, nat_le, codes, if◌then◌else◌, Option, Some, None}
+use Rattle.std.specs.Prelude.{ℕ, List, [], ◌∷◌, Bool, false, ◌||◌, ◌==◌, nat_le, codes, if◌then◌else◌, Option, Some, None, option_map}
 use Rattle.std.specs.List.{list_any}
 use Rattle.std.specs.Str.{bytes_eq}
 use Rattle.smt_sexpr.specs.Tree.{Sexpr, symbol_of}
+use Rattle.idl_term.specs.declared.operator.Connective.{Connective}
+use Rattle.idl_term.specs.declared.operator.Connective.TheVariants as connective
+use Rattle.idl_term.specs.declared.operator.Order.{Order}
+use Rattle.idl_term.specs.declared.operator.Order.TheVariants as order
+use Rattle.idl_term.specs.declared.operator.Sign.{Sign}
+use Rattle.idl_term.specs.declared.operator.Sign.TheVariants as sign
+use Rattle.idl_term.specs.declared.operator.Equality.{Equality}
+use Rattle.idl_term.specs.declared.operator.Equality.TheVariants as equality
 use Rattle.idl_term.specs.declared.operator.Operator.{Operator}
 use Rattle.idl_term.specs.declared.operator.Operator.TheVariants as op
 use Rattle.idl_term.specs.declared.error.LeftOutTerm.{LeftOutTerm}
 use Rattle.idl_term.specs.declared.error.LeftOutTerm.TheVariants as left_out
 
--- the operator that a symbol names
+-- the operator that a symbol names, by its kind
+unfoldable pub connective_of : List ℕ → Option Connective
+connective_of name =
+    if bytes_eq name (codes "and") then Some connective.And
+    else (if bytes_eq name (codes "or") then Some connective.Or
+    else (if bytes_eq name (codes "not") then Some connective.Not
+    else (if bytes_eq name (codes "=>") then Some connective.Implies
+    else (if bytes_eq name (codes "xor") then Some connective.Xor
+    else None))))
+
+unfoldable pub order_of : List ℕ → Option Order
+order_of name =
+    if bytes_eq name (codes "<=") then Some order.AtMost
+    else (if bytes_eq name (codes "<") then Some order.Less
+    else (if bytes_eq name (codes ">=") then Some order.AtLeast
+    else (if bytes_eq name (codes ">") then Some order.Greater
+    else None)))
+
+unfoldable pub sign_of : List ℕ → Option Sign
+sign_of name =
+    if bytes_eq name (codes "+") then Some sign.Plus
+    else (if bytes_eq name (codes "-") then Some sign.Minus
+    else None)
+
+unfoldable pub equality_of : List ℕ → Option Equality
+equality_of name =
+    if bytes_eq name (codes "=") then Some equality.Equal
+    else (if bytes_eq name (codes "distinct") then Some equality.Distinct
+    else None)
+
+-- the first of two, where there is one
+abbrev pub or_else : Option Operator → Option Operator → Option Operator
+or_else (Some o) other = Some o
+or_else None other = other
+
 unfoldable pub operator_of : List ℕ → Option Operator
 operator_of name =
-    if bytes_eq name (codes "not") then Some op.Not
-    else (if bytes_eq name (codes "=>") then Some op.Implies
-    else (if bytes_eq name (codes "and") then Some op.And
-    else (if bytes_eq name (codes "or") then Some op.Or
-    else (if bytes_eq name (codes "xor") then Some op.Xor
-    else (if bytes_eq name (codes "=") then Some op.Equal
-    else (if bytes_eq name (codes "distinct") then Some op.Distinct
-    else (if bytes_eq name (codes "ite") then Some op.Ite
-    else (if bytes_eq name (codes "+") then Some op.Plus
-    else (if bytes_eq name (codes "-") then Some op.Minus
-    else (if bytes_eq name (codes "<=") then Some op.AtMost
-    else (if bytes_eq name (codes "<") then Some op.Less
-    else (if bytes_eq name (codes ">=") then Some op.AtLeast
-    else (if bytes_eq name (codes ">") then Some op.Greater
-    else None)))))))))))))
+    or_else (option_map (λ c. op.Connective c) (connective_of name))
+    (or_else (option_map (λ o. op.Order o) (order_of name))
+    (or_else (option_map (λ s. op.Sum s) (sign_of name))
+    (or_else (option_map (λ e. op.Equality e) (equality_of name))
+    (if bytes_eq name (codes "ite") then Some op.Ite else None))))
 
 -- what is left out, by the symbol at the head of a term
 unfoldable pub left_out_of : List ℕ → Option LeftOutTerm
@@ -56,11 +88,10 @@ is_reserved name = list_any (bytes_eq name) theory_symbols || list_any (bytes_eq
 
 -- how many arguments an operator has
 abbrev pub takes_count : Operator → ℕ → Bool
-takes_count op.Not n = n == 1
-takes_count op.And n = nat_le 1 n
-takes_count op.Or n = nat_le 1 n
-takes_count op.Plus n = nat_le 1 n
-takes_count op.Minus n = nat_le 1 n
+takes_count (op.Connective connective.Not) n = n == 1
+takes_count (op.Connective connective.And) n = nat_le 1 n
+takes_count (op.Connective connective.Or) n = nat_le 1 n
+takes_count (op.Sum s) n = nat_le 1 n
 takes_count op.Ite n = n == 3
 takes_count _ n = nat_le 2 n
 

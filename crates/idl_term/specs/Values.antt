@@ -7,11 +7,20 @@ use Rattle.smt_lex.specs.declared.token.TokenKind.TheVariants.{Numeral, Symbol}
 use Rattle.smt_lex.specs.Numbers.{value_of}
 use Rattle.smt_sexpr.specs.Tree.{Sexpr, Items, leaf, list, none, more, symbol_of}
 use Rattle.idl_node.specs.Truth.{equal_truth, different_truth, exclusive_truth, implied_truth, chain, all_pairs}
+use Rattle.idl_term.specs.declared.operator.Connective.{Connective}
+use Rattle.idl_term.specs.declared.operator.Connective.TheVariants as connective
+use Rattle.idl_term.specs.declared.operator.Order.{Order}
+use Rattle.idl_term.specs.declared.operator.Order.TheVariants as order
+use Rattle.idl_term.specs.declared.operator.Sign.{Sign}
+use Rattle.idl_term.specs.declared.operator.Sign.TheVariants as sign
+use Rattle.idl_term.specs.declared.operator.Equality.{Equality}
+use Rattle.idl_term.specs.declared.operator.Equality.TheVariants as equality
 use Rattle.idl_term.specs.declared.operator.Operator.{Operator}
 use Rattle.idl_term.specs.declared.operator.Operator.TheVariants as op
 use Rattle.idl_term.specs.Operators.{is_symbol, operator_of}
 
--- what a term stands for: a whole number, a truth value, or nothing where it is of no form that is read, or ill-sorted
+-- what a term stands for: a whole number, a truth value, or nothing where there is no such value, as where the term is
+-- ill-sorted. A term that is refused may have one: `(and)` is true.
 pub data Value : Type 0 where
   whole : (number : ℤ) → Value
   truth : (holds : Bool) → Value
@@ -48,17 +57,15 @@ abbrev pub all_true : List Bool → Bool
 all_true [] = true
 all_true (a ∷ rest) = a && all_true rest
 
--- an operator on truth values: `xor` goes from the left, `=>` from the right
-abbrev pub truth_of : Operator → List Bool → Value
-truth_of op.Not (a ∷ []) = truth (not a)
-truth_of op.Implies truths = truth (implied_truth truths)
-truth_of op.And truths = truth (all_true truths)
-truth_of op.Or truths = truth (any_true truths)
-truth_of op.Xor (a ∷ rest) = truth (exclusive_truth a rest)
-truth_of op.Equal truths = truth (chain equal_truth truths)
-truth_of op.Distinct truths = truth (all_pairs different_truth truths)
-truth_of op.Ite (c ∷ a ∷ b ∷ []) = truth (if c then a else b)
-truth_of _ truths = nothing
+-- a connective on truth values: `xor` goes from the left, `=>` from the right
+abbrev pub connective_value : Connective → List Bool → Value
+connective_value connective.Not (a ∷ []) = truth (not a)
+connective_value connective.Not _ = nothing
+connective_value connective.Implies truths = truth (implied_truth truths)
+connective_value connective.And truths = truth (all_true truths)
+connective_value connective.Or truths = truth (any_true truths)
+connective_value connective.Xor [] = nothing
+connective_value connective.Xor (a ∷ rest) = truth (exclusive_truth a rest)
 
 abbrev pub total : List ℤ → ℤ
 total [] = pos 0
@@ -73,17 +80,29 @@ remainder (n ∷ m ∷ ms) = whole (n -ℤ total (m ∷ ms))
 abbrev pub other_number : ℤ → ℤ → Bool
 other_number a b = not (int_eq a b)
 
--- an operator on whole numbers; a relation holds of all neighbours, `distinct` of all pairs
-abbrev pub number_of : Operator → List ℤ → Value
-number_of op.Plus ns = whole (total ns)
-number_of op.Minus ns = remainder ns
-number_of op.Equal ns = truth (chain int_eq ns)
-number_of op.Distinct ns = truth (all_pairs other_number ns)
-number_of op.AtMost ns = truth (chain int_le ns)
-number_of op.Less ns = truth (chain int_lt ns)
-number_of op.AtLeast ns = truth (chain (λ a b. int_le b a) ns)
-number_of op.Greater ns = truth (chain (λ a b. int_lt b a) ns)
-number_of _ ns = nothing
+abbrev pub sum_value : Sign → List ℤ → Value
+sum_value sign.Plus ns = whole (total ns)
+sum_value sign.Minus ns = remainder ns
+
+-- an order holds of all neighbours
+abbrev pub order_value : Order → List ℤ → Value
+order_value order.AtMost ns = truth (chain int_le ns)
+order_value order.Less ns = truth (chain int_lt ns)
+order_value order.AtLeast ns = truth (chain (λ a b. int_le b a) ns)
+order_value order.Greater ns = truth (chain (λ a b. int_lt b a) ns)
+
+-- `=` holds of all neighbours, `distinct` of all pairs; of truth values, and of whole numbers
+abbrev pub equal_truths : Equality → List Bool → Value
+equal_truths equality.Equal truths = truth (chain equal_truth truths)
+equal_truths equality.Distinct truths = truth (all_pairs different_truth truths)
+
+abbrev pub equal_numbers : Equality → List ℤ → Value
+equal_numbers equality.Equal ns = truth (chain int_eq ns)
+equal_numbers equality.Distinct ns = truth (all_pairs other_number ns)
+
+abbrev pub choice_value : List Bool → Value
+choice_value (c ∷ a ∷ b ∷ []) = truth (if c then a else b)
+choice_value _ = nothing
 
 abbrev pub truth_before : Value → Option (List Bool) → Option (List Bool)
 truth_before (truth b) (Some bs) = Some (b ∷ bs)
@@ -102,14 +121,23 @@ abbrev pub wholes_in : List Value → Option (List ℤ)
 wholes_in [] = Some []
 wholes_in (v ∷ vs) = whole_before v (wholes_in vs)
 
-abbrev pub applied_to : Operator → Option (List Bool) → Option (List ℤ) → Value
-applied_to o (Some truths) ns = truth_of o truths
-applied_to o None (Some ns) = number_of o ns
-applied_to o None None = nothing
+-- the value of what is all of one sort
+abbrev pub of_all : {A : Type 0} → (A → Value) → Option A → Value
+of_all f None = nothing
+of_all f (Some vs) = f vs
 
--- an operator on values of one sort
+-- truth values, or else whole numbers
+abbrev pub equality_value : Equality → Option (List Bool) → Option (List ℤ) → Value
+equality_value e (Some truths) ns = equal_truths e truths
+equality_value e None ns = of_all (equal_numbers e) ns
+
+-- an operator on values
 abbrev pub operator_value : Operator → List Value → Value
-operator_value o vs = applied_to o (truths_in vs) (wholes_in vs)
+operator_value (op.Connective c) vs = of_all (connective_value c) (truths_in vs)
+operator_value (op.Sum s) vs = of_all (sum_value s) (wholes_in vs)
+operator_value (op.Order o) vs = of_all (order_value o) (wholes_in vs)
+operator_value (op.Equality e) vs = equality_value e (truths_in vs) (wholes_in vs)
+operator_value op.Ite vs = of_all choice_value (truths_in vs)
 
 abbrev pub value_by : Option Operator → List Value → Value
 value_by (Some o) vs = operator_value o vs

@@ -29,6 +29,10 @@ pub record Walk : Type 0 where
   -- what was made, the last one last
   pub values : List LoweredTerm
 
+-- before its first step
+abbrev pub at_start : Table → Scope → Walk
+at_start t scope = record { table = t; inner = record { outer = scope; variables = [] }; frames = []; values = [] }
+
 abbrev pub scope_at : Walk → Scope
 scope_at w = scope_in w.inner
 

@@ -1,18 +1,18 @@
-//! What an operator makes of its arguments.
-ghost use Rattle.std.specs.Prelude.{◌≡◌, length, map, option_map, take, true, IfOk};
+//! What an operator makes of its arguments. After an error the table may be longer than before it: the caller cuts it.
+ghost use Rattle.std.specs.Prelude.{◌≡◌, List, Option, length, map, option_map, take, IfOk};
 ghost use Rattle.idl_node.specs.Made.{Makes};
-ghost use Rattle.idl_term.specs.Applied.{applied, formulas_in, linears_in, formula_of, of_formulas, number_made, of_numbers, of_first_sort, of_branches};
-ghost use Rattle.idl_term.specs.Operators.{takes_count};
-ghost use Rattle.idl_term.specs.Shapes.{Lowers};
+ghost use Rattle.idl_node.specs.Nodes.{NodeValue, Placed};
 ghost use Rattle.idl_scope.specs.Scopes.{shown_terms};
+ghost use Rattle.idl_term.specs.Applied.{applied, as_formula, formulas_in, linears_in, connected, equal_formulas, summed, related_numbers, relation_of_order, relation_of_equality, of_sort, of_first_sort, of_branches};
+ghost use Rattle.idl_term.specs.Shapes.{Lowers};
 
 use crate::arithmetic::{add, subtract};
-use crate::comparing::compare_all;
+use crate::comparing::{Relation, compare_all};
 use crate::error::{LeftOutTerm, TermError, TermRefusal};
-use idl_scope::Lowered;
-use crate::operator::{Operator, Relation};
+use crate::operator::{Connective, Equality, Operator, Order, Sign};
 use idl_linear::Linear;
 use idl_node::{NodeError, Nodes};
+use idl_scope::Lowered;
 use std::alloc::{AllocFailed, Global};
 
 /// The nodes of terms that are all Bool.
@@ -34,7 +34,8 @@ fn linears<'t>(
     alloc: Global,
     terms: &'t [Lowered],
 ) -> Result<Option<Vec<&'t Linear>>, AllocFailed<&'t Linear>>
-    ensures { IfOk result (λ found. linears_in (shown_terms terms.now) ≡ option_map (λ v. map (λ l. l.now) v.items) found) }
+    ensures { IfOk result (λ found.
+        linears_in (shown_terms terms.now) ≡ option_map (λ v. map (λ l. l.now) v.items) found) }
 {
     let mut members = Vec::new(alloc);
     for term in terms {
@@ -49,103 +50,170 @@ fn linears<'t>(
     Ok(Some(members))
 }
 
-/// The node of an operator on formulas. Those on numbers make none.
-fn combine(
-    alloc: Global,
-    operator: Operator,
-    nodes: &mut Nodes,
-    members: Vec<u32>,
-) -> Result<u32, NodeError>
-    requires count { takes_count operator (length members.items) ≡ true }
-    ensures makes { Makes nodes.new (formula_of operator nodes.old members.items) result }
-    ensures front { take (length nodes.old) nodes.new ≡ nodes.old }
+/// A node that was made, as a term.
+pub(crate) fn as_formula(made: Result<u32, NodeError>) -> Result<Lowered, TermError>
+    ensures { (nodes : List NodeValue) (place : Option Placed)
+        → Makes nodes place made → Lowers nodes (as_formula place) result }
 {
-    match operator {
-        Operator::Not => nodes.negate(members[0]),
-        Operator::Implies => nodes.imply(alloc, &members),
-        Operator::And => nodes.conjoin(members),
-        Operator::Or => nodes.disjoin(members),
-        Operator::Xor => nodes.exclude(alloc, members[0], &members[1..]),
-        Operator::Equal => nodes.equate(alloc, &members),
-        Operator::Distinct => nodes.tell_apart(alloc, &members),
-        Operator::Ite => nodes.choose(alloc, members[0], members[1], members[2]),
-        _ => Err(NodeError::TooLarge),
-    }
+    let number = made?;
+    Ok(Lowered::Truth(number))
 }
 
-/// An operator on terms that must all be Bool.
-fn apply_to_formulas(
+/// A connective on formulas.
+fn connect(
     alloc: Global,
-    operator: Operator,
+    connective: Connective,
+    nodes: &mut Nodes,
+    members: Vec<u32>,
+) -> Result<Lowered, TermError>
+    ensures makes { Lowers nodes.new (connected connective nodes.old members.items) result }
+    ensures front { take (length nodes.old) nodes.new ≡ nodes.old }
+{
+    let number = match connective {
+        Connective::Not => match members.as_slice() {
+            [member] => nodes.negate(*member)?,
+            _ => return Err(TermError::Refused(TermRefusal::WrongCount)),
+        },
+        Connective::Implies => nodes.imply(alloc, &members)?,
+        Connective::And => nodes.conjoin(members)?,
+        Connective::Or => nodes.disjoin(members)?,
+        Connective::Xor => match members.split_first() {
+            Some((first, others)) => nodes.exclude(alloc, *first, others)?,
+            None => return Err(TermError::Refused(TermRefusal::WrongCount)),
+        },
+    };
+    Ok(Lowered::Truth(number))
+}
+
+/// A connective on terms that must all be Bool.
+fn apply_connective(
+    alloc: Global,
+    connective: Connective,
     nodes: &mut Nodes,
     arguments: &[Lowered],
 ) -> Result<Lowered, TermError>
-    requires count { takes_count operator (length arguments.now) ≡ true }
-    ensures makes { Lowers nodes.new (of_formulas operator nodes.old (formulas_in (shown_terms arguments.now))) result }
+    ensures makes { Lowers nodes.new
+        (of_sort (connected connective nodes.old) (formulas_in (shown_terms arguments.now))) result }
     ensures front { take (length nodes.old) nodes.new ≡ nodes.old }
 {
     let Some(members) = formulas(alloc, arguments)? else {
         return Err(TermError::Refused(TermRefusal::WrongSort));
     };
-    let number = combine(alloc, operator, nodes, members)?;
-    Ok(Lowered::Truth(number))
+    connect(alloc, connective, nodes, members)
 }
 
-/// What an operator makes of numbers.
-fn calculate(
+/// `=` and `distinct` of formulas.
+fn equate(
     alloc: Global,
-    operator: Operator,
+    equality: Equality,
     nodes: &mut Nodes,
-    terms: &[&Linear],
+    members: &[u32],
 ) -> Result<Lowered, TermError>
-    ensures makes { Lowers nodes.new (number_made operator nodes.old (map (λ l. l.now) terms.now)) result }
+    ensures makes { Lowers nodes.new (equal_formulas equality nodes.old members.now) result }
     ensures front { take (length nodes.old) nodes.new ≡ nodes.old }
 {
-    let relation = match operator {
-        Operator::Plus => return Ok(Lowered::number(alloc, add(alloc, terms)?)),
-        Operator::Minus => return Ok(Lowered::number(alloc, subtract(alloc, terms)?)),
-        Operator::AtMost => Relation::AtMost,
-        Operator::Less => Relation::Less,
-        Operator::AtLeast => Relation::AtLeast,
-        Operator::Greater => Relation::Greater,
-        Operator::Equal => Relation::Equal,
-        Operator::Distinct => Relation::Distinct,
-        _ => return Err(TermError::Refused(TermRefusal::WrongSort)),
-    };
-    let number = compare_all(alloc, nodes, relation, terms)?;
-    Ok(Lowered::Truth(number))
+    match equality {
+        Equality::Equal => {
+            let number = nodes.equate(alloc, members)?;
+            Ok(Lowered::Truth(number))
+        }
+        Equality::Distinct => {
+            let number = nodes.tell_apart(alloc, members)?;
+            Ok(Lowered::Truth(number))
+        }
+    }
 }
 
-/// An operator on terms that must all be Int.
-fn apply_to_numbers(
+/// `=` and `distinct` of terms that must all be Bool.
+fn equate_formulas(
     alloc: Global,
-    operator: Operator,
+    equality: Equality,
     nodes: &mut Nodes,
     arguments: &[Lowered],
 ) -> Result<Lowered, TermError>
-    ensures makes { Lowers nodes.new (of_numbers operator nodes.old (linears_in (shown_terms arguments.now))) result }
+    ensures makes { Lowers nodes.new
+        (of_sort (equal_formulas equality nodes.old) (formulas_in (shown_terms arguments.now))) result }
+    ensures front { take (length nodes.old) nodes.new ≡ nodes.old }
+{
+    let Some(members) = formulas(alloc, arguments)? else {
+        return Err(TermError::Refused(TermRefusal::WrongSort));
+    };
+    equate(alloc, equality, nodes, &members)
+}
+
+/// A sum of terms that must all be Int.
+fn apply_sum(
+    alloc: Global,
+    sign: Sign,
+    nodes: &Nodes,
+    arguments: &[Lowered],
+) -> Result<Lowered, TermError>
+    ensures { Lowers nodes.now
+        (of_sort (summed sign nodes.now) (linears_in (shown_terms arguments.now))) result }
+{
+    let Some(terms) = linears(alloc, arguments)? else {
+        return Err(TermError::Refused(TermRefusal::WrongSort));
+    };
+    let sum = match sign {
+        Sign::Plus => add(alloc, &terms)?,
+        Sign::Minus => subtract(alloc, &terms)?,
+    };
+    Ok(Lowered::number(alloc, sum))
+}
+
+/// A relation between terms that must all be Int.
+fn relate_numbers(
+    alloc: Global,
+    relation: Relation,
+    nodes: &mut Nodes,
+    arguments: &[Lowered],
+) -> Result<Lowered, TermError>
+    ensures makes { Lowers nodes.new
+        (of_sort (related_numbers relation nodes.old) (linears_in (shown_terms arguments.now))) result }
     ensures front { take (length nodes.old) nodes.new ≡ nodes.old }
 {
     let Some(terms) = linears(alloc, arguments)? else {
         return Err(TermError::Refused(TermRefusal::WrongSort));
     };
-    calculate(alloc, operator, nodes, &terms)
+    let number = compare_all(alloc, nodes, relation, &terms)?;
+    Ok(Lowered::Truth(number))
+}
+
+fn relation_of_order(order: Order) -> Relation
+    ensures { result ≡ relation_of_order order }
+{
+    match order {
+        Order::AtMost => Relation::AtMost,
+        Order::Less => Relation::Less,
+        Order::AtLeast => Relation::AtLeast,
+        Order::Greater => Relation::Greater,
+    }
+}
+
+fn relation_of_equality(equality: Equality) -> Relation
+    ensures { result ≡ relation_of_equality equality }
+{
+    match equality {
+        Equality::Equal => Relation::Equal,
+        Equality::Distinct => Relation::Distinct,
+    }
 }
 
 /// `=` and `distinct`: all terms have the first one's sort.
-fn apply_by_first_sort(
+fn apply_equality(
     alloc: Global,
-    operator: Operator,
+    equality: Equality,
     nodes: &mut Nodes,
     arguments: &[Lowered],
 ) -> Result<Lowered, TermError>
-    requires count { takes_count operator (length arguments.now) ≡ true }
-    ensures makes { Lowers nodes.new (of_first_sort operator nodes.old (shown_terms arguments.now)) result }
+    ensures makes { Lowers nodes.new (of_first_sort equality nodes.old (shown_terms arguments.now)) result }
     ensures front { take (length nodes.old) nodes.new ≡ nodes.old }
 {
     match arguments.first() {
-        Some(Lowered::Truth(_)) => apply_to_formulas(alloc, operator, nodes, arguments),
-        Some(Lowered::Number(_)) => apply_to_numbers(alloc, operator, nodes, arguments),
+        Some(Lowered::Truth(_)) => equate_formulas(alloc, equality, nodes, arguments),
+        Some(Lowered::Number(_)) => {
+            relate_numbers(alloc, relation_of_equality(equality), nodes, arguments)
+        }
         None => Err(TermError::Refused(TermRefusal::WrongSort)),
     }
 }
@@ -171,7 +239,7 @@ fn choose(alloc: Global, nodes: &mut Nodes, arguments: &[Lowered]) -> Result<Low
     }
 }
 
-/// What the operator makes of the arguments, of which there are as many as it takes. After an error the table may be longer.
+/// What the operator makes of the arguments.
 #[tactic(auto, unfolding(crate::specs::Applied::applied))]
 pub fn apply(
     alloc: Global,
@@ -179,22 +247,16 @@ pub fn apply(
     nodes: &mut Nodes,
     arguments: &[Lowered],
 ) -> Result<Lowered, TermError>
-    requires count { takes_count operator (length arguments.now) ≡ true }
     ensures makes { Lowers nodes.new (applied operator nodes.old (shown_terms arguments.now)) result }
     ensures front { take (length nodes.old) nodes.new ≡ nodes.old }
 {
     match operator {
-        Operator::Not | Operator::Implies | Operator::And | Operator::Or | Operator::Xor =>
-            apply_to_formulas(alloc, operator, nodes, arguments),
-        Operator::Equal | Operator::Distinct => {
-            apply_by_first_sort(alloc, operator, nodes, arguments)
+        Operator::Connective(connective) => apply_connective(alloc, connective, nodes, arguments),
+        Operator::Order(order) => {
+            relate_numbers(alloc, relation_of_order(order), nodes, arguments)
         }
+        Operator::Sum(sign) => apply_sum(alloc, sign, nodes, arguments),
+        Operator::Equality(equality) => apply_equality(alloc, equality, nodes, arguments),
         Operator::Ite => choose(alloc, nodes, arguments),
-        Operator::Plus
-        | Operator::Minus
-        | Operator::AtMost
-        | Operator::Less
-        | Operator::AtLeast
-        | Operator::Greater => apply_to_numbers(alloc, operator, nodes, arguments),
     }
 }

@@ -3,22 +3,24 @@ ghost use Rattle.std.specs.Prelude.{map};
 ghost use Rattle.idl_linear.specs.Linear.{sum_of, less_others};
 ghost use Rattle.idl_term.specs.Applying.{Sums};
 
-use idl_linear::{Linear, LinearError, LinearSum};
+use crate::error::TermError;
+use idl_linear::{Linear, LinearSum};
 use std::alloc::Global;
 
 /// `+` of any number of terms. The limits hold of the sum, and not of its parts.
-pub fn add(alloc: Global, terms: &[&Linear]) -> Result<Linear, LinearError>
+pub fn add(alloc: Global, terms: &[&Linear]) -> Result<Linear, TermError>
     ensures { Sums (sum_of (map (λ l. l.now) terms.now)) result }
 {
     let mut sum = LinearSum::new(alloc);
     for term in terms {
         sum.add(term)?;
     }
-    sum.finish()
+    let total = sum.finish()?;
+    Ok(total)
 }
 
 /// `-`: of one term its negative, of more the others are taken from the first.
-pub fn subtract(alloc: Global, terms: &[&Linear]) -> Result<Linear, LinearError>
+pub fn subtract(alloc: Global, terms: &[&Linear]) -> Result<Linear, TermError>
     ensures { Sums (less_others (map (λ l. l.now) terms.now)) result }
 {
     let mut sum = LinearSum::new(alloc);
@@ -32,5 +34,6 @@ pub fn subtract(alloc: Global, terms: &[&Linear]) -> Result<Linear, LinearError>
     for term in others {
         sum.subtract(term)?;
     }
-    sum.finish()
+    let total = sum.finish()?;
+    Ok(total)
 }

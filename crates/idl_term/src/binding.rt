@@ -4,7 +4,7 @@ ghost use Rattle.idl_term.specs.Lowered.{are_bindings, is_binding, variable_in, 
 ghost use Rattle.idl_term.specs.Heads.{LetIs};
 ghost use Rattle.idl_term.specs.Trees.{tree_of, trees_of, IsTree, AreTrees};
 
-use crate::operator::is_reserved;
+use crate::reserved::is_reserved;
 use indexmap::IndexSet;
 use smt_sexpr::{SexprId, Sexprs};
 use std::alloc::{AllocError, Global};
@@ -12,7 +12,9 @@ use std::alloc::{AllocError, Global};
 /// The variable of a binding, or `None` for what is no binding.
 fn variable_of<'a>(sexprs: &Sexprs<'a>, id: SexprId) -> Option<&'a [u8]>
     requires { IsTree sexprs.now id }
-    ensures { option_map (λ name. name.now) result ≡ (if is_binding (tree_of sexprs.now id) then Some (variable_in (tree_of sexprs.now id)) else None) }
+    ensures { option_map (λ name. name.now) result
+        ≡ (if is_binding (tree_of sexprs.now id) then Some (variable_in (tree_of sexprs.now id)) else None)
+        }
 {
     let Some([variable, _term]) = sexprs.items(id) else {
         return None;
@@ -24,7 +26,8 @@ fn variable_of<'a>(sexprs: &Sexprs<'a>, id: SexprId) -> Option<&'a [u8]>
 /// Whether all are bindings, of different variables.
 fn are_bindings(alloc: Global, sexprs: &Sexprs, bindings: &[SexprId]) -> Result<bool, AllocError>
     requires { AreTrees sexprs.now bindings.now }
-    ensures { IfOk result (λ b. b ≡ (are_bindings (trees_of sexprs.now bindings.now) && are_different (variables_in (trees_of sexprs.now bindings.now)))) }
+    ensures { IfOk result (λ b. b ≡ (are_bindings (trees_of sexprs.now bindings.now) && are_different
+        (variables_in (trees_of sexprs.now bindings.now)))) }
 {
     let mut variables = IndexSet::new(alloc);
     for binding in bindings {

@@ -8,11 +8,21 @@ ghost use Rattle.idl_term.specs.Applying.{both_atoms, either_atom};
 ghost use Rattle.idl_term.specs.Shapes.{Places};
 
 use crate::error::TermError;
-use crate::operator::Relation;
 use idl_linear::{Difference, Linear, compare};
 use idl_node::{Node, NodeError, Nodes};
 use std::alloc::Global;
 use stn_core::Literal;
+
+/// A relation between whole numbers (SMT-LIB 2.6, theories Core and Ints).
+#[derive(Clone, Copy, Debug, PartialEq, Eq)]
+pub enum Relation {
+    AtMost,
+    Less,
+    AtLeast,
+    Greater,
+    Equal,
+    Distinct,
+}
 
 /// `x - y <= n`.
 fn at_most(difference: Difference) -> Literal
@@ -143,7 +153,8 @@ fn compare_neighbours(
     relation: Relation,
     terms: &[&Linear],
 ) -> Result<u32, TermError>
-    ensures makes { Places nodes.new (each_compared relation nodes.old [] (neighbours (map (λ l. l.now) terms.now))) result }
+    ensures makes { Places nodes.new (each_compared relation nodes.old []
+        (neighbours (map (λ l. l.now) terms.now))) result }
     ensures front { take (length nodes.old) nodes.new ≡ nodes.old }
 {
     let mut parts = Vec::new(alloc);
@@ -160,7 +171,8 @@ fn compare_pairs(
     relation: Relation,
     terms: &[&Linear],
 ) -> Result<u32, TermError>
-    ensures makes { Places nodes.new (each_compared relation nodes.old [] (pairs (map (λ l. l.now) terms.now))) result }
+    ensures makes { Places nodes.new (each_compared relation nodes.old []
+        (pairs (map (λ l. l.now) terms.now))) result }
     ensures front { take (length nodes.old) nodes.new ≡ nodes.old }
 {
     let mut parts = Vec::new(alloc);

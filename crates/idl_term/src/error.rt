@@ -1,5 +1,5 @@
-use idl_linear::{DifferenceRefusal, LinearError};
-use idl_node::NodeError;
+use idl_linear::{DifferenceRefusal, LinearRefusal};
+use idl_node::{NodeError, NodeRefusal};
 use std::alloc::{AllocError, AllocFailed};
 
 /// What is left out of terms, as an error's line names it.
@@ -80,21 +80,20 @@ impl From<NodeError> for TermError {
     fn from(error: NodeError) -> Self {
         match error {
             NodeError::OutOfMemory => TermError::OutOfMemory,
-            NodeError::TooLarge => TermError::Refused(TermRefusal::TooLarge),
+            NodeError::Refused(NodeRefusal::TooLarge) => TermError::Refused(TermRefusal::TooLarge),
         }
     }
 }
 
-impl From<LinearError> for TermError {
+impl From<LinearRefusal> for TermError {
     ghost use Rattle.std.specs.Prelude.{◌≡◌};
     ghost use Rattle.idl_term.specs.Applying.{of_linear};
 
     ghost from_gives = { λ d e. e ≡ of_linear d };
 
-    fn from(error: LinearError) -> Self {
-        match error {
-            LinearError::OutOfMemory => TermError::OutOfMemory,
-            LinearError::BoundTooLarge => TermError::Refused(TermRefusal::BoundTooLarge),
+    fn from(why: LinearRefusal) -> Self {
+        match why {
+            LinearRefusal::BoundTooLarge => TermError::Refused(TermRefusal::BoundTooLarge),
         }
     }
 }

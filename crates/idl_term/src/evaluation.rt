@@ -26,7 +26,8 @@ fn product(summand: Summand, values: &[NamedValue]) -> i128
 /// The value of a linear term where the names have these values: of a Bool name's time point 0 where the name is true, else 1.
 /// It is below 2^100, and takes no memory.
 pub fn eval_int(linear: &Linear, values: &NamedValues) -> i128
-    requires points { AllByRecursion (λ (s : OneSummand). s.point < length values.now + 1) linear.now.summands }
+    requires points { AllByRecursion (λ (s : OneSummand). s.point < length values.now + 1)
+        linear.now.summands }
     ensures { result ≡ linear_value (point_values values.now) linear.now }
 {
     let values = values.as_slice();

@@ -8,7 +8,9 @@ ghost use Rattle.idl_scope.specs.LocalNames.{scope_in};
 
 use crate::error::{LeftOutTerm, TermRefusal};
 use idl_scope::Locals;
-use crate::operator::{Operator, is_reserved, left_out_of, operator_of};
+use crate::operator::Operator;
+use crate::reserved::is_reserved;
+use crate::symbol::{left_out_of, operator_of};
 use idl_scope::FoundName;
 use smt_sexpr::{SexprId, Sexprs};
 

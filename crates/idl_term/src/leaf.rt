@@ -1,28 +1,26 @@
 //! What a term of one token is made into.
-ghost use Rattle.std.specs.Prelude.{◌≡◌, ◌≢◌, List, IsTrue, Err, Option, length, take};
+ghost use Rattle.std.specs.Prelude.{◌≡◌, ◌≢◌, List, IsTrue, Err, length, take};
 ghost use Rattle.std.specs.Char.{is_ascii_digit};
-ghost use Rattle.std.specs.List.{list_all, list_any};
-ghost use Rattle.std.specs.Str.{bytes_eq};
-ghost use Rattle.idl_node.specs.Made.{Makes};
-ghost use Rattle.idl_node.specs.Nodes.{NodeValue, Placed};
-ghost use Rattle.idl_term.specs.Applied.{as_formula};
+ghost use Rattle.std.specs.List.{list_all};
+ghost use Rattle.idl_node.specs.Nodes.{NodeValue};
 ghost use Rattle.smt_lex.specs.declared.token.TokenKind.TheVariants.{Symbol};
 ghost use Rattle.smt_lex.specs.Numbers.{value_of};
 ghost use Rattle.smt_sexpr.specs.Tree.{IsLeaf};
 ghost use Rattle.idl_term.specs.Lowered.{lowered_leaf, lowered_found, lowered_numeral};
-ghost use Rattle.idl_term.specs.Operators.{is_reserved, theory_symbols, reserved_words};
+ghost use Rattle.idl_term.specs.Operators.{is_reserved};
 ghost use Rattle.idl_scope.specs.Scopes.{Scope as Meaning, Found, found};
 ghost use Rattle.idl_term.specs.declared.error.TermError.TheVariants.{Refused};
 ghost use Rattle.idl_term.specs.declared.error.TermRefusal.TheVariants.{LeftOut};
 ghost use Rattle.idl_scope.specs.Kept.{FoundIs, IsNearPlace};
 ghost use Rattle.idl_term.specs.Shapes.{Lowers};
 
+use crate::applied::as_formula;
 use crate::error::{LeftOutTerm, TermError, TermRefusal};
 use idl_scope::Lowered;
-use crate::operator::is_reserved;
+use crate::reserved::is_reserved;
 use idl_scope::FoundName;
 use idl_linear::Linear;
-use idl_node::{Node, NodeError, Nodes, Sort};
+use idl_node::{Node, Nodes, Sort};
 use smt_lex::{TokenKind, numeral_value};
 use std::alloc::Global;
 use stn_core::Literal;
@@ -30,18 +28,11 @@ use stn_core::Literal;
 /// The greatest numeral.
 const CONSTANT_LIMIT: u64 = 1 << 62;
 
-/// A node that was made, as a term.
-fn as_formula(made: Result<u32, NodeError>) -> Result<Lowered, TermError>
-    ensures { (nodes : List NodeValue) (place : Option Placed) → Makes nodes place made → Lowers nodes (as_formula place) result }
-{
-    let number = made?;
-    Ok(Lowered::Truth(number))
-}
-
 /// What a name stands for.
 fn lower_found(alloc: Global, meaning: FoundName, nodes: &mut Nodes) -> Result<Lowered, TermError>
     requires near { IsNearPlace meaning }
-    ensures makes { (found : Found) → FoundIs found meaning.entry → Lowers nodes.new (lowered_found nodes.old found) result }
+    ensures makes { (found : Found) → FoundIs found meaning.entry
+        → Lowers nodes.new (lowered_found nodes.old found) result }
     ensures front { take (length nodes.old) nodes.new ≡ nodes.old }
 {
     match meaning {
@@ -69,7 +60,8 @@ pub fn lower_symbol(
     nodes: &mut Nodes,
 ) -> Result<Lowered, TermError>
     requires near { IsNearPlace meaning }
-    ensures makes { (scope : Meaning) → FoundIs (found scope name.now) meaning.entry → Lowers nodes.new (lowered_leaf scope nodes.old Symbol name.now) result }
+    ensures makes { (scope : Meaning) → FoundIs (found scope name.now) meaning.entry
+        → Lowers nodes.new (lowered_leaf scope nodes.old Symbol name.now) result }
     ensures front { take (length nodes.old) nodes.new ≡ nodes.old }
 {
     if name == b"true".as_slice() {
@@ -108,7 +100,8 @@ fn left_out(term: LeftOutTerm) -> Result<Lowered, TermError>
 pub fn lower_token(alloc: Global, kind: TokenKind, text: &[u8]) -> Result<Lowered, TermError>
     requires leaf { IsLeaf kind text.now }
     requires other { kind ≢ Symbol }
-    ensures { (scope : Meaning) (nodes : List NodeValue) → Lowers nodes (lowered_leaf scope nodes kind text.now) result }
+    ensures { (scope : Meaning) (nodes : List NodeValue)
+        → Lowers nodes (lowered_leaf scope nodes kind text.now) result }
 {
     match kind {
         TokenKind::Numeral => {

@@ -14,6 +14,8 @@ mod leaf;
 mod lowering;
 mod machine;
 mod operator;
+mod reserved;
+mod symbol;
 
 pub use error::{LeftOutTerm, TermError, TermRefusal};
 pub use evaluation::eval_int;
@@ -23,4 +25,6 @@ pub use idl_node::{Node, Nodes, Sort, eval};
 pub use idl_scope::{Case, Cases, FoundName, Lowered, Names, Scope};
 pub use laws::{context_law, lowered_law};
 pub use lowering::lower;
-pub use operator::{Operator, Relation, is_reserved, left_out_of, operator_of};
+pub use operator::{Connective, Equality, Operator, Order, Sign};
+pub use reserved::is_reserved;
+pub use symbol::{left_out_of, operator_of};

@@ -26,7 +26,8 @@ pub fn lower<'a>(
 ) -> Result<Lowered, TermError>
     requires meaning { HasMeaning sexprs.now id }
     requires few { length scope.now.declared ≤ names_limit }
-    ensures lowers { (t : Sexpr) → Means sexprs.now id t → Lowers nodes.new (lowered scope.now nodes.old t) result }
+    ensures lowers { (t : Sexpr) → Means sexprs.now id t
+        → Lowers nodes.new (lowered scope.now nodes.old t) result }
     ensures front { take (length nodes.old) nodes.new ≡ nodes.old }
     ensures err { OnErr result (nodes.new ≡ nodes.old) }
 {

@@ -6,7 +6,7 @@ ghost use Rattle.idl_scope.specs.Limits.{names_limit};
 ghost use Rattle.idl_term.specs.Lowered.{lowered, lowered_leaf, lowered_list, are_bindings, is_binding};
 ghost use Rattle.idl_term.specs.Shapes.{Lowers};
 ghost use Rattle.idl_term.specs.Trees.{tree_of, trees_of, IsTree, AreTrees, size_of, sizes_of};
-ghost use Rattle.idl_term.specs.Walks.{IsReady, IsReadyWith, IsWaiting, Steps, outcome, outcome_of, outcome_behind, outcome_from, scope_at, weight, with_frame, let_made, application_made, bound_to};
+ghost use Rattle.idl_term.specs.Walks.{at_start, IsReady, IsReadyWith, IsWaiting, Steps, outcome, outcome_of, outcome_behind, outcome_from, scope_at, weight, with_frame, let_made, application_made, bound_to};
 ghost use Rattle.idl_term.specs.Operators.{takes_count};
 ghost use Rattle.idl_term.specs.declared.error.TermError.TheVariants.{Refused};
 ghost use Rattle.idl_term.specs.declared.error.TermRefusal.TheVariants.{IllFormedTerm};
@@ -70,12 +70,17 @@ impl<'s, 'a> Model for Machine<'s, 'a> {
 
     ghost Value = { Walk };
 
-    ghost view = { λ m. record { table = m.sexprs.now; inner = m.locals; frames = reverse m.frames.items; values = shown_terms m.values.items } };
+    ghost view = { λ m. record {
+        table = m.sexprs.now;
+        inner = m.locals;
+        frames = reverse m.frames.items;
+        values = shown_terms m.values.items;
+    } };
 }
 
 impl<'s, 'a> Machine<'s, 'a> {
     pub(crate) fn new(alloc: Global, sexprs: &'s Sexprs<'a>, scope: &'s Scope<'a>) -> Self
-        ensures { result ≡ record { table = sexprs.now; inner = record { outer = scope.now; variables = [] }; frames = []; values = [] } }
+        ensures { result ≡ at_start sexprs.now scope.now }
     {
         Machine {
             alloc,
@@ -95,7 +100,9 @@ impl<'s, 'a> Machine<'s, 'a> {
     ) -> Result<(), TermError>
         requires leaf { IsLeaf kind text.now }
         requires ready { IsWaiting self.old }
-        ensures steps { Steps (outcome_behind self.old (lowered_leaf (scope_at self.old) nodes.old kind text.now)) (weight self.old.table self.old.frames + 1) self.old self.new nodes.new result }
+        ensures steps { Steps (outcome_behind self.old
+            (lowered_leaf (scope_at self.old) nodes.old kind text.now))
+            (weight self.old.table self.old.frames + 1) self.old self.new nodes.new result }
         ensures front { take (length nodes.old) nodes.new ≡ nodes.old }
     {
         let value = match kind {
@@ -114,7 +121,11 @@ impl<'s, 'a> Machine<'s, 'a> {
     ) -> Result<(), TermError>
         requires trees { AreTrees self.old.table arguments.now }
         requires ready { IsWaiting self.old }
-        ensures { (nodes : List NodeValue) → Steps (outcome_behind self.old (application_made operator (scope_at self.old) nodes (trees_of self.old.table arguments.now))) (weight self.old.table self.old.frames + (3 + sizes_of (trees_of self.old.table arguments.now))) self.old self.new nodes result }
+        ensures { (nodes : List NodeValue)
+            → Steps (outcome_behind self.old
+            (application_made operator (scope_at self.old) nodes (trees_of self.old.table arguments.now)))
+            (weight self.old.table self.old.frames +
+            (3 + sizes_of (trees_of self.old.table arguments.now))) self.old self.new nodes result }
     {
         if !operator.takes_count(arguments.len()) {
             return Err(TermError::Refused(TermRefusal::WrongCount));
@@ -132,7 +143,11 @@ impl<'s, 'a> Machine<'s, 'a> {
     fn enter_let(&mut self, items: &'s [SexprId]) -> Result<(), TermError>
         requires trees { AreTrees self.old.table items.now }
         requires ready { IsWaiting self.old }
-        ensures { (nodes : List NodeValue) → Steps (outcome_behind self.old (let_made (scope_at self.old) nodes (trees_of self.old.table items.now))) (weight self.old.table self.old.frames + (3 + sizes_of (trees_of self.old.table items.now))) self.old self.new nodes result }
+        ensures { (nodes : List NodeValue)
+            → Steps (outcome_behind self.old
+            (let_made (scope_at self.old) nodes (trees_of self.old.table items.now)))
+            (weight self.old.table self.old.frames + (3 + sizes_of (trees_of self.old.table items.now)))
+            self.old self.new nodes result }
     {
         let Some(parts) = let_parts(self.alloc, self.sexprs, items)? else {
             return Err(ill_formed());
@@ -151,7 +166,11 @@ impl<'s, 'a> Machine<'s, 'a> {
     fn enter_list(&mut self, items: &'s [SexprId]) -> Result<(), TermError>
         requires trees { AreTrees self.old.table items.now }
         requires ready { IsWaiting self.old }
-        ensures { (nodes : List NodeValue) → Steps (outcome_behind self.old (lowered_list (scope_at self.old) nodes (trees_of self.old.table items.now))) (weight self.old.table self.old.frames + (3 + sizes_of (trees_of self.old.table items.now))) self.old self.new nodes result }
+        ensures { (nodes : List NodeValue)
+            → Steps (outcome_behind self.old
+            (lowered_list (scope_at self.old) nodes (trees_of self.old.table items.now)))
+            (weight self.old.table self.old.frames + (3 + sizes_of (trees_of self.old.table items.now)))
+            self.old self.new nodes result }
     {
         let Some((head, arguments)) = items.split_first() else {
             return Err(ill_formed());
@@ -167,14 +186,16 @@ impl<'s, 'a> Machine<'s, 'a> {
     fn enter(&mut self, id: SexprId, nodes: &mut Nodes) -> Result<(), TermError>
         requires tree { IsTree self.old.table id }
         requires ready { IsWaiting self.old }
-        ensures steps { Steps (outcome_from self.old nodes.old id) (weight self.old.table self.old.frames + size_of (tree_of self.old.table id)) self.old self.new nodes.new result }
+        ensures steps { Steps (outcome_from self.old nodes.old id)
+            (weight self.old.table self.old.frames + size_of (tree_of self.old.table id)) self.old self.new
+            nodes.new result }
         ensures front { take (length nodes.old) nodes.new ≡ nodes.old }
     {
-        if let Some((kind, text)) = self.sexprs.leaf(id) {
-            return self.enter_leaf(kind, text, nodes);
+        if let Some(items) = self.sexprs.items(id) {
+            return self.enter_list(items);
         }
-        match self.sexprs.items(id) {
-            Some(items) => self.enter_list(items),
+        match self.sexprs.leaf(id) {
+            Some((kind, text)) => self.enter_leaf(kind, text, nodes),
             None => Err(ill_formed()),
         }
     }
@@ -189,7 +210,8 @@ impl<'s, 'a> Machine<'s, 'a> {
         requires ready { IsReadyWith (base + 1) self.old }
         requires base { base ≤ length self.old.values }
         requires count { takes_count operator (length self.old.values - base) ≡ true }
-        ensures steps { Steps (outcome_of operator base self.old nodes.old) (weight self.old.table self.old.frames + 1) self.old self.new nodes.new result }
+        ensures steps { Steps (outcome_of operator base self.old nodes.old)
+            (weight self.old.table self.old.frames + 1) self.old self.new nodes.new result }
         ensures front { take (length nodes.old) nodes.new ≡ nodes.old }
     {
         let value = apply(self.alloc, operator, nodes, &self.values[base..])?;
@@ -207,7 +229,9 @@ impl<'s, 'a> Machine<'s, 'a> {
         nodes: &mut Nodes,
     ) -> Result<(), TermError>
         requires ready { IsReady (with_frame (Apply operator rest base) self.old) }
-        ensures steps { Steps (outcome (with_frame (Apply operator rest.entry base) self.old) nodes.old) (weight self.old.table (Apply operator rest.entry base ∷ self.old.frames)) self.old self.new nodes.new result }
+        ensures steps { Steps (outcome (with_frame (Apply operator rest.entry base) self.old) nodes.old)
+            (weight self.old.table (Apply operator rest.entry base ∷ self.old.frames)) self.old self.new
+            nodes.new result }
         ensures front { take (length nodes.old) nodes.new ≡ nodes.old }
     {
         let Some((argument, rest)) = rest.split_first() else {
@@ -226,7 +250,8 @@ impl<'s, 'a> Machine<'s, 'a> {
         requires tree { IsTree self.old.table binding }
         requires binding { is_binding (tree_of self.old.table binding) ≡ true }
         requires some { 0 < length self.old.values }
-        ensures { OnOk result (self.new ≡ bound_to (more (tree_of self.old.table binding) none) (length self.old.values - 1) self.old) }
+        ensures { OnOk result (self.new ≡ bound_to (more (tree_of self.old.table binding) none)
+            (length self.old.values - 1) self.old) }
     {
         let variable = self.sexprs.item(binding, 0);
         if let Some(name) = self.sexprs.symbol(variable)
@@ -262,7 +287,9 @@ impl<'s, 'a> Machine<'s, 'a> {
         nodes: &mut Nodes,
     ) -> Result<(), TermError>
         requires ready { IsReady (with_frame (Bind bindings rest body base) self.old) }
-        ensures steps { Steps (outcome (with_frame (Bind bindings.entry rest.entry body base) self.old) nodes.old) (weight self.old.table (Bind bindings.entry rest.entry body base ∷ self.old.frames)) self.old self.new nodes.new result }
+        ensures steps { Steps (outcome (with_frame (Bind bindings.entry rest.entry body base) self.old)
+            nodes.old) (weight self.old.table (Bind bindings.entry rest.entry body base ∷ self.old.frames))
+            self.old self.new nodes.new result }
         ensures front { take (length nodes.old) nodes.new ≡ nodes.old }
     {
         let Some((binding, rest)) = rest.split_first() else {
@@ -283,7 +310,8 @@ impl<'s, 'a> Machine<'s, 'a> {
     /// A frame goes on, where the value that it waits for is the last.
     fn go_on(&mut self, frame: Frame<'s>, nodes: &mut Nodes) -> Result<(), TermError>
         requires ready { IsReady (with_frame frame self.old) }
-        ensures steps { Steps (outcome (with_frame frame.entry self.old) nodes.old) (weight self.old.table (frame.entry ∷ self.old.frames)) self.old self.new nodes.new result }
+        ensures steps { Steps (outcome (with_frame frame.entry self.old) nodes.old)
+            (weight self.old.table (frame.entry ∷ self.old.frames)) self.old self.new nodes.new result }
         ensures front { take (length nodes.old) nodes.new ≡ nodes.old }
     {
         match frame {
@@ -311,7 +339,8 @@ impl<'s, 'a> Machine<'s, 'a> {
         requires frames { self.old.frames ≡ [] }
         requires values { self.old.values ≡ [] }
         requires few { length self.old.inner.outer.declared ≤ names_limit }
-        ensures lowers { Lowers nodes.new (lowered (scope_at self.old) nodes.old (tree_of self.old.table id)) result }
+        ensures lowers { Lowers nodes.new
+            (lowered (scope_at self.old) nodes.old (tree_of self.old.table id)) result }
         ensures front { take (length nodes.old) nodes.new ≡ nodes.old }
     {
         self.enter(id, nodes)?;
