@@ -6,10 +6,11 @@ use Rattle.stn_core.specs.Problem.{ProblemHolds}
 use Rattle.idl_node.specs.Nodes.{NodeValue, always, atom, denial, conjunction, disjunction}
 use Rattle.idl_node.specs.Tables.{IsNodeOf, IsTableOf}
 use Rattle.idl_node.specs.Truth.{literal_truth, node_truth, truth}
+use Rattle.std.proofs.lemmas.Bool.{and_parts}
 use Rattle.clause_form.specs.Polarity.{is_among, node_at, Polarity, spread_asserted, spread_denied, spread, polarity_below, polarity_of, is_compound, inner_nodes}
 use Rattle.clause_form.specs.ClauseForm.{stands, fresh_point, clauses_of}
 use Rattle.clause_form.proofs.Among.{or_left, or_right, at_among, each_among, each_both}
-use Rattle.clause_form.proofs.ClauseTruths.{and_both, truth_from_problem, problem_from_truth, same_is, is_same, asserted_truth, denied_truth, inner_truth, asserted_says, denied_says, inner_says, NodeHolds, below_holds, holds_below}
+use Rattle.clause_form.proofs.ClauseTruths.{truth_from_problem, problem_from_truth, same_is, is_same, asserted_truth, denied_truth, inner_truth, asserted_says, denied_says, inner_says, NodeHolds, below_holds, holds_below}
 use Rattle.clause_form.proofs.Inner.{needs, inner_closed}
 use Rattle.clause_form.proofs.Least.{split, in_table}
 use Rattle.clause_form.proofs.Literals.{IsRight, MembersRight, AreRightBelow, members_right}
@@ -32,7 +33,7 @@ none_true f (m ∷ ms) h = ap (λ (b : Bool). b || list_any f ms) h.0 ∙ none_t
 
 true_all : (f : ℕ → Bool) (ms : List ℕ) → list_all f ms ≡ true → AllByRecursion (λ m. f m ≡ true) ms
 true_all f [] e = tt
-true_all f (m ∷ ms) e = let h = and_both (f m) (list_all f ms) e in (h.0, true_all f ms h.1)
+true_all f (m ∷ ms) e = let h = and_parts (f m) (list_all f ms) e in (h.0, true_all f ms h.1)
 
 or_false : (a b : Bool) → (a || b) ≡ false → (a ≡ false) × (b ≡ false)
 or_false true b e = absurd cc

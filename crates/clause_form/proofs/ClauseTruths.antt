@@ -8,10 +8,12 @@ use Rattle.stn_core.specs.Literal.{negation_of}
 use Rattle.stn_core.specs.Problem.{ClauseHolds, ProblemHolds}
 use Rattle.idl_node.specs.Nodes.{NodeValue, always, atom, denial, conjunction, disjunction}
 use Rattle.idl_node.specs.Truth.{literal_truth, truth}
+use Rattle.std.proofs.lemmas.Bool.{and_parts}
+use Rattle.idl_node.proofs.Makers.{negated_truth}
 use Rattle.clause_form.specs.Polarity.{Polarity, is_among, node_at}
 use Rattle.clause_form.specs.ClauseForm.{stands, fails, fresh_point, literal_of, denied_literal, literals_of, denied_literals, asserted_clauses, denied_clauses, inner_clauses, when, node_clauses, clauses_below}
 use Rattle.clause_form.proofs.Inner.{needs}
-use Rattle.clause_form.proofs.Literals.{holds_from_truth, truth_from_holds, negated_truth, zero_stands, fails_truth, IsLiteralRight, MembersRight}
+use Rattle.clause_form.proofs.Literals.{holds_from_truth, truth_from_holds, zero_stands, fails_truth, IsLiteralRight, MembersRight}
 
 -- ---- clauses as truth values
 
@@ -29,10 +31,6 @@ clause_from values clause e =
     let a = Any-from_list_any (literal_truth values) clause e in
     (a.1, (a.0, a.2, a.3), holds_from_truth values a.1 a.4)
 
-pub and_both : (a b : Bool) → (a && b) ≡ true → (a ≡ true) × (b ≡ true)
-and_both true b e = (refl, e)
-and_both false b e = absurd cc
-
 pub both_and : (a b : Bool) → a ≡ true → b ≡ true → (a && b) ≡ true
 both_and true b e f = f
 both_and false b e f = absurd cc
@@ -44,7 +42,7 @@ truth_is values (c ∷ cs) h = both_and (clause_truth values c) (problem_truth v
 truth_gives : (values : List ℤ) (clauses : List (List Literal)) → problem_truth values clauses ≡ true → AllByRecursion (ClauseHolds values) clauses
 truth_gives values [] e = tt
 truth_gives values (c ∷ cs) e =
-    let h = and_both (clause_truth values c) (problem_truth values cs) e in
+    let h = and_parts (clause_truth values c) (problem_truth values cs) e in
     (clause_from values c h.0, truth_gives values cs h.1)
 
 pub truth_from_problem : (values : List ℤ) (clauses : List (List Literal)) → ProblemHolds values clauses → problem_truth values clauses ≡ true
@@ -223,8 +221,8 @@ module _ (points : ℕ) (nodes : List NodeValue) (p : Polarity) (inner : List �
       let wa : List (List Literal) = when (is_among k p.asserted) a in
       let wd : List (List Literal) = when (is_among k p.denied) d in
       let wi : List (List Literal) = when (is_among k inner) i in
-      let first = and_both (problem_truth values wa) (problem_truth values (wd ++ wi)) (sym (all_append values wa (wd ++ wi)) ∙ h) in
-      let second = and_both (problem_truth values wd) (problem_truth values wi) (sym (all_append values wd wi) ∙ first.1) in
+      let first = and_parts (problem_truth values wa) (problem_truth values (wd ++ wi)) (sym (all_append values wa (wd ++ wi)) ∙ h) in
+      let second = and_parts (problem_truth values wd) (problem_truth values wi) (sym (all_append values wd wi) ∙ first.1) in
       record {
         asserted = when_true values (is_among k p.asserted) a first.0;
         denied = when_true values (is_among k p.denied) d second.0;
@@ -246,7 +244,7 @@ module _ (points : ℕ) (nodes : List NodeValue) (p : Polarity) (inner : List �
   pub below_holds : (n k : ℕ) → problem_truth values (clauses_below points nodes p inner n) ≡ true → k < n → NodeHolds points nodes p inner values k
   below_holds zero k h lt = absurd (omega arith)
   below_holds (suc n) k h lt =
-      let parts = and_both (problem_truth values (clauses_below points nodes p inner n)) (problem_truth values (node_clauses points nodes p inner n)) (sym (all_append values (clauses_below points nodes p inner n) (node_clauses points nodes p inner n)) ∙ h) in
+      let parts = and_parts (problem_truth values (clauses_below points nodes p inner n)) (problem_truth values (node_clauses points nodes p inner n)) (sym (all_append values (clauses_below points nodes p inner n) (node_clauses points nodes p inner n)) ∙ h) in
       let le : k ≤ n = omega arith in
       elim (eq-or-lt_of_le le) [
         | inl e ↦ subst (λ (j : ℕ). NodeHolds points nodes p inner values j) (sym e) (node_holds n parts.1)

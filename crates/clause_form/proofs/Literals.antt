@@ -7,6 +7,7 @@ use Rattle.stn_core.specs.Literal.{value_at, Holds, negation_of}
 use Rattle.idl_node.specs.Nodes.{NodeValue, always, atom, denial, conjunction, disjunction}
 use Rattle.idl_node.specs.Tables.{IsDeniable, IsNodeOf, IsTableOf}
 use Rattle.idl_node.specs.Truth.{literal_truth, node_truth, truth}
+use Rattle.idl_node.proofs.Makers.{negated_truth}
 use Rattle.clause_form.specs.Polarity.{is_among, node_at, body_of, body_at, is_compound}
 use Rattle.clause_form.specs.ClauseForm.{stands, fails, fresh_point, body_literal, node_literal, literal_of}
 use Rattle.clause_form.proofs.Among.{each_both}
@@ -26,13 +27,6 @@ holds_from_truth values l h = int_le_yes _ _ h
 
 pub truth_from_holds : (values : List ℤ) (l : Literal) → Holds values l → literal_truth values l ≡ true
 truth_from_holds values l h = int_le_from _ _ h
-
--- x - y is at most c exactly where y - x isn't at most -c - 1
-pub negated_difference : (x y c : ℤ) → int_le (y -ℤ x) (neg_ℤ c -ℤ pos 1) ≡ not (int_le (x -ℤ y) c)
-negated_difference x y c = grind (arith, ints)
-
-pub negated_truth : (values : List ℤ) (l : Literal) → literal_truth values (negation_of l) ≡ not (literal_truth values l)
-negated_truth values l = negated_difference (value_at values l.x) (value_at values l.y) l.c
 
 no_difference : (x : ℤ) → int_le (x -ℤ x) (pos 0) ≡ true
 no_difference x = grind (arith, ints)

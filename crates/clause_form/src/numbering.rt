@@ -1,5 +1,6 @@
 //! The fresh points.
-ghost use Rattle.std.specs.Prelude.{◌≡◌, ◌+◌, ◌≤◌, ◌^◌, ℕ, List, length, IfOk};
+ghost use Rattle.std.specs.Prelude.{◌≡◌, ◌+◌, ◌≤◌, ℕ, List, length, IfOk};
+ghost use Rattle.stn_core.specs.Limits.{points_limit};
 ghost use Rattle.clause_form.specs.Marking.{AreMarks, IsNumbering};
 ghost use Rattle.clause_form.specs.ClauseForm.{fresh_point};
 
@@ -16,7 +17,7 @@ pub struct Numbering {
 
 /// Fresh points follow so many points, by ascending node numbers.
 pub fn number_points(alloc: Global, points: u32, inner: &[bool]) -> Result<Numbering, AllocError>
-    requires few { points + length inner.now ≤ 2 ^ 21 }
+    requires few { points + length inner.now ≤ points_limit }
     ensures points { IfOk result (λ numbering. (numbers : List ℕ)
         → AreMarks (length inner.now) inner.now numbers
         → numbering.points ≡ fresh_point points numbers (length inner.now)) }

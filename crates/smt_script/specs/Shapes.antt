@@ -9,7 +9,7 @@ use Rattle.idl_node.specs.Nodes.{NodeValue}
 use Rattle.idl_node.specs.declared.sort.Sort.{Sort}
 use Rattle.idl_term.specs.Applied.{Made}
 use Rattle.idl_term.specs.Scopes.{formula, numeric, shown_term}
-use Rattle.idl_term.specs.declared.lowered.Lowered.{Lowered}
+use Rattle.idl_scope.specs.declared.lowered.Lowered.{Lowered}
 use Rattle.idl_term.specs.declared.error.TermRefusal.{TermRefusal}
 use Rattle.idl_term.specs.declared.error.TermRefusal.TheVariants.{WrongSort}
 use Rattle.idl_term.specs.declared.error.TermError.{TermError}

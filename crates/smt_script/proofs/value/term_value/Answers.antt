@@ -1,7 +1,7 @@
 use Rattle.std.proofs.Common.{subst}
 use Rattle.idl_term.specs.Meanings.{IsTermIn}
 use Rattle.idl_term.specs.Scopes.{shown_term}
-use Rattle.idl_term.specs.declared.lowered.Lowered.{Lowered}
+use Rattle.idl_scope.specs.declared.lowered.Lowered.{Lowered}
 use Rattle.idl_term.proofs.Evaluating.{case_valued, table_valued}
 use Rattle.smt_script.proofs.value.term_value.Goals as goal
 
