@@ -4,7 +4,7 @@ use Rattle.stn_core.specs.declared.literal.Literal.{Literal}
 use Rattle.stn_core.specs.Literal.{negation_of}
 use Rattle.idl_node.specs.declared.node.Node.{Node}
 use Rattle.idl_node.specs.Nodes.{NodeValue, always, atom, denial, conjunction, disjunction, node_value}
-use Rattle.clause_form.specs.declared.writing.Marks.{Marks}
+use Rattle.clause_form.specs.declared.form.Marks.{Marks}
 use Rattle.clause_form.specs.Marked.{marked_clauses}
 use Rattle.clause_form.specs.Marking.{signed_literal, denied_member}
 use Rattle.clause_form.specs.Polarity.{node_at}

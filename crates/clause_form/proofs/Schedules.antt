@@ -13,7 +13,7 @@ use Rattle.idl_node.specs.Truth.{literal_truth, point_value, point_values}
 use Rattle.clause_form.specs.Polarity.{is_among}
 use Rattle.clause_form.specs.ClauseForm.{inner_count, stands}
 use Rattle.clause_form.specs.Restricting.{named_value, restricted_by, restricted, IsOfSort, AreOfSorts}
-use Rattle.clause_form.proofs.Literals.{negated_difference}
+use Rattle.idl_node.proofs.Makers.{negated_difference}
 use Rattle.clause_form.proofs.Points.{inner_count_below}
 
 -- ---- a restriction has values of the names' sorts

@@ -5,7 +5,7 @@ ghost use Rattle.clause_form.specs.ClauseForm.{clauses_of, points_of};
 
 use crate::marks::node_marks;
 use crate::numbering::number_points;
-use crate::writing::Form;
+use crate::form::Form;
 use idl_node::Nodes;
 use std::alloc::{AllocError, Global};
 use stn_core::{Clauses, Problem};

@@ -3,6 +3,7 @@
 
 mod clauses;
 mod examples;
+mod form;
 mod laws;
 mod marks;
 mod numbering;

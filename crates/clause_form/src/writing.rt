@@ -6,26 +6,11 @@ ghost use Rattle.clause_form.specs.Marking.{AreMarks, ArePolarityMarks, denied_m
 ghost use Rattle.clause_form.specs.Polarity.{Polarity, node_at};
 ghost use Rattle.clause_form.specs.ClauseForm.{stands, fails, body_literal, literal_of, asserted_clauses, denied_clauses, inner_clauses, clauses_below};
 
+use crate::form::{Form, Marks};
 use crate::marks::PolarityMarks;
 use idl_node::Node;
 use std::alloc::{AllocError, Global};
 use stn_core::{Clause, Literal, negate};
-
-/// The nodes, and for each the fresh point that it has where it's inner.
-#[derive(Clone, Copy)]
-pub struct Form<'a> {
-    pub nodes: &'a [Node],
-    pub fresh: &'a [u32],
-    pub ghost same: { length fresh.now ≡ length nodes.now },
-}
-
-/// Whether a node is asserted, denied and inner.
-#[derive(Clone, Copy)]
-pub struct Marks {
-    pub asserted: bool,
-    pub denied: bool,
-    pub inner: bool,
-}
 
 /// That an inner node is true, by its fresh point, or that it's false.
 fn stands(point: u32) -> Literal

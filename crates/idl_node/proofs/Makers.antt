@@ -50,7 +50,7 @@ chosen_is true a b = and_true a
 chosen_is false a b = refl
 
 -- x - y is at most c exactly where y - x isn't at most -c - 1
-negated_difference : (x y c : ℤ) → int_le (y -ℤ x) (neg_ℤ c -ℤ pos 1) ≡ not (int_le (x -ℤ y) c)
+pub negated_difference : (x y c : ℤ) → int_le (y -ℤ x) (neg_ℤ c -ℤ pos 1) ≡ not (int_le (x -ℤ y) c)
 negated_difference x y c = grind (arith, ints)
 
 pub negated_truth : (values : List ℤ) (l : Literal) → literal_truth values (negation_of l) ≡ not (literal_truth values l)

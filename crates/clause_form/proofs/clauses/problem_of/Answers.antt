@@ -26,7 +26,7 @@ clauses_are c =
     let marks = c.in_ok-marks.ensures.inner_are in
     c.new.ensures
     ∙ problem_clauses table _ c.as_slice-table.ensures.nodes c.args.roots.now c.args.points _
-    (c.in_ok-clauses.ensures c.args.points p (inner_nodes (shown table) p)
+    (c.in_ok-clauses.ensures p c.args.points (inner_nodes (shown table) p)
     (problem_numbering table _ c.as_slice-table.ensures.nodes c.args.roots.now c.args.points _ _ _ _ c.deref.ensures.value c.deref-2.ensures.value marks c.in_ok-numbering.ensures.fresh)
     c.in_ok-marks.ensures.polarity_are (same_marks _ _ _ _ c.deref-3.ensures.value marks))
 
@@ -53,6 +53,6 @@ returns-clause-clauses c =
     let marks = c.in_ok-marks.ensures.inner_are in
     c.new.ensures
     ∙ problem_clauses table _ c.as_slice-table.ensures.nodes c.args.roots.now c.args.points _
-    (c.in_ok-clauses.ensures c.args.points p (inner_nodes (shown table) p)
+    (c.in_ok-clauses.ensures p c.args.points (inner_nodes (shown table) p)
     (problem_numbering table _ c.as_slice-table.ensures.nodes c.args.roots.now c.args.points _ _ _ _ c.deref.ensures.value c.deref-2.ensures.value marks c.in_ok-numbering.ensures.fresh)
     c.in_ok-marks.ensures.polarity_are (same_marks _ _ _ _ c.deref-3.ensures.value marks))

@@ -1,7 +1,7 @@
 use Rattle.std.proofs.Common.{refl, ap}
 use Rattle.idl_node.specs.Nodes.{node_value}
 use Rattle.clause_form.proofs.Pieces.{denied_and}
-use Rattle.clause_form.proofs.writing.Form.append_denied.Goals as goal
+use Rattle.clause_form.proofs.form.Form.append_denied.Goals as goal
 
 pub returns-in_ok-push-in-And : goal.returns-in_ok-push-in-And
 returns-in_ok-push-in-And c = λ k points inner n.

@@ -4,8 +4,8 @@ use Rattle.clause_form.specs.ClauseForm.{asserted_clauses, denied_clauses, when}
 use Rattle.clause_form.specs.Marking.{IsNumbering}
 use Rattle.clause_form.proofs.Passes.{shown_get}
 use Rattle.clause_form.proofs.Pieces.{when_written, when_left, node_written}
-use Rattle.clause_form.proofs.writing.Form.append_node.Goals.{Joined-marks-2, then-marks+in_ok-append_asserted, else-marks, then-marks-2+in_ok-append_denied, else-marks-2}
-use Rattle.clause_form.proofs.writing.Form.append_node.Goals as goal
+use Rattle.clause_form.proofs.form.Form.append_node.Goals.{Joined-marks-2, then-marks+in_ok-append_asserted, else-marks, then-marks-2+in_ok-append_denied, else-marks-2}
+use Rattle.clause_form.proofs.form.Form.append_node.Goals as goal
 
 abbrev value_of : Joined-marks-2 → NodeValue
 value_of c = node_value (get_or c.args.self.now.nodes.now c.args.number c.index-self-number.result)

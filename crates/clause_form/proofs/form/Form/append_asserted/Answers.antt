@@ -1,7 +1,7 @@
 use Rattle.std.proofs.Common.{refl, ap}
 use Rattle.idl_node.specs.Nodes.{node_value}
 use Rattle.clause_form.proofs.Pieces.{asserted_or}
-use Rattle.clause_form.proofs.writing.Form.append_asserted.Goals as goal
+use Rattle.clause_form.proofs.form.Form.append_asserted.Goals as goal
 
 pub returns-in_ok-push-in-Or : goal.returns-in_ok-push-in-Or
 returns-in_ok-push-in-Or c = λ k points inner n.

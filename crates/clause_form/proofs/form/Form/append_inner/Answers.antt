@@ -1,7 +1,7 @@
 use Rattle.std.proofs.Common.{refl, ap}
 use Rattle.idl_node.specs.Nodes.{node_value}
 use Rattle.clause_form.proofs.Pieces.{inner_and, inner_or}
-use Rattle.clause_form.proofs.writing.Form.append_inner.Goals as goal
+use Rattle.clause_form.proofs.form.Form.append_inner.Goals as goal
 
 pub returns-in_ok-push-in-And : goal.returns-in_ok-push-in-And
 returns-in_ok-push-in-And c = λ points inner n.

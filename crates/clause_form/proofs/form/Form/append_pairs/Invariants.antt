@@ -1,7 +1,7 @@
 use Rattle.std.proofs.Common.{◌≡◌, ◌++◌, ℕ, List, length, map, take}
 use Rattle.idl_node.specs.Nodes.{shown}
 use Rattle.clause_form.specs.Marking.{IsNumbering, literal_pair}
-use Rattle.clause_form.proofs.writing.Form.append_pairs.Given as goal
+use Rattle.clause_form.proofs.form.Form.append_pairs.Given as goal
 
 abbrev pub invariant-loop-member : goal.invariant-loop-member
 invariant-loop-member l = record {
