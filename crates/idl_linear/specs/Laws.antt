@@ -19,8 +19,8 @@ LessValue =
 abbrev pub DifferenceValue : Type 0
 DifferenceValue =
     (values : List ℤ) (a b : LinearValue) (d : Difference) → slice_index_or values 0 (pos 0) ≡ pos 0
-        → difference_of a b ≡ Ok d
-        → (linear_value values a -ℤ linear_value values b) ≡ ((slice_index_or values d.x (pos 0) -ℤ slice_index_or values d.y (pos 0)) -ℤ d.n)
+    → difference_of a b ≡ Ok d
+    → (linear_value values a -ℤ linear_value values b) ≡ ((slice_index_or values d.x (pos 0) -ℤ slice_index_or values d.y (pos 0)) -ℤ d.n)
 
 abbrev pub NegativeValue : Type 0
 NegativeValue =
@@ -33,7 +33,7 @@ NumberValue =
 abbrev pub PointValue : Type 0
 PointValue =
     (values : List ℤ) (point : ℕ)
-        → linear_value values (point_alone point) ≡ slice_index_or values point (pos 0)
+    → linear_value values (point_alone point) ≡ slice_index_or values point (pos 0)
 
 abbrev pub NumberIsWithin : Type 0
 NumberIsWithin =
@@ -42,6 +42,6 @@ NumberIsWithin =
 abbrev pub PointsAreTheirs : Type 0
 PointsAreTheirs =
     (limit : ℕ) (a b : LinearValue) (d : Difference) → 0 < limit
-        → AllByRecursion (λ (s : Summand). s.point < limit) a.summands
-        → AllByRecursion (λ (s : Summand). s.point < limit) b.summands → difference_of a b ≡ Ok d
-        → (d.x < limit) × (d.y < limit)
+    → AllByRecursion (λ (s : Summand). s.point < limit) a.summands
+    → AllByRecursion (λ (s : Summand). s.point < limit) b.summands → difference_of a b ≡ Ok d
+    → (d.x < limit) × (d.y < limit)

@@ -23,7 +23,7 @@ impl<'a> Merge<'a> {
         ensures next { MatchOption result
             (less self.old.left.now self.old.right.now ≡ [])
             (λ s. less self.old.left.now self.old.right.now
-                ≡ put_before s (less self.new.left.now self.new.right.now)) }
+            ≡ put_before s (less self.new.left.now self.new.right.now)) }
         ensures point { IfSome result (λ s. s.point < points_limit) }
         ensures fewer { IfSome result (λ _. length self.new.left.now + length self.new.right.now < length
             self.old.left.now + length self.old.right.now) }

@@ -1,5 +1,5 @@
 -- Nodes are shared by what they are, and not by where they lie in memory.
-use Rattle.std.proofs.Common.{arith, ◌<◌, ◌≤◌, refl, sym, ap, subst, ◌∙◌, ◌≡◌, ◌+◌, ℕ, List, [], ◌∷◌, ◌++◌, length, take, Bool, true, false, ◌||◌, Option, Some, None}
+use Rattle.std.proofs.Common.{arith, ◌<◌, ◌≤◌, refl, sym, ap, ◌∙◌, ◌≡◌, ◌+◌, ℕ, List, [], ◌∷◌, ◌++◌, length, take, Bool, true, false, ◌||◌, Option, Some, None}
 use Rattle.std.specs.Prelude.{cond, nat_lt}
 use Rattle.std.specs.List.{position, position_from, position_or_len, list_any}
 use Rattle.std.proofs.lemmas.Iterator.Adapters.{position_from-zero}
@@ -112,7 +112,7 @@ module _ (keys after : List Node) (node : Node) (number : ℕ) (is : after ≡ i
       let behind : length keys ≤ position_or_len (eq-value.it node) keys = place_behind _ _ (nat_lt (position_or_len (eq-value.it node) keys) (length keys)) refl none in
       let added : shown after ≡ shown keys ++ node_value node ∷ [] = ap shown is ∙ node_added keys node e in
       let count : length after ≡ length keys + 1 =
-          sym (length-map after node_value) ∙ ap length added ∙ length_push (shown keys) (node_value node) ∙ ap (λ (n : ℕ). n + 1) (length-map keys node_value) in
+      sym (length-map after node_value) ∙ ap length added ∙ length_push (shown keys) (node_value node) ∙ ap (λ (n : ℕ). n + 1) (length-map keys node_value) in
       let last : number ≡ length (shown keys) = omega (arith, behind, at, count, within, length-map keys node_value) in
       (added, last)
 
@@ -141,10 +141,11 @@ module _ (keys after : List Node) (node : Node) (number : ℕ) (is : after ≡ i
       let last = goes_last e in
       let full : nodes_limit ≡ length (shown keys) = omega (arith, last.1, few, many) in
       let none : placed_by None (shown keys) (node_value node) ≡ None =
-          ap (λ (b : Bool). cond b (Some (record { nodes = shown keys ++ node_value node ∷ []; number = length (shown keys) })) None)
-          (full_table (length (shown keys)) (omega (arith, full))) in
-      (ap (λ (o : Option ℕ). placed_by o (shown keys) (node_value node)) e ∙ none,
-       ap (take nodes_limit) last.0 ∙ take_at (shown keys) (node_value node ∷ []) nodes_limit (sym full))
+      ap (λ (b : Bool). cond b (Some (record { nodes = shown keys ++ node_value node ∷ []; number = length (shown keys) })) None)
+      (full_table (length (shown keys)) (omega (arith, full))) in (
+        ap (λ (o : Option ℕ). placed_by o (shown keys) (node_value node)) e ∙ none,
+        ap (take nodes_limit) last.0 ∙ take_at (shown keys) (node_value node ∷ []) nodes_limit (sym full),
+      )
 
   -- beyond it there is no room, and the table is cut back to what it was
   pub placed_nowhere : length (shown keys) ≤ nodes_limit → nodes_limit ≤ number

@@ -10,8 +10,10 @@ ghost use Rattle.idl_node.specs.Truth.{all_pairs, chain, different_truth, exclus
 /// equal nodes are one.
 pub fn worked_formulas()
     ensures negation { denied (atom (literal 1 0 (pos 4)) ∷ []) 0
-        ≡ Some (record { nodes = atom (literal 1 0 (pos 4)) ∷ atom (literal 0 1 (negsuc 4))
-        ∷ []; number = 1 }) }
+        ≡ Some (record {
+          nodes = atom (literal 1 0 (pos 4)) ∷ atom (literal 0 1 (negsuc 4)) ∷ [];
+          number = 1;
+        }) }
     ensures twice { then (denied with_or 2) (λ p. denied p.nodes p.number)
         ≡ Some (record { nodes = with_or ++ denial 2 ∷ []; number = 2 }) }
     ensures never { falsehood [] ≡ Some (record { nodes = always ∷ denial 0 ∷ []; number = 1 }) }
@@ -23,11 +25,16 @@ pub fn worked_formulas()
     ensures none { disjoined [] [] ≡ Some (record { nodes = disjunction [] ∷ []; number = 0 }) }
     ensures exclusion { exclusive two_atoms 0 (1 ∷ []) ≡ Some (record { nodes = with_xor; number = 6 }) }
     ensures implication { implied two_atoms [] (0 ∷ 1 ∷ [])
-        ≡ Some (record { nodes = two_atoms ++ atom (literal 0 1 (negsuc 4)) ∷ disjunction (2 ∷ 1 ∷ [])
-        ∷ []; number = 3 }) }
+        ≡ Some (record {
+          nodes = two_atoms ++ atom (literal 0 1 (negsuc 4)) ∷ disjunction (2 ∷ 1 ∷ []) ∷ [];
+          number = 3;
+        }) }
     ensures choice { chosen with_or 2 0 1
-        ≡ Some (record { nodes = with_or ++ denial 2 ∷ disjunction (3 ∷ 0 ∷ []) ∷ disjunction (2 ∷ 1 ∷ [])
-        ∷ conjunction (4 ∷ 5 ∷ []) ∷ []; number = 6 }) }
+        ≡ Some (record {
+          nodes = with_or ++ denial 2 ∷ disjunction (3 ∷ 0 ∷ []) ∷ disjunction (2 ∷ 1 ∷ [])
+              ∷ conjunction (4 ∷ 5 ∷ []) ∷ [];
+          number = 6;
+        }) }
     ensures chained { neighbours {A = ℕ} (7 ∷ 8 ∷ 9 ∷ []) ≡ (7, 8) ∷ (8, 9) ∷ [] }
     ensures paired { pairs {A = ℕ} (7 ∷ 8 ∷ 9 ∷ []) ≡ (7, 8) ∷ (7, 9) ∷ (8, 9) ∷ [] }
 {}

@@ -154,7 +154,13 @@ impl Nodes {
     }
 
     /// `yes` where the condition is true, else `no`.
-    fn add_choice(&mut self, alloc: Global, condition: u32, yes: u32, no: u32) -> Result<u32, NodeError>
+    fn add_choice(
+        &mut self,
+        alloc: Global,
+        condition: u32,
+        yes: u32,
+        no: u32,
+    ) -> Result<u32, NodeError>
         ensures makes { Makes self.new (chosen self.old condition yes no) result }
         ensures front { take (length self.old) self.new ≡ self.old }
     {
@@ -164,7 +170,13 @@ impl Nodes {
     }
 
     /// `ite` of three formulas: `yes` where the condition is true, else `no`. It adds four nodes at most.
-    pub fn choose(&mut self, alloc: Global, condition: u32, yes: u32, no: u32) -> Result<u32, NodeError>
+    pub fn choose(
+        &mut self,
+        alloc: Global,
+        condition: u32,
+        yes: u32,
+        no: u32,
+    ) -> Result<u32, NodeError>
         ensures makes { Makes self.new (chosen self.old condition yes no) result }
         ensures err { OnErr result (self.new ≡ self.old) }
         ensures front { take (length self.old) self.new ≡ self.old }

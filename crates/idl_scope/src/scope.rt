@@ -10,9 +10,6 @@ use indexmap::IndexSet;
 use std::alloc::{AllocError, Global};
 use std::marker::Model;
 
-#[cfg(test)]
-mod tests;
-
 /// What a name is.
 #[derive(Clone, Copy)]
 pub enum FoundName<'s> {
@@ -98,8 +95,10 @@ impl<'a> Scope<'a> {
     pub fn declare(&mut self, name: &'a [u8], sort: Sort) -> Result<(), AllocError>
         requires { is_known self.old name.now ≡ false }
         ensures ok { OnOk result (self.new
-            ≡ record { declared = self.old.declared ++ record { name = name.now; sort = sort }
-            ∷ []; bound = self.old.bound }) }
+            ≡ record {
+              declared = self.old.declared ++ record { name = name.now; sort = sort } ∷ [];
+              bound = self.old.bound;
+            }) }
         ensures err { OnErr result (self.new ≡ self.old) }
     {
         self.names.add(name, sort)
@@ -109,8 +108,10 @@ impl<'a> Scope<'a> {
     pub fn define(&mut self, name: &'a [u8], term: Lowered) -> Result<(), AllocError>
         requires { is_known self.old name.now ≡ false }
         ensures ok { OnOk result (self.new
-            ≡ record { declared = self.old.declared; bound = self.old.bound
-            ++ record { name = name.now; stands = shown_term term } ∷ [] }) }
+            ≡ record {
+              declared = self.old.declared;
+              bound = self.old.bound ++ record { name = name.now; stands = shown_term term } ∷ [];
+            }) }
         ensures err { OnErr result (self.new ≡ self.old) }
     {
         self.terms.reserve(1)?;
@@ -123,8 +124,10 @@ impl<'a> Scope<'a> {
     pub fn cut(&mut self, names: usize, defined: usize)
         requires names { names ≤ length self.old.declared }
         requires defined { defined ≤ length self.old.bound }
-        ensures { self.new ≡ record { declared = take names self.old.declared; bound = take defined
-            self.old.bound } }
+        ensures { self.new ≡ record {
+          declared = take names self.old.declared;
+          bound = take defined self.old.bound;
+        } }
     {
         self.names.cut(names);
         self.defined.truncate(defined);

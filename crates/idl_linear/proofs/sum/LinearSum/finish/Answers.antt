@@ -20,7 +20,7 @@ combine-requires-clause-rises c =
 pub returns-in_err-combine-clause-refused : goal.returns-in_err-combine-clause-refused
 returns-in_err-combine-clause-refused c =
     let refused : is_limited (term_of c.args.self) ≡ false =
-        rw (← c.self.view_is) (finish_refused _ _ c.self.inside.constant c.sort_unstable_by_key.ensures.permutation c.self.invariant.each c.in_err-combine.ensures.refused) in
+    rw (← c.self.view_is) (finish_refused _ _ c.self.inside.constant c.sort_unstable_by_key.ensures.permutation c.self.invariant.each c.in_err-combine.ensures.refused) in
     search (rules, refused)
 
 pub from_parts-requires : goal.from_parts-requires
