@@ -1,3 +1,5 @@
+ghost use Rattle.std.specs.Prelude.{◌≡◌, IfOk};
+
 use cert_check::{CheckError, Flaw, FlawKind, check_lemma, check_refutation, check_schedule};
 use refute_tree::{Lemma, Refutation, Step, Steps, cases, leaf};
 use std::alloc::{AllocError, Global};
@@ -9,17 +11,14 @@ const X_BEFORE_Y: Literal = Literal { x: 1, y: 2, c: -1 };
 
 const Y_BEFORE_X: Literal = Literal { x: 2, y: 1, c: -1 };
 
-fn single(alloc: Global, literal: Literal) -> Result<Clause, AllocError> {
-    Ok(Clause::new([literal].to_vec(alloc)?))
-}
-
 /// x < y and y < x, where x is point 1 and y is point 2.
-fn two_orders(alloc: Global) -> Result<Problem, AllocError> {
-    let clauses = vec![in alloc; single(alloc, X_BEFORE_Y)?, single(alloc, Y_BEFORE_X)?]?;
-    Ok(Problem {
-        points: 3,
-        clauses: Clauses::new(clauses),
-    })
+fn two_orders(alloc: Global) -> Result<Problem, AllocError>
+    ensures { IfOk result (λ problem. problem.points ≡ 3) }
+{
+    let first = Clause::new([X_BEFORE_Y].to_vec(alloc)?);
+    let second = Clause::new([Y_BEFORE_X].to_vec(alloc)?);
+    let clauses = Clauses::new(vec![in alloc; first, second]?);
+    Ok(Problem { points: 3, clauses })
 }
 
 /// Both clauses' only cases, down to the cycle.
@@ -75,11 +74,19 @@ fn a_lemma_after_shared_ones(rt: HostRuntime) -> Result<(), Fail> {
     Ok(())
 }
 
-#[test]
-fn schedules(rt: HostRuntime) -> Result<(), Fail> {
-    let alloc = rt.alloc();
+/// The number of the first clause that does not hold where x is one before y.
+fn first_false(alloc: Global) -> Result<Option<usize>, AllocError> {
+    let problem = two_orders(alloc)?;
     let schedule = Schedule::new([0, -1, 0].to_vec(alloc)?).copy()?;
-    let found = check_schedule(&two_orders(alloc)?, &schedule);
-    assert_eq!(rt; found, Err(1));
+    if schedule.as_slice().len() != problem.points as usize {
+        return Ok(None);
+    }
+    Ok(check_schedule(&problem, &schedule).err())
+}
+
+#[test]
+fn a_schedule_that_fails(rt: HostRuntime) -> Result<(), Fail> {
+    let found = first_false(rt.alloc())?;
+    assert_eq!(rt; found, Some(1));
     Ok(())
 }

@@ -7,7 +7,7 @@ use Rattle.stn_core.specs.declared.literal.Literal.{Literal}
 use Rattle.stn_core.specs.Answer.{IsCycleAmong}
 use Rattle.stn_core.specs.Cycle.{Leads, weight_of}
 use Rattle.stn_core.proofs.Walks.{Leads-push}
-use Rattle.neg_cycle.proofs.Cycles.{weight_of-push}
+use Rattle.stn_core.proofs.Cycles.{weight_of-push}
 use Rattle.inc_paths.specs.declared.labels.Lowering.{Lowering}
 use Rattle.inc_paths.specs.Trails.{Labelled, entry_at, point_of, level_of}
 use Rattle.inc_paths.specs.Work.{AreTraced}

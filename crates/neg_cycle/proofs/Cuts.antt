@@ -15,7 +15,7 @@ use Rattle.stn_core.specs.declared.literal.Literal.{Literal}
 use Rattle.stn_core.specs.Cycle.{Leads, weight_of, IsNegativeCycle}
 use Rattle.stn_core.proofs.Walks.{Leads-push, Leads-drop}
 use Rattle.neg_cycle.specs.Simple.{x_at, IsSimple, LacksPoint}
-use Rattle.neg_cycle.proofs.Cycles.{weight_of-push, Leads-take}
+use Rattle.stn_core.proofs.Cycles.{weight_of-push, Leads-take}
 use Rattle.neg_cycle.proofs.Joined.{weight_of-append}
 
 abbrev pub none : Literal

@@ -1,3 +1,2 @@
-pub mod Cycles
 pub mod Joined
 pub mod Cuts

@@ -4,9 +4,8 @@
 #![tactic(auto)]
 
 mod cut;
-mod cycle;
 mod rotation;
 
 pub use cut::cut_walk;
-pub use cycle::is_cycle;
 pub use rotation::rotate_to;
+pub use stn_core::is_cycle;

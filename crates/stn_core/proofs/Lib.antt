@@ -5,3 +5,5 @@ pub mod Ranges
 pub mod Rounds
 pub mod Walks
 pub mod Nets
+pub mod Cycles
+pub mod Uppers

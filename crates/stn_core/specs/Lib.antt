@@ -7,4 +7,5 @@ pub mod Answer
 pub mod Net
 pub mod Laws
 pub mod Rounds
+pub mod Uppers
 pub mod RoundsNet

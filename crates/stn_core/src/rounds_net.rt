@@ -5,12 +5,12 @@ ghost use Rattle.stn_core.specs.RoundsNet.{Shown};
 use crate::limits::Value;
 use crate::literal::Literal;
 use crate::net::{Added, Mark, Net};
+use crate::plain::greatest_by_rounds;
 use crate::schedule::{Greatest, Schedule};
-use crate::solve::greatest;
 use std::alloc::{AllocError, Global};
 use std::marker::Model;
 
-/// A net that works out its schedule anew for each literal, by the rounds of `greatest`, and keeps one schedule for
+/// A net that works out its schedule anew for each literal, by plain rounds over all of them, and keeps one schedule for
 /// each of its literals. So it takes memory in proportion to points times literals. It is plain, and not fast.
 #[derive(Drop)]
 pub struct RoundsNet {
@@ -70,7 +70,7 @@ impl Net for RoundsNet {
     fn add(&mut self, literal: Literal) -> Result<Added, AllocError> {
         let alloc = *self.literals.allocator();
         self.literals.push(literal)?;
-        match greatest(alloc, self.points, &self.literals) {
+        match greatest_by_rounds(alloc, self.points, &self.literals) {
             Ok(Greatest::Greatest(schedule)) => match self.schedules.push(schedule) {
                 Ok(()) => {
                     self.adds = self.adds.saturating_add(1);

@@ -1,79 +1,76 @@
-ghost use Rattle.std.specs.Prelude.{◌≡◌, ◌≤◌, All, IfOk, map};
-ghost use Rattle.stn_core.specs.Answer.{IsAnswer};
+ghost use Rattle.std.specs.Prelude.{◌≤◌, length, All, IfOk, IfSome};
+ghost use Rattle.stn_core.specs.Answer.{IsAnswer, IsCycleAmong};
 ghost use Rattle.stn_core.specs.Limits.{points_limit};
 ghost use Rattle.stn_core.specs.Literal.{IsOver};
-ghost use Rattle.stn_core.specs.Rounds.{label_value, IsRound, NoneLowered};
+ghost use Rattle.stn_core.specs.Uppers.{IsUpper};
 
-use crate::cycle::cycle_from;
-use crate::label::{INITIAL, Label, begin_round, lower};
 use crate::limits::Value;
-use crate::literal::Literal;
+use crate::literal::{Literal, Literals};
+use crate::loops::{cycle_at, loop_in};
+use crate::lowering::all_hold;
+use crate::order::sort;
+use crate::plain::greatest_by_rounds;
+use crate::scan::scan_all;
 use crate::schedule::{Greatest, Schedule};
+use crate::tables::Tables;
 use std::alloc::{AllocError, Global};
 
-fn values_of(alloc: Global, labels: &[Label]) -> Result<Vec<Value>, AllocError>
-    ensures { IfOk result (λ values. values.items ≡ map label_value labels.now) }
-{
-    labels.iter().map(|label| label.value).collect(alloc)
-}
-
-fn schedule_of(alloc: Global, labels: &[Label]) -> Result<Schedule, AllocError>
-    ensures { IfOk result (λ schedule. schedule ≡ map label_value labels.now) }
-{
-    Ok(Schedule::new(values_of(alloc, labels)?))
-}
-
-/// Rounds, until one of them lowers nothing or there were as many as points: a value that the last of these lowers
-/// comes of a path with as many literals as there are points, and such a path has a cycle.
-fn run(
+/// Lowers values for as long as literals fail, or finds a negative cycle, or gives up: what it leaves is checked by its
+/// caller. Each round orders the points that wait, and those to which failing literals lead from them, so that a literal
+/// that fails leads forth (Goldberg and Radzik 1993).
+fn settle(
     alloc: Global,
-    labels: &mut [Label],
-    points: u32,
+    values: &mut [Value],
     literals: &[Literal],
-) -> Result<Greatest, AllocError>
-    requires some { 1 ≤ points }
-    requires few { points ≤ points_limit }
-    requires over { All (IsOver points) literals.now }
-    requires ready { IsRound points literals.now labels.old 1 0 }
-    requires none_lowered { NoneLowered points labels.old 1 }
-    ensures { IfOk result (IsAnswer points literals.now) }
+    tables: &mut Tables,
+    points: u32,
+) -> Result<Option<Literals>, AllocError>
+    requires over { All (IsOver (length values.old)) literals.now }
+    requires upper { IsUpper (length values.old) literals.now values.old }
+    ensures upper { IsUpper (length values.old) literals.now values.new }
+    ensures cycle { IfOk result (λ found. IfSome found (IsCycleAmong literals.now)) }
 {
-    for round in 1..points {
-        match lower(labels, literals, round) {
-            None => return Ok(Greatest::Greatest(schedule_of(alloc, labels)?)),
-            Some(point) => {
-                // a cycle mostly shows early: look for one in rounds 1, 2, 4, 8, ..
-                if round.is_power_of_two() {
-                    if let Some(cycle) = cycle_from(alloc, labels, point)? {
-                        return Ok(Greatest::Negative(cycle));
-                    }
-                }
-                begin_round(labels);
+    'rounds: for round in 0..points {
+        if let Some(back) = sort(values, literals, tables)? {
+            return cycle_at(alloc, literals, &tables.tree, back);
+        }
+        scan_all(values, literals, tables)?;
+        if tables.active.is_empty() {
+            return Ok(None);
+        }
+        if round.is_power_of_two() {
+            let mut stamps = vec![in alloc; 0usize; points as usize]?;
+            if let Some(back) = loop_in(literals, &tables.by, &mut stamps, points) {
+                return cycle_at(alloc, literals, &tables.by, back);
             }
         }
     }
-    match lower(labels, literals, points) {
-        None => Ok(Greatest::Greatest(schedule_of(alloc, labels)?)),
-        Some(point) => match cycle_from(alloc, labels, point)? {
-            None => unreachable!(),
-            Some(cycle) => Ok(Greatest::Negative(cycle)),
-        },
-    }
+    Ok(None)
 }
 
 /// The greatest schedule of the literals, or a negative cycle of them.
 ///
 /// The points are 1 to `POINTS_LIMIT`, the literals' points are among them, and each bound is from `-BOUND_LIMIT - 1` to
-/// `BOUND_LIMIT`. It takes memory for a few numbers a point, and time for at most as many passes over the literals as there are points: it
-/// ends after the first pass that lowers nothing. The one error is want of memory.
+/// `BOUND_LIMIT`. It takes memory for a few numbers a point and a literal, and time for at most as many passes over the
+/// literals as there are points; where no literals lead around, one pass. The one error is want of memory.
 ///
-/// Source: Dechter, Meiri, Pearl 1991, section 3; the passes are those of the Bellman-Ford algorithm.
+/// The order in which values are lowered isn't trusted: the values that it leaves are looked at once, literal by literal,
+/// and a cycle is tested. Where neither were right, plain rounds would answer.
+///
+/// Source: Dechter, Meiri, Pearl 1991, section 3; the order is that of Goldberg and Radzik 1993.
 pub fn greatest(alloc: Global, points: u32, literals: &[Literal]) -> Result<Greatest, AllocError>
     requires some { 1 ≤ points }
     requires few { points ≤ points_limit }
     requires over { All (IsOver points) literals.now }
     ensures { IfOk result (IsAnswer points literals.now) }
 {
-    let mut labels = vec![in alloc; INITIAL; points as usize]?;
-    run(alloc, &mut labels, points, literals)
+    let mut values: Vec<Value> = vec![in alloc; 0; points as usize]?;
+    let mut tables = Tables::start(alloc, points, literals)?;
+    if let Some(cycle) = settle(alloc, &mut values, literals, &mut tables, points)? {
+        return Ok(Greatest::Negative(cycle));
+    }
+    if all_hold(&values, literals) {
+        return Ok(Greatest::Greatest(Schedule::new(values)));
+    }
+    greatest_by_rounds(alloc, points, literals)
 }

@@ -1,5 +1,5 @@
 use Rattle.stn_core.specs.Rounds.{IsRound, NoneLowered}
-use Rattle.stn_core.proofs.solve.run.Given as goal
+use Rattle.stn_core.proofs.plain.run.Given as goal
 
 abbrev pub invariant-loop-round : goal.invariant-loop-round
 invariant-loop-round l = record {

@@ -3,8 +3,8 @@ use Rattle.std.proofs.lemmas.Int.{ints}
 use Rattle.std.proofs.lemmas.List.{take_all}
 use Rattle.stn_core.specs.declared.literal.Literal.{Literal}
 use Rattle.stn_core.specs.Cycle.{Leads}
-use Rattle.neg_cycle.proofs.Cycles.{breaks, Leads-more, weight_of-more, one_end, from_first}
-use Rattle.neg_cycle.proofs.cycle.is_cycle.Goals as goal
+use Rattle.stn_core.proofs.Cycles.{breaks, Leads-more, weight_of-more, one_end, from_first}
+use Rattle.stn_core.proofs.negative.is_cycle.Goals as goal
 
 abbrev none : Literal
 none = record { x = 0; y = 0; c = pos 0 }

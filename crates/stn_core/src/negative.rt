@@ -1,7 +1,7 @@
 ghost use Rattle.std.specs.Prelude.{◌↔◌, IsTrue};
 ghost use Rattle.stn_core.specs.Cycle.{IsNegativeCycle};
 
-use stn_core::Literal;
+use crate::literal::Literal;
 
 /// Whether the literals are a negative cycle: not empty, each y the next one's x, the last y the first x, and the sum of
 /// the bounds below 0. Points and bounds may be any, and so may the length: the sum is taken in 128 bits.

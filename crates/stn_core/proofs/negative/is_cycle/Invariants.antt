@@ -1,6 +1,6 @@
 use Rattle.std.proofs.Common.{◌≡◌, ◌*◌, ◌^◌, take, pos, ◌+ℤ◌, ◌≤ℤ◌}
 use Rattle.stn_core.specs.Cycle.{Leads, weight_of}
-use Rattle.neg_cycle.proofs.cycle.is_cycle.Given as goal
+use Rattle.stn_core.proofs.negative.is_cycle.Given as goal
 
 abbrev pub invariant-steps : goal.invariant-steps
 invariant-steps l = record {

@@ -1,0 +1,6 @@
+use Rattle.std.proofs.Common.{length}
+use Rattle.stn_core.specs.Uppers.{IsUpper}
+use Rattle.stn_core.proofs.scan.scan.Given as goal
+
+abbrev pub invariant-literals : goal.invariant-literals
+invariant-literals l = IsUpper (length l.fn.values) l.literals l.values
