@@ -1,5 +1,5 @@
 //! The names around a term: the variables of the `let`s inside which it is read, and those of the scope.
-ghost use Rattle.std.specs.Prelude.{◌≡◌, ◌<◌, ◌≤◌, ◌∷◌, [], length, OnOk};
+ghost use Rattle.std.specs.Prelude.{◌≡◌, ◌<◌, ◌≤◌, ◌∷◌, [], length, OnOk, OnErr};
 ghost use Rattle.idl_scope.specs.Limits.{names_limit};
 ghost use Rattle.idl_scope.specs.Scopes.{found, shown_term};
 ghost use Rattle.idl_scope.specs.Kept.{FoundIs, IsNearPlace};
@@ -68,6 +68,7 @@ impl<'s, 'a> Locals<'s, 'a> {
         ensures outer { self.new.outer ≡ self.old.outer }
         ensures ok { OnOk result (self.new.variables ≡ record { name = name.now; stands = shown_term term }
             ∷ self.old.variables) }
+        ensures err { OnErr result (self.new ≡ self.old) }
     {
         self.variables.reserve(1)?;
         let place = self.variables.len();
