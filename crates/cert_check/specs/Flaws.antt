@@ -50,10 +50,14 @@ steps_flaw points clauses earlier (assumed ∷ others) step [] = flaw_at earlier
 steps_flaw points clauses earlier (assumed ∷ others) step (s ∷ steps) =
     after_step earlier step (λ cases. steps_flaw points clauses earlier (cases ++ others) (suc step) steps) (opened points clauses earlier assumed s)
 
+-- the first flaw of the lemma's steps, of which the tree is to be made that refutes its denial
+abbrev pub tree_flaw : ℕ → List (List Literal) → List (List Literal) → Lemma → Option Flaw
+tree_flaw points clauses earlier lemma = steps_flaw points clauses earlier (map negation_of lemma.clause ∷ []) 0 lemma.steps
+
 -- the first flaw of the lemma after those whose clauses are given
 abbrev pub lemma_flaw : ℕ → List (List Literal) → List (List Literal) → Lemma → Option Flaw
 lemma_flaw points clauses earlier lemma =
-    if list_all (is_on_points points) lemma.clause then steps_flaw points clauses earlier (map negation_of lemma.clause ∷ []) 0 lemma.steps else flaw_at earlier 0 NoSuchPoint
+    if list_all (is_on_points points) lemma.clause then tree_flaw points clauses earlier lemma else flaw_at earlier 0 NoSuchPoint
 
 -- the last clause has no literal, and there is one
 abbrev pub ends_empty : List (List Literal) → Bool

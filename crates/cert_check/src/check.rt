@@ -1,7 +1,6 @@
-ghost use Rattle.std.specs.Prelude.{◌≡◌, ◌∷◌, [], Ok, map, OnOk, None, Some};
-ghost use Rattle.stn_core.specs.Literal.{negation_of};
+ghost use Rattle.std.specs.Prelude.{◌≡◌, map, OnOk, Some};
 ghost use Rattle.refute_tree.specs.Trees.{IsRefuted, IsRefutation, stated};
-ghost use Rattle.cert_check.specs.Flaws.{steps_flaw, lemma_flaw, ends_empty, refutation_flaw, TellsFlaw};
+ghost use Rattle.cert_check.specs.Flaws.{tree_flaw, lemma_flaw, ends_empty, refutation_flaw, TellsFlaw};
 
 use crate::cases::are_on_points;
 use crate::flaw::{CheckError, Flaw, FlawKind};
@@ -24,7 +23,7 @@ fn check_steps<E: Earlier>(
     earlier: &E,
     lemma: &Lemma,
 ) -> Result<(), CheckError>
-    ensures { TellsFlaw (steps_flaw problem.now.points problem.now.clauses (E.clauses earlier.now) (map negation_of lemma.now.clause ∷ []) 0 lemma.now.steps) result }
+    ensures { TellsFlaw (tree_flaw problem.now.points problem.now.clauses (E.clauses earlier.now) lemma.now) result }
 {
     let number = earlier.count();
     let Ok(mut walk) = Walk::new(alloc, lemma.clause.as_slice()) else {

@@ -1,4 +1,4 @@
-use Rattle.std.specs.Prelude.{◌≡◌, ◌<◌, ℕ, List, [], ◌∷◌, ◌++◌, length, slice_index_or, ℤ, pos}
+use Rattle.std.specs.Prelude.{◌≡◌, ◌<◌, ℕ, List, [], ◌∷◌, ◌++◌, length, slice_index_or, Option, Some, None, ℤ}
 use Rattle.stn_core.specs.declared.literal.Literal.{Literal}
 use Rattle.stn_core.specs.Answer.{IsCycleAmong}
 use Rattle.stn_core.specs.Literal.{Holds, negation_of, literal_at}
@@ -35,3 +35,8 @@ pub record IsSubsumedBy (points : ℕ) (literals clause : List Literal) (found :
 pub record NoneImplied (points : ℕ) (literals clause : List Literal) : Type 0 where
   pub consistent : (k : ℕ) → k < length clause → IsConsistent points (literals ++ negation_of (literal_at clause k) ∷ [])
   pub not_implied : (k : ℕ) → k < length clause → Implies points literals (literal_at clause k) → ⊥
+
+-- the first literal that is implied, or none is
+abbrev pub IsFirstImplied : ℕ → List Literal → List Literal → Option Subsumed → Type 0
+IsFirstImplied points literals clause None = NoneImplied points literals clause
+IsFirstImplied points literals clause (Some found) = IsSubsumedBy points literals clause found

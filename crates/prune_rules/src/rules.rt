@@ -1,6 +1,6 @@
-ghost use Rattle.std.specs.Prelude.{◌≡◌, ◌<◌, length, All, IfOk, MatchOption};
+ghost use Rattle.std.specs.Prelude.{◌≡◌, ◌<◌, length, All, IfOk};
 ghost use Rattle.stn_core.specs.Literal.{IsOver};
-ghost use Rattle.prune_rules.specs.Fates.{IsFate, AreFates, IsSubsumedBy, NoneImplied};
+ghost use Rattle.prune_rules.specs.Fates.{IsFate, AreFates, IsFirstImplied};
 
 use crate::fate::{Fate, Fates, Subsumed};
 use std::alloc::{AllocError, Global};
@@ -52,7 +52,7 @@ pub fn forward_check<N: Net>(
 /// count of adds moves on. The one error is want of memory.
 pub fn is_subsumed<N: Net>(net: &mut N, clause: &Clause) -> Result<Option<Subsumed>, AllocError>
     requires { All (IsOver (N.points_of net.old)) clause.now }
-    ensures subsumed { IfOk result (λ found. MatchOption found (NoneImplied (N.points_of net.old) (N.literals_of net.old) clause.now) (IsSubsumedBy (N.points_of net.old) (N.literals_of net.old) clause.now)) }
+    ensures first { IfOk result (IsFirstImplied (N.points_of net.old) (N.literals_of net.old) clause.now) }
     ensures kept { N.literals_of net.new ≡ N.literals_of net.old }
     ensures points { N.points_of net.new ≡ N.points_of net.old }
 {

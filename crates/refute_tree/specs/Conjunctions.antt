@@ -4,6 +4,8 @@ use Rattle.stn_core.specs.declared.literal.Literal.{Literal}
 use Rattle.refute_tree.specs.declared.step.Step.{Step}
 use Rattle.refute_tree.specs.declared.step.Step.TheVariants.{Cycle, Input}
 use Rattle.refute_tree.specs.declared.lemma.Lemma.{Lemma}
+use Rattle.stn_core.specs.Cycle.{IsNegativeCycle}
+use Rattle.refute_tree.specs.Trees.{IsRefutation}
 
 -- the clause of one literal
 abbrev pub unit_clause : Literal → List Literal
@@ -29,3 +31,9 @@ conjunction_steps places cycle = map input_at places ++ Cycle cycle ∷ []
 -- the lemma without literals that these steps refute
 abbrev pub conjunction_lemma : List ℕ → List Literal → Lemma
 conjunction_lemma places cycle = record { clause = []; steps = conjunction_steps places cycle }
+
+-- the lemmas are a refutation of each conjunction in which the places are those of the cycle's literals
+abbrev pub RefutesConjunctions : List ℕ → List Literal → List Lemma → Type 0
+RefutesConjunctions places cycle lemmas =
+    (points : ℕ) (literals : List Literal)
+    → ArePlaces literals places cycle → IsNegativeCycle cycle → IsRefutation points (conjunction_of literals) lemmas

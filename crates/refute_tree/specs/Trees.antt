@@ -70,3 +70,16 @@ AreTrees inputs lemmas assumed [] [] = Unit {0}
 AreTrees inputs lemmas assumed [] (child ∷ children) = ⊥
 AreTrees inputs lemmas assumed (l ∷ clause) [] = ⊥
 AreTrees inputs lemmas assumed (l ∷ clause) (child ∷ children) = Tree inputs lemmas (assumed ++ l ∷ []) child [] × AreTrees inputs lemmas (assumed ++ negation_of l ∷ []) clause children
+
+-- the steps are a leaf: a tree wherever the cycle is one of assumed literals
+abbrev pub IsLeaf : List Literal → List Step → Type 0
+IsLeaf cycle steps =
+    (inputs lemmas : List (List Literal)) (assumed : List Literal)
+    → IsCycleAmong assumed cycle → Tree inputs lemmas assumed steps []
+
+-- the steps are a tree wherever the step opens a clause whose cases these children are
+abbrev pub IsCaseTree : Step → List (List Step) → List Step → Type 0
+IsCaseTree step children steps =
+    (inputs lemmas : List (List Literal)) (assumed clause : List Literal)
+    → clause_of inputs lemmas step ≡ Some clause → AreTrees inputs lemmas assumed clause children
+    → Tree inputs lemmas assumed steps []

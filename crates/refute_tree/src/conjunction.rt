@@ -1,8 +1,5 @@
-ghost use Rattle.std.specs.Prelude.{◌≡◌, ℕ, List, [], ◌∷◌, ◌++◌, map, IfOk};
-ghost use Rattle.stn_core.specs.declared.literal.Literal.{Literal};
-ghost use Rattle.stn_core.specs.Cycle.{IsNegativeCycle};
-ghost use Rattle.refute_tree.specs.Trees.{IsRefutation};
-ghost use Rattle.refute_tree.specs.Conjunctions.{conjunction_of, conjunction_lemma, ArePlaces};
+ghost use Rattle.std.specs.Prelude.{◌≡◌, [], ◌∷◌, IfOk};
+ghost use Rattle.refute_tree.specs.Conjunctions.{conjunction_lemma, RefutesConjunctions};
 
 use crate::lemma::{Lemma, Refutation};
 use crate::step::{Step, Steps};
@@ -20,7 +17,7 @@ pub fn conjunction_refutation(
     cycle: Literals,
 ) -> Result<Refutation, AllocError>
     ensures lemmas { IfOk result (λ lemmas. lemmas ≡ conjunction_lemma places.now cycle ∷ []) }
-    ensures refutes { IfOk result (λ lemmas. (points : ℕ) (literals : List Literal) → ArePlaces literals places.now cycle → IsNegativeCycle cycle → IsRefutation points (conjunction_of literals) lemmas) }
+    ensures refutes { IfOk result (RefutesConjunctions places.now cycle) }
 {
     let mut steps = Vec::new(alloc);
     for place in places {

@@ -1,9 +1,7 @@
-ghost use Rattle.std.specs.Prelude.{◌≡◌, List, [], ◌∷◌, Some, IfOk, flat_map};
-ghost use Rattle.stn_core.specs.declared.literal.Literal.{Literal};
-ghost use Rattle.stn_core.specs.Answer.{IsCycleAmong};
+ghost use Rattle.std.specs.Prelude.{◌≡◌, List, [], ◌∷◌, IfOk, flat_map};
 ghost use Rattle.refute_tree.specs.declared.step.Step.TheVariants.{Cycle};
 ghost use Rattle.refute_tree.specs.declared.step.Step.{Step as Node};
-ghost use Rattle.refute_tree.specs.Trees.{clause_of, Tree, AreTrees};
+ghost use Rattle.refute_tree.specs.Trees.{IsLeaf, IsCaseTree};
 
 use crate::step::{Step, Steps};
 use std::alloc::{AllocError, Global};
@@ -12,7 +10,7 @@ use stn_core::Literals;
 /// The tree that is a leaf: one step, with this cycle.
 pub fn leaf(alloc: Global, cycle: Literals) -> Result<Steps, AllocError>
     ensures steps { IfOk result (λ steps. steps ≡ Cycle cycle ∷ []) }
-    ensures tree { IfOk result (λ steps. (inputs lemmas : List (List Literal)) (assumed : List Literal) → IsCycleAmong assumed cycle → Tree inputs lemmas assumed steps []) }
+    ensures tree { IfOk result (IsLeaf cycle) }
 {
     Ok(Steps::new(vec![in alloc; Step::Cycle(cycle)]?))
 }
@@ -22,7 +20,7 @@ pub fn leaf(alloc: Global, cycle: Literals) -> Result<Steps, AllocError>
 /// square of its length.
 pub fn cases(alloc: Global, step: Step, children: Vec<Steps>) -> Result<Steps, AllocError>
     ensures steps { IfOk result (λ steps. steps ≡ step ∷ flat_map (λ (child : List Node). child) children.items) }
-    ensures tree { IfOk result (λ steps. (inputs lemmas : List (List Literal)) (assumed clause : List Literal) → clause_of inputs lemmas step ≡ Some clause → AreTrees inputs lemmas assumed clause children.items → Tree inputs lemmas assumed steps []) }
+    ensures tree { IfOk result (IsCaseTree step children.items) }
 {
     let mut steps = vec![in alloc; step]?;
     for child in children {

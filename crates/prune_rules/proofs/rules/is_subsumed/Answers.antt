@@ -6,8 +6,8 @@ use Rattle.prune_rules.specs.Fates.{IsFate}
 use Rattle.prune_rules.proofs.Implied.{implied, not_implied, dead_cycle, live_consistent}
 use Rattle.prune_rules.proofs.rules.is_subsumed.Goals as goal
 
-pub returns-in-Dead-clause-subsumed : goal.returns-in-Dead-clause-subsumed
-returns-in-Dead-clause-subsumed g c =
+pub returns-in-Dead-clause-first : goal.returns-in-Dead-clause-first
+returns-in-Dead-clause-first g c =
     let net = g.N.Net in
     let l = literal_at c.args.clause.now c.literals.place in
     let fate : IsFate (net.points_of c.args.net.now) (net.literals_of c.args.net.now) (negation_of l) c.in_ok-cycle.field-0 =
@@ -33,8 +33,8 @@ literals-preserved g c =
       consistent = below_more (λ k. IsConsistent (net.points_of c.args.net.now) (net.literals_of c.args.net.now ++ negation_of (literal_at c.args.clause.now k) ∷ [])) c.literals.place c.literals.invariant.consistent here;
     }
 
-pub returns-clause-subsumed : goal.returns-clause-subsumed
-returns-clause-subsumed g c =
+pub returns-clause-first : goal.returns-clause-first
+returns-clause-first g c =
     let net = g.N.Net in
     let all : (k : ℕ) → k < length c.args.clause.now → IsConsistent (net.points_of c.args.net.now) (net.literals_of c.args.net.now ++ negation_of (literal_at c.args.clause.now k) ∷ []) =
     λ k lt. c.literals.invariant.consistent k (omega (arith, ap (length {A = Literal}) c.as_slice-literals.ensures)) in
