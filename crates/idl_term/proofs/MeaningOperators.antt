@@ -40,7 +40,7 @@ use Rattle.idl_term.specs.Meanings.{lowered_value, IsLinearFor, IsTermIn}
 use Rattle.idl_term.specs.Operators.{takes_count}
 use Rattle.idl_scope.specs.Guarded.{CaseValue}
 use Rattle.idl_scope.specs.Scopes.{LoweredTerm, formula, numeric, linear_term}
-use Rattle.idl_term.specs.Values.{Value, whole, truth, any_true, all_true, connective_value, total, remainder, sum_value, order_value, equal_truths, equal_numbers, choice_value, truth_before, whole_before, truths_in, wholes_in, of_all, equality_value, operator_value}
+use Rattle.idl_term.specs.Values.{Value, whole, truth, any_true, all_true, connective_value, total, remainder, sum_value, order_value, equal_truths, equal_numbers, truth_before, whole_before, truths_in, wholes_in, of_all, equality_value, operator_value}
 use Rattle.idl_term.proofs.BelowLinear.{ArePoints, HavePoints, points_sum, points_others, points_negatives, points_weaker, points_both, points_ascending, ascends_sum}
 use Rattle.idl_term.proofs.MeaningAtoms.{follows-is, atom_negates, relation_test, IsTested, neighbours_made, pairs_made}
 

@@ -1,5 +1,5 @@
 -- The laws of the definitions, each said once: its function ensures it, and who stands on it names it.
-use Rattle.std.specs.Prelude.{◌≡◌, ◌<◌, ◌≤◌, List, ℕ, length, Ok, true, map}
+use Rattle.std.specs.Prelude.{◌≡◌, ◌<◌, List, length, Ok}
 use Rattle.std.specs.List.{AllByRecursion}
 use Rattle.smt_sexpr.specs.Tree.{Sexpr}
 use Rattle.stn_core.specs.declared.named.NamedValue.{NamedValue}
@@ -15,14 +15,14 @@ use Rattle.idl_term.specs.Values.{Named, value}
 abbrev pub LoweredIsMade : Type 0
 LoweredIsMade =
     (scope : Scope) (nodes : List NodeValue) (t : Sexpr) (made : Made) → IsScopeOver scope nodes
-        → lowered scope nodes t ≡ Ok made → IsMadeIn scope nodes made
+    → lowered scope nodes t ≡ Ok made → IsMadeIn scope nodes made
 
 abbrev pub LoweredIsWorth : Type 0
 LoweredIsWorth =
     (scope : Scope) (nodes : List NodeValue) (t : Sexpr) (made : Made) (schedule : List NamedValue) (env : List Named)
-        → IsScopeOver scope nodes → AreOfSorts (sorts_of scope.declared) schedule
-        → Agrees scope nodes schedule env → lowered scope nodes t ≡ Ok made
-        → value env t ≡ lowered_value made.nodes schedule made.is
+    → IsScopeOver scope nodes → AreOfSorts (sorts_of scope.declared) schedule
+    → Agrees scope nodes schedule env → lowered scope nodes t ≡ Ok made
+    → value env t ≡ lowered_value made.nodes schedule made.is
 
 abbrev pub ContextsHaveScopes : Type 0
 ContextsHaveScopes =
@@ -35,9 +35,9 @@ RootsAreNodes =
 abbrev pub RootsAreExact : Type 0
 RootsAreExact =
     (c : Context) (schedule : List NamedValue) → IsContext c → IsScheduleFor c schedule
-        → AreRoots c schedule c.assertions c.roots
+    → AreRoots c schedule c.assertions c.roots
 
 abbrev pub NamesAgree : Type 0
 NamesAgree =
     (c : Context) (schedule : List NamedValue) → IsContext c → IsScheduleFor c schedule
-        → Agrees (scope_of c) c.nodes schedule (environment c schedule)
+    → Agrees (scope_of c) c.nodes schedule (environment c schedule)

@@ -13,8 +13,7 @@ use std::alloc::{AllocError, Global};
 fn variable_of<'a>(sexprs: &Sexprs<'a>, id: SexprId) -> Option<&'a [u8]>
     requires { IsTree sexprs.now id }
     ensures { option_map (λ name. name.now) result
-        ≡ (if is_binding (tree_of sexprs.now id) then Some (variable_in (tree_of sexprs.now id)) else None)
-        }
+        ≡ (if is_binding (tree_of sexprs.now id) then Some (variable_in (tree_of sexprs.now id)) else None) }
 {
     let Some([variable, _term]) = sexprs.items(id) else {
         return None;

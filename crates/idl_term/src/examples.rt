@@ -9,14 +9,7 @@ ghost use Rattle.idl_scope.specs.Scopes.{formula};
 ghost use Rattle.idl_term.specs.Values.{whole, truth, nothing, value};
 
 /// Values where x is 4, y is 7 and p is true.
-#[tactic(auto, unfolding(
-    crate::specs::Operators::operator_of,
-    crate::specs::Operators::connective_of,
-    crate::specs::Operators::order_of,
-    crate::specs::Operators::sign_of,
-    crate::specs::Operators::equality_of,
-    smt_lex::specs::Numbers::value_from
-))]
+#[tactic(auto, unfolding(crate::specs::Operators::operator_of, crate::specs::Operators::connective_of, crate::specs::Operators::order_of, crate::specs::Operators::sign_of, crate::specs::Operators::equality_of, smt_lex::specs::Numbers::value_from))]
 pub fn worked_values()
     ensures name { value names x ≡ whole (pos 4) }
     ensures unknown { value names z ≡ nothing }
@@ -38,37 +31,25 @@ pub fn worked_values()
 {}
 
 /// What terms are made into, where the time points of x, y and p are 1, 2 and 3.
-#[tactic(auto, unfolding(
-    crate::specs::Operators::operator_of,
-    crate::specs::Operators::connective_of,
-    crate::specs::Operators::order_of,
-    crate::specs::Operators::sign_of,
-    crate::specs::Operators::equality_of,
-    crate::specs::Operators::left_out_of,
-    crate::specs::Operators::theory_symbols,
-    crate::specs::Operators::reserved_words,
-    crate::specs::Lowered::lowered,
-    crate::specs::Lowered::lowered_leaf,
-    crate::specs::Lowered::head_of,
-    crate::specs::Lowered::is_let,
-    crate::specs::Applied::applied,
-    idl_linear::specs::Differences::difference_of,
-    idl_linear::specs::Linear::sum_of,
-    smt_lex::specs::Numbers::value_from
-))]
+#[tactic(auto, unfolding(crate::specs::Operators::operator_of, crate::specs::Operators::connective_of, crate::specs::Operators::order_of, crate::specs::Operators::sign_of, crate::specs::Operators::equality_of, crate::specs::Operators::left_out_of, crate::specs::Operators::theory_symbols, crate::specs::Operators::reserved_words, crate::specs::Lowered::lowered, crate::specs::Lowered::lowered_leaf, crate::specs::Lowered::head_of, crate::specs::Lowered::is_let, crate::specs::Applied::applied, idl_linear::specs::Differences::difference_of, idl_linear::specs::Linear::sum_of, smt_lex::specs::Numbers::value_from))]
 pub fn worked_terms()
     ensures less { lowered scope [] (apply (codes "<") (x ∷ y ∷ []))
         ≡ Ok (record { nodes = atom (literal 1 2 (negsuc 0)) ∷ []; is = formula 0 }) }
     ensures equal { lowered scope [] (apply (codes "=") (x ∷ numeral (codes "3") ∷ []))
-        ≡ Ok (record { nodes = atom (literal 1 0 (pos 3)) ∷ atom (literal 0 1 (negsuc 2))
-        ∷ conjunction (0 ∷ 1 ∷ []) ∷ []; is = formula 2 }) }
+        ≡ Ok (record {
+          nodes = atom (literal 1 0 (pos 3)) ∷ atom (literal 0 1 (negsuc 2))
+              ∷ conjunction (0 ∷ 1 ∷ []) ∷ [];
+          is = formula 2;
+        }) }
     ensures falsehood { lowered scope [] (symbol (codes "false"))
         ≡ Ok (record { nodes = always ∷ denial 0 ∷ []; is = formula 1 }) }
     ensures name { lowered scope [] p ≡ Ok
         (record { nodes = atom (literal 3 0 (pos 0)) ∷ []; is = formula 0 }) }
     ensures denied { lowered scope [] (apply (codes "not") (p ∷ []))
-        ≡ Ok (record { nodes = atom (literal 3 0 (pos 0)) ∷ atom (literal 0 3 (negsuc 0))
-        ∷ []; is = formula 1 }) }
+        ≡ Ok (record {
+          nodes = atom (literal 3 0 (pos 0)) ∷ atom (literal 0 3 (negsuc 0)) ∷ [];
+          is = formula 1;
+        }) }
     ensures swapped { lowered scope [] (let_of (binding x y ∷ binding y x ∷ [])
         (apply (codes "<") (x ∷ y ∷ [])))
         ≡ Ok (record { nodes = atom (literal 2 1 (negsuc 0)) ∷ []; is = formula 0 }) }

@@ -7,11 +7,10 @@ ghost use Rattle.idl_term.specs.Trees.{tree_of, trees_of, IsTree, AreTrees};
 ghost use Rattle.idl_scope.specs.LocalNames.{scope_in};
 
 use crate::error::{LeftOutTerm, TermRefusal};
-use idl_scope::Locals;
 use crate::operator::Operator;
 use crate::reserved::is_reserved;
 use crate::symbol::{left_out_of, operator_of};
-use idl_scope::FoundName;
+use idl_scope::{FoundName, Locals};
 use smt_sexpr::{SexprId, Sexprs};
 
 /// What a list begins with.

@@ -16,11 +16,10 @@ ghost use Rattle.idl_term.specs.Shapes.{Lowers};
 
 use crate::applied::as_formula;
 use crate::error::{LeftOutTerm, TermError, TermRefusal};
-use idl_scope::Lowered;
 use crate::reserved::is_reserved;
-use idl_scope::FoundName;
 use idl_linear::Linear;
 use idl_node::{Node, Nodes, Sort};
+use idl_scope::{FoundName, Lowered};
 use smt_lex::{TokenKind, numeral_value};
 use std::alloc::Global;
 use stn_core::Literal;

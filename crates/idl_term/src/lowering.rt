@@ -7,10 +7,9 @@ ghost use Rattle.idl_term.specs.Lowered.{lowered};
 ghost use Rattle.idl_term.specs.Shapes.{Lowers};
 
 use crate::error::TermError;
-use idl_scope::Lowered;
 use crate::machine::Machine;
-use idl_scope::Scope;
 use idl_node::Nodes;
+use idl_scope::{Lowered, Scope};
 use smt_sexpr::{SexprId, Sexprs};
 use std::alloc::Global;
 

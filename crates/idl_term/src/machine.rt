@@ -17,11 +17,9 @@ use crate::binding::let_parts;
 use crate::error::{TermError, TermRefusal};
 use crate::head::{Head, head_of};
 use crate::leaf::{lower_symbol, lower_token};
-use idl_scope::Locals;
-use idl_scope::Lowered;
 use crate::operator::Operator;
-use idl_scope::Scope;
 use idl_node::Nodes;
+use idl_scope::{Locals, Lowered, Scope};
 use smt_lex::TokenKind;
 use smt_sexpr::{SexprId, Sexprs};
 use std::alloc::{AllocError, Global};
@@ -71,10 +69,10 @@ impl<'s, 'a> Model for Machine<'s, 'a> {
     ghost Value = { Walk };
 
     ghost view = { λ m. record {
-        table = m.sexprs.now;
-        inner = m.locals;
-        frames = reverse m.frames.items;
-        values = shown_terms m.values.items;
+      table = m.sexprs.now;
+      inner = m.locals;
+      frames = reverse m.frames.items;
+      values = shown_terms m.values.items;
     } };
 }
 

@@ -1,7 +1,7 @@
 use Rattle.std.proofs.Common.{◌≡◌, drop}
 use Rattle.idl_term.specs.Applied.{linears_in}
 use Rattle.idl_scope.specs.Scopes.{shown_terms}
-use Rattle.idl_term.proofs.Applying.{behind, seen}
+use Rattle.idl_term.proofs.Arguments.{behind, seen}
 use Rattle.idl_term.proofs.applied.linears.Given as goal
 
 abbrev pub invariant-loop-term : goal.invariant-loop-term

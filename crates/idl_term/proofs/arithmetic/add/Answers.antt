@@ -1,6 +1,6 @@
 use Rattle.std.proofs.Common.{ap}
 use Rattle.idl_linear.specs.Forms.{SumValue}
-use Rattle.idl_term.proofs.Summing.{sum_begins}
+use Rattle.idl_term.proofs.SumsOfTerms.{sum_begins}
 use Rattle.idl_term.proofs.arithmetic.add.Goals as goal
 
 pub loop-term-init : goal.loop-term-init

@@ -1,7 +1,7 @@
 use Rattle.std.proofs.Common.{◌≡◌, drop}
 use Rattle.idl_linear.specs.Linear.{sum_of}
-use Rattle.idl_term.proofs.Applying.{seen}
-use Rattle.idl_term.proofs.Summing.{sum_behind}
+use Rattle.idl_term.proofs.Arguments.{seen}
+use Rattle.idl_term.proofs.SumsOfTerms.{sum_behind}
 use Rattle.idl_term.proofs.arithmetic.add.Given as goal
 
 abbrev pub invariant-loop-term : goal.invariant-loop-term

@@ -2,7 +2,7 @@ use Rattle.std.proofs.Common.{arith, ap, ◌∙◌, ◌≡◌, ◌≤◌, ◌+�
 use Rattle.std.proofs.lemmas.List.{length-take, length-drop}
 use Rattle.idl_linear.specs.Forms.{SumValue}
 use Rattle.idl_linear.specs.Linear.{LinearValue}
-use Rattle.idl_term.proofs.Summing.{all_begin, others_begin, some_left, none_left}
+use Rattle.idl_term.proofs.SumsOfTerms.{all_begin, others_begin, some_left, none_left}
 use Rattle.idl_term.proofs.arithmetic.subtract.Goals as goal
 use Rattle.idl_term.proofs.arithmetic.subtract.Goals.{in-len1-up+in_ok-add-in-len1-up, in_default, in_default-2}
 

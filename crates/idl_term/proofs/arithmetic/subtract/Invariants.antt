@@ -1,7 +1,7 @@
 use Rattle.std.proofs.Common.{◌≡◌, ◌≤◌, ◌+◌, drop, map, length}
 use Rattle.idl_linear.specs.Linear.{less_others, negative_of}
-use Rattle.idl_term.proofs.Applying.{seen}
-use Rattle.idl_term.proofs.Summing.{sum_behind}
+use Rattle.idl_term.proofs.Arguments.{seen}
+use Rattle.idl_term.proofs.SumsOfTerms.{sum_behind}
 use Rattle.idl_term.proofs.arithmetic.subtract.Given as goal
 
 abbrev pub invariant-loop-term : goal.invariant-loop-term

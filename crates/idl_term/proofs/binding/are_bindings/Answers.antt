@@ -1,8 +1,8 @@
 use Rattle.std.proofs.Common.{arith, ◌≡◌, ℕ, ap, sym, ◌∙◌, List, ◌++◌, [], ◌∷◌, false, true, Bor}
 use Rattle.std.proofs.lemmas.List.{map-append}
 use Rattle.idl_scope.proofs.NamesKept.{texts, is_among, key_added}
-use Rattle.idl_term.proofs.Differing.{so_far_more, not_shaped, not_different, among_texts, not_true, not_false}
-use Rattle.idl_term.proofs.Treeing.{tree_at}
+use Rattle.idl_term.proofs.BindingNames.{so_far_more, not_shaped, not_different, among_texts, not_true, not_false}
+use Rattle.idl_term.proofs.TreesOfIds.{tree_at}
 use Rattle.idl_term.proofs.binding.are_bindings.Goals as goal
 
 pub variable_of-requires : goal.variable_of-requires

@@ -1,6 +1,6 @@
 use Rattle.std.proofs.Common.{take}
 use Rattle.idl_scope.proofs.NamesKept.{texts}
-use Rattle.idl_term.proofs.Differing.{SoFar}
+use Rattle.idl_term.proofs.BindingNames.{SoFar}
 use Rattle.idl_term.proofs.binding.are_bindings.Given as goal
 
 abbrev pub invariant-loop-binding : goal.invariant-loop-binding

@@ -1,5 +1,5 @@
 use Rattle.std.proofs.Common.{arith}
-use Rattle.idl_term.proofs.Treeing.{list_from, has_meaning, tree_at}
+use Rattle.idl_term.proofs.TreesOfIds.{list_from, has_meaning, tree_at}
 use Rattle.idl_term.proofs.binding.variable_of.Goals as goal
 
 pub symbol-requires : goal.symbol-requires

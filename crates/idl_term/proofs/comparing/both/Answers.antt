@@ -1,4 +1,4 @@
-use Rattle.idl_term.proofs.Relating.{both_made}
+use Rattle.idl_term.proofs.ComparisonNodes.{both_made}
 use Rattle.idl_term.proofs.comparing.both.Goals as goal
 
 pub returns-clause-makes : goal.returns-clause-makes

@@ -6,8 +6,8 @@ use Rattle.idl_node.specs.Nodes.{Placed}
 use Rattle.idl_term.specs.Comparing.{each_compared}
 use Rattle.idl_term.specs.declared.error.TermRefusal.{TermRefusal}
 use Rattle.idl_term.specs.Shapes.{Places}
-use Rattle.idl_term.proofs.Applying.{seen}
-use Rattle.idl_term.proofs.Relating.{neighbours_none}
+use Rattle.idl_term.proofs.Arguments.{seen}
+use Rattle.idl_term.proofs.ComparisonNodes.{neighbours_none}
 use Rattle.idl_term.proofs.comparing.compare_neighbours.Goals as goal
 
 pub returns-clause-makes : goal.returns-clause-makes

@@ -1,7 +1,7 @@
 use Rattle.std.proofs.Common.{◌≡◌, [], ◌-◌, length, take, drop}
 use Rattle.idl_node.specs.Making.{neighbours}
 use Rattle.idl_term.specs.Comparing.{each_compared}
-use Rattle.idl_term.proofs.Applying.{seen}
+use Rattle.idl_term.proofs.Arguments.{seen}
 use Rattle.idl_term.proofs.comparing.compare_neighbours.Given as goal
 
 abbrev pub invariant-loop-i : goal.invariant-loop-i

@@ -2,7 +2,7 @@ use Rattle.std.proofs.Common.{◌≡◌, [], ◌+◌, ◌++◌, length, take, dr
 use Rattle.idl_linear.specs.Linear.{LinearValue}
 use Rattle.idl_node.specs.Making.{pairs}
 use Rattle.idl_term.specs.Comparing.{each_compared}
-use Rattle.idl_term.proofs.Applying.{seen}
+use Rattle.idl_term.proofs.Arguments.{seen}
 use Rattle.idl_term.proofs.comparing.compare_pairs.Given as goal
 
 abbrev pub invariant-loop-second : goal.invariant-loop-second

@@ -1,4 +1,4 @@
-use Rattle.idl_term.proofs.Relating.{difference_low, difference_high}
+use Rattle.idl_term.proofs.ComparisonNodes.{difference_low, difference_high}
 use Rattle.idl_term.proofs.comparing.compare_two.Goals as goal
 
 pub relate-requires-clause-low : goal.relate-requires-clause-low

@@ -1,4 +1,4 @@
-use Rattle.idl_term.proofs.Relating.{either_made}
+use Rattle.idl_term.proofs.ComparisonNodes.{either_made}
 use Rattle.idl_term.proofs.comparing.either.Goals as goal
 
 pub returns-clause-makes : goal.returns-clause-makes

@@ -1,7 +1,7 @@
 use Rattle.std.proofs.Common.{refl}
 use Rattle.idl_term.specs.Comparing.{at_most, below, at_least, above}
 use Rattle.idl_term.specs.declared.comparing.Relation.TheVariants.{AtMost, Less, AtLeast, Greater}
-use Rattle.idl_term.proofs.Relating.{related_one, related_both, related_either}
+use Rattle.idl_term.proofs.ComparisonNodes.{related_one, related_both, related_either}
 use Rattle.idl_term.proofs.comparing.relate.Goals as goal
 
 pub returns-in-AtMost-clause-makes : goal.returns-in-AtMost-clause-makes

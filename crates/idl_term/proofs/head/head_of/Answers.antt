@@ -1,8 +1,8 @@
 use Rattle.std.proofs.Common.{sym, ◌∙◌}
 use Rattle.idl_term.specs.Trees.{tree_of}
 use Rattle.idl_scope.specs.LocalNames.{scope_in}
-use Rattle.idl_term.proofs.Treeing.{list_from, leaf_from}
-use Rattle.idl_term.proofs.Heading.{head_symbol, head_list, head_other}
+use Rattle.idl_term.proofs.TreesOfIds.{list_from, leaf_from}
+use Rattle.idl_term.proofs.HeadShapes.{head_symbol, head_list, head_other}
 use Rattle.idl_term.proofs.head.head_of.Goals as goal
 
 pub returns-in-Some : goal.returns-in-Some

@@ -1,11 +1,11 @@
 use Rattle.std.proofs.Common.{◌≡◌, ◌∙◌, sym, ap, subst}
 use Rattle.smt_sexpr.specs.Table.{Table}
-use Rattle.idl_term.proofs.Going.{lowers_as}
+use Rattle.idl_term.proofs.FrameSteps.{lowers_as}
 use Rattle.idl_term.specs.Lowered.{lowered}
 use Rattle.idl_scope.specs.Scopes.{Scope}
 use Rattle.idl_term.specs.Trees.{tree_of, IsTree}
 use Rattle.idl_term.specs.Walks.{Walk, scope_at}
-use Rattle.idl_term.proofs.Treeing.{tree_is, tree_means}
+use Rattle.idl_term.proofs.TreesOfIds.{tree_is, tree_means}
 use Rattle.idl_term.proofs.lowering.lower.Goals as goal
 
 pub run-requires-clause-tree : goal.run-requires-clause-tree

@@ -1,4 +1,4 @@
-use Rattle.idl_term.proofs.Going.{binding_last, binding_more}
+use Rattle.idl_term.proofs.FrameSteps.{binding_last, binding_more}
 use Rattle.idl_term.proofs.machine.Machine.bind_variables.Goals as goal
 
 pub bind_last-requires-clause-tree : goal.bind_last-requires-clause-tree

@@ -2,7 +2,7 @@ use Rattle.std.proofs.Common.{arith, ◌≡◌, ap, sym, ◌∙◌, length}
 use Rattle.std.proofs.lemmas.List.{length-map}
 use Rattle.idl_scope.specs.Scopes.{shown_term}
 use Rattle.idl_term.specs.Walks.{Walk}
-use Rattle.idl_term.proofs.Walking.{with_pushed, opens_application, refuses_count}
+use Rattle.idl_term.proofs.MachineSteps.{with_pushed, opens_application, refuses_count}
 use Rattle.idl_term.proofs.machine.Machine.enter_application.Goals as goal
 
 pub returns-then-not-takes_count : goal.returns-then-not-takes_count

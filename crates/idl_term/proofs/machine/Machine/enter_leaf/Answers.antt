@@ -5,8 +5,8 @@ use Rattle.idl_scope.specs.Scopes.{found}
 use Rattle.idl_term.specs.Shapes.{Lowers}
 use Rattle.idl_scope.specs.Kept.{FoundIs}
 use Rattle.idl_term.specs.Walks.{Walk, scope_at}
-use Rattle.idl_term.proofs.Following.{front_same}
-use Rattle.idl_term.proofs.Walking.{steps_error}
+use Rattle.idl_term.proofs.FirstRefusals.{front_same}
+use Rattle.idl_term.proofs.MachineSteps.{steps_error}
 use Rattle.idl_term.proofs.machine.Machine.enter_leaf.Goals as goal
 
 pub returns-in_err-value-in-Symbol-clause-steps : goal.returns-in_err-value-in-Symbol-clause-steps

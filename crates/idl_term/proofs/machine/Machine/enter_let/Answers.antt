@@ -4,8 +4,8 @@ use Rattle.idl_term.specs.Heads.{AreParts, LetIs}
 use Rattle.idl_scope.specs.Scopes.{shown_term}
 use Rattle.idl_term.specs.Walks.{Walk}
 use Rattle.idl_term.specs.declared.binding.LetParts.{LetParts}
-use Rattle.idl_term.proofs.Walking.{with_pushed}
-use Rattle.idl_term.proofs.Letting.{opens_let}
+use Rattle.idl_term.proofs.MachineSteps.{with_pushed}
+use Rattle.idl_term.proofs.LetSteps.{opens_let}
 use Rattle.idl_term.proofs.machine.Machine.enter_let.Goals as goal
 
 pub returns : goal.returns

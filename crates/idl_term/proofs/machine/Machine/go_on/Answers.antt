@@ -1,4 +1,4 @@
-use Rattle.idl_term.proofs.Going.{unbind_steps}
+use Rattle.idl_term.proofs.FrameSteps.{unbind_steps}
 use Rattle.idl_term.proofs.machine.Machine.go_on.Goals as goal
 
 pub returns-in-Unbind-clause-steps : goal.returns-in-Unbind-clause-steps

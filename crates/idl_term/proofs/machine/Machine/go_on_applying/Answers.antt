@@ -1,6 +1,6 @@
 use Rattle.std.proofs.lemmas.List.{nil_from_length}
-use Rattle.idl_term.proofs.Walking.{with_pushed}
-use Rattle.idl_term.proofs.Going.{argument_steps, last_steps}
+use Rattle.idl_term.proofs.MachineSteps.{with_pushed}
+use Rattle.idl_term.proofs.FrameSteps.{argument_steps, last_steps}
 use Rattle.idl_term.proofs.machine.Machine.go_on_applying.Goals as goal
 
 pub returns-in_default-clause-steps : goal.returns-in_default-clause-steps

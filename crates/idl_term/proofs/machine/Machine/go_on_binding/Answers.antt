@@ -4,9 +4,9 @@ use Rattle.smt_sexpr.specs.Table.{HasItem}
 use Rattle.idl_term.specs.Lowered.{is_binding}
 use Rattle.idl_term.specs.Trees.{tree_of, IsTree}
 use Rattle.idl_term.specs.Walks.{Walk}
-use Rattle.idl_term.proofs.Walking.{with_pushed}
-use Rattle.idl_term.proofs.Letting.{binding_waits, binding_has, body_waits, term_from, IsNext, IsTermOf}
-use Rattle.idl_term.proofs.Going.{binding_steps, body_steps}
+use Rattle.idl_term.proofs.MachineSteps.{with_pushed}
+use Rattle.idl_term.proofs.LetSteps.{binding_waits, binding_has, body_waits, term_from, IsNext, IsTermOf}
+use Rattle.idl_term.proofs.FrameSteps.{binding_steps, body_steps}
 use Rattle.idl_term.proofs.machine.Machine.go_on_binding.Goals as goal
 
 pub enter-requires-clause-ready : goal.enter-requires-clause-ready

@@ -15,7 +15,7 @@ use Rattle.idl_term.specs.declared.error.TermError.TheVariants.{Refused}
 use Rattle.idl_term.specs.declared.error.TermRefusal.{TermRefusal}
 use Rattle.idl_term.specs.declared.error.TermRefusal.TheVariants.{IllFormedTerm}
 use Rattle.idl_term.specs.declared.operator.Operator.{Operator}
-use Rattle.idl_term.proofs.Walking.{steps_from}
+use Rattle.idl_term.proofs.MachineSteps.{steps_from}
 
 pub nothing_refused : (w : Walk) (nodes : List NodeValue) (items : List ℕ) → items ≡ [] → outcome_behind w (lowered_list (scope_at w) nodes (trees_of w.table items)) ≡ Err IllFormedTerm
 unfolding lowered_list

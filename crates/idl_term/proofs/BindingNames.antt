@@ -13,8 +13,8 @@ use Rattle.idl_term.specs.Trees.{tree_of, trees_of, AreTrees}
 use Rattle.idl_scope.proofs.NamesKept.{texts, is_among}
 use Rattle.idl_scope.proofs.LocalsKept.{bytes_sym}
 use Rattle.idl_term.specs.Heads.{AreParts}
-use Rattle.idl_term.proofs.Heading.{variable_by}
-use Rattle.idl_term.proofs.Treeing.{two_trees, tree_at, IsListOf, list_from}
+use Rattle.idl_term.proofs.HeadShapes.{variable_by}
+use Rattle.idl_term.proofs.TreesOfIds.{two_trees, tree_at, IsListOf, list_from}
 
 abbrev pub variables : Table → List ℕ → List (List ℕ)
 variables t ids = variables_in (trees_of t ids)

@@ -20,12 +20,12 @@ use Rattle.idl_scope.specs.declared.lowered.Lowered.{Lowered}
 use Rattle.idl_term.specs.declared.operator.Operator.{Operator}
 use Rattle.idl_term.specs.declared.machine.Frame.{Frame}
 use Rattle.idl_term.specs.declared.machine.Frame.TheVariants.{Apply, Bind, Unbind}
-use Rattle.idl_term.proofs.Treeing.{tree_is}
-use Rattle.idl_term.proofs.Following.{drop_within, take_within, take_all}
-use Rattle.idl_term.proofs.Walking.{error_is, steps_from, seen, next_argument, last_argument}
+use Rattle.idl_term.proofs.TreesOfIds.{tree_is}
+use Rattle.idl_term.proofs.FirstRefusals.{drop_within, take_within, take_all}
+use Rattle.idl_term.proofs.MachineSteps.{error_is, steps_from, seen, next_argument, last_argument}
 use Rattle.idl_scope.specs.Limits.{names_limit}
-use Rattle.idl_term.proofs.Letting.{both, both_right, IsTermOf, next_binding, IsBody, unbinds}
-use Rattle.idl_term.proofs.Differing.{variables, all_bind, variables_count, variables_append, bind_append}
+use Rattle.idl_term.proofs.LetSteps.{both, both_right, IsTermOf, next_binding, IsBody, unbinds}
+use Rattle.idl_term.proofs.BindingNames.{variables, all_bind, variables_count, variables_append, bind_append}
 
 -- ---- applications
 

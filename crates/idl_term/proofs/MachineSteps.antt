@@ -21,8 +21,8 @@ use Rattle.idl_scope.specs.declared.lowered.Lowered.{Lowered}
 use Rattle.idl_term.specs.declared.operator.Operator.{Operator}
 use Rattle.idl_term.specs.declared.machine.Frame.{Frame}
 use Rattle.idl_term.specs.declared.machine.Frame.TheVariants.{Apply}
-use Rattle.idl_term.proofs.Following.{follows_err, follows_ok, first_then, starts}
-use Rattle.idl_term.proofs.Treeing.{counted}
+use Rattle.idl_term.proofs.FirstRefusals.{follows_err, follows_ok, first_then, starts}
+use Rattle.idl_term.proofs.TreesOfIds.{counted}
 
 -- ---- what the code keeps
 

@@ -17,10 +17,10 @@ use Rattle.idl_term.specs.declared.error.TermRefusal.TheVariants.{IllFormedTerm}
 use Rattle.idl_term.specs.declared.error.TermRefusal.{TermRefusal}
 use Rattle.idl_term.specs.declared.machine.Frame.{Frame}
 use Rattle.idl_term.specs.declared.machine.Frame.TheVariants.{Bind, Unbind}
-use Rattle.idl_term.proofs.Following.{follows_same, first_then, starts}
-use Rattle.idl_term.proofs.Treeing.{tree_is}
-use Rattle.idl_term.proofs.Differing.{variables_count}
-use Rattle.idl_term.proofs.Walking.{subst_first}
+use Rattle.idl_term.proofs.FirstRefusals.{follows_same, first_then, starts}
+use Rattle.idl_term.proofs.TreesOfIds.{tree_is}
+use Rattle.idl_term.proofs.BindingNames.{variables_count}
+use Rattle.idl_term.proofs.MachineSteps.{subst_first}
 
 -- ---- it is opened
 

@@ -8,7 +8,7 @@ use Rattle.std.proofs.lemmas.List.{append_assoc, length-map}
 use Rattle.idl_linear.specs.declared.summand.Summand.{Summand}
 use Rattle.idl_linear.specs.Forms.{SumValue}
 use Rattle.idl_linear.specs.Linear.{LinearValue, collected, summands_of, constants_of, sum_of, negative_of, less_others}
-use Rattle.idl_term.proofs.Applying.{seen}
+use Rattle.idl_term.proofs.Arguments.{seen}
 
 -- the sum of what was summed so far and of these terms
 abbrev pub sum_behind : List Summand → ℤ → List LinearValue → LinearValue
