@@ -5,7 +5,7 @@ pub mod Inner
 pub mod Least
 pub mod Literals
 pub mod ClauseTruths
-pub mod Both
+pub mod BothDirections
 pub mod Points
 pub mod Schedules
 pub mod Means

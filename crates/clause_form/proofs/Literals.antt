@@ -1,9 +1,9 @@
 -- A member's literal holds exactly where the member is true.
-use Rattle.std.proofs.Common.{refl, sym, ap, arith, ◌∙◌, ◌≡◌, ◌<◌, ℕ, List, true, not, ℤ, pos, neg_ℤ, ◌-ℤ◌, ◌≤ℤ◌, int_le}
+use Rattle.std.proofs.Common.{refl, sym, ap, arith, ◌∙◌, ◌≡◌, ◌<◌, ℕ, List, true, not, ℤ, pos, ◌-ℤ◌, ◌≤ℤ◌, int_le}
 use Rattle.std.specs.List.{AllByRecursion}
 use Rattle.std.proofs.lemmas.Int.{ints}
 use Rattle.stn_core.specs.declared.literal.Literal.{Literal}
-use Rattle.stn_core.specs.Literal.{value_at, Holds, negation_of}
+use Rattle.stn_core.specs.Literal.{value_at, Holds}
 use Rattle.idl_node.specs.Nodes.{NodeValue, always, atom, denial, conjunction, disjunction}
 use Rattle.idl_node.specs.Tables.{IsDeniable, IsNodeOf, IsTableOf}
 use Rattle.idl_node.specs.Truth.{literal_truth, node_truth, truth}

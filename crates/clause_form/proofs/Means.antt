@@ -15,7 +15,7 @@ use Rattle.clause_form.specs.Polarity.{polarity_of, inner_nodes}
 use Rattle.clause_form.specs.ClauseForm.{inner_count, clauses_of, points_of}
 use Rattle.clause_form.specs.Restricting.{restricted, AreOfSorts}
 use Rattle.clause_form.proofs.Among.{each}
-use Rattle.clause_form.proofs.Both.{problem_holds, roots_true}
+use Rattle.clause_form.proofs.BothDirections.{problem_holds, roots_true}
 use Rattle.clause_form.proofs.Points.{points_some}
 use Rattle.clause_form.proofs.Schedules.{restricted_of_sorts, restricted_alike, schedule_count, restricted_back, longer_alike, fresh_values, fresh_count, fresh_says}
 use Rattle.clause_form.proofs.Truths.{truth-alike}

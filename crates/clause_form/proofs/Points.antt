@@ -11,7 +11,7 @@ use Rattle.idl_node.specs.Tables.{IsDeniable, IsNodeOf, IsTableOf}
 use Rattle.clause_form.specs.Polarity.{is_among, node_at, Polarity, polarity_of, body_of, is_compound, inner_nodes}
 use Rattle.clause_form.specs.ClauseForm.{inner_count, stands, fails, fresh_point, body_literal, node_literal, literal_of, denied_literal, literals_of, denied_literals, asserted_clauses, denied_clauses, inner_clauses, when, node_clauses, clauses_below, clauses_of, points_of}
 use Rattle.clause_form.proofs.Among.{each}
-use Rattle.clause_form.proofs.Both.{needs_asserted, needs_denied, needs_inner}
+use Rattle.clause_form.proofs.BothDirections.{needs_asserted, needs_denied, needs_inner}
 use Rattle.clause_form.proofs.Inner.{IsHeld, MembersHeld, needs, inner_closed}
 use Rattle.clause_form.proofs.Least.{in_table}
 use Rattle.clause_form.proofs.Truths.{node_is}

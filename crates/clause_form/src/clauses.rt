@@ -3,9 +3,9 @@ ghost use Rattle.std.specs.Prelude.{◌≡◌, ◌≤◌, IfOk};
 ghost use Rattle.idl_node.specs.Tables.{IsTableOver};
 ghost use Rattle.clause_form.specs.ClauseForm.{clauses_of, points_of};
 
+use crate::form::Form;
 use crate::marks::node_marks;
 use crate::numbering::number_points;
-use crate::form::Form;
 use idl_node::Nodes;
 use std::alloc::{AllocError, Global};
 use stn_core::{Clauses, Problem};

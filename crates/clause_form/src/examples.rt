@@ -7,12 +7,7 @@ ghost use Rattle.clause_form.specs.Examples.{literal, yes, no, either_nodes, mix
 ghost use Rattle.clause_form.specs.Restricting.{restricted};
 
 /// Clauses in order, and the schedule that values give.
-#[tactic(auto, unfolding(
-    crate::specs::ClauseForm::clauses_of,
-    crate::specs::ClauseForm::points_of,
-    crate::specs::Polarity::polarity_of,
-    crate::specs::Polarity::inner_nodes
-))]
+#[tactic(auto, unfolding(crate::specs::ClauseForm::clauses_of, crate::specs::ClauseForm::points_of, crate::specs::Polarity::polarity_of, crate::specs::Polarity::inner_nodes))]
 pub fn worked_clause_form()
     // an asserted `or` of an `and` and an atom: the `and` has the fresh point 4
     ensures either_points { points_of 4 either_nodes (4 ∷ 5 ∷ 6 ∷ []) ≡ 5 }
@@ -29,7 +24,6 @@ pub fn worked_clause_form()
     // no root, no clause
     ensures nothing { clauses_of 3 mixed_nodes [] ≡ [] }
     // a fresh point's value isn't looked at
-    ensures schedule {
-        restricted (sort.Bool ∷ sort.Bool ∷ sort.Int ∷ []) (negsuc 6 ∷ negsuc 6 ∷ negsuc 5 ∷ negsuc 11 ∷ negsuc 0 ∷ [])
+    ensures schedule { restricted (sort.Bool ∷ sort.Bool ∷ sort.Int ∷ []) (negsuc 6 ∷ negsuc 6 ∷ negsuc 5 ∷ negsuc 11 ∷ negsuc 0 ∷ [])
         ≡ Truth true ∷ Truth false ∷ Int (negsuc 4) ∷ [] }
 {}

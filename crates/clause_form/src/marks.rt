@@ -47,7 +47,7 @@ fn spread(asserted: &mut [bool], denied: &mut [bool], node: &Node, number: usize
     requires same { length denied.old ≡ length asserted.old }
     ensures { (p : Polarity) → ArePolarityMarks (length asserted.old) asserted.old denied.old p
         → ArePolarityMarks (length asserted.old) asserted.new denied.new
-            (spread number (node_value node.now) p) }
+        (spread number (node_value node.now) p) }
 {
     let is_asserted = asserted[number];
     let is_denied = denied[number];
@@ -152,7 +152,7 @@ pub fn node_marks(alloc: Global, nodes: &[Node], roots: &[u32]) -> Result<NodeMa
     requires table { (points : ℕ) × IsTableOver points (shown nodes.now) }
     ensures { IfOk result (λ marks. AreNodeMarks (length nodes.now)
         marks.polarity.asserted.items marks.polarity.denied.items marks.inner.items (shown nodes.now)
-            roots.now) }
+        roots.now) }
 {
     let mut asserted = no_marks(alloc, nodes.len())?;
     let mut denied = no_marks(alloc, nodes.len())?;

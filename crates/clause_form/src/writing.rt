@@ -258,10 +258,10 @@ impl<'a> Form<'a> {
         requires in_inner { length inner.now ≡ length self.now.nodes.now }
         ensures { IfOk result (λ clauses. (p : Polarity) → ForNumbers self.now (λ points numbers.
             ArePolarityMarks (length self.now.nodes.now) polarity.now.asserted.items
-                polarity.now.denied.items p
+            polarity.now.denied.items p
             → AreMarks (length self.now.nodes.now) inner.now numbers
             → clauses.items ≡ clauses_below points (table_of self.now) p numbers
-                (length self.now.nodes.now))) }
+            (length self.now.nodes.now))) }
     {
         let mut clauses = Vec::new(alloc);
         for number in 0..self.nodes.len() {
