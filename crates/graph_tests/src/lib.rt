@@ -1,9 +1,11 @@
 //! One short run of each public call that takes memory and that no script reaches, with ample memory: of nets, cycles,
-//! pruning, refutation trees and the checker.
+//! pruning, covers, refutation trees and the checker.
 #![tactic(auto)]
 
 #[cfg(test)]
 mod chains;
+#[cfg(test)]
+mod covers;
 #[cfg(test)]
 mod cycles;
 #[cfg(test)]
