@@ -44,15 +44,15 @@ abbrev leaf_bytes : Sexpr → List ℕ
 leaf_bytes (leaf kind text) = text
 leaf_bytes (list xs) = []
 
-abbrev parts : Sexpr → Items
+abbrev pub parts : Sexpr → Items
 parts (leaf kind text) = none
 parts (list xs) = xs
 
-abbrev first : Items → Sexpr
+abbrev pub first : Items → Sexpr
 first none = list none
 first (more x xs) = x
 
-abbrev others : Items → Items
+abbrev pub others : Items → Items
 others none = none
 others (more x xs) = xs
 
