@@ -34,7 +34,10 @@ use Rattle.smt_script.specs.declared.state.Notice.{Notice}
 use Rattle.smt_script.specs.declared.state.Notice.TheVariants.{Success, Unsupported}
 use Rattle.smt_script.specs.declared.state.Satisfiability.{Satisfiability}
 use Rattle.smt_script.specs.Commands
-use Rattle.smt_script.specs.Commands.{Command, command_name, is_unsupported, left_out_of, command_of, is_exiting, is_exit}
+use Rattle.smt_script.specs.Commands.{Command, naming_command, changing_command, asking_command, is_unsupported, left_out_of, command_of, is_exiting, is_exit}
+use Rattle.smt_sexpr.specs.Laws.{OneOutcome, ListReadsOn, ListIsWithin}
+use Rattle.cert_read.specs.Laws.{CertificateReadsBack}
+use Rattle.cert_check.specs.Laws.{FlawLaw}
 use Rattle.smt_script.specs.Laws.{OnlyExitEnds}
 use Rattle.smt_script.specs.Options.{OptionEffect, printing_success, no_effect, not_supported, ill_formed_value, option_effect}
 use Rattle.smt_script.specs.States.{State, start_state, Step, after_option, is_taken, sort_of, after_declaration, is_of_sort, defined_by, after_definition, asserted_by, named_by, levels_of, after_by, after, settled}
@@ -47,28 +50,11 @@ use Rattle.dtp_entry.proofs.Verdicts.{sorts_count}
 use Rattle.dtp_check.specs.declared.judgement.EntryFlaw.{EntryFlaw}
 use Rattle.dtp_check.specs.declared.judgement.EntryFlaw.TheVariants.{Flawed}
 use Rattle.dtp_check.specs.declared.judgement.Judgement.TheVariants.{Accepted}
-use Rattle.dtp_check.specs.declared.part.PartEnd.{PartEnd}
-use Rattle.dtp_check.specs.declared.part.PartEnd.TheVariants as part
+use Rattle.dtp_check.specs.declared.script_part.PartEnd.{PartEnd}
+use Rattle.dtp_check.specs.declared.script_part.PartEnd.TheVariants as part
 use Rattle.dtp_check.specs.Judged.{EndsPart, ExitEnds, FollowsExit, ScriptPart, is_true, first_false, entry_flaw, judged_entry, judged, IsJudged}
 use Rattle.dtp_check.specs.Whole.{IsWholeFrom, IsWhole}
 use Rattle.dtp_check.proofs.Judging.{none_of_wrong_sort, of_sorts_count, values_flaw_is, judged_ok, judged_none, not_exit, told_apart, check_apart, step_of}
-
--- ---- what the laws of the lower crates say
-
-abbrev pub OneOutcome : Type 0
-OneOutcome = (bytes : List ℕ) (place : ℕ) (o p : Outcome) (m n : ℕ) → Outcomes bytes place o m → Outcomes bytes place p n → (o ≡ p) × (m ≡ n)
-
-abbrev pub ReadsOn : Type 0
-ReadsOn = (bytes more : List ℕ) (place after : ℕ) (xs : Items) → Spells bytes place (list xs) after → Spells (bytes ++ more) place (list xs) after
-
-abbrev pub ReadsWithin : Type 0
-ReadsWithin = (bytes : List ℕ) (place after : ℕ) (xs : Items) → Spells bytes place (list xs) after → after ≤ length bytes
-
-abbrev pub HasNoFlaw : Type 0
-HasNoFlaw = (points : ℕ) (clauses : List (List Literal)) (lemmas : List Lemma) → IsRefutation points clauses lemmas → refutation_flaw points clauses lemmas ≡ None
-
-abbrev pub ReadsBack : Type 0
-ReadsBack = (entries : List Entry) (bytes gap : List ℕ) (place : ℕ) → All EntryFits entries → IsClosedGap gap → drop place bytes ≡ gap ++ certificate_text entries → ReadsCertificate bytes place (certificate entries)
 
 -- ---- a right entry has no flaw
 
@@ -78,11 +64,11 @@ none_false env k (t ∷ ts) h =
     let e : is_true (value env t) ≡ true = ap is_true h.0 in
     ap (λ (b : Bool). if b then first_false env (k + 1) ts else Some k) e ∙ none_false env (k + 1) ts h.1
 
-pub entry_right : HasNoFlaw → (c : Context) (entry : Entry) → IsRight c entry → entry_flaw c entry ≡ None
+pub entry_right : FlawLaw → (c : Context) (entry : Entry) → IsRight c entry → entry_flaw c entry ≡ None
 entry_right law c (Sat values) (fits, trues) =
     let count : length values ≡ length c.declared = of_sorts_count (sorts_of c.declared) values fits ∙ sorts_count c.declared in
     values_flaw_is c values None count (none_of_wrong_sort 1 (sorts_of c.declared) values fits) (none_false (environment c values) 1 c.assertions trues)
-entry_right law c (Unsat lemmas) h = ap (option_map Flawed) (law _ _ lemmas h)
+entry_right law c (Unsat lemmas) h = ap (option_map Flawed) ((law _ _ lemmas).1 h)
 
 -- ---- commands that are carried out
 
@@ -93,7 +79,7 @@ carried_list s (leaf kind text) step e = absurd cc
 carried_list s (list xs) step e = (xs, refl)
 
 header_refused : (s : State) (step : Step) → after s header_sexpr ≡ Ok step → ⊥
-unfolding after command_of command_name is_unsupported left_out_of
+unfolding after command_of naming_command changing_command asking_command is_unsupported left_out_of
 header_refused s step e = cc
 
 -- and no header
@@ -143,7 +129,7 @@ record IsSplit (script : List ℕ) (place : ℕ) (s : State) (k : ℕ) (xs : Lis
   closed : IsClosedGap (drop last script)
   reads : (added : List ℕ) (end : PartEnd) (behind : ℕ) → EndsIn exits (script ++ added) last end behind → ScriptPart (script ++ added) place xs end behind
 
-module _ (one : OneOutcome) (on : ReadsOn) (within : ReadsWithin) (flaw : HasNoFlaw) (only : OnlyExitEnds) where
+module _ (one : OneOutcome) (on : ListReadsOn) (within : ListIsWithin) (flaw : FlawLaw) (only : OnlyExitEnds) where
   same_sexpr : (bytes : List ℕ) (place : ℕ) (x y : Sexpr) (m n : ℕ) → Spells bytes place x m → Spells bytes place y n → (x ≡ y) × (m ≡ n)
   same_sexpr bytes place x y m n h k =
       let w = one bytes place (expression x) (expression y) m n h k in
@@ -310,7 +296,7 @@ module _ (one : OneOutcome) (on : ReadsOn) (within : ReadsWithin) (flaw : HasNoF
       judged_part = (certificate h.entries, reads_there.2, sym (h.accepted 1));
     }
 
-  pub certified : ReadsBack → (script out : List ℕ) → IsReport Certificate script out 0 → IsWhole script → IsJudged (script ++ out) Accepted
+  pub certified : CertificateReadsBack → (script out : List ℕ) → IsReport Certificate script out 0 → IsWhole script → IsJudged (script ++ out) Accepted
   certified back script out (rest, text, report) (ys, is) =
       let h = split report.commands ys script 0 report.here 1 start_state report.ending rest (omega arith) report.reads report.ends report.answers is in
       let same : out ≡ certificate_text h.entries = text ∙ ap (λ (t : List ℕ). line_of header_sexpr ++ t) h.text in

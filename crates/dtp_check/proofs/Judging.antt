@@ -42,7 +42,7 @@ use Rattle.dtp_check.specs.Turns.{IsCheckTurn, IsJudgedTurn}
 use Rattle.dtp_check.specs.declared.judgement.EntryFlaw.{EntryFlaw}
 use Rattle.dtp_check.specs.declared.judgement.EntryFlaw.TheVariants.{WrongCount, WrongSort, FalseAssertion}
 use Rattle.dtp_check.specs.declared.judgement.Judgement.TheVariants.{Script, Surplus}
-use Rattle.dtp_check.specs.Judged.{is_of_sort, first_of_wrong_sort, is_true, first_false, first_of_two, values_flaw, entry_flaw, surplus_of, judged_entry, judged_check, judged_effect, judged}
+use Rattle.dtp_check.specs.Judged.{is_of_sort, first_of_wrong_sort, is_true, first_false, first_of_two, values_flaw, entry_flaw, surplus_of, judged_entry, judged_check, judged_effect, judged_after, judged}
 use Rattle.dtp_check.specs.Roots.{first_unmarked}
 
 -- ---- entries that are left
@@ -203,11 +203,11 @@ check_right law s used entries entry kept verdict flaw made stands e within ther
 
 pub judged_ok : (s : State) (k n : ℕ) (x : Sexpr) (xs : List Sexpr) (es : List Entry) (step : Step) → after s x ≡ Ok step → judged s k n (x ∷ xs) es ≡ judged_effect step.effect step.state n es (λ next m rest. judged next (k + 1) m xs rest)
 unfolding judged
-judged_ok s k n x xs es step e = ap (λ r. elim r [ Ok q ↦ judged_effect q.effect q.state n es (λ next m rest. judged next (k + 1) m xs rest) | Err why ↦ Script k (kind_of why) ]) e
+judged_ok s k n x xs es step e = ap (λ (r : Result Step Refusal). judged_after k n es r (λ next m rest. judged next (k + 1) m xs rest)) e
 
 pub judged_err : (s : State) (k n : ℕ) (x : Sexpr) (xs : List Sexpr) (es : List Entry) (why : Refusal) → after s x ≡ Err why → judged s k n (x ∷ xs) es ≡ Script k (kind_of why)
 unfolding judged
-judged_err s k n x xs es why e = ap (λ r. elim r [ Ok q ↦ judged_effect q.effect q.state n es (λ next m rest. judged next (k + 1) m xs rest) | Err cause ↦ Script k (kind_of cause) ]) e
+judged_err s k n x xs es why e = ap (λ (r : Result Step Refusal). judged_after k n es r (λ next m rest. judged next (k + 1) m xs rest)) e
 
 pub judged_none : (s : State) (k n : ℕ) (es : List Entry) → judged s k n [] es ≡ surplus_of n es
 unfolding judged

@@ -13,21 +13,19 @@ use Rattle.dtp_entry.specs.Written.{Writes}
 use Rattle.dtp_entry.proofs.Written.{appends_nothing}
 use Rattle.dtp_check.specs.Answered.{checked_of, IsAnswerPart}
 use Rattle.dtp_check.specs.Texts.{judgement_line}
-use Rattle.dtp_check.specs.declared.behind.Behind.{Behind as Found}
-use Rattle.dtp_check.specs.declared.behind.Behind.TheVariants.{Flawed}
-use Rattle.dtp_check.specs.declared.judgement.CertificateFlaw.{CertificateFlaw}
+use Rattle.dtp_check.specs.declared.certificate_behind.Behind.{Behind as Found}
+use Rattle.dtp_check.specs.declared.certificate_behind.Behind.TheVariants as kinds
 use Rattle.dtp_check.specs.declared.judgement.Judgement.{Judgement}
 use Rattle.dtp_check.specs.declared.judgement.Judgement.TheVariants.{Script, Certificate}
-use Rattle.dtp_check.specs.declared.part.PartEnd.{PartEnd}
-use Rattle.dtp_check.specs.declared.part.PartEnd.TheVariants as part
-use Rattle.dtp_check.specs.Behind.{IsBehind, flaw_of_error}
-use Rattle.dtp_check.specs.Judged.{ScriptPart, CertificateBehind, flaw_of_refusal, judged, IsJudged}
+use Rattle.dtp_check.specs.declared.script_part.PartEnd.{PartEnd}
+use Rattle.dtp_check.specs.declared.script_part.PartEnd.TheVariants as part
+use Rattle.dtp_check.specs.Behind.{IsBehind}
+use Rattle.dtp_check.specs.Judged.{ScriptPart, CertificateBehind, judged, IsJudged}
 use Rattle.dtp_check.specs.Parts.{IsReadable}
 
--- an error that tells a refusal tells its flaw
-pub error_told : (IsRefused : CertificateRefusal → Type 0) (error : CertReadError) (flaw : CertificateFlaw) → ErrorSays IsRefused error → flaw_of_error error ≡ Some flaw → (why : CertificateRefusal) × IsRefused why × (flaw ≡ flaw_of_refusal why)
-error_told IsRefused (Refused why) flaw h e = let same : flaw_of_refusal why ≡ flaw = cc in (why, h, sym same)
-error_told IsRefused OutOfMemory flaw h e = absurd cc
+-- an error that is a refusal says so
+pub refusal_told : (IsRefused : CertificateRefusal → Type 0) (error : CertReadError) (why : CertificateRefusal) → error ≡ Refused why → ErrorSays IsRefused error → IsRefused why
+refusal_told IsRefused error why e h = subst (λ (error : CertReadError). ErrorSays IsRefused error) e h
 
 -- ---- the whole
 
@@ -38,11 +36,11 @@ module _ (bytes : List ℕ) (xs : List Sexpr) (behind : ℕ) where
   judged_entries part.End entries judgement h r b e = record { commands = xs; end = part.End; behind = behind; script = h; judged_part = (certificate entries, b, e) }
   judged_entries (part.Unread kind) entries judgement h r b e = absurd r
 
-  pub judged_flaw : (end : PartEnd) (why : CertificateRefusal) (flaw : CertificateFlaw) → ScriptPart bytes 0 xs end behind → IsReadable end → CertificateBehind bytes end behind (no_certificate why) → flaw ≡ flaw_of_refusal why → IsJudged bytes (Certificate flaw)
-  judged_flaw part.Exit why flaw h r b e = record { commands = xs; end = part.Exit; behind = behind; script = h; judged_part = (no_certificate why, b, ap Certificate e) }
-  judged_flaw part.Header why flaw h r b e = record { commands = xs; end = part.Header; behind = behind; script = h; judged_part = (no_certificate why, b, ap Certificate e) }
-  judged_flaw part.End why flaw h r b e = record { commands = xs; end = part.End; behind = behind; script = h; judged_part = (no_certificate why, b, ap Certificate e) }
-  judged_flaw (part.Unread kind) why flaw h r b e = absurd r
+  pub judged_refusal : (end : PartEnd) (why : CertificateRefusal) → ScriptPart bytes 0 xs end behind → IsReadable end → CertificateBehind bytes end behind (no_certificate why) → IsJudged bytes (Certificate why)
+  judged_refusal part.Exit why h r b = record { commands = xs; end = part.Exit; behind = behind; script = h; judged_part = (no_certificate why, b, refl) }
+  judged_refusal part.Header why h r b = record { commands = xs; end = part.Header; behind = behind; script = h; judged_part = (no_certificate why, b, refl) }
+  judged_refusal part.End why h r b = record { commands = xs; end = part.End; behind = behind; script = h; judged_part = (no_certificate why, b, refl) }
+  judged_refusal (part.Unread kind) why h r b = absurd r
 
   pub judged_unreadable : (kind : Kind) → ScriptPart bytes 0 xs (part.Unread kind) behind → IsJudged bytes (Script (length xs + 1) kind)
   judged_unreadable kind h = record { commands = xs; end = part.Unread kind; behind = behind; script = h; judged_part = refl }
@@ -58,10 +56,9 @@ module _ (bytes first second : List ℕ) (behind : ℕ) (end : PartEnd) (found :
   pub stands : (other : Found) → found ≡ other → IsBehind bytes end behind other
   stands other e = subst (λ (f : Found). IsBehind bytes end behind f) e (subst (λ (b : List ℕ). IsBehind b end behind found) (same_second ∙ same_first) is_behind)
 
-  pub found_flaw : (flaw : CertificateFlaw) (xs : List Sexpr) → ScriptPart first 0 xs end behind → found ≡ Flawed flaw → IsJudged bytes (Certificate flaw)
-  found_flaw flaw xs p e =
-      let w = stands (Flawed flaw) e in
-      judged_flaw bytes xs behind end w.0 flaw (subst (λ (b : List ℕ). ScriptPart b 0 xs end behind) same_first p) readable w.1 w.2
+  pub found_refusal : (why : CertificateRefusal) (xs : List Sexpr) → ScriptPart first 0 xs end behind → found ≡ kinds.Refused why → IsJudged bytes (Certificate why)
+  found_refusal why xs p e =
+      judged_refusal bytes xs behind end why (subst (λ (b : List ℕ). ScriptPart b 0 xs end behind) same_first p) readable (stands (kinds.Refused why) e)
 
 -- ---- the line
 

@@ -22,16 +22,17 @@ use Rattle.smt_script.specs.declared.state.Effect.TheVariants.{CheckSat, Exit, T
 use Rattle.smt_script.specs.States.{State, start_state, Step, IsMadeState, after, settled}
 use Rattle.smt_answer.specs.Kinds.{kind_of}
 use Rattle.dtp_entry.specs.Entries.{points_of, problem_of, verdict_of}
+use Rattle.cert_check.specs.Laws.{FlawLaw}
 use Rattle.smt_script.specs.Laws.{StepMade, SettledMade}
 use Rattle.dtp_entry.proofs.Verdicts.{ScopeLaw, RootsLaw, ExactLaw, HoldsLaw, RefutationLaw, refuted_unsatisfiable, sorts_count}
 use Rattle.dtp_check.specs.declared.judgement.EntryFlaw.{EntryFlaw}
 use Rattle.dtp_check.specs.declared.judgement.EntryFlaw.TheVariants.{WrongCount, WrongSort, FalseAssertion, Flawed}
 use Rattle.dtp_check.specs.declared.judgement.Judgement.{Judgement}
 use Rattle.dtp_check.specs.declared.judgement.Judgement.TheVariants.{Accepted, Script}
-use Rattle.dtp_check.specs.declared.part.PartEnd.{PartEnd}
-use Rattle.dtp_check.specs.declared.part.PartEnd.TheVariants as part
-use Rattle.dtp_check.specs.Judged.{first_of_wrong_sort, is_true, first_false, first_of_two, entry_flaw, surplus_of, judged_entry, judged_check, judged_effect, judged, judged_with, ScriptPart, JudgedPart, IsJudged}
-use Rattle.dtp_check.specs.Told.{Tells, IsToldAt, IsToldBy, IsTold}
+use Rattle.dtp_check.specs.declared.script_part.PartEnd.{PartEnd}
+use Rattle.dtp_check.specs.declared.script_part.PartEnd.TheVariants as part
+use Rattle.dtp_check.specs.Judged.{first_of_wrong_sort, is_true, first_false, first_of_two, entry_flaw, surplus_of, judged_entry, judged_check, judged_effect, judged_after, judged, judged_with, ScriptPart, CertificateBehind, JudgedPart, IsJudged}
+use Rattle.dtp_check.specs.Told.{Tells, IsToldAt, IsToldBy, IsToldAfter, IsTold, SaysNothingFalse}
 use Rattle.dtp_check.proofs.Judging.{are_of_sorts}
 
 -- ---- an entry without a flaw
@@ -69,10 +70,6 @@ no_flaw : (f : Option Flaw) → option_map Flawed f ≡ None → f ≡ None
 no_flaw None e = refl
 no_flaw (Some f) e = absurd cc
 
--- what the law of flaws says
-abbrev pub FlawLaw : Type 0
-FlawLaw = (points : ℕ) (clauses : List (List Literal)) (lemmas : List Lemma) → (refutation_flaw points clauses lemmas ≡ None) ↔ IsRefutation points clauses lemmas
-
 module _ (flaws : FlawLaw) (refutes : RefutationLaw) (scope : ScopeLaw) (roots : RootsLaw) (exact : ExactLaw) (holds : HoldsLaw) (step_made : StepMade) (settled_made : SettledMade) where
   entry_right : (c : Context) (entry : Entry) → IsContext c → entry_flaw c entry ≡ None → Tells c entry
   entry_right c (Sat values) made e = values_right_by c values (length values == length c.declared) refl e
@@ -103,16 +100,8 @@ module _ (flaws : FlawLaw) (refutes : RefutationLaw) (scope : ScopeLaw) (roots :
   told_effect CheckSat s n entries others Rest made e f = told_check s n entries (λ next rest. others next (n + 1) rest) Rest made e (λ next rest of g. f next (n + 1) rest of g)
   told_effect Exit s n entries others Rest made e f = none_left n entries e
 
-  abbrev judged_after : ℕ → ℕ → List Sexpr → List Entry → Result Step Refusal → Judgement
-  judged_after k n xs entries (Ok step) = judged_effect step.effect step.state n entries (λ next m rest. judged next (k + 1) m xs rest)
-  judged_after k n xs entries (Err why) = Script k (kind_of why)
-
-  abbrev ToldAfter : List Sexpr → List Entry → Result Step Refusal → Type 0
-  ToldAfter xs entries (Ok step) = IsToldBy step.effect step.state entries (λ next rest. IsTold next xs rest)
-  ToldAfter xs entries (Err why) = ⊥
-
-  told_after : (s : State) (k n : ℕ) (x : Sexpr) (xs : List Sexpr) (entries : List Entry) (found : Result Step Refusal) → IsMadeState s → after s x ≡ found → judged_after k n xs entries found ≡ Accepted
-      → ((t : State) (m : ℕ) (rest : List Entry) → IsMadeState t → judged t (k + 1) m xs rest ≡ Accepted → IsTold t xs rest) → ToldAfter xs entries found
+  told_after : (s : State) (k n : ℕ) (x : Sexpr) (xs : List Sexpr) (entries : List Entry) (found : Result Step Refusal) → IsMadeState s → after s x ≡ found → judged_after k n entries found (λ next m rest. judged next (k + 1) m xs rest) ≡ Accepted
+      → ((t : State) (m : ℕ) (rest : List Entry) → IsMadeState t → judged t (k + 1) m xs rest ≡ Accepted → IsTold t xs rest) → IsToldAfter found entries (λ next rest. IsTold next xs rest)
   told_after s k n x xs entries (Err why) made e f rest = absurd cc
   told_after s k n x xs entries (Ok step) made e f rest =
       told_effect step.effect step.state n entries (λ next m es. judged next (k + 1) m xs es) (λ next es. IsTold next xs es) (step_made s x step made e) f rest
@@ -124,20 +113,17 @@ module _ (flaws : FlawLaw) (refutes : RefutationLaw) (scope : ScopeLaw) (roots :
 
   -- ---- the source
 
-  -- the entries that an accepted source has
-  abbrev AcceptedAs : List ℕ → List Sexpr → PartEnd → ℕ → Type 0
-  AcceptedAs bytes xs end behind = (xs' : List Sexpr) × (end' : PartEnd) × (behind' : ℕ) × (entries : List Entry) × ScriptPart bytes 0 xs' end' behind' × IsTold start_state xs' entries
-
   module _ (start_made : IsMadeState start_state) where
-    told_with : (bytes : List ℕ) (xs : List Sexpr) (end : PartEnd) (behind : ℕ) (outcome : CertificateOutcome) → ScriptPart bytes 0 xs end behind → Accepted ≡ judged_with xs outcome → AcceptedAs bytes xs end behind
-    told_with bytes xs end behind (certificate entries) p e = (xs, end, behind, entries, p, told start_state 1 1 xs entries start_made (sym e))
-    told_with bytes xs end behind (no_certificate why) p e = absurd cc
+    told_with : (bytes : List ℕ) (xs : List Sexpr) (end : PartEnd) (behind : ℕ) (outcome : CertificateOutcome) → ScriptPart bytes 0 xs end behind → CertificateBehind bytes end behind outcome → Accepted ≡ judged_with xs outcome → SaysNothingFalse bytes
+    told_with bytes xs end behind (certificate entries) p is e =
+        record { commands = xs; end = end; behind = behind; entries = entries; script = p; stands = is; told = told start_state 1 1 xs entries start_made (sym e) }
+    told_with bytes xs end behind (no_certificate why) p is e = absurd cc
 
-    told_part : (bytes : List ℕ) (xs : List Sexpr) (end : PartEnd) (behind : ℕ) → ScriptPart bytes 0 xs end behind → JudgedPart bytes xs end behind Accepted → AcceptedAs bytes xs end behind
-    told_part bytes xs part.Exit behind p j = told_with bytes xs part.Exit behind j.0 p j.2
-    told_part bytes xs part.Header behind p j = told_with bytes xs part.Header behind j.0 p j.2
-    told_part bytes xs part.End behind p j = told_with bytes xs part.End behind j.0 p j.2
+    told_part : (bytes : List ℕ) (xs : List Sexpr) (end : PartEnd) (behind : ℕ) → ScriptPart bytes 0 xs end behind → JudgedPart bytes xs end behind Accepted → SaysNothingFalse bytes
+    told_part bytes xs part.Exit behind p j = told_with bytes xs part.Exit behind j.0 p j.1 j.2
+    told_part bytes xs part.Header behind p j = told_with bytes xs part.Header behind j.0 p j.1 j.2
+    told_part bytes xs part.End behind p j = told_with bytes xs part.End behind j.0 p j.1 j.2
     told_part bytes xs (part.Unread kind) behind p j = absurd cc
 
-    pub accepted_told : (bytes : List ℕ) → IsJudged bytes Accepted → (xs : List Sexpr) × (end : PartEnd) × (behind : ℕ) × (entries : List Entry) × ScriptPart bytes 0 xs end behind × IsTold start_state xs entries
+    pub accepted_told : (bytes : List ℕ) → IsJudged bytes Accepted → SaysNothingFalse bytes
     accepted_told bytes j = told_part bytes j.commands j.end j.behind j.script j.judged_part

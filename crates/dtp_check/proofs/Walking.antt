@@ -4,10 +4,10 @@ use Rattle.smt_sexpr.specs.Tree.{Sexpr}
 use Rattle.smt_sexpr.specs.Table.{Table, Means}
 use Rattle.smt_sexpr.specs.Reading.{Spells}
 use Rattle.cert_text.specs.Form.{header_sexpr}
-use Rattle.dtp_check.specs.declared.part.PartEnd.{PartEnd}
-use Rattle.dtp_check.specs.declared.part.PartEnd.TheVariants as part
-use Rattle.dtp_check.specs.declared.part.Next.{Next}
-use Rattle.dtp_check.specs.declared.part.Next.TheVariants.{Command, Ended}
+use Rattle.dtp_check.specs.declared.script_part.PartEnd.{PartEnd}
+use Rattle.dtp_check.specs.declared.script_part.PartEnd.TheVariants as part
+use Rattle.dtp_check.specs.declared.script_part.Next.{Next}
+use Rattle.dtp_check.specs.declared.script_part.Next.TheVariants.{Command, Ended}
 use Rattle.dtp_check.specs.Parts.{IsNext, GoesOn}
 use Rattle.smt_script.specs.Commands.{is_exit}
 use Rattle.dtp_check.specs.Judged.{EndsPart, ExitEnds, FollowsExit, ScriptPart}

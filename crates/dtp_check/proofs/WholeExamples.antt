@@ -5,20 +5,15 @@ use Rattle.smt_lex.specs.Bytes.{is_space, is_line_end, is_symbol_byte, is_quoted
 use Rattle.smt_lex.specs.Grammar.{is_gap}
 use Rattle.smt_sexpr.specs.Tree.{Sexpr}
 use Rattle.smt_sexpr.specs.Reading.{Spells, expression}
-use Rattle.smt_sexpr.specs.Printing.{text_of, IsWritable, EndsSexpr}
 use Rattle.cert_read.specs.Written.{IsClosedGap}
-use Rattle.smt_script.specs.Commands.{command_name, command_of, is_exit}
+use Rattle.smt_script.specs.Commands.{naming_command, changing_command, asking_command, command_of, is_exit}
 use Rattle.dtp_check.specs.Judged.{FollowsExit}
 use Rattle.dtp_check.specs.Whole.{IsWholeFrom, IsWhole}
 use Rattle.dtp_check.specs.WholeExamples.{exit_sexpr, ends_at_exit, ends_with_line, ends_in_comment}
-use Rattle.dtp_check.proofs.Accepting.{OneOutcome}
-
--- what the law of s-expressions says
-abbrev pub SexprReadsBack : Type 0
-SexprReadsBack = (x : Sexpr) (before after : List ℕ) → IsWritable x → EndsSexpr x after → Spells (before ++ (text_of x ++ after)) (length before) x (length before + length (text_of x))
+use Rattle.smt_sexpr.specs.Laws.{OneOutcome, SexprReadsBack}
 
 exits : is_exit exit_sexpr ≡ true
-unfolding command_name command_of
+unfolding naming_command changing_command asking_command command_of
 exits = refl
 
 module _ (back : SexprReadsBack) where

@@ -1,6 +1,6 @@
 -- What a script with its certificate comes to: accepted, or the first reason against it. The order of the reasons is this
 -- project's own. Sources: SMT-LIB 2.6, section 4.1 (a script), section 4.2.5 (check-sat).
-use Rattle.std.specs.Prelude.{◌≡◌, ◌≢◌, ℕ, ◌+◌, List, [], ◌∷◌, length, ◌==◌, Bool, true, false, if◌then◌else◌, Option, Some, None, option_map, Ok, Err}
+use Rattle.std.specs.Prelude.{◌≡◌, ◌≢◌, ℕ, ◌+◌, List, [], ◌∷◌, length, ◌==◌, Bool, true, false, if◌then◌else◌, Option, Some, None, option_map, Result, Ok, Err}
 use Rattle.smt_sexpr.specs.Tree.{Sexpr}
 use Rattle.smt_sexpr.specs.declared.error.SexprRefusal.{SexprRefusal}
 use Rattle.smt_sexpr.specs.Reading.{Spells, Outcomes, finished, refused}
@@ -9,8 +9,7 @@ use Rattle.stn_core.specs.declared.named.NamedValue.TheVariants.{Int, Truth}
 use Rattle.cert_text.specs.declared.entry.Entry.{Entry}
 use Rattle.cert_text.specs.declared.entry.Entry.TheVariants.{Sat, Unsat}
 use Rattle.cert_text.specs.Form.{header_sexpr}
-use Rattle.cert_read.specs.declared.error.CertificateRefusal.{CertificateRefusal}
-use Rattle.cert_read.specs.declared.error.CertificateRefusal.TheVariants.{NoHeader, IllFormed, NoEnd, TextAfterEnd}
+use Rattle.cert_read.specs.declared.error.CertificateRefusal.TheVariants.{NoHeader}
 use Rattle.cert_read.specs.Certificates.{CertificateOutcome, certificate, no_certificate, ReadsEntries, ReadsCertificate}
 use Rattle.cert_check.specs.Flaws.{refutation_flaw}
 use Rattle.idl_node.specs.declared.sort.Sort.{Sort}
@@ -21,17 +20,16 @@ use Rattle.idl_term.specs.Values.{Value, truth, Named, value}
 use Rattle.smt_script.specs.declared.state.Effect.{Effect}
 use Rattle.smt_script.specs.declared.state.Effect.TheVariants.{CheckSat, Exit, Tell}
 use Rattle.smt_script.specs.Commands.{is_exit}
-use Rattle.smt_script.specs.States.{State, start_state, after, settled}
+use Rattle.smt_script.specs.declared.error.Refusal.{Refusal}
+use Rattle.smt_script.specs.States.{State, start_state, Step, after, settled}
 use Rattle.smt_answer.specs.Kinds.{kind_of, kind_of_unreadable}
 use Rattle.dtp_entry.specs.Entries.{points_of, problem_of, verdict_of}
-use Rattle.dtp_check.specs.declared.judgement.CertificateFlaw.{CertificateFlaw}
-use Rattle.dtp_check.specs.declared.judgement.CertificateFlaw.TheVariants as flaw
 use Rattle.dtp_check.specs.declared.judgement.EntryFlaw.{EntryFlaw}
 use Rattle.dtp_check.specs.declared.judgement.EntryFlaw.TheVariants.{WrongCount, WrongSort, FalseAssertion, Flawed}
 use Rattle.dtp_check.specs.declared.judgement.Judgement.{Judgement}
 use Rattle.dtp_check.specs.declared.judgement.Judgement.TheVariants.{Accepted, Script, Certificate, Missing, Entry as BadEntry, Surplus}
-use Rattle.dtp_check.specs.declared.part.PartEnd.{PartEnd}
-use Rattle.dtp_check.specs.declared.part.PartEnd.TheVariants as part
+use Rattle.dtp_check.specs.declared.script_part.PartEnd.{PartEnd}
+use Rattle.dtp_check.specs.declared.script_part.PartEnd.TheVariants as part
 
 -- ---- the script's part of the source
 
@@ -40,7 +38,8 @@ abbrev pub EndsPart : List ℕ → ℕ → PartEnd → ℕ → Type 0
 EndsPart bytes place part.Exit behind = ⊥
 EndsPart bytes place part.Header behind = Spells bytes place header_sexpr behind
 EndsPart bytes place part.End behind = Outcomes bytes place finished behind
-EndsPart bytes place (part.Unread kind) behind = (why : SexprRefusal) × Outcomes bytes place (refused why) behind × (kind_of_unreadable why ≡ kind)
+EndsPart bytes place (part.Unread kind) behind =
+    (why : SexprRefusal) × Outcomes bytes place (refused why) behind × (kind_of_unreadable why ≡ kind)
 
 -- behind an `(exit)` nothing of the script follows
 abbrev pub ExitEnds : ℕ → List Sexpr → PartEnd → ℕ → Type 0
@@ -55,7 +54,8 @@ FollowsExit false A B = B
 unfoldable pub ScriptPart : List ℕ → ℕ → List Sexpr → PartEnd → ℕ → Type 0
 ScriptPart bytes place [] end behind = EndsPart bytes place end behind
 ScriptPart bytes place (x ∷ xs) end behind =
-    (mid : ℕ) × Spells bytes place x mid × (x ≢ header_sexpr) × FollowsExit (is_exit x) (ExitEnds mid xs end behind) (ScriptPart bytes mid xs end behind)
+    (mid : ℕ) × Spells bytes place x mid × (x ≢ header_sexpr)
+    × FollowsExit (is_exit x) (ExitEnds mid xs end behind) (ScriptPart bytes mid xs end behind)
 
 -- what stands behind the script, as a certificate: the text behind an `(exit)`, or that from a header on
 abbrev pub CertificateBehind : List ℕ → PartEnd → ℕ → CertificateOutcome → Type 0
@@ -93,7 +93,9 @@ first_of_two None other = other
 abbrev pub values_flaw : Context → List NamedValue → Option EntryFlaw
 values_flaw c values =
     if length values == length c.declared
-    then first_of_two (option_map WrongSort (first_of_wrong_sort 1 (sorts_of c.declared) values)) (option_map FalseAssertion (first_false (environment c values) 1 c.assertions))
+    then first_of_two
+        (option_map WrongSort (first_of_wrong_sort 1 (sorts_of c.declared) values))
+        (option_map FalseAssertion (first_false (environment c values) 1 c.assertions))
     else Some WrongCount
 
 -- what is wrong with the entry of a check-sat where these assertions are active
@@ -115,35 +117,33 @@ judged_entry n (Some flaw) others = BadEntry n flaw
 -- at a check-sat its entry, and then what follows in the state behind the entry's verdict
 abbrev pub judged_check : State → ℕ → List Entry → (State → List Entry → Judgement) → Judgement
 judged_check s n [] others = Missing n
-judged_check s n (entry ∷ entries) others = judged_entry n (entry_flaw s.context entry) (others (settled (verdict_of entry) s) entries)
+judged_check s n (entry ∷ entries) others =
+    judged_entry n (entry_flaw s.context entry) (others (settled (verdict_of entry) s) entries)
 
 abbrev pub judged_effect : Effect → State → ℕ → List Entry → (State → ℕ → List Entry → Judgement) → Judgement
 judged_effect (Tell notice) s n entries others = others s n entries
 judged_effect CheckSat s n entries others = judged_check s n entries (λ next rest. others next (n + 1) rest)
 judged_effect Exit s n entries others = surplus_of n entries
 
+-- by what command k leads to
+abbrev pub judged_after : ℕ → ℕ → List Entry → Result Step Refusal → (State → ℕ → List Entry → Judgement) → Judgement
+judged_after k n entries (Ok step) others = judged_effect step.effect step.state n entries others
+judged_after k n entries (Err why) others = Script k (kind_of why)
+
 -- command k and those behind it, in this state, with entry n and those behind it
 unfoldable pub judged : State → ℕ → ℕ → List Sexpr → List Entry → Judgement
 judged s k n [] entries = surplus_of n entries
-judged s k n (x ∷ xs) entries = elim (after s x) [
-  | Ok step ↦ judged_effect step.effect step.state n entries (λ next m rest. judged next (k + 1) m xs rest)
-  | Err why ↦ Script k (kind_of why)
-]
-
-abbrev pub flaw_of_refusal : CertificateRefusal → CertificateFlaw
-flaw_of_refusal NoHeader = flaw.NoHeader
-flaw_of_refusal (IllFormed k) = flaw.IllFormed k
-flaw_of_refusal NoEnd = flaw.NoEnd
-flaw_of_refusal TextAfterEnd = flaw.TextAfterEnd
+judged s k n (x ∷ xs) entries = judged_after k n entries (after s x) (λ next m rest. judged next (k + 1) m xs rest)
 
 -- the commands with what stands behind them
 abbrev pub judged_with : List Sexpr → CertificateOutcome → Judgement
 judged_with xs (certificate entries) = judged start_state 1 1 xs entries
-judged_with xs (no_certificate why) = Certificate (flaw_of_refusal why)
+judged_with xs (no_certificate why) = Certificate why
 
 abbrev pub JudgedPart : List ℕ → List Sexpr → PartEnd → ℕ → Judgement → Type 0
 JudgedPart bytes xs (part.Unread kind) behind judgement = judgement ≡ Script (length xs + 1) kind
-JudgedPart bytes xs end behind judgement = (outcome : CertificateOutcome) × CertificateBehind bytes end behind outcome × (judgement ≡ judged_with xs outcome)
+JudgedPart bytes xs end behind judgement =
+    (outcome : CertificateOutcome) × CertificateBehind bytes end behind outcome × (judgement ≡ judged_with xs outcome)
 
 -- what a source comes to, which is a script and then a certificate
 pub record IsJudged (bytes : List ℕ) (judgement : Judgement) : Type 0 where

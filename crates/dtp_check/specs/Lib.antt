@@ -2,6 +2,7 @@ pub mod Judged
 pub mod Texts
 pub mod Answered
 pub mod Told
+pub mod Laws
 pub mod Whole
 pub mod WholeExamples
 pub mod Parts

@@ -3,8 +3,8 @@ use Rattle.std.specs.Prelude.{ℕ, List, ◌++◌, codes, decimal}
 use Rattle.cert_check.specs.declared.flaw.FlawKind.{FlawKind}
 use Rattle.cert_check.specs.declared.flaw.FlawKind.TheVariants.{NoSuchPoint, NoSuchClause, NotAssumed, NotACycle, StepsMissing, StepsLeftOver, LastLemmaNotEmpty}
 use Rattle.smt_answer.specs.Texts.{kind_text}
-use Rattle.dtp_check.specs.declared.judgement.CertificateFlaw.{CertificateFlaw}
-use Rattle.dtp_check.specs.declared.judgement.CertificateFlaw.TheVariants.{NoHeader, IllFormed, NoEnd, TextAfterEnd}
+use Rattle.cert_read.specs.declared.error.CertificateRefusal.{CertificateRefusal}
+use Rattle.cert_read.specs.declared.error.CertificateRefusal.TheVariants.{NoHeader, IllFormed, NoEnd, TextAfterEnd}
 use Rattle.dtp_check.specs.declared.judgement.EntryFlaw.{EntryFlaw}
 use Rattle.dtp_check.specs.declared.judgement.EntryFlaw.TheVariants.{WrongCount, WrongSort, FalseAssertion, Flawed}
 use Rattle.dtp_check.specs.declared.judgement.Judgement.{Judgement}
@@ -19,7 +19,7 @@ flaw_text StepsMissing = codes "steps missing"
 flaw_text StepsLeftOver = codes "steps left over"
 flaw_text LastLemmaNotEmpty = codes "last lemma not empty"
 
-abbrev pub certificate_line : CertificateFlaw → List ℕ
+abbrev pub certificate_line : CertificateRefusal → List ℕ
 certificate_line NoHeader = codes "refused: certificate: no header\n"
 certificate_line (IllFormed entry) = codes "refused: certificate: entry " ++ (decimal entry ++ codes " is ill-formed\n")
 certificate_line NoEnd = codes "refused: certificate: no end\n"
@@ -39,7 +39,7 @@ entry_line entry (Flawed flaw) = lemma_line entry flaw.lemma flaw.step flaw.kind
 unfoldable pub judgement_line : Judgement → List ℕ
 judgement_line Accepted = codes "accepted\n"
 judgement_line (Script command kind) = codes "refused: script: command " ++ (decimal command ++ (codes ": " ++ (kind_text kind ++ codes "\n")))
-judgement_line (Certificate flaw) = certificate_line flaw
+judgement_line (Certificate why) = certificate_line why
 judgement_line (Missing entry) = codes "refused: entry " ++ (decimal entry ++ codes ": missing\n")
 judgement_line (Entry entry flaw) = entry_line entry flaw
 judgement_line (Surplus entry) = codes "refused: entry " ++ (decimal entry ++ codes ": surplus\n")

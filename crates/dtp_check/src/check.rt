@@ -6,10 +6,10 @@ ghost use Rattle.dtp_entry.specs.Written.{Writes};
 ghost use Rattle.dtp_check.specs.Judged.{IsJudged};
 ghost use Rattle.dtp_check.specs.Answered.{IsAnswer, IsAnswerPart};
 
-use crate::behind::{Behind, read_behind};
+use crate::certificate_behind::{Behind, read_behind};
 use crate::judge::judge;
-use crate::judgement::{CertificateFlaw, Judgement};
-use crate::part::{PartEnd, read_part};
+use crate::judgement::Judgement;
+use crate::script_part::{PartEnd, read_part};
 use crate::text::judgement_line;
 use dtp_entry::{SessionError, write_text};
 use dtp_io::Sink;
@@ -38,7 +38,7 @@ fn judgement_of(alloc: Global, bytes: &[u8]) -> Result<Judgement, AllocError>
             let judgement = judge(alloc, bytes, &entries)?;
             Ok(judgement)
         }
-        Behind::Flawed(flaw) => Ok(Judgement::Certificate(flaw)),
+        Behind::Refused(why) => Ok(Judgement::Certificate(why)),
     }
 }
 
@@ -50,7 +50,8 @@ pub fn check_pair<K: Sink>(
     bytes: &[u8],
     sink: &mut K,
 ) -> Result<Checked, SessionError>
-    ensures whole { IfOk result (λ checked. Writes (K.holds sink.old) (K.holds sink.new) (λ added. IsAnswer bytes.now added checked)) }
+    ensures whole { IfOk result (λ checked. Writes (K.holds sink.old) (K.holds sink.new)
+        (λ added. IsAnswer bytes.now added checked)) }
     ensures part { OnErr result (Writes (K.holds sink.old) (K.holds sink.new) (IsAnswerPart bytes.now)) }
     ensures fault { result ≡ Err SessionError.WriteFault → Rose (K.faults sink.old) (K.faults sink.new) }
     ensures later { K.faults sink.old ≤ K.faults sink.new }

@@ -6,14 +6,14 @@ ghost use Rattle.smt_answer.specs.Kinds.{kind_of};
 ghost use Rattle.smt_script.specs.States.{State as Meaning, start_state};
 ghost use Rattle.dtp_entry.specs.Entries.{verdict_of};
 ghost use Rattle.dtp_entry.specs.Standing.{Stands};
-ghost use Rattle.dtp_check.specs.declared.part.PartEnd.{PartEnd as End};
+ghost use Rattle.dtp_check.specs.declared.script_part.PartEnd.{PartEnd as End};
 ghost use Rattle.dtp_check.specs.Judged.{surplus_of, judged, ScriptPart};
 ghost use Rattle.dtp_check.specs.Parts.{IsReadable};
 ghost use Rattle.dtp_check.specs.Turns.{IsCheckTurn, IsJudgedTurn};
 
-use crate::entry::entry_flaw;
+use crate::entry_flaw::entry_flaw;
 use crate::judgement::Judgement;
-use crate::part::{Next, PartEnd, next_command};
+use crate::script_part::{Next, PartEnd, next_command};
 use cert_text::Entry;
 use smt_answer::Kind;
 use smt_lex::Lexer;
@@ -95,7 +95,8 @@ fn judge_command<'a>(
     requires meaning { HasMeaning sexprs.now id }
     requires stands { (s : Meaning) × Stands state.old s }
     requires used { used ≤ length entries.now }
-    ensures { IfOk result (λ turn. (s : Meaning) (x : Sexpr) → Stands state.old s → Means sexprs.now id x → IsJudgedTurn s command used entries.now x state.new turn) }
+    ensures { IfOk result (λ turn. (s : Meaning) (x : Sexpr) → Stands state.old s → Means sexprs.now id x
+        → IsJudgedTurn s command used entries.now x state.new turn) }
 {
     smt_script::state_law();
     smt_script::exit_law();
@@ -113,7 +114,8 @@ fn judge_command<'a>(
 
 /// What the script comes to with these entries. The script is read again, command by command.
 pub fn judge(alloc: Global, bytes: &[u8], entries: &[Entry]) -> Result<Judgement, AllocError>
-    ensures { IfOk result (λ judgement. (xs : List Sexpr) (end : End) (behind : ℕ) → ScriptPart bytes.now 0 xs end behind → IsReadable end → judgement ≡ judged start_state 1 1 xs entries.now) }
+    ensures { IfOk result (λ judgement. (xs : List Sexpr) (end : End) (behind : ℕ)
+        → ScriptPart bytes.now 0 xs end behind → IsReadable end → judgement ≡ judged start_state 1 1 xs entries.now) }
 {
     smt_sexpr::one_outcome();
     smt_script::state_law();

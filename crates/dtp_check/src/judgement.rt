@@ -1,18 +1,6 @@
 use cert_check::Flaw;
+use cert_read::CertificateRefusal;
 use smt_answer::Kind;
-
-/// Why the text behind a script is no certificate.
-#[derive(Clone, Copy, Debug, PartialEq, Eq)]
-pub enum CertificateFlaw {
-    /// It doesn't begin with the header.
-    NoHeader,
-    /// What stands in place of this entry, counted from 1, is none.
-    IllFormed(usize),
-    /// The source ends before the end of the certificate.
-    NoEnd,
-    /// Something follows the end.
-    TextAfterEnd,
-}
 
 /// What is wrong with an entry.
 #[derive(Clone, Copy, Debug, PartialEq, Eq)]
@@ -33,7 +21,8 @@ pub enum Judgement {
     Accepted,
     /// A command can't be read, or is refused.
     Script(u64, Kind),
-    Certificate(CertificateFlaw),
+    /// What stands behind the script is no certificate.
+    Certificate(CertificateRefusal),
     /// There is no entry for a check-sat.
     Missing(usize),
     Entry(usize, EntryFlaw),

@@ -3,9 +3,10 @@ ghost use Rattle.std.specs.Prelude.{◌≡◌, string_bytes, codes, IfOk};
 ghost use Rattle.dtp_check.specs.declared.judgement.Judgement.TheVariants.{Script};
 ghost use Rattle.dtp_check.specs.Texts.{flaw_text, certificate_line, entry_line, judgement_line};
 
-use crate::judgement::{CertificateFlaw, EntryFlaw, Judgement};
+use crate::judgement::{EntryFlaw, Judgement};
 use bstr::ByteVec;
 use cert_check::FlawKind;
+use cert_read::CertificateRefusal;
 use itoa::Buffer;
 use smt_answer::{Kind, kind_text};
 use std::alloc::{AllocError, Global};
@@ -26,16 +27,16 @@ fn flaw_text(kind: FlawKind) -> &'static str
 }
 
 /// The line for a text that is no certificate.
-fn certificate_line(alloc: Global, flaw: CertificateFlaw) -> Result<String, AllocError>
-    ensures { IfOk result (λ line. string_bytes line ≡ certificate_line flaw) }
+fn certificate_line(alloc: Global, why: CertificateRefusal) -> Result<String, AllocError>
+    ensures { IfOk result (λ line. string_bytes line ≡ certificate_line why) }
 {
-    match flaw {
-        CertificateFlaw::NoHeader => format!(in alloc; "refused: certificate: no header\n"),
-        CertificateFlaw::IllFormed(entry) => {
+    match why {
+        CertificateRefusal::NoHeader => format!(in alloc; "refused: certificate: no header\n"),
+        CertificateRefusal::IllFormed(entry) => {
             format!(in alloc; "refused: certificate: entry {entry} is ill-formed\n")
         }
-        CertificateFlaw::NoEnd => format!(in alloc; "refused: certificate: no end\n"),
-        CertificateFlaw::TextAfterEnd => {
+        CertificateRefusal::NoEnd => format!(in alloc; "refused: certificate: no end\n"),
+        CertificateRefusal::TextAfterEnd => {
             format!(in alloc; "refused: certificate: text after the end\n")
         }
     }
@@ -94,7 +95,7 @@ pub fn judgement_line(alloc: Global, judgement: Judgement) -> Result<Vec<u8>, Al
     let line = match judgement {
         Judgement::Script(command, kind) => return script_line(alloc, command, kind),
         Judgement::Accepted => format!(in alloc; "accepted\n")?,
-        Judgement::Certificate(flaw) => certificate_line(alloc, flaw)?,
+        Judgement::Certificate(why) => certificate_line(alloc, why)?,
         Judgement::Missing(entry) => format!(in alloc; "refused: entry {entry}: missing\n")?,
         Judgement::Entry(entry, flaw) => entry_line(alloc, entry, flaw)?,
         Judgement::Surplus(entry) => format!(in alloc; "refused: entry {entry}: surplus\n")?,

@@ -1,7 +1,7 @@
 use Rattle.std.proofs.Common.{arith, ◌≡◌, ◌∙◌, sym, ap, subst, refl, List, ℕ, length}
 use Rattle.smt_sexpr.specs.Reading.{Spells}
-use Rattle.dtp_check.specs.declared.part.PartEnd.TheVariants as part
-use Rattle.dtp_check.specs.declared.part.Next.TheVariants.{Ended}
+use Rattle.dtp_check.specs.declared.script_part.PartEnd.TheVariants as part
+use Rattle.dtp_check.specs.declared.script_part.Next.TheVariants.{Ended}
 use Rattle.dtp_check.specs.Judged.{EndsPart}
 use Rattle.dtp_check.proofs.Walking.{command_read, end_read, command_goes_on}
 use Rattle.dtp_check.proofs.Reading.{IsJudging, judging_starts, judging_goes_on, judged_here, judged_over, judged_unread, turn_used}

@@ -22,9 +22,9 @@ judge_check-requires-clause-stands c =
 
 pub returns-in-Ok-Tell : goal.returns-in-Ok-Tell
 returns-in-Ok-Tell c = λ s x stands means.
-    let notice = c.in-Ok-Tell.field-0 in
+    let notice = c.in-Ok-Tell.field-0-0 in
     notice_judged s c.args.command c.args.used x c.args.entries.now c.step.new.self c.state_law.ensures.step c.exit_law.ensures.alone notice c.requires.used stands.made
-    (steps s x _ (Tell notice) c.step.new.self c.in-Ok-Tell.is (c.in-Ok-Tell.ensures.ok s x stands.stands means))
+    (steps s x _ (Tell notice) c.step.new.self c.in-Ok-Tell.field-0-is (c.in-Ok-Tell.ensures.ok s x stands.stands means))
 
 pub returns-in_ok-turn-in-Ok-CheckSat : goal.returns-in_ok-turn-in-Ok-CheckSat
 returns-in_ok-turn-in-Ok-CheckSat c = λ s x stands means.

@@ -1,6 +1,6 @@
 use Rattle.std.proofs.Common.{arith, ◌+◌, ◌∙◌, sym, subst, List, ℕ}
 use Rattle.dtp_check.proofs.Walking.{IsWalked, walked_more, command_read, end_read, command_goes_on, walk_exits, walk_ends}
-use Rattle.dtp_check.proofs.part.read_part.Goals as goal
+use Rattle.dtp_check.proofs.script_part.read_part.Goals as goal
 
 pub returns-then-is_exit-clause-part : goal.returns-then-is_exit-clause-part
 returns-then-is_exit-clause-part c =

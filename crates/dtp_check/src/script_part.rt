@@ -5,10 +5,10 @@ ghost use Rattle.dtp_check.specs.Judged.{ScriptPart};
 ghost use Rattle.dtp_check.specs.Parts.{IsNext, GoesOn, IsBefore};
 
 use cert_read::is_header;
-use smt_answer::{Kind, kind_of_error};
+use smt_answer::{Kind, kind_of_unreadable};
 use smt_lex::Lexer;
 use smt_script::is_exit;
-use smt_sexpr::{SexprId, Sexprs};
+use smt_sexpr::{SexprError, SexprId, Sexprs};
 use std::alloc::{AllocError, Global};
 
 /// How the script's part of a source ends.
@@ -52,10 +52,8 @@ pub fn next_command(sexprs: &mut Sexprs, lexer: &mut Lexer) -> Result<Next, Allo
             }
         }
         Ok(None) => Ok(Next::Ended(PartEnd::End)),
-        Err(error) => match kind_of_error(error) {
-            Some(kind) => Ok(Next::Ended(PartEnd::Unread(kind))),
-            None => Err(AllocError),
-        },
+        Err(SexprError::Refused(why)) => Ok(Next::Ended(PartEnd::Unread(kind_of_unreadable(why)))),
+        Err(SexprError::OutOfMemory) => Err(AllocError),
     }
 }
 
@@ -71,7 +69,8 @@ pub struct Part {
 pub fn read_part(alloc: Global, lexer: &mut Lexer) -> Result<Part, AllocError>
     requires fresh { lexer.old.failed ≡ None }
     requires start { lexer.old.place ≡ 0 }
-    ensures part { IfOk result (λ part. (xs : List Sexpr) × ScriptPart lexer.old.bytes 0 xs part.end lexer.new.place × (length xs ≡ part.commands)) }
+    ensures part { IfOk result (λ part. (xs : List Sexpr)
+        × ScriptPart lexer.old.bytes 0 xs part.end lexer.new.place × (length xs ≡ part.commands)) }
     ensures fresh { IfOk result (λ part. IsBefore part.end → lexer.new.failed ≡ None) }
     ensures few { IfOk result (λ part. part.commands ≤ length lexer.old.bytes) }
     ensures bytes { lexer.new.bytes ≡ lexer.old.bytes }

@@ -1,6 +1,6 @@
 use Rattle.std.proofs.Common.{◌≡◌, ◌≤◌, ◌-◌, length, None}
 use Rattle.dtp_check.proofs.Walking.{IsWalked}
-use Rattle.dtp_check.proofs.part.read_part.Given as goal
+use Rattle.dtp_check.proofs.script_part.read_part.Given as goal
 
 abbrev pub invariant-script : goal.invariant-script
 invariant-script l = record {

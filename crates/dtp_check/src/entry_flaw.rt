@@ -61,7 +61,8 @@ fn first_unmarked(marks: &[bool], roots: &[u32]) -> Option<usize>
 fn truths(alloc: Global, nodes: &Nodes, values: &NamedValues) -> Result<Vec<bool>, AllocError>
     requires { IsTableOver (length values.now + 1) nodes.now }
     ensures room { IfOk result (λ marks. length marks.items ≡ length nodes.now) }
-    ensures each { IfOk result (λ marks. (k : ℕ) → k < length nodes.now → slice_index_or marks.items k false ≡ truth nodes.now (point_values values.now) k) }
+    ensures each { IfOk result (λ marks. (k : ℕ) → k < length nodes.now
+        → slice_index_or marks.items k false ≡ truth nodes.now (point_values values.now) k) }
 {
     let mut marks = vec![in alloc; false; nodes.len()]?;
     if let Some(last) = nodes.len().checked_sub(1) {
@@ -124,7 +125,8 @@ fn lemmas_flaw(
     refutation: &Refutation,
 ) -> Result<Option<EntryFlaw>, AllocError>
     requires { (s : Meaning) × Stands state.now s }
-    ensures { IfOk result (λ flaw. (s : Meaning) → Stands state.now s → flaw ≡ option_map Flawed (refutation_flaw (points_of s.context) (problem_of s.context) refutation.now)) }
+    ensures { IfOk result (λ flaw. (s : Meaning) → Stands state.now s
+        → flaw ≡ option_map Flawed (refutation_flaw (points_of s.context) (problem_of s.context) refutation.now)) }
 {
     let problem = problem(alloc, state)?;
     match check_refutation(alloc, &problem, refutation) {

@@ -1,0 +1,37 @@
+//! What stands behind the script's part of a source.
+ghost use Rattle.std.specs.Prelude.{◌≡◌, IfOk, None};
+ghost use Rattle.dtp_check.specs.Behind.{IsBehind};
+ghost use Rattle.dtp_check.specs.Parts.{IsBefore, IsReadable};
+
+use crate::script_part::PartEnd;
+use cert_read::{CertReadError, CertificateRefusal, read_certificate, read_entries};
+use cert_text::Entry;
+use smt_lex::Lexer;
+use std::alloc::{AllocError, Global};
+
+/// What stands behind the script: the entries of a certificate, or no certificate.
+#[derive(Drop)]
+pub enum Behind {
+    Entries(Vec<Entry>),
+    Refused(CertificateRefusal),
+}
+
+/// Reads the certificate behind a script that can be read.
+pub fn read_behind(alloc: Global, lexer: &mut Lexer, end: PartEnd) -> Result<Behind, AllocError>
+    requires fresh { IsBefore end → lexer.old.failed ≡ None }
+    ensures { IfOk result (λ behind. IsReadable end → IsBehind lexer.old.bytes end lexer.old.place behind) }
+{
+    match end {
+        PartEnd::Exit => match read_certificate(alloc, lexer) {
+            Ok(entries) => Ok(Behind::Entries(entries)),
+            Err(CertReadError::Refused(why)) => Ok(Behind::Refused(why)),
+            Err(CertReadError::OutOfMemory) => Err(AllocError),
+        },
+        PartEnd::Header => match read_entries(alloc, lexer) {
+            Ok(entries) => Ok(Behind::Entries(entries)),
+            Err(CertReadError::Refused(why)) => Ok(Behind::Refused(why)),
+            Err(CertReadError::OutOfMemory) => Err(AllocError),
+        },
+        _ => Ok(Behind::Refused(CertificateRefusal::NoHeader)),
+    }
+}
