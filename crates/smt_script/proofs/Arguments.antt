@@ -9,38 +9,6 @@ use Rattle.smt_script.specs.Commands.{ill_formed, declaring, defining, with_name
 use Rattle.smt_script.specs.Attributes.{Named, named_in}
 use Rattle.smt_script.specs.Shapes.{AnnotationIs, CountIs}
 
--- ---- lists
-
-abbrev pub HasNoHead : Sexpr → Type 0
-HasNoHead x = (command_of x ≡ ill_formed) × (annotation_in x ≡ None)
-
-pub no_list : (t : Table) (x : Sexpr) → ItemsAre t x None → HasNoHead x
-unfolding command_of
-no_list t (leaf kind text) h = (refl, refl)
-no_list t (list xs) h = absurd h
-
-pub no_items : (t : Table) (x : Sexpr) (ids : List ℕ) → ItemsAre t x (Some ids) → length ids < 1 → HasNoHead x
-unfolding command_of
-no_items t (leaf kind text) ids h few = absurd h
-no_items t (list none) [] h few = (refl, refl)
-no_items t (list (more y ys)) [] h few = absurd h
-no_items t (list xs) (id ∷ ids) h few = absurd (omega arith)
-
-abbrev annotation_by : Items → Option (List ℕ) → Option Items
-annotation_by rest None = None
-annotation_by rest (Some text) = if bytes_eq text (codes "!") then Some rest else None
-
-annotation_is : (head : Sexpr) (rest : Items) (symbol : Option (List ℕ)) → symbol_of head ≡ symbol → annotation_in (list (more head rest)) ≡ annotation_by rest symbol
-annotation_is head rest None e = rw (annotation_in, e) refl
-annotation_is head rest (Some text) e = rw (annotation_in, e) refl
-
-command_is : (head : Sexpr) (rest : Items) (symbol : Option (List ℕ)) → symbol_of head ≡ symbol → command_of (list (more head rest)) ≡ headed_by symbol rest
-unfolding command_of
-command_is head rest symbol e = ap (λ (o : Option (List ℕ)). headed_by o rest) e
-
-pub no_symbol : (x head : Sexpr) (rest : Items) → x ≡ list (more head rest) → symbol_of head ≡ None → HasNoHead x
-no_symbol x head rest is e = (ap command_of is ∙ command_is head rest None e, ap annotation_in is ∙ annotation_is head rest None e)
-
 -- ---- numbers of levels
 
 pub count_is : (count : Option ℕ) (m : ℕ) → IfSome count (λ n. (n ≡ m) × (m < 2 ^ 64)) → (IsNone count → 2 ^ 64 ≤ m) → CountIs count m

@@ -2,13 +2,7 @@
 -- is no keyword. `:named` takes a symbol, and stands at most once.
 use Rattle.std.specs.Prelude.{ℕ, List, [], ◌∷◌, codes, if◌then◌else◌, Option, None, Some}
 use Rattle.std.specs.Str.{bytes_eq}
-use Rattle.smt_lex.specs.declared.token.TokenKind.TheVariants.{Keyword}
-use Rattle.smt_sexpr.specs.Tree.{Sexpr, Items, leaf, none, more, symbol_of}
-
--- a keyword's text
-abbrev pub keyword_of : Sexpr → Option (List ℕ)
-keyword_of (leaf Keyword text) = Some text
-keyword_of x = None
+use Rattle.smt_sexpr.specs.Tree.{Sexpr, Items, none, more, symbol_of, keyword_of}
 
 pub record Attribute : Type 0 where
   pub keyword : List ℕ

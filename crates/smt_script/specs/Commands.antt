@@ -2,14 +2,15 @@
 use Rattle.std.specs.Prelude.{ℕ, List, codes, Bool, true, false, if◌then◌else◌, Option, None, Some, Result, Ok, Err}
 use Rattle.std.specs.Str.{bytes_eq}
 use Rattle.smt_lex.specs.Numbers.{value_of}
-use Rattle.smt_sexpr.specs.Tree.{Sexpr, Items, list, none, more, symbol_of, numeral_of}
+use Rattle.smt_sexpr.specs.Tree.{Sexpr, Items, list, none, more, symbol_of, keyword_of, numeral_of}
+use Rattle.smt_sexpr.specs.Shapes.{headed_of}
 use Rattle.smt_script.specs.declared.command_name.CommandName.{CommandName}
 use Rattle.smt_script.specs.declared.command_name.CommandName.TheVariants as name
 use Rattle.smt_script.specs.declared.error.LeftOutCommand.{LeftOutCommand}
 use Rattle.smt_script.specs.declared.error.LeftOutCommand.TheVariants as left_out
 use Rattle.smt_script.specs.declared.error.Refusal.{Refusal}
 use Rattle.smt_script.specs.declared.error.Refusal.TheVariants.{UnknownCommand, IllFormedCommand, LeftOut, NotYet}
-use Rattle.smt_script.specs.Attributes.{keyword_of, Named, unnamed, named, named_in}
+use Rattle.smt_script.specs.Attributes.{Named, unnamed, named, named_in}
 
 pub data Command : Type 0 where
   -- (set-logic s)
@@ -159,12 +160,12 @@ annotation_command (more term (more first rest)) = annotated term (named_in (mor
 annotation_command _ = ill_formed
 
 -- (! ..)
+abbrev pub annotation_by : Option (List ℕ × Items) → Option Items
+annotation_by (Some p) = if bytes_eq p.0 (codes "!") then Some p.1 else None
+annotation_by None = None
+
 abbrev pub annotation_in : Sexpr → Option Items
-annotation_in (list (more head rest)) = elim (symbol_of head) [
-  | None ↦ None
-  | Some text ↦ if bytes_eq text (codes "!") then Some rest else None
-]
-annotation_in _ = None
+annotation_in x = annotation_by (headed_of x)
 
 abbrev pub assertion_by : Sexpr → Option Items → Result Command Refusal
 assertion_by term (Some rest) = annotation_command rest
@@ -217,14 +218,13 @@ named_command text arguments = elim (command_name text) [
   | None ↦ without_name text
 ]
 
-abbrev pub headed_by : Option (List ℕ) → Items → Result Command Refusal
-headed_by (Some text) arguments = named_command text arguments
-headed_by None arguments = ill_formed
+abbrev pub command_in : Option (List ℕ × Items) → Result Command Refusal
+command_in (Some p) = named_command p.0 p.1
+command_in None = ill_formed
 
 -- a command is a list whose first item is a symbol
 unfoldable pub command_of : Sexpr → Result Command Refusal
-command_of (list (more head arguments)) = headed_by (symbol_of head) arguments
-command_of _ = ill_formed
+command_of x = command_in (headed_of x)
 
 abbrev pub is_exiting : Result Command Refusal → Bool
 is_exiting (Ok exiting) = true

@@ -3,7 +3,7 @@
 use Rattle.std.specs.Prelude.{◌≡◌, ℕ, ◌≤◌, ◌^◌, List, codes, Bool, true, false, if◌then◌else◌, Option, Some, None, option_map, Result, Ok, Err}
 use Rattle.std.specs.Borrow.{Bor}
 use Rattle.std.specs.Str.{bytes_eq}
-use Rattle.smt_sexpr.specs.Tree.{Sexpr, Items, list, none, more, symbol_of}
+use Rattle.smt_sexpr.specs.Tree.{Sexpr, Items, list, none, more, symbol_of, keyword_of}
 use Rattle.smt_sexpr.specs.Table.{Table, Means, MeansEach}
 use Rattle.idl_node.specs.Nodes.{NodeValue}
 use Rattle.idl_node.specs.declared.sort.Sort.{Sort}
@@ -14,7 +14,7 @@ use Rattle.idl_term.specs.declared.error.TermRefusal.{TermRefusal}
 use Rattle.idl_term.specs.declared.error.TermRefusal.TheVariants.{WrongSort}
 use Rattle.idl_term.specs.declared.error.TermError.{TermError}
 use Rattle.idl_term.specs.declared.error.TermError.TheVariants as term
-use Rattle.smt_script.specs.Attributes.{keyword_of, Named, unnamed, named}
+use Rattle.smt_script.specs.Attributes.{Named, unnamed, named}
 use Rattle.smt_script.specs.Commands.{Command, ill_formed, setting_logic, setting_option, informing, declaring, defining, asserting, naming, pushing, popping, checking, resetting_assertions, resetting, exiting, unsupported, function_command, definition_command, annotation_in, command_of}
 use Rattle.smt_script.specs.Kept.{Kept, StandsFor}
 use Rattle.smt_script.specs.Options
@@ -103,18 +103,6 @@ AttributesAre found (Err why) = (why ≡ IllFormedCommand) × (found ≡ None)
 
 -- ---- commands
 
--- a list that begins with a symbol, and the ids of what follows it
-pub record IsHeaded (t : Table) (x : Sexpr) (text ids : List ℕ) : Type 0 where
-  pub head : Sexpr
-  pub arguments : Items
-  pub is : x ≡ list (more head arguments)
-  pub symbol : symbol_of head ≡ Some text
-  pub means : MeansEach t ids arguments
-
-abbrev pub HeadIs : Table → Sexpr → Option (Bor (List ℕ) × Bor (List ℕ)) → Type 0
-HeadIs t x (Some p) = IsHeaded t x p.0.now p.1.now
-HeadIs t x None = (command_of x ≡ ill_formed) × (annotation_in x ≡ None)
-
 abbrev pub AnnotationIs : Table → Option Items → Option (Bor (List ℕ)) → Type 0
 AnnotationIs t None None = Unit {0}
 AnnotationIs t (Some xs) (Some ids) = MeansEach t ids.now xs
@@ -163,6 +151,10 @@ abbrev pub RequestIs : Table → Result Request Refusal → Result Command Refus
 RequestIs t (Ok request) meant = CommandIs t request meant
 RequestIs t (Err why) meant = meant ≡ Err why
 
+-- a result that is what the items ask for
+abbrev pub AsksFor : Table → List ℕ → (Items → Result Command Refusal) → Result Request Refusal → Type 0
+AsksFor t ids meaning result = (xs : Items) → MeansEach t ids xs → RequestIs t result (meaning xs)
+
 abbrev pub HasSignature : Table → Signature → Type 0
 HasSignature t signature = (parameters : Items) × (sort : Sexpr) × IsSignature t signature parameters sort
 
@@ -173,6 +165,10 @@ abbrev pub Agrees : Result Step Refusal → Kept → Result Effect ScriptError �
 Agrees step kept (Ok effect) = (state : State) × (step ≡ Ok (record { state = state; effect = effect })) × StandsFor kept state
 Agrees step kept (Err (Refused why)) = step ≡ Err why
 Agrees step kept (Err OutOfMemory) = Unit {0}
+
+-- from each state that is kept, with what the request's part stands for, the call leads where the step does
+abbrev pub Carries : {X : Type 0} → (X → Type 0) → (State → X → Result Step Refusal) → Kept → Kept → Result Effect ScriptError → Type 0
+Carries {X} Is step old new result = (s : State) (x : X) → StandsFor old s → Is x → Agrees (step s x) new result
 
 -- the sort of a function without parameters
 abbrev pub signature_sort : Items → Option Sort → Result Sort Refusal

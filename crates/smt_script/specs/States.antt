@@ -66,7 +66,9 @@ after_option s ill_formed_value = Err IllFormedCommand
 
 abbrev pub sort_named : Option (List ℕ) → Option Sort
 sort_named None = None
-sort_named (Some text) = if bytes_eq text (codes "Int") then Some sort.Int else (if bytes_eq text (codes "Bool") then Some sort.Bool else None)
+sort_named (Some text) =
+    if bytes_eq text (codes "Int") then Some sort.Int
+    else (if bytes_eq text (codes "Bool") then Some sort.Bool else None)
 
 abbrev pub sort_of : Sexpr → Option Sort
 sort_of x = sort_named (symbol_of x)
@@ -91,7 +93,8 @@ is_of_sort _ _ = false
 
 abbrev pub defined_by : State → List ℕ → Sort → Sexpr → Result Made TermRefusal → Result Step Refusal
 defined_by s name found term (Err why) = Err (Term why)
-defined_by s name found term (Ok made) = if is_of_sort found made.is then changed s (with_definition s.context name term made) else Err (Term WrongSort)
+defined_by s name found term (Ok made) =
+    if is_of_sort found made.is then changed s (with_definition s.context name term made) else Err (Term WrongSort)
 
 abbrev pub after_definition : State → List ℕ → Items → Option Sort → Sexpr → Result Step Refusal
 after_definition s name (more _ _) found term = Err (LeftOut Parameters)
@@ -113,9 +116,17 @@ asserted_by s term (Ok made) = elim made.is [
 abbrev pub named_by : State → Sexpr → List ℕ → Result Made TermRefusal → Result Step Refusal
 named_by s term name (Err why) = Err (Term why)
 named_by s term name (Ok made) = elim made.is [
-  | formula root ↦ if is_taken s.context name then Err AlreadyDeclared else changed s (with_definition (with_assertion s.context term made.nodes root) name term made)
+  | formula root ↦
+      if is_taken s.context name then Err AlreadyDeclared
+      else changed s (with_definition (with_assertion s.context term made.nodes root) name term made)
   | numeric cases ↦ Err (Term WrongSort)
 ]
+
+abbrev pub after_assertion : State → Sexpr → Result Step Refusal
+after_assertion s term = asserted_by s term (lowered (scope_of s.context) s.context.nodes term)
+
+abbrev pub after_naming : State → List ℕ → Sexpr → Result Step Refusal
+after_naming s name term = named_by s term name (lowered (scope_of s.context) s.context.nodes term)
 
 -- ---- levels
 
@@ -130,7 +141,11 @@ after_push s n =
 
 -- what was active comes back as it was at the push
 abbrev pub popped : State → ℕ → State
-popped s n = record s { context = slice_index_or s.below (length s.below - n) s.context; below = take (length s.below - n) s.below; mode = mode.Nothing }
+popped s n = record s {
+  context = slice_index_or s.below (length s.below - n) s.context;
+  below = take (length s.below - n) s.below;
+  mode = mode.Nothing;
+}
 
 abbrev pub after_pop : State → ℕ → Result Step Refusal
 after_pop s n = if nat_le n (levels_of s) then carried_out (popped s n) else Err PopBelowTheBottom
@@ -143,8 +158,8 @@ after_command s (Commands.setting_option keyword v) = after_option s (option_eff
 after_command s Commands.informing = carried_out s
 after_command s (Commands.declaring name parameters sort) = after_declaration s name parameters (sort_of sort)
 after_command s (Commands.defining name parameters sort term) = after_definition s name parameters (sort_of sort) term
-after_command s (Commands.asserting term) = asserted_by s term (lowered (scope_of s.context) s.context.nodes term)
-after_command s (Commands.naming term name) = named_by s term name (lowered (scope_of s.context) s.context.nodes term)
+after_command s (Commands.asserting term) = after_assertion s term
+after_command s (Commands.naming term name) = after_naming s name term
 after_command s (Commands.pushing n) = after_push s n
 after_command s (Commands.popping n) = after_pop s n
 after_command s Commands.checking = Ok (record { state = s; effect = CheckSat })

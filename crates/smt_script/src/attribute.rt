@@ -2,12 +2,11 @@
 ghost use Rattle.std.specs.Prelude.{◌≡◌, option_map, IfErr};
 ghost use Rattle.smt_sexpr.specs.Tree.{Sexpr, Items};
 ghost use Rattle.smt_sexpr.specs.Table.{Means, MeansEach, HasMeaning};
-ghost use Rattle.smt_script.specs.Attributes.{keyword_of, named_in};
+ghost use Rattle.smt_script.specs.Attributes.{named_in};
 ghost use Rattle.smt_script.specs.Shapes.{AttributeIs, AttributesAre};
 ghost use Rattle.smt_sexpr.specs.Shapes.{HaveMeaning};
 
 use crate::error::Refusal;
-use smt_lex::TokenKind;
 use smt_sexpr::{SexprId, Sexprs};
 
 /// What may follow an attribute's beginning.
@@ -28,17 +27,6 @@ pub struct Attributes<'a> {
     name: Option<&'a [u8]>,
 }
 
-/// A keyword's text.
-pub fn keyword<'a>(sexprs: &Sexprs<'a>, id: SexprId) -> Option<&'a [u8]>
-    requires { HasMeaning sexprs.now id }
-    ensures { (x : Sexpr) → Means sexprs.now id x → option_map (λ text. text.now) result ≡ keyword_of x }
-{
-    match sexprs.leaf(id) {
-        Some((TokenKind::Keyword, text)) => Some(text),
-        _ => None,
-    }
-}
-
 impl<'a> Attributes<'a> {
     /// With one more item.
     fn with(self, sexprs: &Sexprs<'a>, id: SexprId) -> Result<Attributes<'a>, Refusal>
@@ -54,7 +42,7 @@ impl<'a> Attributes<'a> {
                 None => Err(Refusal::IllFormedCommand),
             };
         }
-        match keyword(sexprs, id) {
+        match sexprs.keyword(id) {
             Some(text) if text == b":named".as_slice() => match self.name {
                 Some(_) => Err(Refusal::IllFormedCommand),
                 None => Ok(Attributes {

@@ -3,10 +3,10 @@ ghost use Rattle.std.specs.Prelude.{◌≡◌, Ok, ℕ};
 ghost use Rattle.smt_sexpr.specs.Tree.{Sexpr, Items};
 ghost use Rattle.smt_sexpr.specs.Table.{Table, Means, MeansEach, HasMeaning};
 ghost use Rattle.smt_script.specs.Commands.{Command, alone, logic_command, option_command, info_command, constant_command, function_command, definition_command, annotation_in, annotation_command, assertion_command, level_command, command_by, without_name, command_of};
-ghost use Rattle.smt_script.specs.Shapes.{HeadIs, SignatureIs, AnnotationIs, CommandIs, LevelsAre, RequestIs};
+ghost use Rattle.smt_script.specs.Shapes.{SignatureIs, AnnotationIs, CommandIs, LevelsAre, RequestIs, AsksFor};
 ghost use Rattle.smt_sexpr.specs.Shapes.{HaveMeaning};
 
-use crate::attribute::{keyword, named_in};
+use crate::attribute::named_in;
 use crate::command_name::{CommandName, command_name, is_unsupported, left_out_of};
 use crate::error::Refusal;
 use smt_lex::numeral_value;
@@ -42,23 +42,10 @@ pub enum Request<'a> {
     Unsupported,
 }
 
-/// Of a list that begins with a symbol: the symbol, and what follows it.
-fn headed<'s, 'a>(sexprs: &'s Sexprs<'a>, id: SexprId) -> Option<(&'a [u8], &'s [SexprId])>
-    requires { HasMeaning sexprs.now id }
-    ensures { (x : Sexpr) → Means sexprs.now id x → HeadIs sexprs.now x result }
-{
-    match sexprs.items(id)? {
-        [head, arguments @ ..] => {
-            let name = sexprs.symbol(*head)?;
-            Some((name, arguments))
-        }
-        [] => None,
-    }
-}
-
 /// A command without arguments.
 fn alone<'a>(request: Request<'a>, arguments: &[SexprId]) -> Result<Request<'a>, Refusal>
-    ensures { (t : Table) (command : Command) (xs : Items) → MeansEach t arguments.now xs → CommandIs t request.entry (Ok command) → RequestIs t result (alone command xs) }
+    ensures { (t : Table) (command : Command) (xs : Items) → MeansEach t arguments.now xs
+        → CommandIs t request.entry (Ok command) → RequestIs t result (alone command xs) }
 {
     if arguments.is_empty() {
         Ok(request)
@@ -69,7 +56,7 @@ fn alone<'a>(request: Request<'a>, arguments: &[SexprId]) -> Result<Request<'a>,
 
 /// `(set-logic s)`, behind its name.
 fn logic_command<'a>(arguments: &[SexprId]) -> Result<Request<'a>, Refusal>
-    ensures { (t : Table) (xs : Items) → MeansEach t arguments.now xs → RequestIs t result (logic_command xs) }
+    ensures { (t : Table) → AsksFor t arguments.now logic_command result }
 {
     match arguments {
         [logic] => Ok(Request::SetLogic(*logic)),
@@ -80,14 +67,14 @@ fn logic_command<'a>(arguments: &[SexprId]) -> Result<Request<'a>, Refusal>
 /// `(set-option k)` or `(set-option k v)`, behind its name.
 fn option_command<'a>(sexprs: &Sexprs<'a>, arguments: &[SexprId]) -> Result<Request<'a>, Refusal>
     requires { HaveMeaning sexprs.now arguments.now }
-    ensures { (xs : Items) → MeansEach sexprs.now arguments.now xs → RequestIs sexprs.now result (option_command xs) }
+    ensures { AsksFor sexprs.now arguments.now option_command result }
 {
     match arguments {
-        [option] => match keyword(sexprs, *option) {
+        [option] => match sexprs.keyword(*option) {
             Some(text) => Ok(Request::SetOption(text, None)),
             None => Err(Refusal::IllFormedCommand),
         },
-        [option, value] => match keyword(sexprs, *option) {
+        [option, value] => match sexprs.keyword(*option) {
             Some(text) => Ok(Request::SetOption(text, Some(*value))),
             None => Err(Refusal::IllFormedCommand),
         },
@@ -98,10 +85,10 @@ fn option_command<'a>(sexprs: &Sexprs<'a>, arguments: &[SexprId]) -> Result<Requ
 /// `(set-info k)` or `(set-info k v)`, behind its name.
 fn info_command<'a>(sexprs: &Sexprs<'a>, arguments: &[SexprId]) -> Result<Request<'a>, Refusal>
     requires { HaveMeaning sexprs.now arguments.now }
-    ensures { (xs : Items) → MeansEach sexprs.now arguments.now xs → RequestIs sexprs.now result (info_command xs) }
+    ensures { AsksFor sexprs.now arguments.now info_command result }
 {
     match arguments {
-        [kind, values @ ..] if values.len() <= 1 => match keyword(sexprs, *kind) {
+        [kind, values @ ..] if values.len() <= 1 => match sexprs.keyword(*kind) {
             Some(_) => Ok(Request::SetInfo),
             None => Err(Refusal::IllFormedCommand),
         },
@@ -112,7 +99,7 @@ fn info_command<'a>(sexprs: &Sexprs<'a>, arguments: &[SexprId]) -> Result<Reques
 /// `(declare-const n S)`, behind its name.
 fn constant_command<'a>(sexprs: &Sexprs<'a>, arguments: &[SexprId]) -> Result<Request<'a>, Refusal>
     requires { HaveMeaning sexprs.now arguments.now }
-    ensures { (xs : Items) → MeansEach sexprs.now arguments.now xs → RequestIs sexprs.now result (constant_command xs) }
+    ensures { AsksFor sexprs.now arguments.now constant_command result }
 {
     match arguments {
         [name, sort] => match sexprs.symbol(*name) {
@@ -136,7 +123,8 @@ fn signature_of<'a>(
 ) -> Result<Signature<'a>, Refusal>
     requires name { HasMeaning sexprs.now name }
     requires parameters { HasMeaning sexprs.now parameters }
-    ensures { (n p s : Sexpr) → Means sexprs.now name n → Means sexprs.now parameters p → Means sexprs.now sort s → SignatureIs sexprs.now n p s result }
+    ensures { (n p s : Sexpr) → Means sexprs.now name n → Means sexprs.now parameters p → Means sexprs.now sort s
+        → SignatureIs sexprs.now n p s result }
 {
     match (sexprs.symbol(name), sexprs.items(parameters)) {
         (Some(name), Some(parameters)) => Ok(Signature {
@@ -151,7 +139,7 @@ fn signature_of<'a>(
 /// `(declare-fun n (..) S)`, behind its name.
 fn function_command<'a>(sexprs: &Sexprs<'a>, arguments: &[SexprId]) -> Result<Request<'a>, Refusal>
     requires { HaveMeaning sexprs.now arguments.now }
-    ensures { (xs : Items) → MeansEach sexprs.now arguments.now xs → RequestIs sexprs.now result (function_command xs) }
+    ensures { AsksFor sexprs.now arguments.now function_command result }
 {
     match arguments {
         [name, parameters, sort] => {
@@ -168,7 +156,7 @@ fn definition_command<'a>(
     arguments: &[SexprId],
 ) -> Result<Request<'a>, Refusal>
     requires { HaveMeaning sexprs.now arguments.now }
-    ensures { (xs : Items) → MeansEach sexprs.now arguments.now xs → RequestIs sexprs.now result (definition_command xs) }
+    ensures { AsksFor sexprs.now arguments.now definition_command result }
 {
     match arguments {
         [name, parameters, sort, term] => {
@@ -184,7 +172,7 @@ fn annotation<'s>(sexprs: &'s Sexprs, id: SexprId) -> Option<&'s [SexprId]>
     requires { HasMeaning sexprs.now id }
     ensures { (x : Sexpr) → Means sexprs.now id x → AnnotationIs sexprs.now (annotation_in x) result }
 {
-    match headed(sexprs, id) {
+    match sexprs.headed(id) {
         Some((name, rest)) if name == b"!".as_slice() => Some(rest),
         _ => None,
     }
@@ -196,7 +184,7 @@ fn annotated_command<'a>(
     annotation: &[SexprId],
 ) -> Result<Request<'a>, Refusal>
     requires { HaveMeaning sexprs.now annotation.now }
-    ensures { (xs : Items) → MeansEach sexprs.now annotation.now xs → RequestIs sexprs.now result (annotation_command xs) }
+    ensures { AsksFor sexprs.now annotation.now annotation_command result }
 {
     match annotation {
         [term, attributes @ ..] if !attributes.is_empty() => match named_in(sexprs, attributes)? {
@@ -210,7 +198,7 @@ fn annotated_command<'a>(
 /// `(assert t)`, behind its name.
 fn assertion_command<'a>(sexprs: &Sexprs<'a>, arguments: &[SexprId]) -> Result<Request<'a>, Refusal>
     requires { HaveMeaning sexprs.now arguments.now }
-    ensures { (xs : Items) → MeansEach sexprs.now arguments.now xs → RequestIs sexprs.now result (assertion_command xs) }
+    ensures { AsksFor sexprs.now arguments.now assertion_command result }
 {
     match arguments {
         [term] => match annotation(sexprs, *term) {
@@ -224,7 +212,8 @@ fn assertion_command<'a>(sexprs: &Sexprs<'a>, arguments: &[SexprId]) -> Result<R
 /// `(push n)` or `(pop n)`, behind its name; 1 where no number is given.
 fn levels(sexprs: &Sexprs, arguments: &[SexprId]) -> Result<Option<u64>, Refusal>
     requires { HaveMeaning sexprs.now arguments.now }
-    ensures { (make : ℕ → Command) (xs : Items) → MeansEach sexprs.now arguments.now xs → LevelsAre make (level_command make xs) result }
+    ensures { (make : ℕ → Command) (xs : Items) → MeansEach sexprs.now arguments.now xs
+        → LevelsAre make (level_command make xs) result }
 {
     smt_lex::numeral_digits();
     match arguments {
@@ -244,7 +233,7 @@ fn command_by<'a>(
     arguments: &[SexprId],
 ) -> Result<Request<'a>, Refusal>
     requires { HaveMeaning sexprs.now arguments.now }
-    ensures { (xs : Items) → MeansEach sexprs.now arguments.now xs → RequestIs sexprs.now result (command_by name xs) }
+    ensures { AsksFor sexprs.now arguments.now (command_by name) result }
 {
     match name {
         CommandName::SetLogic => logic_command(arguments),
@@ -289,7 +278,7 @@ pub fn request_of<'a>(sexprs: &Sexprs<'a>, id: SexprId) -> Result<Request<'a>, R
     requires { HasMeaning sexprs.now id }
     ensures { (x : Sexpr) → Means sexprs.now id x → RequestIs sexprs.now result (command_of x) }
 {
-    match headed(sexprs, id) {
+    match sexprs.headed(id) {
         Some((text, arguments)) => match command_name(text) {
             Some(name) => command_by(sexprs, name, arguments),
             None => without_name(text),

@@ -34,7 +34,8 @@ fn sort_of(sexprs: &Sexprs, id: SexprId) -> Option<Sort>
 /// The sort of a function without parameters.
 pub fn signature_sort(sexprs: &Sexprs, signature: Signature) -> Result<Sort, Refusal>
     requires { HasSignature sexprs.now signature }
-    ensures { (parameters : Items) (x : Sexpr) → IsSignature sexprs.now signature.entry parameters x → result ≡ signature_sort parameters (sort_of x) }
+    ensures { (parameters : Items) (x : Sexpr) → IsSignature sexprs.now signature.entry parameters x
+        → result ≡ signature_sort parameters (sort_of x) }
 {
     if signature.has_parameters {
         return Err(Refusal::LeftOut(LeftOutCommand::Parameters));
@@ -73,7 +74,8 @@ pub fn lower_of_sort<'a>(
 ) -> Result<Lowered, ScriptError>
     requires meaning { HasMeaning sexprs.now id }
     requires few { length scope.now.declared ≤ names_limit }
-    ensures lowers { (t : Sexpr) → Means sexprs.now id t → TermIs nodes.new (only_of_sort sort (lowered scope.now nodes.old t)) result }
+    ensures lowers { (t : Sexpr) → Means sexprs.now id t
+        → TermIs nodes.new (only_of_sort sort (lowered scope.now nodes.old t)) result }
     ensures front { take (length nodes.old) nodes.new ≡ nodes.old }
     ensures err { OnErr result (nodes.new ≡ nodes.old) }
 {
@@ -96,7 +98,8 @@ pub fn lower_formula<'a>(
 ) -> Result<u32, ScriptError>
     requires meaning { HasMeaning sexprs.now id }
     requires few { length scope.now.declared ≤ names_limit }
-    ensures lowers { (t : Sexpr) → Means sexprs.now id t → FormulaIs nodes.new (only_formula (lowered scope.now nodes.old t)) result }
+    ensures lowers { (t : Sexpr) → Means sexprs.now id t
+        → FormulaIs nodes.new (only_formula (lowered scope.now nodes.old t)) result }
     ensures front { take (length nodes.old) nodes.new ≡ nodes.old }
     ensures err { OnErr result (nodes.new ≡ nodes.old) }
 {

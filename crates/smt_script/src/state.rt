@@ -9,8 +9,8 @@ ghost use Rattle.idl_term.specs.declared.error.TermRefusal.{TermRefusal};
 ghost use Rattle.smt_script.specs.Commands.{Command};
 ghost use Rattle.smt_script.specs.Kept.{StandsFor, Steps, cut_to};
 ghost use Rattle.smt_script.specs.Options.{option_effect};
-ghost use Rattle.smt_script.specs.Shapes.{ValueIs, HasValue, IsSignature, HasSignature, CountIs, CommandIs, Agrees};
-ghost use Rattle.smt_script.specs.States.{State as Meaning, start_state, after_logic, after_option, sort_of, after_declaration, after_definition, asserted_by, named_by, after_push, after_pop, after_by, after, settled, IsMadeState};
+ghost use Rattle.smt_script.specs.Shapes.{ValueIs, HasValue, IsSignature, HasSignature, CountIs, CommandIs, Agrees, Carries};
+ghost use Rattle.smt_script.specs.States.{State as Meaning, start_state, after_logic, after_option, sort_of, after_declaration, after_definition, after_assertion, after_naming, after_push, after_pop, after_by, after, settled, IsMadeState};
 ghost use Rattle.smt_script.specs.TermValues.{IsAccepted, IsRefused, IsValue};
 ghost use Rattle.smt_script.specs.declared.error.Refusal.{Refusal as Why};
 ghost use Rattle.smt_script.specs.declared.state.Level.{Level as Before};
@@ -122,7 +122,7 @@ impl<'a> State<'a> {
     /// `set-logic`.
     fn set_logic(&self, sexprs: &Sexprs<'a>, logic: SexprId) -> Result<Effect, ScriptError>
         requires { HasMeaning sexprs.now logic }
-        ensures { (s : Meaning) (x : Sexpr) → StandsFor self.now s → Means sexprs.now logic x → Agrees (after_logic s x) self.now result }
+        ensures { Carries (Means sexprs.now logic) after_logic self.now self.now result }
     {
         match sexprs.symbol(logic) {
             Some(name) if name == b"QF_IDL".as_slice() => Ok(SUCCESS),
@@ -138,7 +138,7 @@ impl<'a> State<'a> {
         value: Option<SexprId>,
     ) -> Result<Effect, ScriptError>
         requires { HasValue sexprs.now value }
-        ensures agrees { (s : Meaning) (v : Option Sexpr) → StandsFor self.old s → ValueIs sexprs.now value v → Agrees (after_option s (option_effect keyword.now v)) self.new result }
+        ensures agrees { Carries (ValueIs sexprs.now value) (λ s v. after_option s (option_effect keyword.now v)) self.old self.new result }
         ensures err { OnErr result (self.new ≡ self.old) }
     {
         match option_effect(sexprs, keyword, value) {
@@ -159,7 +159,9 @@ impl<'a> State<'a> {
         signature: Signature<'a>,
     ) -> Result<Effect, ScriptError>
         requires { HasSignature sexprs.now signature }
-        ensures agrees { (s : Meaning) (parameters : Items) (x : Sexpr) → StandsFor self.old s → IsSignature sexprs.now signature.entry parameters x → Agrees (after_declaration s signature.entry.name.now parameters (sort_of x)) self.new result }
+        ensures agrees { (s : Meaning) (parameters : Items) (x : Sexpr) → StandsFor self.old s
+            → IsSignature sexprs.now signature.entry parameters x
+            → Agrees (after_declaration s signature.entry.name.now parameters (sort_of x)) self.new result }
         ensures err { OnErr result (self.new ≡ self.old) }
     {
         let sort = signature_sort(sexprs, signature)?;
@@ -183,7 +185,9 @@ impl<'a> State<'a> {
     ) -> Result<Effect, ScriptError>
         requires signature { HasSignature sexprs.now signature }
         requires term { HasMeaning sexprs.now term }
-        ensures agrees { (s : Meaning) (parameters : Items) (x t : Sexpr) → StandsFor self.old s → IsSignature sexprs.now signature.entry parameters x → Means sexprs.now term t → Agrees (after_definition s signature.entry.name.now parameters (sort_of x) t) self.new result }
+        ensures agrees { (s : Meaning) (parameters : Items) (x t : Sexpr) → StandsFor self.old s
+            → IsSignature sexprs.now signature.entry parameters x → Means sexprs.now term t
+            → Agrees (after_definition s signature.entry.name.now parameters (sort_of x) t) self.new result }
         ensures err { OnErr result (self.new ≡ self.old) }
     {
         let sort = signature_sort(sexprs, signature)?;
@@ -207,7 +211,7 @@ impl<'a> State<'a> {
     /// `assert`.
     fn assert_term(&mut self, sexprs: &Sexprs<'a>, term: SexprId) -> Result<Effect, ScriptError>
         requires { HasMeaning sexprs.now term }
-        ensures agrees { (s : Meaning) (t : Sexpr) → StandsFor self.old s → Means sexprs.now term t → Agrees (asserted_by s t (lowered (scope_of s.context) s.context.nodes t)) self.new result }
+        ensures agrees { Carries (Means sexprs.now term) after_assertion self.old self.new result }
         ensures err { OnErr result (self.new ≡ self.old) }
     {
         self.roots.reserve(1)?;
@@ -225,7 +229,7 @@ impl<'a> State<'a> {
         name: &'a [u8],
     ) -> Result<Effect, ScriptError>
         requires { HasMeaning sexprs.now term }
-        ensures agrees { (s : Meaning) (t : Sexpr) → StandsFor self.old s → Means sexprs.now term t → Agrees (named_by s t name.now (lowered (scope_of s.context) s.context.nodes t)) self.new result }
+        ensures agrees { Carries (Means sexprs.now term) (λ s t. after_naming s name.now t) self.old self.new result }
         ensures err { OnErr result (self.new ≡ self.old) }
     {
         self.roots.reserve(1)?;
@@ -250,7 +254,7 @@ impl<'a> State<'a> {
 
     /// `push`: so many levels on top.
     fn push(&mut self, count: Option<u64>) -> Result<Effect, ScriptError>
-        ensures agrees { (s : Meaning) (n : ℕ) → StandsFor self.old s → CountIs count n → Agrees (after_push s n) self.new result }
+        ensures agrees { Carries (CountIs count) after_push self.old self.new result }
         ensures err { OnErr result (self.new ≡ self.old) }
     {
         let Some(count) = count else {
@@ -286,7 +290,7 @@ impl<'a> State<'a> {
 
     /// `pop`: back to what there was so many levels below.
     fn pop(&mut self, count: Option<u64>) -> Result<Effect, ScriptError>
-        ensures agrees { (s : Meaning) (n : ℕ) → StandsFor self.old s → CountIs count n → Agrees (after_pop s n) self.new result }
+        ensures agrees { Carries (CountIs count) after_pop self.old self.new result }
         ensures err { OnErr result (self.new ≡ self.old) }
     {
         let depth = self.levels.len();
@@ -338,7 +342,7 @@ impl<'a> State<'a> {
         request: Request<'a>,
     ) -> Result<Effect, ScriptError>
         requires { (meant : Result Command Why) × CommandIs sexprs.now request meant }
-        ensures agrees { (s : Meaning) (meant : Result Command Why) → StandsFor self.old s → CommandIs sexprs.now request.entry meant → Agrees (after_by s meant) self.new result }
+        ensures agrees { Carries (CommandIs sexprs.now request.entry) after_by self.old self.new result }
         ensures err { OnErr result (self.new ≡ self.old) }
     {
         match request {
@@ -368,8 +372,10 @@ impl<'a> State<'a> {
     /// One command, whose s-expression is in the table. The table may be cleared afterwards.
     pub fn step(&mut self, sexprs: &Sexprs<'a>, id: SexprId) -> Result<Effect, ScriptError>
         requires { HasMeaning sexprs.now id }
-        ensures ok { IfOk result (λ effect. (s : Meaning) (x : Sexpr) → StandsFor self.old s → Means sexprs.now id x → Steps s x effect self.new) }
-        ensures refused { (why : Why) → result ≡ Err (ScriptError.Refused why) → (s : Meaning) (x : Sexpr) → StandsFor self.old s → Means sexprs.now id x → after s x ≡ Err why }
+        ensures ok { IfOk result (λ effect. (s : Meaning) (x : Sexpr) → StandsFor self.old s → Means sexprs.now id x
+            → Steps s x effect self.new) }
+        ensures refused { (why : Why) → result ≡ Err (ScriptError.Refused why) → (s : Meaning) (x : Sexpr)
+            → StandsFor self.old s → Means sexprs.now id x → after s x ≡ Err why }
         ensures err { OnErr result (self.new ≡ self.old) }
     {
         let request = request_of(sexprs, id)?;

@@ -29,7 +29,8 @@ pub fn term_value(
     nodes: &Nodes,
     values: &NamedValues,
 ) -> Result<TermValue, AllocError>
-    requires { (sorts : List Sort) × AreOfSorts sorts values.now × IsTableOf (IsAtomFor sorts) nodes.now × IsTermIn sorts nodes.now (shown_term term.now) }
+    requires { (sorts : List Sort) × AreOfSorts sorts values.now × IsTableOf (IsAtomFor sorts) nodes.now
+        × IsTermIn sorts nodes.now (shown_term term.now) }
     ensures { IfOk result (λ v. lowered_value nodes.now values.now (shown_term term.now) ≡ value_shown v) }
 {
     match term {
