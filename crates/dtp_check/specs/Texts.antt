@@ -28,17 +28,22 @@ certificate_line TextAfterEnd = codes "refused: certificate: text after the end\
 -- the last kind is of all lemmas together
 abbrev pub lemma_line : ℕ → ℕ → ℕ → FlawKind → List ℕ
 lemma_line entry lemma step LastLemmaNotEmpty = codes "refused: entry " ++ (decimal entry ++ codes ": last lemma not empty\n")
-lemma_line entry lemma step kind = codes "refused: entry " ++ (decimal entry ++ (codes ": lemma " ++ (decimal lemma ++ (codes ": step " ++ (decimal step ++ (codes ": " ++ (flaw_text kind ++ codes "\n")))))))
+lemma_line entry lemma step kind =
+    codes "refused: entry " ++ (decimal entry ++ (codes ": lemma " ++ (decimal lemma
+    ++ (codes ": step " ++ (decimal step ++ (codes ": " ++ (flaw_text kind ++ codes "\n")))))))
 
 abbrev pub entry_line : ℕ → EntryFlaw → List ℕ
 entry_line entry WrongCount = codes "refused: entry " ++ (decimal entry ++ codes ": wrong count of values\n")
-entry_line entry (WrongSort k) = codes "refused: entry " ++ (decimal entry ++ (codes ": value " ++ (decimal k ++ codes " has the wrong sort\n")))
-entry_line entry (FalseAssertion k) = codes "refused: entry " ++ (decimal entry ++ (codes ": assertion " ++ (decimal k ++ codes " is false\n")))
+entry_line entry (WrongSort k) =
+    codes "refused: entry " ++ (decimal entry ++ (codes ": value " ++ (decimal k ++ codes " has the wrong sort\n")))
+entry_line entry (FalseAssertion k) =
+    codes "refused: entry " ++ (decimal entry ++ (codes ": assertion " ++ (decimal k ++ codes " is false\n")))
 entry_line entry (Flawed flaw) = lemma_line entry flaw.lemma flaw.step flaw.kind
 
 unfoldable pub judgement_line : Judgement → List ℕ
 judgement_line Accepted = codes "accepted\n"
-judgement_line (Script command kind) = codes "refused: script: command " ++ (decimal command ++ (codes ": " ++ (kind_text kind ++ codes "\n")))
+judgement_line (Script command kind) =
+    codes "refused: script: command " ++ (decimal command ++ (codes ": " ++ (kind_text kind ++ codes "\n")))
 judgement_line (Certificate why) = certificate_line why
 judgement_line (Missing entry) = codes "refused: entry " ++ (decimal entry ++ codes ": missing\n")
 judgement_line (Entry entry flaw) = entry_line entry flaw

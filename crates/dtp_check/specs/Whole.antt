@@ -10,7 +10,9 @@ use Rattle.dtp_check.specs.Judged.{FollowsExit}
 -- there is nothing but white space and comments, the last of which is ended by a line's end.
 abbrev pub IsWholeFrom : List ℕ → ℕ → List Sexpr → Type 0
 IsWholeFrom script place [] = IsClosedGap (drop place script)
-IsWholeFrom script place (x ∷ xs) = (mid : ℕ) × Spells script place x mid × FollowsExit (is_exit x) ((xs ≡ []) × IsClosedGap (drop mid script)) (IsWholeFrom script mid xs)
+IsWholeFrom script place (x ∷ xs) =
+    (mid : ℕ) × Spells script place x mid
+    × FollowsExit (is_exit x) ((xs ≡ []) × IsClosedGap (drop mid script)) (IsWholeFrom script mid xs)
 
 -- a script that is cut behind its `(exit)`, where it has one, and doesn't end in a comment
 abbrev pub IsWhole : List ℕ → Type 0

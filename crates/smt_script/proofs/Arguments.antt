@@ -5,7 +5,7 @@ use Rattle.std.specs.Str.{bytes_eq}
 use Rattle.smt_sexpr.specs.Tree.{Sexpr, Items, leaf, list, none, more, symbol_of}
 use Rattle.smt_sexpr.specs.Table.{Table, MeansEach, ItemsAre}
 use Rattle.smt_sexpr.proofs.Shapes.{begun}
-use Rattle.smt_script.specs.Commands.{ill_formed, declaring, defining, with_name, function_command, definition_command, headed_by, annotation_in, annotated, annotation_command, assertion_by, assertion_command, asserting, command_of}
+use Rattle.smt_script.specs.Commands.{ill_formed, declaring, defining, with_name, function_command, definition_command, annotation_in, annotated, annotation_command, assertion_by, assertion_command, asserting, command_of}
 use Rattle.smt_script.specs.Attributes.{Named, named_in}
 use Rattle.smt_script.specs.Shapes.{AnnotationIs, CountIs}
 

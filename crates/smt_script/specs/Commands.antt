@@ -140,12 +140,14 @@ constant_command _ = ill_formed
 
 -- n (..) S
 abbrev pub function_command : Items → Result Command Refusal
-function_command (more n (more (list parameters) (more sort none))) = with_name (symbol_of n) (λ text. declaring text parameters sort)
+function_command (more n (more (list parameters) (more sort none))) =
+    with_name (symbol_of n) (λ text. declaring text parameters sort)
 function_command _ = ill_formed
 
 -- n (..) S t
 abbrev pub definition_command : Items → Result Command Refusal
-definition_command (more n (more (list parameters) (more sort (more term none)))) = with_name (symbol_of n) (λ text. defining text parameters sort term)
+definition_command (more n (more (list parameters) (more sort (more term none)))) =
+    with_name (symbol_of n) (λ text. defining text parameters sort term)
 definition_command _ = ill_formed
 
 -- an annotated term: its name, where it has one

@@ -118,8 +118,10 @@ pub record IsSignature (t : Table) (signature : Signature) (parameters : Items) 
 
 -- n (..) S
 abbrev pub SignatureIs : Table → Sexpr → Sexpr → Sexpr → Result Signature Refusal → Type 0
-SignatureIs t n p s (Ok signature) = (parameters : Items) × (p ≡ list parameters) × (symbol_of n ≡ Some signature.name.now) × IsSignature t signature parameters s
-SignatureIs t n p s (Err why) = (function_command (more n (more p (more s none))) ≡ Err why) × ((x : Sexpr) → definition_command (more n (more p (more s (more x none)))) ≡ Err why)
+SignatureIs t n p s (Ok signature) =
+    (parameters : Items) × (p ≡ list parameters) × (symbol_of n ≡ Some signature.name.now) × IsSignature t signature parameters s
+SignatureIs t n p s (Err why) =
+    (function_command (more n (more p (more s none))) ≡ Err why) × ((x : Sexpr) → definition_command (more n (more p (more s (more x none)))) ≡ Err why)
 
 -- a number of levels; from 2^64 on it isn't known
 abbrev pub CountIs : Option ℕ → ℕ → Type 0
@@ -133,10 +135,13 @@ LevelsAre make meant (Err why) = meant ≡ Err why
 -- a command, with the ids of its parts
 abbrev pub CommandIs : Table → Request → Result Command Refusal → Type 0
 CommandIs t (SetLogic id) meant = (logic : Sexpr) × Means t id logic × (meant ≡ Ok (setting_logic logic))
-CommandIs t (SetOption keyword value) meant = (v : Option Sexpr) × ValueIs t value v × (meant ≡ Ok (setting_option keyword.now v))
+CommandIs t (SetOption keyword value) meant =
+    (v : Option Sexpr) × ValueIs t value v × (meant ≡ Ok (setting_option keyword.now v))
 CommandIs t SetInfo meant = meant ≡ Ok informing
-CommandIs t (Declare signature) meant = (parameters : Items) × (sort : Sexpr) × IsSignature t signature parameters sort × (meant ≡ Ok (declaring signature.name.now parameters sort))
-CommandIs t (Define signature id) meant = (parameters : Items) × (sort : Sexpr) × (x : Sexpr) × IsSignature t signature parameters sort × Means t id x × (meant ≡ Ok (defining signature.name.now parameters sort x))
+CommandIs t (Declare signature) meant =
+    (parameters : Items) × (sort : Sexpr) × IsSignature t signature parameters sort × (meant ≡ Ok (declaring signature.name.now parameters sort))
+CommandIs t (Define signature id) meant =
+    (parameters : Items) × (sort : Sexpr) × (x : Sexpr) × IsSignature t signature parameters sort × Means t id x × (meant ≡ Ok (defining signature.name.now parameters sort x))
 CommandIs t (Assert id) meant = (x : Sexpr) × Means t id x × (meant ≡ Ok (asserting x))
 CommandIs t (AssertNamed id name) meant = (x : Sexpr) × Means t id x × (meant ≡ Ok (naming x name.now))
 CommandIs t (Push count) meant = (n : ℕ) × CountIs count n × (meant ≡ Ok (pushing n))
@@ -162,7 +167,8 @@ HasSignature t signature = (parameters : Items) × (sort : Sexpr) × IsSignature
 
 -- a call's result, and what is kept behind it, are those of the step
 abbrev pub Agrees : Result Step Refusal → Kept → Result Effect ScriptError → Type 0
-Agrees step kept (Ok effect) = (state : State) × (step ≡ Ok (record { state = state; effect = effect })) × StandsFor kept state
+Agrees step kept (Ok effect) =
+    (state : State) × (step ≡ Ok (record { state = state; effect = effect })) × StandsFor kept state
 Agrees step kept (Err (Refused why)) = step ≡ Err why
 Agrees step kept (Err OutOfMemory) = Unit {0}
 
