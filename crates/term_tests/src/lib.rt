@@ -4,3 +4,5 @@
 
 #[cfg(test)]
 mod printing;
+#[cfg(test)]
+mod values;
