@@ -1,11 +1,10 @@
 -- What the ids of some items say of the items.
 use Rattle.std.proofs.Common.{refl, sym, ap, arith, ◌∙◌, ◌≡◌, ◌<◌, ◌≤◌, ◌^◌, ℕ, List, [], ◌∷◌, length, Option, Some, None, Ok, false, ◌==◌, Bor}
-use Rattle.std.specs.Prelude.{IfSome, IsNone, codes, if◌then◌else◌}
-use Rattle.std.specs.Str.{bytes_eq}
-use Rattle.smt_sexpr.specs.Tree.{Sexpr, Items, leaf, list, none, more, symbol_of}
-use Rattle.smt_sexpr.specs.Table.{Table, MeansEach, ItemsAre}
+use Rattle.std.specs.Prelude.{IfSome, IsNone}
+use Rattle.smt_sexpr.specs.Tree.{Sexpr, Items, list, none, more, symbol_of}
+use Rattle.smt_sexpr.specs.Table.{Table, MeansEach}
 use Rattle.smt_sexpr.proofs.Shapes.{begun}
-use Rattle.smt_script.specs.Commands.{ill_formed, declaring, defining, with_name, function_command, definition_command, annotation_in, annotated, annotation_command, assertion_by, assertion_command, asserting, command_of}
+use Rattle.smt_script.specs.Commands.{declaring, defining, with_name, function_command, definition_command, annotation_in, annotated, annotation_command, assertion_by, assertion_command, asserting}
 use Rattle.smt_script.specs.Attributes.{Named, named_in}
 use Rattle.smt_script.specs.Shapes.{AnnotationIs, CountIs}
 
