@@ -1,3 +1,4 @@
+pub mod OneTranscript
 pub mod Reading
 pub mod Roots
 pub mod Standing

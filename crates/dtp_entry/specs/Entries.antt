@@ -1,13 +1,12 @@
 -- What a certificate holds for a check-sat: a schedule that satisfies the assertions, or a refutation of their problem.
 -- The format is that of cert_text; what makes an entry right stands here.
-use Rattle.std.specs.Prelude.{◌≡◌, ℕ, ◌+◌, List, length}
+use Rattle.std.specs.Prelude.{ℕ, ◌+◌, List, length}
 use Rattle.std.specs.List.{AllByRecursion}
 use Rattle.stn_core.specs.declared.literal.Literal.{Literal}
 use Rattle.refute_tree.specs.Trees.{IsRefutation}
 use Rattle.cert_text.specs.declared.entry.Entry.{Entry}
 use Rattle.cert_text.specs.declared.entry.Entry.TheVariants.{Sat, Unsat}
 use Rattle.cert_text.specs.Limits.{EntryFits}
-use Rattle.cert_text.specs.Form.{entry_sexpr, line_of}
 use Rattle.clause_form.specs.ClauseForm as clause_form
 use Rattle.idl_term.specs.Contexts.{Context, IsScheduleFor, IsTrueOn}
 use Rattle.smt_script.specs.declared.state.Satisfiability.{Satisfiability}
@@ -34,7 +33,3 @@ IsEntryOf c entry = IsRight c entry × EntryFits entry
 abbrev pub verdict_of : Entry → Satisfiability
 verdict_of (Sat schedule) = verdict.Sat
 verdict_of (Unsat lemmas) = verdict.Unsat
-
--- the line of a right entry with this verdict
-abbrev pub IsEntry : Context → Satisfiability → List ℕ → Type 0
-IsEntry c verdict line = (entry : Entry) × IsEntryOf c entry × (verdict ≡ verdict_of entry) × (line ≡ line_of (entry_sexpr entry))

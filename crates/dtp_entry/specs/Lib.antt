@@ -1,4 +1,5 @@
 pub mod Entries
+pub mod Laws
 pub mod Standing
 pub mod Transcripts
 pub mod Written

@@ -1,53 +1,29 @@
 -- What is written of a script: a relation of its bytes, the bytes of the output and the status.
 -- Source: SMT-LIB 2.6, section 4.1 (responses, and the error behavior `immediate-exit`), section 4.2.1 (`exit`) and section
 -- 4.2.5 (`check-sat`).
-use Rattle.std.specs.Prelude.{◌≡◌, ℕ, ◌+◌, List, [], ◌∷◌, ◌++◌, ◌⊎◌, Bool, true, false, Ok, Err}
+use Rattle.std.specs.Prelude.{◌≡◌, ℕ, ◌+◌, List, [], ◌∷◌, ◌++◌, ◌⊎◌, true, false, if◌then◌else◌, Option, Some, None, Ok, Err}
 use Rattle.smt_sexpr.specs.Tree.{Sexpr}
 use Rattle.smt_sexpr.specs.Commands.{Commands, Ending, ended, stopped, unread, EndsAs}
-use Rattle.dtp_entry.specs.declared.report.Report.{Report}
-use Rattle.dtp_entry.specs.declared.report.Report.TheVariants.{Verdicts, Certificate}
 use Rattle.smt_script.specs.declared.state.Effect.{Effect}
 use Rattle.smt_script.specs.declared.state.Effect.TheVariants.{CheckSat, Exit, Tell}
+use Rattle.smt_script.specs.declared.state.Notice.{Notice}
 use Rattle.smt_script.specs.declared.state.Notice.TheVariants.{Success, Unsupported}
 use Rattle.smt_script.specs.declared.state.Satisfiability.{Satisfiability}
 use Rattle.smt_script.specs.declared.state.Satisfiability.TheVariants as verdict
 use Rattle.smt_script.specs.States.{State, start_state, after, settled}
 use Rattle.smt_answer.specs.Kinds.{kind_of, kind_of_unreadable}
 use Rattle.smt_answer.specs.Texts.{verdict_line, success_line, unsupported_line, error_line}
-use Rattle.cert_text.specs.Form.{header_sexpr, end_sexpr, line_of}
-use Rattle.dtp_entry.specs.Entries.{IsEntry}
-use Rattle.dtp_entry.specs.Written.{IsFront, IsPartOf}
+use Rattle.smt_answer.specs.declared.kind.Kind.{Kind}
+use Rattle.cert_text.specs.declared.entry.Entry.{Entry}
+use Rattle.cert_text.specs.declared.entry.Entry.TheVariants.{Sat, Unsat}
+use Rattle.cert_text.specs.Form.{header_sexpr, entry_sexpr, end_sexpr, line_of}
 use Rattle.idl_term.specs.Contexts.{Context, IsSatisfiable}
+use Rattle.dtp_entry.specs.declared.report.Report.{Report}
+use Rattle.dtp_entry.specs.declared.report.Report.TheVariants.{Verdicts, Certificate}
+use Rattle.dtp_entry.specs.Entries.{IsEntryOf, verdict_of}
+use Rattle.dtp_entry.specs.Written.{IsFront}
 
--- `sat` where some schedule satisfies all the assertions, else `unsat`
-abbrev pub IsVerdict : Context → Satisfiability → List ℕ → Type 0
-IsVerdict c verdict.Sat line = (line ≡ verdict_line true) × IsSatisfiable c
-IsVerdict c verdict.Unsat line = (line ≡ verdict_line false) × ¬ IsSatisfiable c
-
--- what is written for a check-sat, with its verdict
-abbrev pub IsDecided : Report → Context → Satisfiability → List ℕ → Type 0
-IsDecided Verdicts c verdict line = IsVerdict c verdict line
-IsDecided Certificate c verdict line = IsEntry c verdict line
-
--- the same with some verdict
-abbrev pub IsDecidedSome : Report → Context → List ℕ → Type 0
-IsDecidedSome report c line = (verdict : Satisfiability) × IsDecided report c verdict line
-
--- what is written where a command has no other answer: `success`, where it is to be printed behind the command
-abbrev pub silent_answer : Report → Bool → List ℕ
-silent_answer Verdicts true = success_line
-silent_answer _ _ = []
-
-abbrev pub unsupported_answer : Report → List ℕ
-unsupported_answer Verdicts = unsupported_line
-unsupported_answer Certificate = []
-
--- what is written for an effect in the state behind the command, and the state behind the answer; but for the script's end
-abbrev pub Answers : Report → State → Effect → List ℕ → State → Type 0
-Answers report s CheckSat text next = (verdict : Satisfiability) × IsDecided report s.context verdict text × (next ≡ settled verdict s)
-Answers report s (Tell Success) text next = (text ≡ silent_answer report s.print_success) × (next ≡ s)
-Answers report s (Tell Unsupported) text next = (text ≡ unsupported_answer report) × (next ≡ s)
-Answers report s Exit text next = (text ≡ []) × (next ≡ s)
+-- ---- the parts of a report
 
 -- what is written before the first command, and at the end without an error
 abbrev pub opening : Report → List ℕ
@@ -58,77 +34,155 @@ abbrev pub closing : Report → List ℕ
 closing Verdicts = []
 closing Certificate = line_of end_sexpr
 
+-- the line of a check-sat, by the entry that decides it
+abbrev pub decision_line : Report → Entry → List ℕ
+decision_line Verdicts (Sat schedule) = verdict_line true
+decision_line Verdicts (Unsat lemmas) = verdict_line false
+decision_line Certificate entry = line_of (entry_sexpr entry)
+
+-- what the mode holds: the entry that decided the last check-sat, of which models and proofs can be told
+abbrev pub Held : Type 0
+Held = Option Entry
+
+-- what is told of a command that asks for no decision, in the state behind it; `success` where that is to be printed
+abbrev pub told : Report → Held → State → Notice → List ℕ
+told Verdicts held s Success = if s.print_success then success_line else []
+told Verdicts held s Unsupported = unsupported_line
+told Certificate held s notice = []
+
+-- ---- a command
+
+-- `sat` is so where some schedule satisfies all the assertions, else `unsat` is
+abbrev pub IsVerdict : Context → Satisfiability → Type 0
+IsVerdict c verdict.Sat = IsSatisfiable c
+IsVerdict c verdict.Unsat = ¬ IsSatisfiable c
+
+-- the entry decides the assertions: it is right, and what it says is so
+pub record Decides (c : Context) (entry : Entry) : Type 0 where
+  pub right : IsEntryOf c entry
+  pub so : IsVerdict c (verdict_of entry)
+
+-- an answer behind which the script goes on: its text, the entry of a check-sat, what the mode holds, and the state
+pub record Answered : Type 0 where
+  pub text : List ℕ
+  pub found : List Entry
+  pub held : Held
+  pub state : State
+
+-- how a command is answered: so, or with the last text of the script, or by an error, which ends the script too
+pub data Reply : Type 0 where
+  answered : Answered → Reply
+  last : List ℕ → Reply
+  error : Kind → Reply
+
+abbrev pub checked : Report → State → Entry → Answered
+checked report s entry = record { text = decision_line report entry; found = entry ∷ []; held = Some entry; state = settled (verdict_of entry) s }
+
+-- the answer to an effect, in the state behind the command
+abbrev pub Answers : Report → Held → State → Effect → Reply → Type 0
+Answers report held s CheckSat reply = (entry : Entry) × Decides s.context entry × (reply ≡ answered (checked report s entry))
+Answers report held s (Tell notice) reply = reply ≡ answered (record { text = told report held s notice; found = []; held = held; state = s })
+Answers report held s Exit reply = reply ≡ last (closing report)
+
+-- the answer to a command in a state
+abbrev pub Replies : Report → Held → State → Sexpr → Reply → Type 0
+Replies report held s x reply = elim (after s x) [
+  | Ok step ↦ Answers report held step.state step.effect reply
+  | Err why ↦ reply ≡ error (kind_of why)
+]
+
+-- ---- a script
+
+-- what is written: the text, the entries that decided the check-sats, in order, and the status
+pub record Output : Type 0 where
+  pub text : List ℕ
+  pub found : List Entry
+  pub status : ℕ
+
+-- at the end without an error, and at an error in command k
+abbrev pub done : List ℕ → Output
+done text = record { text = text; found = []; status = 0 }
+
+abbrev pub refused : ℕ → Kind → Output
+refused k kind = record { text = error_line k kind; found = []; status = 1 }
+
+-- with a piece before it
+abbrev pub behind : List ℕ → List Entry → Output → Output
+behind text found rest = record { text = text ++ rest.text; found = found ++ rest.found; status = rest.status }
+
 -- behind the last command: the closing line at the end of the text, the error line where an s-expression can't be read
-abbrev pub Closes : Report → ℕ → Ending → List ℕ → ℕ → Type 0
-Closes report k ended out status = (out ≡ closing report) × (status ≡ 0)
-Closes report k (unread why) out status = (out ≡ error_line k (kind_of_unreadable why)) × (status ≡ 1)
-Closes report k stopped out status = ⊥
+abbrev pub Closes : Report → ℕ → Ending → Output → Type 0
+Closes report k ended out = out ≡ done (closing report)
+Closes report k (unread why) out = out ≡ refused k (kind_of_unreadable why)
+Closes report k stopped out = ⊥
 
 -- what follows isn't looked at
 abbrev pub Stops : List Sexpr → Ending → Type 0
 Stops xs ending = (xs ≡ []) × (ending ≡ stopped)
 
--- an effect's answer, and what the commands behind it are answered; `exit` ends the script
-abbrev pub GoesOn : Report → Effect → State → List Sexpr → Ending → List ℕ → ℕ → (State → List ℕ → Type 0) → Type 0
-GoesOn report Exit s xs ending out status Rest = Stops xs ending × (out ≡ closing report) × (status ≡ 0)
-GoesOn report effect s xs ending out status Rest = (piece : List ℕ) × (rest : List ℕ) × (next : State) × Answers report s effect piece next × (out ≡ piece ++ rest) × Rest next rest
+-- the answer of command k, and what the commands behind it are answered
+abbrev pub GoesOn : ℕ → Reply → List Sexpr → Ending → Output → (Held → State → Output → Type 0) → Type 0
+GoesOn k (answered a) xs ending out Rest = (rest : Output) × Rest a.held a.state rest × (out ≡ behind a.text a.found rest)
+GoesOn k (last text) xs ending out Rest = Stops xs ending × (out ≡ done text)
+GoesOn k (error kind) xs ending out Rest = Stops xs ending × (out ≡ refused k kind)
 
--- Command k and those behind it, in this state: each answer in order, up to the end, to `exit` or to the first refusal,
--- and the status. What follows `exit` or a refused command isn't looked at.
-unfoldable pub Follows : Report → State → ℕ → List Sexpr → Ending → List ℕ → ℕ → Type 0
-Follows report s k [] ending out status = Closes report k ending out status
-Follows report s k (x ∷ xs) ending out status = elim (after s x) [
-  | Ok step ↦ GoesOn report step.effect step.state xs ending out status (λ next rest. Follows report next (k + 1) xs ending rest status)
-  | Err why ↦ Stops xs ending × (out ≡ error_line k (kind_of why)) × (status ≡ 1)
-]
+-- Command k and those behind it, in this state: each answer in order, up to the end, to `exit` or to the first error.
+unfoldable pub Follows : Report → Held → State → ℕ → List Sexpr → Ending → Output → Type 0
+Follows report held s k [] ending out = Closes report k ending out
+Follows report held s k (x ∷ xs) ending out =
+    (reply : Reply) × Replies report held s x reply × GoesOn k reply xs ending out (λ kept next rest. Follows report kept next (k + 1) xs ending rest)
 
 -- the text from the place on, read in this state as command k and those behind it
-pub record TranscribesFrom (report : Report) (bytes : List ℕ) (place : ℕ) (s : State) (k : ℕ) (out : List ℕ) (status : ℕ) : Type 0 where
+pub record TranscribesFrom (report : Report) (bytes : List ℕ) (place : ℕ) (held : Held) (s : State) (k : ℕ) (out : Output) : Type 0 where
   pub commands : List Sexpr
   pub here : ℕ
   pub ending : Ending
   pub reads : Commands bytes place commands here
   pub ends : EndsAs bytes here ending
-  pub answers : Follows report s k commands ending out status
+  pub answers : Follows report held s k commands ending out
+
+-- what is written of a script, with the entries that decided its check-sats
+abbrev pub IsOutput : Report → List ℕ → Output → Type 0
+IsOutput report script out = (rest : Output) × TranscribesFrom report script 0 None start_state 1 rest × (out ≡ behind (opening report) [] rest)
 
 -- what is written of a script, and the status
 abbrev pub IsReport : Report → List ℕ → List ℕ → ℕ → Type 0
-IsReport report script out status = (rest : List ℕ) × (out ≡ opening report ++ rest) × TranscribesFrom report script 0 start_state 1 rest status
+IsReport report script text status = (found : List Entry) × IsOutput report script (record { text = text; found = found; status = status })
 
 -- the transcript of a script: what it is answered
 abbrev pub IsTranscript : List ℕ → List ℕ → ℕ → Type 0
-IsTranscript script out status = IsReport Verdicts script out status
+IsTranscript script text status = IsReport Verdicts script text status
 
 -- the certificate of a script: a header, an entry for each check-sat, and the end or the error line
 abbrev pub IsCertificate : List ℕ → List ℕ → ℕ → Type 0
-IsCertificate script out status = IsReport Certificate script out status
+IsCertificate script text status = IsReport Certificate script text status
 
 -- ---- what a run that is cut short has written
 
-abbrev pub IsAnswer : Report → State → Effect → List ℕ → Type 0
-IsAnswer report s effect text = (next : State) × Answers report s effect text next
+abbrev pub ClosesPart : Report → ℕ → Ending → List ℕ → Type 0
+ClosesPart report k ending text = (text ≡ []) ⊎ ((out : Output) × Closes report k ending out × IsFront text out.text)
 
-abbrev pub GoesOnPart : Report → Effect → State → List Sexpr → Ending → List ℕ → (State → List ℕ → Type 0) → Type 0
-GoesOnPart report Exit s xs ending out Rest = Stops xs ending × IsPartOf (λ text. text ≡ closing report) out
-GoesOnPart report effect s xs ending out Rest =
-    (Stops xs ending × IsPartOf (IsAnswer report s effect) out) ⊎ ((piece : List ℕ) × (rest : List ℕ) × (next : State) × Answers report s effect piece next × (out ≡ piece ++ rest) × Rest next rest)
+abbrev pub GoesOnPart : ℕ → Reply → List Sexpr → Ending → List ℕ → (Held → State → List ℕ → Type 0) → Type 0
+GoesOnPart k (answered a) xs ending text Rest =
+    (Stops xs ending × IsFront text a.text) ⊎ ((rest : List ℕ) × Rest a.held a.state rest × (text ≡ a.text ++ rest))
+GoesOnPart k (last whole) xs ending text Rest = Stops xs ending × IsFront text whole
+GoesOnPart k (error kind) xs ending text Rest = Stops xs ending × IsFront text (error_line k kind)
 
 -- The same as `Follows`, but what is written may stop inside any piece; each piece is legal given those before it.
-unfoldable pub FollowsPart : Report → State → ℕ → List Sexpr → Ending → List ℕ → Type 0
-FollowsPart report s k [] ending out = IsPartOf (λ text. (status : ℕ) × Closes report k ending text status) out
-FollowsPart report s k (x ∷ xs) ending out = elim (after s x) [
-  | Ok step ↦ GoesOnPart report step.effect step.state xs ending out (λ next rest. FollowsPart report next (k + 1) xs ending rest)
-  | Err why ↦ Stops xs ending × IsPartOf (λ text. text ≡ error_line k (kind_of why)) out
-]
+unfoldable pub FollowsPart : Report → Held → State → ℕ → List Sexpr → Ending → List ℕ → Type 0
+FollowsPart report held s k [] ending text = ClosesPart report k ending text
+FollowsPart report held s k (x ∷ xs) ending text =
+    (reply : Reply) × Replies report held s x reply × GoesOnPart k reply xs ending text (λ kept next rest. FollowsPart report kept next (k + 1) xs ending rest)
 
-pub record TranscribesPartFrom (report : Report) (bytes : List ℕ) (place : ℕ) (s : State) (k : ℕ) (out : List ℕ) : Type 0 where
+pub record TranscribesPartFrom (report : Report) (bytes : List ℕ) (place : ℕ) (held : Held) (s : State) (k : ℕ) (text : List ℕ) : Type 0 where
   pub commands : List Sexpr
   pub here : ℕ
   pub ending : Ending
   pub reads : Commands bytes place commands here
   pub ends : EndsAs bytes here ending
-  pub answers : FollowsPart report s k commands ending out
+  pub answers : FollowsPart report held s k commands ending text
 
 -- a legal front of what is written of a script
 abbrev pub IsReportPart : Report → List ℕ → List ℕ → Type 0
-IsReportPart report script out = IsFront out (opening report) ⊎ ((rest : List ℕ) × (out ≡ opening report ++ rest) × TranscribesPartFrom report script 0 start_state 1 rest)
+IsReportPart report script text =
+    IsFront text (opening report) ⊎ ((rest : List ℕ) × TranscribesPartFrom report script 0 None start_state 1 rest × (text ≡ opening report ++ rest))

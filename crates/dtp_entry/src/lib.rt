@@ -5,11 +5,15 @@
 #![tactic(auto)]
 
 mod assertions;
+mod entry;
 mod error;
+mod laws;
 mod report;
 mod write;
 
 pub use assertions::problem;
+pub use entry::verdict_of;
 pub use error::SessionError;
+pub use laws::one_transcript;
 pub use report::Report;
 pub use write::write_text;

@@ -1,5 +1,5 @@
 //! A text that goes to a sink.
-ghost use Rattle.std.specs.Prelude.{◌≤◌, OnOk, OnErr};
+ghost use Rattle.std.specs.Prelude.{◌≡◌, ◌≤◌, OnOk, OnErr, IfErr};
 ghost use Rattle.std.specs.Io.KnownBytes.{Appends};
 ghost use Rattle.dtp_io.specs.Faults.{Rose};
 ghost use Rattle.dtp_entry.specs.Written.{IsFront, Writes};
@@ -11,7 +11,9 @@ use dtp_io::{Sink, write_all_of};
 pub fn write_text<K: Sink>(sink: &mut K, text: &[u8]) -> Result<(), SessionError>
     ensures ok { OnOk result (Appends (K.holds sink.old) (K.holds sink.new) text.now) }
     ensures err { OnErr result (Writes (K.holds sink.old) (K.holds sink.new) (λ added. IsFront added text.now)) }
+    ensures cause { IfErr result (λ why. why ≡ SessionError.WriteFault) }
     ensures fault { OnErr result (Rose (K.faults sink.old) (K.faults sink.new)) }
+    ensures quiet { OnOk result (K.faults sink.new ≡ K.faults sink.old) }
     ensures later { K.faults sink.old ≤ K.faults sink.new }
 {
     match write_all_of(sink, text) {

@@ -1,0 +1,8 @@
+use Rattle.dtp_entry.proofs.OneTranscript.{verdicts_one, transcript_one}
+use Rattle.dtp_entry.proofs.laws.one_transcript.Goals as goal
+
+pub returns-clause-verdicts : goal.returns-clause-verdicts
+returns-clause-verdicts c = verdicts_one c.one_outcome.ensures
+
+pub returns-clause-transcript : goal.returns-clause-transcript
+returns-clause-transcript c = transcript_one c.one_outcome.ensures
