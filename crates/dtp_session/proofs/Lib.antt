@@ -1,4 +1,5 @@
+pub mod Answering
 pub mod Fitting
+pub mod Looping
+pub mod Transcribing
 pub mod Verdicts
-pub mod Turning
-pub mod OneTranscript

@@ -25,10 +25,11 @@ use Rattle.idl_term.specs.Meanings.{IsScopeOver, AreRoots}
 use Rattle.idl_term.specs.Scopes.{sorts_of, Declaration}
 use Rattle.plain_search.specs.declared.verdict.Verdict.{Verdict}
 use Rattle.plain_search.specs.Verdicts.{IsSolution, IsOfInputs, IsVerdict}
-use Rattle.dtp_entry.specs.Entries.{points_of, problem_of, IsEntryOf}
+use Rattle.dtp_entry.specs.Entries.{points_of, problem_of}
+use Rattle.dtp_entry.specs.Transcripts.{Decides}
 use Rattle.dtp_session.proofs.Fitting.{NegationKept, values_within, refutation_within}
 use Rattle.dtp_entry.proofs.Roots.{assertions_true}
-use Rattle.dtp_entry.proofs.Verdicts.{ScopeLaw, RootsLaw, ExactLaw, ScheduleLaw, OverLaw, FewLaw, sorts_count, few_points}
+use Rattle.dtp_entry.proofs.Verdicts.{ScopeLaw, RootsLaw, ExactLaw, HoldsLaw, ScheduleLaw, OverLaw, FewLaw, RefutationLaw, sorts_count, few_points, refuted_unsatisfiable}
 
 -- what was found, of the assertions' problem
 pub as_found : (points p : ℕ) (clauses q : List (List Literal)) (found other : Verdict) → points ≡ p → clauses ≡ q → found ≡ other → IsVerdict points clauses found → IsVerdict p q other
@@ -46,19 +47,20 @@ module _ (c : Context) (context : IsContext c) where
       (subst (λ (n : ℕ). ProblemHolds values (clause_form.clauses_of (n + 1) c.nodes c.roots)) (sym count) h.holds) in
       (w.0, assertions_true c (restricted sorts values) c.assertions c.roots (exact c (restricted sorts values) context w.0) w.1)
 
-  pub solution_satisfies : ScopeLaw → RootsLaw → ExactLaw → ScheduleLaw → (values : List ℤ) → IsSolution (points_of c) (problem_of c) values → IsSatisfiable c
-  solution_satisfies scope roots exact law values h =
+  pub sat_decides : ScopeLaw → RootsLaw → ExactLaw → ScheduleLaw → (values : List ℤ) (named : List NamedValue) → IsSolution (points_of c) (problem_of c) values → named ≡ restricted (sorts_of c.declared) values → Decides c (Sat named)
+  sat_decides scope roots exact law values named h e =
+      let shown = restricted (sorts_of c.declared) values in
       let w = solution_schedule scope roots exact law values h in
-      (restricted (sorts_of c.declared) values, w.0, w.1)
+      let within = values_within (sorts_of c.declared) values h.range in
+      subst (λ (found : List NamedValue). Decides c (Sat found)) (sym e) (record { right = ((w.0, w.1), within); so = (shown, w.0, w.1) })
 
-  pub sat_entry : ScopeLaw → RootsLaw → ExactLaw → ScheduleLaw → (values : List ℤ) (named : List NamedValue) → IsSolution (points_of c) (problem_of c) values → named ≡ restricted (sorts_of c.declared) values → IsEntryOf c (Sat named)
-  sat_entry scope roots exact law values named h e =
-      let w = solution_schedule scope roots exact law values h in
-      subst (λ (shown : List NamedValue). IsEntryOf c (Sat shown)) (sym e) ((w.0, w.1), values_within (sorts_of c.declared) values h.range)
-
-  pub unsat_entry : ScopeLaw → RootsLaw → OverLaw → FewLaw → NegationKept → length (problem_of c) ≤ limit → (lemmas : List Lemma) → IsRefutation (points_of c) (problem_of c) lemmas → IsOfInputs lemmas → IsEntryOf c (Unsat lemmas)
-  unsat_entry scope roots law few kept few_clauses lemmas h inputs =
+  pub unsat_decides : ScopeLaw → RootsLaw → ExactLaw → HoldsLaw → RefutationLaw → OverLaw → FewLaw → NegationKept → length (problem_of c) ≤ limit → (lemmas : List Lemma) → IsRefutation (points_of c) (problem_of c) lemmas → IsOfInputs lemmas
+      → Decides c (Unsat lemmas)
+  unsat_decides scope roots exact holds refutes law few kept few_clauses lemmas h inputs =
       let over = law (sorts_of c.declared) c.nodes c.roots (scope c context).table (roots c context) in
       let named : All (λ (clause : List Literal). All (IsOver (points_of c)) clause) (problem_of c) =
       subst (λ (n : ℕ). All (λ (clause : List Literal). All (IsOver (clause_form.points_of (n + 1) c.nodes c.roots)) clause) (clause_form.clauses_of (n + 1) c.nodes c.roots)) (sorts_count c.declared) over in
-      (h, refutation_within kept (points_of c) (few_points c context scope few) (problem_of c) few_clauses named lemmas h inputs)
+      record {
+        right = (h, refutation_within kept (points_of c) (few_points c context scope few) (problem_of c) few_clauses named lemmas h inputs);
+        so = refuted_unsatisfiable c context scope roots exact holds refutes lemmas h;
+      }

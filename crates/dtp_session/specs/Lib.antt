@@ -1,5 +1,5 @@
 pub mod Ends
-pub mod Turns
+pub mod Sessions
 pub mod Solving
 pub use Rattle.dtp_io.specs.Faults
 pub use Rattle.smt_sexpr.specs.Tree

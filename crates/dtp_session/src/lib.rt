@@ -4,24 +4,18 @@
 //! The commands are those of `smt_script`, the terms those of `idl_term`, the texts those of `smt_answer` and `cert_text`. The first
 //! refusal ends the script.
 //!
-//! What is written of a script is the relation `IsReport` of `specs/Transcripts.antt`, and what a call that fails has
-//! written is the relation `IsReportPart` there. A `check-sat` is decided by one call of `plain_search::decide` over the
+//! What is written of a script is the relation `IsReport` of `dtp_entry/specs/Transcripts.antt`, and what a call that fails
+//! has written is the relation `IsReportPart` there. A `check-sat` is decided by one call of `plain_search::decide` over the
 //! clause form of the assertions.
 #![tactic(auto)]
 
-mod answer;
 mod decision;
 mod gate;
-mod laws;
+mod piece;
 mod session;
 mod solve;
-mod text;
 
 pub use dtp_entry::{Report, SessionError};
 pub use gate::{Gate, NoGate};
-pub use laws::one_transcript;
 pub use session::Solved;
 pub use solve::{certify_script, solve_script};
-
-#[cfg(test)]
-mod tests;

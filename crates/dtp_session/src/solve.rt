@@ -4,7 +4,7 @@ ghost use Rattle.dtp_entry.specs.declared.report.Report.TheVariants.{Verdicts, C
 ghost use Rattle.dtp_session.specs.Solving.{IsSolved};
 
 use crate::gate::Gate;
-use crate::session::{Solved, answer_script};
+use crate::session::{Session, Solved};
 use dtp_entry::{Report, SessionError};
 use dtp_io::Sink;
 use std::alloc::Global;
@@ -28,7 +28,8 @@ pub fn solve_script<R: Wait, K: Sink, G: Gate>(
     requires budget { (1 ≤ budget) × (budget ≤ 1000000) }
     ensures solved { IsSolved Verdicts bytes.now (K.holds sink.old) (K.holds sink.new) (K.faults sink.old) (K.faults sink.new) result }
 {
-    answer_script(alloc, bytes, sink, Report::Verdicts)
+    let mut session = Session::new(alloc, bytes, Report::Verdicts);
+    session.answer(sink)
 }
 
 /// Writes the certificate of a script: a header, for each check-sat a schedule or a refutation, and the end, or the
@@ -48,5 +49,6 @@ pub fn certify_script<R: Wait, K: Sink, G: Gate>(
     requires budget { (1 ≤ budget) × (budget ≤ 1000000) }
     ensures solved { IsSolved Certificate bytes.now (K.holds sink.old) (K.holds sink.new) (K.faults sink.old) (K.faults sink.new) result }
 {
-    answer_script(alloc, bytes, sink, Report::Certificate)
+    let mut session = Session::new(alloc, bytes, Report::Certificate);
+    session.answer(sink)
 }

@@ -9,9 +9,9 @@ use Rattle.idl_term.specs.Scopes.{Scope, sorts_of}
 use Rattle.plain_search.specs.Verdicts.{IsSolution, IsOfInputs}
 use Rattle.refute_tree.specs.Trees.{IsRefutation}
 use Rattle.dtp_entry.specs.Entries.{points_of, problem_of}
-use Rattle.dtp_session.proofs.Verdicts.{as_found, sat_entry, unsat_entry}
+use Rattle.dtp_session.proofs.Verdicts.{as_found, sat_decides, unsat_decides}
 use Rattle.dtp_entry.proofs.Verdicts.{sorts_count}
-use Rattle.dtp_session.proofs.decision.entry.Goals as goal
+use Rattle.dtp_session.proofs.decision.decide.Goals as goal
 
 pub restrict-requires-clause-some : goal.restrict-requires-clause-some
 restrict-requires-clause-some c =
@@ -40,7 +40,7 @@ returns-in-Sat c = λ s stands.
     let names : c.sorts.result.now ≡ sorts_of s.context.declared = c.sorts.ensures ∙ ap sorts_of (c.names.ensures.names ∙ ap (λ (t : Scope). t.declared) stands.stands.scope) in
     let values : c.in_ok-values-in-Sat.values ≡ restricted (sorts_of s.context.declared) c.in-Sat.schedule =
     c.in_ok-values-in-Sat.ensures ∙ ap (restricted c.sorts.result.now) c.as_slice-in-Sat.ensures ∙ ap (λ (sorts : List Sort). restricted sorts c.in-Sat.schedule) names in
-    sat_entry s.context stands.made.context laws.scope laws.roots laws.exact c.clause_form_law.ensures.schedule c.in-Sat.schedule c.in_ok-values-in-Sat.values found values
+    sat_decides s.context stands.made.context laws.scope laws.roots laws.exact c.clause_form_law.ensures.schedule c.in-Sat.schedule c.in_ok-values-in-Sat.values found values
 
 pub returns : goal.returns
 returns c = λ s stands.
@@ -48,6 +48,6 @@ returns c = λ s stands.
     let found : IsRefutation (points_of s.context) (problem_of s.context) c.in-Unsat.refutation × IsOfInputs c.in-Unsat.refutation = as_found _ _ _ _ _ _ e.0 e.1 c.in-Unsat.is c.in_ok-schedule.ensures in
     let laws = c.context_law.ensures in
     let count : length c.as_slice.result.now ≡ length (problem_of s.context) = ap (λ (clauses : List (List Literal)). length clauses) (c.as_slice.ensures ∙ e.1) in
-    let within : length c.as_slice.result.now ≤ 2305843009213693952 = omega arith in
+    let within : length c.as_slice.result.now ≤ limit = omega arith in
     let few : length (problem_of s.context) ≤ limit = omega (arith, count, within) in
-    unsat_entry s.context stands.made.context laws.scope laws.roots c.clause_form_law.ensures.over c.clause_form_law.ensures.few c.negation_kept.ensures few c.in-Unsat.refutation found.0 found.1
+    unsat_decides s.context stands.made.context laws.scope laws.roots laws.exact c.clause_form_law.ensures.holds c.refutation_law.ensures c.clause_form_law.ensures.over c.clause_form_law.ensures.few c.negation_kept.ensures few c.in-Unsat.refutation found.0 found.1

@@ -1,0 +1,136 @@
+-- The loop over the commands of a script.
+use Rattle.std.proofs.Common.{refl, sym, ap, subst, inl, inr, ◌∙◌, ◌≡◌, ℕ, ◌+◌, List, [], ◌∷◌, ◌++◌, Option, None, Ok}
+use Rattle.std.specs.Io.KnownBytes.{Appends}
+use Rattle.std.proofs.KnownBytes.{Appends-trans}
+use Rattle.std.proofs.lemmas.List.{append-nil, append_assoc}
+use Rattle.cert_text.specs.declared.entry.Entry.{Entry}
+use Rattle.smt_answer.specs.declared.kind.Kind.{Kind}
+use Rattle.smt_script.specs.States.{State, start_state}
+use Rattle.dtp_entry.specs.declared.report.Report.{Report}
+use Rattle.dtp_entry.specs.Standing.{Stands}
+use Rattle.dtp_entry.specs.Transcripts.{Held, opening, Output, behind, TranscribesFrom, TranscribesPartFrom, IsOutput, IsReport, IsReportPart}
+use Rattle.dtp_entry.specs.Written.{Writes, IsFront, IsPartOf, HasFault}
+use Rattle.dtp_entry.proofs.Written.{appends_nothing}
+use Rattle.dtp_session.specs.declared.piece.Piece.{Piece}
+use Rattle.dtp_session.specs.declared.piece.Piece.TheVariants.{Opening, Decision, Notice, Closing, Error}
+use Rattle.dtp_session.specs.declared.session.Session.{Session}
+use Rattle.dtp_session.specs.Sessions.{IsText, IsStart, From, PartFrom, IsGoing, Ends, GoesOn, Leads, IsNext}
+use Rattle.dtp_session.proofs.Transcribing.{nothing_yet}
+
+-- what was written goes on to what is written of the whole script
+pub record IsSoFar (report : Report) (script : List ℕ) (p : Session) (before now : Option (List ℕ)) : Type 0 where
+  pub s : State
+  pub stands : Stands p.state s
+  pub written : List ℕ
+  pub found : List Entry
+  pub adds : Appends before now written
+  pub whole : (rest : Output) → From p s p.command rest → IsOutput report script (behind written found rest)
+  pub part : (text : List ℕ) → PartFrom p s p.command text → IsReportPart report script (written ++ text)
+
+-- ---- the start
+
+module _ (p : Session) (start : IsStart p) where
+  start_from : (rest : Output) → From p start_state p.command rest → TranscribesFrom p.report p.lexer.bytes 0 None start_state 1 rest
+  start_from rest from =
+      let at_place = subst (λ (n : ℕ). TranscribesFrom p.report p.lexer.bytes n p.held start_state p.command rest) start.place from in
+      let of_held = subst (λ (h : Held). TranscribesFrom p.report p.lexer.bytes 0 h start_state p.command rest) start.held at_place in
+      subst (λ (k : ℕ). TranscribesFrom p.report p.lexer.bytes 0 None start_state k rest) start.command of_held
+
+  start_part : (text : List ℕ) → PartFrom p start_state p.command text → TranscribesPartFrom p.report p.lexer.bytes 0 None start_state 1 text
+  start_part text from =
+      let at_place = subst (λ (n : ℕ). TranscribesPartFrom p.report p.lexer.bytes n p.held start_state p.command text) start.place from in
+      let of_held = subst (λ (h : Held). TranscribesPartFrom p.report p.lexer.bytes 0 h start_state p.command text) start.held at_place in
+      subst (λ (k : ℕ). TranscribesPartFrom p.report p.lexer.bytes 0 None start_state k text) start.command of_held
+
+  so_far_by : (before now : Option (List ℕ)) (text : List ℕ) → Appends before now text → text ≡ opening p.report → IsSoFar p.report p.lexer.bytes p before now
+  so_far_by before now text adds is = record {
+    s = start_state;
+    stands = start.stands;
+    written = text;
+    found = [];
+    adds = adds;
+    whole = λ rest from. (rest, start_from rest from, ap (λ (t : List ℕ). behind t [] rest) is);
+    part = λ rest from. inr (rest, start_part rest from, ap (λ (t : List ℕ). t ++ rest) is);
+  }
+
+  pub so_far_starts : (before now : Option (List ℕ)) → Writes before now (IsText p Opening) → IsSoFar p.report p.lexer.bytes p before now
+  so_far_starts before now (text, adds, is) = so_far_by before now text adds is
+
+  opening_part : (added : List ℕ) → IsPartOf (IsText p Opening) added → IsReportPart p.report p.lexer.bytes added
+  opening_part added (inl e) = inl (opening p.report, ap (λ (t : List ℕ). t ++ opening p.report) (sym e))
+  opening_part added (inr (text, is, front)) = inl (subst (IsFront added) is front)
+
+  pub opening_cut : (before now : Option (List ℕ)) → Writes before now (IsPartOf (IsText p Opening)) → Writes before now (IsReportPart p.report p.lexer.bytes)
+  opening_cut before now (added, adds, part) = (added, adds, opening_part added part)
+
+-- ---- a turn
+
+behind_behind : (a b : List ℕ) (es fs : List Entry) (rest : Output) → behind a es (behind b fs rest) ≡ behind (a ++ b) (es ++ fs) rest
+behind_behind a b es fs rest =
+    let texts : a ++ (b ++ rest.text) ≡ (a ++ b) ++ rest.text = sym (append_assoc a b rest.text) in
+    let found : es ++ (fs ++ rest.found) ≡ (es ++ fs) ++ rest.found = sym (append_assoc es fs rest.found) in
+    let of_text : Output → List ℕ → Output = λ o t. record { text = t; found = es ++ (fs ++ rest.found); status = rest.status } in
+    ap (λ (t : List ℕ). of_text rest t) texts ∙ ap (λ (f : List Entry). behind (a ++ b) [] (record { text = rest.text; found = f; status = rest.status })) found
+
+module _ (report : Report) (script : List ℕ) (p q : Session) (before now after : Option (List ℕ)) (h : IsSoFar report script p before now) where
+  pub goes_on : (piece : Piece) → q.command ≡ p.command → GoesOn p q h.s piece → Writes now after (IsText q piece) → IsSoFar report script (record q { command = q.command + 1 }) before after
+  goes_on piece e g (text, adds, is) =
+      let k : q.command + 1 ≡ p.command + 1 = ap (λ (n : ℕ). n + 1) e in
+      record {
+        s = g.next;
+        stands = g.stands;
+        written = h.written ++ text;
+        found = h.found ++ g.found;
+        adds = Appends-trans before now after h.written text h.adds adds;
+        whole = λ rest from. subst (λ (o : Output). IsOutput report script o) (behind_behind h.written text h.found g.found rest)
+            (h.whole (behind text g.found rest) (g.whole text is rest (subst (λ (n : ℕ). From q g.next n rest) k from)));
+        part = λ rest from. subst (λ (t : List ℕ). IsReportPart report script t) (sym (append_assoc h.written text rest))
+            (h.part (text ++ rest) (g.part text rest is (subst (λ (n : ℕ). PartFrom q g.next n rest) k from)));
+      }
+
+  pub next_going : (piece : Piece) → IsGoing piece → Leads p q h.s piece → GoesOn p q h.s piece
+  next_going Opening going g = g
+  next_going Decision going g = g
+  next_going (Notice notice) going g = g
+  next_going Closing going g = absurd going
+  next_going (Error kind) going g = absurd going
+
+  pub ends : (piece : Piece) (status : ℕ) → Ends p q h.s piece status → Writes now after (IsText q piece) → Writes before after (λ added. IsReport report script added status)
+  ends piece status end (text, adds, is) = (
+    h.written ++ text,
+    Appends-trans before now after h.written text h.adds adds,
+    (h.found ++ [], h.whole (record { text = text; found = []; status = status }) (end text is)),
+  )
+
+  part_by : (piece : Piece) → IsNext p q h.s piece → (added : List ℕ) → IsPartOf (IsText q piece) added → IsReportPart report script (h.written ++ added)
+  part_by piece next added (inl e) = h.part added (nothing_yet p h.s p.command added e)
+  part_by piece next added (inr (text, is, front)) = h.part added (next.cut text added is front)
+
+  pub cut : (piece : Piece) → IsNext p q h.s piece → Writes now after (IsPartOf (IsText q piece)) → Writes before after (IsReportPart report script)
+  cut piece next (added, adds, part) = (h.written ++ added, Appends-trans before now after h.written added h.adds adds, part_by piece next added part)
+
+  pub closes : (piece : Piece) → piece ≡ Closing → IsNext p q h.s piece → Writes now after (IsText q piece) → Writes before after (λ added. IsReport report script added 0)
+  closes piece e next w =
+      let last : IsNext p q h.s Closing = subst (λ (z : Piece). IsNext p q h.s z) e next in
+      ends Closing 0 last.leads (subst (λ (z : Piece). Writes now after (IsText q z)) e w)
+
+  pub stops : (piece : Piece) (kind : Kind) → piece ≡ Error kind → IsNext p q h.s piece → Writes now after (IsText q piece) → Writes before after (λ added. IsReport report script added 1)
+  stops piece kind e next w =
+      let last : IsNext p q h.s (Error kind) = subst (λ (z : Piece). IsNext p q h.s z) e next in
+      ends (Error kind) 1 last.leads (subst (λ (z : Piece). Writes now after (IsText q z)) e w)
+
+pub nothing_more : (report : Report) (script : List ℕ) (p : Session) (before now : Option (List ℕ)) → IsSoFar report script p before now → Writes before now (IsReportPart report script)
+nothing_more report script p before now h =
+    (h.written ++ [], Appends-trans before now now h.written [] h.adds (appends_nothing now), h.part [] (nothing_yet p h.s p.command [] refl))
+
+pub is_going : (piece : Piece) → (piece ≡ Closing → ⊥) → ((kind : Kind) → piece ≡ Error kind → ⊥) → IsGoing piece
+is_going Opening f g = tt
+is_going Decision f g = tt
+is_going (Notice notice) f g = tt
+is_going Closing f g = f refl
+is_going (Error kind) f g = g kind refl
+
+-- ---- faults
+
+pub ok_quiet : (before now : ℕ) (x : Unit {0}) → HasFault {A = Unit {0}} before now (Ok x) → now ≡ before
+ok_quiet before now x h = h.quiet (λ e. absurd cc)

@@ -1,0 +1,104 @@
+//! The pieces of what is written.
+ghost use Rattle.std.specs.Prelude.{◌≡◌, ◌++◌, ℕ, List, IfOk, OnOk};
+ghost use Rattle.smt_script.specs.States.{State as Meaning};
+ghost use Rattle.dtp_entry.specs.Transcripts.{Held, decision_line, told};
+ghost use Rattle.dtp_entry.specs.Written.{WritesOne};
+ghost use Rattle.dtp_session.specs.Sessions.{IsText};
+
+use crate::session::Session;
+use cert_text::{Entry, write_end, write_entry, write_header};
+use dtp_entry::{Report, SessionError, write_text};
+use dtp_io::Sink;
+use smt_answer::{Kind, error_text, success_text, unsupported_text, verdict_text};
+use smt_script::Notice;
+use std::alloc::AllocError;
+
+/// A piece of what is written of a script.
+#[derive(Clone, Copy, Debug, PartialEq, Eq)]
+pub enum Piece {
+    /// What stands before the first command's answer.
+    Opening,
+    /// The line of a check-sat, by the entry that is held.
+    Decision,
+    /// What is told of a command that asks for no decision.
+    Notice(Notice),
+    /// What stands behind the last answer of a script without an error.
+    Closing,
+    /// The line of an error.
+    Error(Kind),
+}
+
+/// Appends the line of a check-sat.
+fn append_decision(
+    report: Report,
+    entry: &Entry,
+    text: &mut Vec<u8>,
+) -> Result<(), AllocError>
+    ensures { OnOk result (text.new.items ≡ text.old.items ++ decision_line report entry.now) }
+{
+    match report {
+        Report::Verdicts => match entry {
+            Entry::Sat(_) => verdict_text(true, text),
+            Entry::Unsat(_) => verdict_text(false, text),
+        },
+        Report::Certificate => write_entry(entry, text),
+    }
+}
+
+/// Appends what is told of a command that asks for no decision.
+fn append_notice(
+    report: Report,
+    print_success: bool,
+    notice: Notice,
+    text: &mut Vec<u8>,
+) -> Result<(), AllocError>
+    ensures { OnOk result ((held : Held) (s : Meaning) → print_success ≡ s.print_success
+        → text.new.items ≡ text.old.items ++ told report held s notice) }
+{
+    match (report, notice) {
+        (Report::Verdicts, Notice::Success) if print_success => success_text(text),
+        (Report::Verdicts, Notice::Unsupported) => unsupported_text(text),
+        _ => Ok(()),
+    }
+}
+
+impl<'a> Session<'a> {
+    /// Appends a piece.
+    fn append(&self, piece: Piece, text: &mut Vec<u8>) -> Result<(), AllocError>
+        ensures { OnOk result ((added : List ℕ) × IsText self.now piece added × (text.new.items ≡ text.old.items ++ added)) }
+    {
+        match piece {
+            Piece::Opening => match self.report {
+                Report::Verdicts => Ok(()),
+                Report::Certificate => write_header(text),
+            },
+            Piece::Decision => match &self.held {
+                Some(entry) => append_decision(self.report, entry, text),
+                None => Ok(()),
+            },
+            Piece::Notice(notice) => append_notice(self.report, self.state.print_success(), notice, text),
+            Piece::Closing => match self.report {
+                Report::Verdicts => Ok(()),
+                Report::Certificate => write_end(text),
+            },
+            Piece::Error(kind) => error_text(self.command, kind, text),
+        }
+    }
+
+    /// The text of a piece.
+    fn text(&self, piece: Piece) -> Result<Vec<u8>, AllocError>
+        ensures { IfOk result (λ text. IsText self.now piece text.items) }
+    {
+        let mut text = Vec::new(self.alloc);
+        self.append(piece, &mut text)?;
+        Ok(text)
+    }
+
+    /// Writes a piece.
+    pub fn write<K: Sink>(&self, piece: Piece, sink: &mut K) -> Result<(), SessionError>
+        ensures { WritesOne (IsText self.now piece) (K.holds sink.old) (K.holds sink.new) (K.faults sink.old) (K.faults sink.new) result }
+    {
+        let text = self.text(piece)?;
+        write_text(sink, &text)
+    }
+}
