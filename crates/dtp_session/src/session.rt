@@ -78,6 +78,7 @@ impl<'a> Session<'a> {
         ensures part { OnErr result (Writes (K.holds sink.old) (K.holds sink.new) (IsReportPart self.old.report self.old.lexer.bytes)) }
         ensures fault { result ≡ Err SessionError.WriteFault → Rose (K.faults sink.old) (K.faults sink.new) }
         ensures quiet { result ≢ Err SessionError.WriteFault → K.faults sink.new ≡ K.faults sink.old }
+        ensures later { K.faults sink.old ≤ K.faults sink.new }
     {
         self.write(Piece::Opening, sink)?;
         'commands: loop {

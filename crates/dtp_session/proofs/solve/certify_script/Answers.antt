@@ -1,0 +1,9 @@
+use Rattle.dtp_entry.specs.declared.report.Report.TheVariants.{Certificate}
+use Rattle.dtp_session.proofs.Solving.{solved_as}
+use Rattle.dtp_session.proofs.solve.certify_script.Goals as goal
+
+pub returns : goal.returns
+returns g c =
+    let h = c.answer.ensures in
+    solved_as Certificate c.new-session.result.report c.args.bytes.now c.new-session.result.lexer.bytes _ _ _ _ c.answer.result c.new-session.ensures.report c.new-session.ensures.bytes
+    (record { whole = h.whole; part = h.part; fault = h.fault; quiet = h.quiet; later = h.later })
