@@ -45,7 +45,7 @@ use Rattle.smt_answer.specs.Kinds.{kind_of}
 use Rattle.smt_answer.specs.Texts.{error_line}
 use Rattle.dtp_entry.specs.declared.report.Report.TheVariants.{Certificate}
 use Rattle.dtp_entry.specs.Entries.{verdict_of, IsRight, IsEntryOf}
-use Rattle.dtp_entry.specs.Transcripts.{Answers, Stops, GoesOn, Follows, IsReport}
+use Rattle.dtp_entry.specs.Transcripts.{Held, Answered, Reply, answered, last, error, checked, Answers, Output, behind, GoesOn, Follows, IsReport}
 use Rattle.dtp_entry.proofs.Verdicts.{sorts_count}
 use Rattle.dtp_check.specs.declared.judgement.EntryFlaw.{EntryFlaw}
 use Rattle.dtp_check.specs.declared.judgement.EntryFlaw.TheVariants.{Flawed}
@@ -103,15 +103,18 @@ closed_ends script place le closed =
 
 -- ---- what was written of the commands
 
-abbrev FollowsBy : State → ℕ → List Sexpr → Ending → List ℕ → ℕ → Result Step Refusal → Type 0
-FollowsBy s k xs ending out status r = elim r [
-  | Ok step ↦ GoesOn Certificate step.effect step.state xs ending out status (λ next rest. Follows Certificate next (k + 1) xs ending rest status)
-  | Err why ↦ Stops xs ending × (out ≡ error_line k (kind_of why)) × (status ≡ 1)
+abbrev RepliesBy : Held → Result Step Refusal → Reply → Type 0
+RepliesBy held r reply = elim r [
+  | Ok step ↦ Answers Certificate held step.state step.effect reply
+  | Err why ↦ reply ≡ error (kind_of why)
 ]
 
-follows_is : (s : State) (k : ℕ) (x : Sexpr) (xs : List Sexpr) (ending : Ending) (out : List ℕ) (status : ℕ) → Follows Certificate s k (x ∷ xs) ending out status → FollowsBy s k xs ending out status (after s x)
+abbrev FollowsBy : Held → ℕ → List Sexpr → Ending → Output → Result Step Refusal → Type 0
+FollowsBy held k xs ending out r = (reply : Reply) × RepliesBy held r reply × GoesOn k reply xs ending out (λ kept next rest. Follows Certificate kept next (k + 1) xs ending rest)
+
+follows_is : (held : Held) (s : State) (k : ℕ) (x : Sexpr) (xs : List Sexpr) (ending : Ending) (out : Output) → Follows Certificate held s k (x ∷ xs) ending out → FollowsBy held k xs ending out (after s x)
 unfolding Follows
-follows_is s k x xs ending out status h = h
+follows_is held s k x xs ending out h = h
 
 -- how the commands of a script end in a longer source
 abbrev EndsIn : Bool → List ℕ → ℕ → PartEnd → ℕ → Type 0
@@ -141,14 +144,23 @@ module _ (one : OneOutcome) (on : ListReadsOn) (within : ListIsWithin) (flaw : F
   not_finished bytes place x m n h k = let e = (one bytes place (expression x) finished m n h k).0 in absurd cc
 
   -- no command follows: the end of the text is the end of the script
-  split_end : (ys : List Sexpr) (script : List ℕ) (place here k : ℕ) (s : State) (ending : Ending) (out : List ℕ) → place ≤ length script → place ≡ here → EndsAs script here ending → Follows Certificate s k [] ending out 0 → IsWholeFrom script place ys
-      → IsSplit script place s k [] out
+  split_end : (ys : List Sexpr) (script : List ℕ) (place here k : ℕ) (held : Held) (s : State) (ending : Ending) (out : Output) → out.status ≡ 0 → place ≤ length script → place ≡ here → EndsAs script here ending → Follows Certificate held s k [] ending out
+      → IsWholeFrom script place ys → IsSplit script place s k [] out.text
   unfolding Follows ScriptPart
-  split_end ys script place here k s stopped out le e ends follows is = absurd follows
-  split_end ys script place here k s (unread why) out le e ends follows is = absurd (let z = follows.1 in omega arith)
-  split_end [] script place here k s ended out le e ends follows is =
-      record { entries = []; text = follows.0; fits = All-nil EntryFits; accepted = λ n. judged_none s k n []; last = place; exits = false; within = le; closed = is; reads = λ added end behind h. h }
-  split_end (y ∷ ys) script place here k s ended out le e (n, finishes) follows (mid, spells, is) = absurd (not_finished script place y mid n spells (subst (λ (p : ℕ). Outcomes script p finished n) (sym e) finishes))
+  split_end ys script place here k held s stopped out status le e ends follows is = absurd follows
+  split_end ys script place here k held s (unread why) out status le e ends follows is = absurd (let z : out.status ≡ 1 = ap (λ (o : Output). o.status) follows in omega (arith, z, status))
+  split_end [] script place here k held s ended out status le e ends follows is = record {
+    entries = [];
+    text = ap (λ (o : Output). o.text) follows;
+    fits = All-nil EntryFits;
+    accepted = λ n. judged_none s k n [];
+    last = place;
+    exits = false;
+    within = le;
+    closed = is;
+    reads = λ added end behind h. h;
+  }
+  split_end (y ∷ ys) script place here k held s ended out status le e (n, finishes) follows (mid, spells, is) = absurd (not_finished script place y mid n spells (subst (λ (p : ℕ). Outcomes script p finished n) (sym e) finishes))
 
   module _ (script : List ℕ) (place mid k : ℕ) (s : State) (x : Sexpr) (spells : Spells script place x mid) where
     on_command : (step : Step) → after s x ≡ Ok step → (added : List ℕ) → Spells (script ++ added) place x mid
@@ -224,58 +236,58 @@ module _ (one : OneOutcome) (on : ListReadsOn) (within : ListIsWithin) (flaw : F
     }
 
     abbrev Others : List Sexpr → List Sexpr → Ending → Type 0
-    Others xs ys ending = (next : State) (rest : List ℕ) → mid ≤ length script → Follows Certificate next (k + 1) xs ending rest 0 → IsWholeFrom script mid ys → IsSplit script mid next (k + 1) xs rest
+    Others xs ys ending = (held : Held) (next : State) (rest : Output) → rest.status ≡ 0 → mid ≤ length script → Follows Certificate held next (k + 1) xs ending rest → IsWholeFrom script mid ys → IsSplit script mid next (k + 1) xs rest.text
 
-    abbrev FollowsEffect : Effect → State → List Sexpr → Ending → List ℕ → Type 0
-    FollowsEffect effect next xs ending out = GoesOn Certificate effect next xs ending out 0 (λ behind rest. Follows Certificate behind (k + 1) xs ending rest 0)
+    abbrev GoesOnAs : Reply → List Sexpr → Ending → Output → Type 0
+    GoesOnAs reply xs ending out = GoesOn k reply xs ending out (λ kept next rest. Follows Certificate kept next (k + 1) xs ending rest)
 
     abbrev IsWholeBehind : List Sexpr → Bool → Type 0
     IsWholeBehind ys exits = FollowsExit exits ((ys ≡ []) × IsClosedGap (drop mid script)) (IsWholeFrom script mid ys)
 
-    -- the text without a piece that is none
-    without : (out piece rest : List ℕ) → out ≡ piece ++ rest → piece ≡ [] → out ≡ rest
-    without out piece rest text silent = text ∙ ap (λ (t : List ℕ). t ++ rest) silent
+    goes_as : (reply other : Reply) (xs : List Sexpr) (ending : Ending) (out : Output) → reply ≡ other → GoesOnAs reply xs ending out → GoesOnAs other xs ending out
+    goes_as reply other xs ending out e h = subst (λ (r : Reply). GoesOnAs r xs ending out) e h
 
-    -- a certificate says nothing but entries
-    told_nothing : (s : State) (notice : Notice) (piece : List ℕ) (behind : State) → Answers Certificate s (Tell notice) piece behind → (piece ≡ []) × (behind ≡ s)
-    told_nothing s Success piece behind h = h
-    told_nothing s Unsupported piece behind h = h
+    status_behind : (out : Output) (text : List ℕ) (found : List Entry) (rest : Output) → out ≡ behind text found rest → out.status ≡ 0 → rest.status ≡ 0
+    status_behind out text found rest e status = sym (ap (λ (o : Output). o.status) e) ∙ status
 
-    split_effect : (effect : Effect) (next : State) → after s x ≡ Ok (step_of next effect) → (xs ys : List Sexpr) (ending : Ending) (out : List ℕ) → FollowsEffect effect next xs ending out → IsWholeBehind ys (is_exit x) → Others xs ys ending
-        → IsSplit script place s k (x ∷ xs) out
-    split_effect (Tell notice) next e xs ys ending out (piece, rest, behind, answers, text, follows) is others =
+    split_effect : (effect : Effect) (held : Held) (next : State) → after s x ≡ Ok (step_of next effect) → (reply : Reply) → Answers Certificate held next effect reply → (xs ys : List Sexpr) (ending : Ending) (out : Output) → out.status ≡ 0 → GoesOnAs reply xs ending out
+        → IsWholeBehind ys (is_exit x) → Others xs ys ending → IsSplit script place s k (x ∷ xs) out.text
+    split_effect (Tell notice) held next e reply answers xs ys ending out status goes is others =
         let step = step_of next (Tell notice) in
-        let nothing = told_nothing next notice piece behind answers in
+        let a : Answered = record { text = []; found = []; held = held; state = next } in
+        let w = goes_as reply (answered a) xs ending out answers goes in
         let left : IsWholeFrom script mid ys = subst (IsWholeBehind ys) (not_exit only s x step e (told_apart notice)) is in
-        let from : Follows Certificate next (k + 1) xs ending rest 0 = subst (λ (t : State). Follows Certificate t (k + 1) xs ending rest 0) nothing.1 follows in
-        let h = others next rest (command_within step e) from left in
-        split_silent (Tell notice) next xs out rest h e (told_apart notice) (λ n. judged_ok s k n x xs h.entries step e) (without out piece rest text nothing.0)
-    split_effect CheckSat next e xs ys ending out (piece, rest, behind, (verdict, (entry, right, says, line), same), text, follows) is others =
+        let h = others held next w.0 (status_behind out [] [] w.0 w.2 status) (command_within step e) w.1 left in
+        split_silent (Tell notice) next xs out.text w.0.text h e (told_apart notice) (λ n. judged_ok s k n x xs h.entries step e) (ap (λ (o : Output). o.text) w.2)
+    split_effect CheckSat held next e reply (entry, decides, is_reply) xs ys ending out status goes is others =
         let step = step_of next CheckSat in
-        let written : out ≡ line_of (entry_sexpr entry) ++ rest = text ∙ ap (λ (t : List ℕ). t ++ rest) line in
+        let w = goes_as reply (answered (checked Certificate next entry)) xs ending out is_reply goes in
         let left : IsWholeFrom script mid ys = subst (IsWholeBehind ys) (not_exit only s x step e check_apart) is in
-        let there : behind ≡ settled (verdict_of entry) next = same ∙ ap (λ (v : Satisfiability). settled v next) says in
-        let from : Follows Certificate (settled (verdict_of entry) next) (k + 1) xs ending rest 0 = subst (λ (t : State). Follows Certificate t (k + 1) xs ending rest 0) there follows in
-        split_check next e xs out rest entry right written (others (settled (verdict_of entry) next) rest (command_within step e) from left)
-    split_effect Exit next e xs ys ending out (stops, text, status) is others =
+        let h = others (Some entry) (settled (verdict_of entry) next) w.0 (status_behind out (line_of (entry_sexpr entry)) (entry ∷ []) w.0 w.2 status) (command_within step e) w.1 left in
+        split_check next e xs out.text w.0.text entry decides.right (ap (λ (o : Output). o.text) w.2) h
+    split_effect Exit held next e reply answers xs ys ending out status goes is others =
         let step = step_of next Exit in
+        let w = goes_as reply (last (line_of end_sexpr)) xs ending out answers goes in
         let left : (ys ≡ []) × IsClosedGap (drop mid script) = subst (IsWholeBehind ys) ((only s x step e).0 refl) is in
-        split_exit next e xs out stops.0 text left.1
+        split_exit next e xs out.text w.0.0 (ap (λ (o : Output). o.text) w.1) left.1
 
-    split_by : (r : Result Step Refusal) → after s x ≡ r → (xs ys : List Sexpr) (ending : Ending) (out : List ℕ) → FollowsBy s k xs ending out 0 r → IsWholeBehind ys (is_exit x) → Others xs ys ending → IsSplit script place s k (x ∷ xs) out
-    split_by (Err why) e xs ys ending out (stops, text, status) is others = absurd (omega arith)
-    split_by (Ok step) e xs ys ending out follows is others = split_effect step.effect step.state e xs ys ending out follows is others
+    split_by : (r : Result Step Refusal) → after s x ≡ r → (held : Held) (xs ys : List Sexpr) (ending : Ending) (out : Output) → out.status ≡ 0 → FollowsBy held k xs ending out r → IsWholeBehind ys (is_exit x) → Others xs ys ending
+        → IsSplit script place s k (x ∷ xs) out.text
+    split_by (Err why) e held xs ys ending out status (reply, is_error, goes) is others =
+        let w = goes_as reply (error (kind_of why)) xs ending out is_error goes in
+        absurd (let one : out.status ≡ 1 = ap (λ (o : Output). o.status) w.1 in omega (arith, one, status))
+    split_by (Ok step) e held xs ys ending out status (reply, answers, goes) is others = split_effect step.effect held step.state e reply answers xs ys ending out status goes is others
 
-  split : (xs ys : List Sexpr) (script : List ℕ) (place here k : ℕ) (s : State) (ending : Ending) (out : List ℕ) → place ≤ length script → Commands script place xs here → EndsAs script here ending → Follows Certificate s k xs ending out 0 → IsWholeFrom script place ys
-      → IsSplit script place s k xs out
-  split [] ys script place here k s ending out le e ends follows is = split_end ys script place here k s ending out le e ends follows is
-  split (x ∷ xs) [] script place here k s ending out le (mid, spells, rest) ends follows is = absurd (not_finished script place x mid (length script) spells (closed_ends script place le is))
-  split (x ∷ xs) (y ∷ ys) script place here k s ending out le (mid, spells, rest) ends follows (there, spells_y, is) =
+  split : (xs ys : List Sexpr) (script : List ℕ) (place here k : ℕ) (held : Held) (s : State) (ending : Ending) (out : Output) → out.status ≡ 0 → place ≤ length script → Commands script place xs here → EndsAs script here ending → Follows Certificate held s k xs ending out
+      → IsWholeFrom script place ys → IsSplit script place s k xs out.text
+  split [] ys script place here k held s ending out status le e ends follows is = split_end ys script place here k held s ending out status le e ends follows is
+  split (x ∷ xs) [] script place here k held s ending out status le (mid, spells, rest) ends follows is = absurd (not_finished script place x mid (length script) spells (closed_ends script place le is))
+  split (x ∷ xs) (y ∷ ys) script place here k held s ending out status le (mid, spells, rest) ends follows (there, spells_y, is) =
       let same = same_sexpr script place y x there mid spells_y spells in
       let at_mid : FollowsExit (is_exit y) ((ys ≡ []) × IsClosedGap (drop mid script)) (IsWholeFrom script mid ys) = subst (λ (m : ℕ). FollowsExit (is_exit y) ((ys ≡ []) × IsClosedGap (drop m script)) (IsWholeFrom script m ys)) same.1 is in
       let of_x : FollowsExit (is_exit x) ((ys ≡ []) × IsClosedGap (drop mid script)) (IsWholeFrom script mid ys) = subst (λ (z : Sexpr). FollowsExit (is_exit z) ((ys ≡ []) × IsClosedGap (drop mid script)) (IsWholeFrom script mid ys)) same.0 at_mid in
-      split_by script place mid k s x spells (after s x) refl xs ys ending out (follows_is s k x xs ending out 0 follows) of_x
-      (λ next left inside follows_on whole_on. split xs ys script mid here (k + 1) next ending left inside rest ends follows_on whole_on)
+      split_by script place mid k s x spells (after s x) refl held xs ys ending out status (follows_is held s k x xs ending out follows) of_x
+      (λ kept next left zero inside follows_on whole_on. split xs ys script mid here (k + 1) kept next ending left zero inside rest ends follows_on whole_on)
 
   -- ---- the whole
 
@@ -297,8 +309,10 @@ module _ (one : OneOutcome) (on : ListReadsOn) (within : ListIsWithin) (flaw : F
     }
 
   pub certified : CertificateReadsBack → (script out : List ℕ) → IsReport Certificate script out 0 → IsWhole script → IsJudged (script ++ out) Accepted
-  certified back script out (rest, text, report) (ys, is) =
-      let h = split report.commands ys script 0 report.here 1 start_state report.ending rest (omega arith) report.reads report.ends report.answers is in
+  certified back script out (found, rest, report, is_output) (ys, is) =
+      let text : out ≡ line_of header_sexpr ++ rest.text = ap (λ (o : Output). o.text) is_output in
+      let status : rest.status ≡ 0 = sym (ap (λ (o : Output). o.status) is_output) in
+      let h = split report.commands ys script 0 report.here 1 None start_state report.ending rest status (omega arith) report.reads report.ends report.answers is in
       let same : out ≡ certificate_text h.entries = text ∙ ap (λ (t : List ℕ). line_of header_sexpr ++ t) h.text in
       let there : drop h.last (script ++ out) ≡ drop h.last script ++ certificate_text h.entries = drop-append-le h.last script out h.within ∙ ap (λ (t : List ℕ). drop h.last script ++ t) same in
-      judged_by script out report.commands rest h (back h.entries (script ++ out) (drop h.last script) h.last h.fits h.closed there) h.exits refl
+      judged_by script out report.commands rest.text h (back h.entries (script ++ out) (drop h.last script) h.last h.fits h.closed there) h.exits refl
