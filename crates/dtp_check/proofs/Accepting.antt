@@ -45,7 +45,7 @@ use Rattle.smt_answer.specs.Kinds.{kind_of}
 use Rattle.smt_answer.specs.Texts.{error_line}
 use Rattle.dtp_entry.specs.declared.report.Report.TheVariants.{Certificate}
 use Rattle.dtp_entry.specs.Entries.{verdict_of, IsRight, IsEntryOf}
-use Rattle.dtp_entry.specs.Transcripts.{Held, Answered, Reply, answered, last, error, checked, Answers, Output, behind, GoesOn, Follows, IsReport}
+use Rattle.dtp_entry.specs.Transcripts.{Held, Answered, Reply, answered, last as finally, error, checked, Answers, Output, behind, GoesOn, Follows, IsReport}
 use Rattle.dtp_entry.proofs.Verdicts.{sorts_count}
 use Rattle.dtp_check.specs.declared.judgement.EntryFlaw.{EntryFlaw}
 use Rattle.dtp_check.specs.declared.judgement.EntryFlaw.TheVariants.{Flawed}
@@ -267,7 +267,7 @@ module _ (one : OneOutcome) (on : ListReadsOn) (within : ListIsWithin) (flaw : F
         split_check next e xs out.text w.0.text entry decides.right (ap (λ (o : Output). o.text) w.2) h
     split_effect Exit held next e reply answers xs ys ending out status goes is others =
         let step = step_of next Exit in
-        let w = goes_as reply (last (line_of end_sexpr)) xs ending out answers goes in
+        let w = goes_as reply (finally (line_of end_sexpr)) xs ending out answers goes in
         let left : (ys ≡ []) × IsClosedGap (drop mid script) = subst (IsWholeBehind ys) ((only s x step e).0 refl) is in
         split_exit next e xs out.text w.0.0 (ap (λ (o : Output). o.text) w.1) left.1
 
@@ -309,7 +309,10 @@ module _ (one : OneOutcome) (on : ListReadsOn) (within : ListIsWithin) (flaw : F
     }
 
   pub certified : CertificateReadsBack → (script out : List ℕ) → IsReport Certificate script out 0 → IsWhole script → IsJudged (script ++ out) Accepted
-  certified back script out (found, rest, report, is_output) (ys, is) =
+  certified back script out (found, output) (ys, is) =
+      let rest = output.0 in
+      let report = output.1 in
+      let is_output = output.2 in
       let text : out ≡ line_of header_sexpr ++ rest.text = ap (λ (o : Output). o.text) is_output in
       let status : rest.status ≡ 0 = sym (ap (λ (o : Output). o.status) is_output) in
       let h = split report.commands ys script 0 report.here 1 None start_state report.ending rest status (omega arith) report.reads report.ends report.answers is in
