@@ -4,8 +4,6 @@
 mod command;
 mod laws;
 mod line;
-#[cfg(test)]
-mod tests;
 
 pub use laws::{fault_law, plain_line_law};
-pub use line::{Line, NoLine, Search, read_line};
+pub use line::{Line, LineError, Search, read_line};

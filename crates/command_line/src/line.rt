@@ -31,38 +31,39 @@ pub enum Line {
 
 /// Why there is no line.
 #[derive(Clone, Copy, Debug, PartialEq, Eq)]
-pub enum NoLine {
+pub enum LineError {
     /// The words are no command line.
-    Usage,
+    Refused,
     /// Want of memory.
     OutOfMemory,
 }
 
-impl From<AllocError> for NoLine {
+impl From<AllocError> for LineError {
     ghost use Rattle.std.specs.Prelude.{◌≡◌};
-    ghost use Rattle.command_line.specs.declared.line.NoLine.TheVariants.{OutOfMemory};
+    ghost use Rattle.command_line.specs.declared.line.LineError.TheVariants.{OutOfMemory};
 
     ghost from_gives = { λ _ e. e ≡ OutOfMemory };
 
-    fn from(_error: AllocError) -> NoLine {
-        NoLine::OutOfMemory
+    fn from(_error: AllocError) -> LineError {
+        LineError::OutOfMemory
     }
 }
 
 /// What the words ask for. The program's name isn't among them.
-pub fn read_line(alloc: Global, words: &[String]) -> Result<Line, NoLine>
+pub fn read_line(alloc: Global, words: &[String]) -> Result<Line, LineError>
     ensures line { IfOk result (λ line. line_of (map string_bytes words.now) ≡ Some line) }
     ensures range { IfOk result IsInRange }
-    ensures usage { IfErr result (λ why. why ≡ NoLine.Usage → line_of (map string_bytes words.now) ≡ None) }
+    ensures refused { IfErr result (λ why.
+        why ≡ LineError.Refused → line_of (map string_bytes words.now) ≡ None) }
 {
     let matches = match dtp(alloc)?.try_get_matches_from(words) {
         Ok(matches) => matches,
-        Err(error) if error.kind() == ErrorKind::OutOfMemory => return Err(NoLine::OutOfMemory),
-        Err(_) => return Err(NoLine::Usage),
+        Err(error) if error.kind() == ErrorKind::OutOfMemory => return Err(LineError::OutOfMemory),
+        Err(_) => return Err(LineError::Refused),
     };
     match matches.subcommand() {
-        Some((name, options)) => asked(name, options).ok_or(NoLine::Usage),
-        None => Err(NoLine::Usage),
+        Some((name, options)) => asked(name, options).ok_or(LineError::Refused),
+        None => Err(LineError::Refused),
     }
 }
 

@@ -1,0 +1,2 @@
+pub mod Usages
+pub mod Runs

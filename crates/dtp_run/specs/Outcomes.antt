@@ -1,0 +1,145 @@
+-- What a run does, by the status that it ends with.
+use Rattle.std.specs.Prelude.{◌≡◌, ◌≢◌, ◌⊎◌, ℕ, ◌≤◌, ◌^◌, List, [], length, map, codes, Option, Some, None, String, string_bytes}
+use Rattle.std.specs.Io.KnownBytes.{Consumes, Appends, IsAtEnd}
+use Rattle.dtp_io.specs.Faults.{Rose, AddsFront}
+use Rattle.dtp_io.specs.Reading.{Stops}
+use Rattle.dtp_io.specs.declared.all.ReadError.{ReadError}
+use Rattle.dtp_io.specs.declared.all.ReadError.TheVariants as reading
+use Rattle.dtp_entry.specs.Transcripts.{IsReport, IsReportPart}
+use Rattle.dtp_entry.specs.declared.report.Report.{Report}
+use Rattle.dtp_entry.specs.declared.report.Report.TheVariants.{Verdicts, Certificate}
+use Rattle.dtp_check.specs.Answered.{IsAnswer, IsAnswerPart}
+use Rattle.dtp_check.specs.declared.check.Checked.{Checked}
+use Rattle.dtp_check.specs.declared.check.Checked.TheVariants.{Accepted, NotAccepted as Unaccepted}
+use Rattle.clap.specs.Words.{fault_of}
+use Rattle.command_line.specs.declared.line.Line.{Line}
+use Rattle.command_line.specs.declared.line.Line.TheVariants.{Solve, Certify, Check}
+use Rattle.command_line.specs.Apps.{dtp_app}
+use Rattle.command_line.specs.Lines.{line_of}
+use Rattle.command_line.specs.Plain.{IsPlainLine}
+use Rattle.dtp_run.specs.declared.status.Status.{Status}
+use Rattle.dtp_run.specs.declared.status.Status.TheVariants.{Done, Refused, Usage, ReadFault, WriteFault, OutOfMemory, NotAccepted, TooLong}
+use Rattle.dtp_run.specs.Statuses.{code_of}
+
+-- what the program sees of the outside: the bytes that the source has left and those that the sink holds, where they
+-- are told, and how many faults each has had
+pub record Outside : Type 0 where
+  pub left : Option (List ℕ)
+  pub read_faults : ℕ
+  pub holds : Option (List ℕ)
+  pub write_faults : ℕ
+
+abbrev pub outside : Option (List ℕ) → ℕ → Option (List ℕ) → ℕ → Outside
+outside left read_faults holds write_faults =
+    record { left = left; read_faults = read_faults; holds = holds; write_faults = write_faults }
+
+abbrev pub input_limit : ℕ
+input_limit = 2 ^ 30
+
+unfoldable pub usage_line : List ℕ
+usage_line = codes "usage: dtp solve|certify [--workers N] [--slice B], dtp check, dtp bench J M S D [--workers N]\n"
+
+-- nothing was read, and nothing went wrong in reading
+pub record IsUnread (old new : Outside) : Type 0 where
+  pub left : new.left ≡ old.left
+  pub read_faults : new.read_faults ≡ old.read_faults
+
+-- nothing was written, and nothing went wrong in writing
+pub record IsUnwritten (old new : Outside) : Type 0 where
+  pub holds : new.holds ≡ old.holds
+  pub write_faults : new.write_faults ≡ old.write_faults
+
+-- the source was read to its end, and gave this script within the limit
+pub record IsInput (old new : Outside) (script : List ℕ) : Type 0 where
+  pub consumed : Consumes old.left new.left script
+  pub read_faults : new.read_faults ≡ old.read_faults
+  pub ended : IsAtEnd new.left
+  pub within : length script ≤ input_limit
+
+-- the source wasn't read to its end, with this cause, and nothing was written
+pub record IsUnfinished (error : ReadError) (old new : Outside) : Type 0 where
+  pub stops : Stops input_limit old.left new.left old.read_faults new.read_faults error
+  pub unwritten : IsUnwritten old new
+
+abbrev pub WritesUsage : Option (List ℕ) → Option (List ℕ) → ℕ → ℕ → Type 0
+WritesUsage before now faults_before faults_now =
+    Appends before now usage_line ⊎ (AddsFront before now usage_line × Rose faults_before faults_now)
+
+-- the usage line is written, or a front of it where the sink failed
+abbrev pub IsUsage : Outside → Outside → Type 0
+IsUsage old new = WritesUsage old.holds new.holds old.write_faults new.write_faults
+
+-- what is to be written of the script is written whole, and it is the one with this status
+abbrev pub Reports : Report → Outside → Outside → ℕ → Type 0
+Reports report old new status =
+    (script : List ℕ) × (out : List ℕ) × IsInput old new script
+    × Appends old.holds new.holds out × IsReport report script out status
+
+-- a legal front of it is written
+abbrev pub ReportsPart : Report → Outside → Outside → Type 0
+ReportsPart report old new =
+    (script : List ℕ) × (out : List ℕ) × IsInput old new script
+    × Appends old.holds new.holds out × IsReportPart report script out
+
+abbrev pub IsReported : Report → Outside → Outside → Status → Type 0
+IsReported report old new Done = Reports report old new 0
+IsReported report old new Refused = Reports report old new 1
+IsReported report old new Usage = ⊥
+IsReported report old new ReadFault = IsUnfinished reading.ReadFault old new
+IsReported report old new WriteFault = Rose old.write_faults new.write_faults × ReportsPart report old new
+IsReported report old new OutOfMemory = IsUnfinished reading.OutOfMemory old new ⊎ ReportsPart report old new
+IsReported report old new NotAccepted = ⊥
+IsReported report old new TooLong = IsUnfinished reading.TooLong old new
+
+-- the line that accepts or refuses the source is written whole, and it is the one with this end
+abbrev pub Checks : Checked → Outside → Outside → Type 0
+Checks checked old new =
+    (source : List ℕ) × (line : List ℕ) × IsInput old new source
+    × Appends old.holds new.holds line × IsAnswer source line checked
+
+-- a front of it is written
+abbrev pub ChecksPart : Outside → Outside → Type 0
+ChecksPart old new =
+    (source : List ℕ) × (written : List ℕ) × IsInput old new source
+    × Appends old.holds new.holds written × IsAnswerPart source written
+
+abbrev pub IsChecked : Outside → Outside → Status → Type 0
+IsChecked old new Done = Checks Accepted old new
+IsChecked old new Refused = ⊥
+IsChecked old new Usage = ⊥
+IsChecked old new ReadFault = IsUnfinished reading.ReadFault old new
+IsChecked old new WriteFault = Rose old.write_faults new.write_faults × ChecksPart old new
+IsChecked old new OutOfMemory = IsUnfinished reading.OutOfMemory old new ⊎ ChecksPart old new
+IsChecked old new NotAccepted = Checks Unaccepted old new
+IsChecked old new TooLong = IsUnfinished reading.TooLong old new
+
+-- each kind of line has its own outcomes
+abbrev pub IsOutcomeOf : Line → Outside → Outside → Status → Type 0
+IsOutcomeOf (Solve search) old new status = IsReported Verdicts old new status
+IsOutcomeOf (Certify search) old new status = IsReported Certificate old new status
+IsOutcomeOf Check old new status = IsChecked old new status
+
+-- the words are no command line: the usage line, or nothing for want of memory; the source isn't read
+abbrev pub IsRefused : Outside → Outside → Status → Type 0
+IsRefused old new Usage = IsUnread old new × IsUsage old new
+IsRefused old new OutOfMemory = IsUnread old new × IsUnwritten old new
+IsRefused old new _ = ⊥
+
+-- The outcome of a run: where the words are no command line the usage line, else what the line does.
+abbrev pub IsOutcome : Option Line → Outside → Outside → Status → Type 0
+IsOutcome None old new status = IsRefused old new status
+IsOutcome (Some line) old new status = IsOutcomeOf line old new status
+
+pub record IsRun (words : List (List ℕ)) (old new : Outside) (code : ℕ) : Type 0 where
+  pub status : Status
+  pub code_is : code ≡ code_of status
+  pub outcome : IsOutcome (line_of words) old new status
+  -- the usage line comes only where clap finds a fault in the words, and never on a plain line
+  pub fault : status ≡ Usage → fault_of dtp_app words ≢ []
+  pub plain : (line : Line) → IsPlainLine words line → status ≢ Usage
+  -- the counts of faults never fall
+  pub read_later : old.read_faults ≤ new.read_faults
+  pub write_later : old.write_faults ≤ new.write_faults
+
+abbrev pub texts : {A : Type 0} → List (String A) → List (List ℕ)
+texts words = map (λ word. string_bytes word) words

@@ -1,0 +1,165 @@
+//! The top call: from the words and the source to the sink and a status.
+ghost use Rattle.std.specs.Prelude.{◌≡◌, ◌≤◌};
+ghost use Rattle.dtp_session.specs.Solving.{IsSolved};
+ghost use Rattle.command_line.specs.Lines.{IsSearchInRange, line_of};
+ghost use Rattle.dtp_run.specs.Statuses.{unread_status};
+ghost use Rattle.dtp_run.specs.Outcomes.{IsRun, IsOutcome, IsReported, IsChecked, WritesUsage, outside, texts};
+
+use crate::status::Status;
+use command_line::{Line, LineError, Search, read_line};
+use dtp_check::{Checked, check_pair};
+use dtp_entry::{Report, SessionError};
+use dtp_io::{ReadError, Sink, Source, read_all, write_all_of};
+use dtp_session::{Gate, Solved, certify_script, solve_script};
+use std::alloc::Global;
+use std::sync::Wait;
+use std::thread::Threads;
+
+/// How many bytes a source may give.
+const INPUT_LIMIT: u64 = 1 << 30;
+
+const USAGE: &[u8] =
+    b"usage: dtp solve|certify [--workers N] [--slice B], dtp check, dtp bench J M S D [--workers N]\n";
+
+/// Does what the words ask for, and gives the status that the program ends with.
+pub fn run<R: Threads + Wait + Sync, S: Source, K: Sink, G: Gate>(
+    rt: &R,
+    alloc: Global,
+    words: &[String],
+    source: &mut S,
+    sink: &mut K,
+    gate: &G,
+) -> u8
+    ensures headline { IsRun (texts words.now)
+        (outside (S.left source.old) (S.faults source.old) (K.holds sink.old) (K.faults sink.old))
+        (outside (S.left source.new) (S.faults source.new) (K.holds sink.new) (K.faults sink.new))
+        result }
+{
+    perform(rt, alloc, words, source, sink, gate).code()
+}
+
+/// Does what the words ask for.
+fn perform<R: Wait, S: Source, K: Sink, G: Gate>(
+    rt: &R,
+    alloc: Global,
+    words: &[String],
+    source: &mut S,
+    sink: &mut K,
+    gate: &G,
+) -> Status
+    ensures outcome { IsOutcome (line_of (texts words.now))
+        (outside (S.left source.old) (S.faults source.old) (K.holds sink.old) (K.faults sink.old))
+        (outside (S.left source.new) (S.faults source.new) (K.holds sink.new) (K.faults sink.new))
+        result }
+    ensures read_later { S.faults source.old ≤ S.faults source.new }
+    ensures write_later { K.faults sink.old ≤ K.faults sink.new }
+{
+    match read_line(alloc, words) {
+        Ok(Line::Solve(search)) => {
+            report_on(rt, alloc, source, sink, Report::Verdicts, search, gate)
+        }
+        Ok(Line::Certify(search)) => {
+            report_on(rt, alloc, source, sink, Report::Certificate, search, gate)
+        }
+        Ok(Line::Check) => check(alloc, source, sink),
+        Err(LineError::Refused) => usage(sink),
+        Err(LineError::OutOfMemory) => Status::OutOfMemory,
+    }
+}
+
+/// Writes the usage line. A fault in writing it changes nothing of the status.
+#[tactic(auto, unfolding(crate::specs::Outcomes::usage_line))]
+fn usage<K: Sink>(sink: &mut K) -> Status
+    ensures status { result ≡ Status.Usage }
+    ensures written { WritesUsage (K.holds sink.old) (K.holds sink.new)
+        (K.faults sink.old) (K.faults sink.new) }
+    ensures write_later { K.faults sink.old ≤ K.faults sink.new }
+{
+    match write_all_of(sink, USAGE) {
+        Ok(()) => Status::Usage,
+        Err(_) => Status::Usage,
+    }
+}
+
+/// The status of a run whose source wasn't read to its end.
+fn unread(error: ReadError) -> Status
+    ensures { result ≡ unread_status error }
+{
+    match error {
+        ReadError::OutOfMemory => Status::OutOfMemory,
+        ReadError::ReadFault => Status::ReadFault,
+        ReadError::TooLong => Status::TooLong,
+    }
+}
+
+/// Reads the script whole, and writes this report of it.
+fn report_on<R: Wait, S: Source, K: Sink, G: Gate>(
+    rt: &R,
+    alloc: Global,
+    source: &mut S,
+    sink: &mut K,
+    report: Report,
+    search: Search,
+    gate: &G,
+) -> Status
+    requires range { IsSearchInRange search }
+    ensures reported { IsReported report
+        (outside (S.left source.old) (S.faults source.old) (K.holds sink.old) (K.faults sink.old))
+        (outside (S.left source.new) (S.faults source.new) (K.holds sink.new) (K.faults sink.new))
+        result }
+    ensures read_later { S.faults source.old ≤ S.faults source.new }
+    ensures write_later { K.faults sink.old ≤ K.faults sink.new }
+{
+    let script = match read_all(alloc, source, INPUT_LIMIT) {
+        Ok(script) => script,
+        Err(error) => return unread(error),
+    };
+    match write_report(rt, alloc, &script, sink, report, search, gate) {
+        Ok(Solved::Done) => Status::Done,
+        Ok(Solved::ScriptStopped) => Status::Refused,
+        Err(SessionError::WriteFault) => Status::WriteFault,
+        Err(SessionError::OutOfMemory) => Status::OutOfMemory,
+    }
+}
+
+/// Writes this report of the script.
+fn write_report<R: Wait, K: Sink, G: Gate>(
+    rt: &R,
+    alloc: Global,
+    script: &[u8],
+    sink: &mut K,
+    report: Report,
+    search: Search,
+    gate: &G,
+) -> Result<Solved, SessionError>
+    requires range { IsSearchInRange search }
+    ensures solved { IsSolved report script.now (K.holds sink.old) (K.holds sink.new)
+        (K.faults sink.old) (K.faults sink.new) result }
+{
+    let slice = u64::from(search.slice);
+    match report {
+        Report::Verdicts => solve_script(rt, alloc, script, sink, search.workers, slice, gate),
+        Report::Certificate => certify_script(rt, alloc, script, sink, search.workers, slice, gate),
+    }
+}
+
+/// Reads a script and its certificate whole, and writes whether the certificate is right.
+fn check<S: Source, K: Sink>(alloc: Global, source: &mut S, sink: &mut K) -> Status
+    ensures checked { IsChecked
+        (outside (S.left source.old) (S.faults source.old) (K.holds sink.old) (K.faults sink.old))
+        (outside (S.left source.new) (S.faults source.new) (K.holds sink.new) (K.faults sink.new))
+        result }
+    ensures read_later { S.faults source.old ≤ S.faults source.new }
+    ensures write_later { K.faults sink.old ≤ K.faults sink.new }
+{
+    let bytes = match read_all(alloc, source, INPUT_LIMIT) {
+        Ok(bytes) => bytes,
+        Err(error) => return unread(error),
+    };
+    match check_pair(alloc, &bytes, sink) {
+        Ok(Checked::Accepted) => Status::Done,
+        Ok(Checked::NotAccepted) => Status::NotAccepted,
+        Err(SessionError::WriteFault) => Status::WriteFault,
+        Err(SessionError::OutOfMemory) => Status::OutOfMemory,
+    }
+}

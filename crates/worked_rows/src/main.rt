@@ -1,0 +1,43 @@
+//! Runs the rows of a table, one after the other, and says of each whether `dtp` writes and answers what stands there.
+//!
+//! A line of the table is a key, a space and a text:
+//!
+//! | Key | Text |
+//! |---|---|
+//! | `#`, or none | a remark |
+//! | `row` | the name of the row that begins here |
+//! | `words` | the words behind the program's name |
+//! | `>` | a line of the source |
+//! | `<` | a line of the output that must come |
+//! | `>-`, `<-` | the same without the line's end |
+//! | `>*`, `<*` | a number, a space and a text, which is put so many times; in it `@0` to `@9` stand for the number of the turn, from 0 on, plus 0 to 9 |
+//! | `>x`, `<x` | bytes, each as a hexadecimal numeral |
+//! | `certified` | nothing: what `certify` writes of the source is put behind it |
+//! | `failing-reads`, `failing-writes` | the numbers of the reads and writes that fail, from 0 on |
+//! | `status` | the status that must come, 0 where nothing is said |
+#![tactic(auto)]
+
+mod row;
+mod table;
+
+use dtp_io::{StdSink, StdSource, read_all};
+use std::io;
+use std::process::ExitCode;
+use table::try_rows;
+
+/// How many bytes a table may have.
+const TABLE_LIMIT: u64 = 1 << 24;
+
+fn main(rt: HostRuntime) -> ExitCode {
+    let mut source = StdSource::new(rt.reader());
+    let table = match read_all(rt.alloc(), &mut source, TABLE_LIMIT) {
+        Ok(table) => table,
+        Err(_) => return ExitCode::from(2),
+    };
+    let mut sink = StdSink::new(io::writer(&rt));
+    match try_rows(&rt, rt.alloc(), &table, &mut sink) {
+        Ok(true) => ExitCode::from(0),
+        Ok(false) => ExitCode::from(1),
+        Err(_) => ExitCode::from(2),
+    }
+}

@@ -1,0 +1,117 @@
+//! The rows of a table, run one after the other.
+use crate::row::{LineError, Row};
+use dtp_io::{MemSink, MemSource, Sink, WriteFault, write_all_of};
+use dtp_run::{NoGate, run};
+use std::alloc::{AllocError, Global};
+use std::str;
+use std::sync::Wait;
+use std::thread::Threads;
+
+/// The greatest part of an output that is shown where another was to come.
+const SHOWN: usize = 2000;
+
+/// Why not all rows were run.
+#[derive(Clone, Copy, Debug, PartialEq, Eq)]
+pub enum TableError {
+    /// A line isn't of the table's form; that is written.
+    Refused,
+    WriteFault,
+    OutOfMemory,
+}
+
+impl From<AllocError> for TableError {
+    fn from(_error: AllocError) -> TableError {
+        TableError::OutOfMemory
+    }
+}
+
+impl From<WriteFault> for TableError {
+    fn from(_fault: WriteFault) -> TableError {
+        TableError::WriteFault
+    }
+}
+
+/// Runs the rows of the table and writes a line of each. Says whether each went as it is written.
+pub fn try_rows<R: Threads + Wait + Sync, K: Sink>(
+    rt: &R,
+    alloc: Global,
+    table: &[u8],
+    sink: &mut K,
+) -> Result<bool, TableError> {
+    let Ok(text) = str::from_utf8(table) else {
+        write_all_of(sink, b"the table is no text\n")?;
+        return Err(TableError::Refused);
+    };
+    let mut well = true;
+    let mut row: Option<Row> = None;
+    for line in text.lines() {
+        let (key, rest) = line.split_once(' ').unwrap_or((line, ""));
+        if key == "row" {
+            if let Some(done) = row.take() {
+                well &= try_row(rt, alloc, done, sink)?;
+            }
+            row = Some(Row::new(alloc, rest)?);
+        } else if key != "#" && !key.is_empty() {
+            match take(row.as_mut(), alloc, key, rest) {
+                Ok(()) => {}
+                Err(LineError::OutOfMemory) => return Err(TableError::OutOfMemory),
+                Err(LineError::Refused) => return refuse(alloc, line, sink),
+            }
+        }
+    }
+    if let Some(done) = row {
+        well &= try_row(rt, alloc, done, sink)?;
+    }
+    Ok(well)
+}
+
+/// Takes a line of the row that has begun.
+fn take(row: Option<&mut Row>, alloc: Global, key: &str, text: &str) -> Result<(), LineError> {
+    match row {
+        Some(row) => row.take(alloc, key, text),
+        None => Err(LineError::Refused),
+    }
+}
+
+/// Writes that the line is none of the table's.
+fn refuse<K: Sink>(alloc: Global, line: &str, sink: &mut K) -> Result<bool, TableError> {
+    let text = format!(in alloc; "no line of a table: {line}\n")?;
+    write_all_of(sink, text.as_bytes())?;
+    Err(TableError::Refused)
+}
+
+/// Runs the row, and writes whether it went as it is written, or else what came instead.
+fn try_row<R: Threads + Wait + Sync, K: Sink>(
+    rt: &R,
+    alloc: Global,
+    mut row: Row,
+    sink: &mut K,
+) -> Result<bool, TableError> {
+    if row.certified {
+        certify(rt, alloc, &mut row)?;
+    }
+    let mut from = MemSource::new(&row.source, &row.failing_reads);
+    let mut to = MemSink::new(alloc, &row.failing_writes);
+    let status = run(rt, alloc, &row.words, &mut from, &mut to, &NoGate);
+    write_all_of(sink, &row.name)?;
+    if row.is_met(status, to.held()) {
+        write_all_of(sink, b": as written\n")?;
+        return Ok(true);
+    }
+    let text = format!(in alloc; ": status {status} after:\n")?;
+    write_all_of(sink, text.as_bytes())?;
+    write_all_of(sink, &to.held()[..to.held().len().min(SHOWN)])?;
+    Ok(false)
+}
+
+/// Puts what `certify` writes of the row's source behind it.
+fn certify<R: Threads + Wait + Sync>(rt: &R, alloc: Global, row: &mut Row) -> Result<(), AllocError> {
+    let mut words = Vec::new(alloc);
+    words.push("certify".to_string(alloc)?)?;
+    let mut sink = MemSink::new(alloc, &[]);
+    {
+        let mut source = MemSource::new(&row.source, &[]);
+        run(rt, alloc, &words, &mut source, &mut sink, &NoGate);
+    }
+    row.source.extend_from_slice(sink.held())
+}
