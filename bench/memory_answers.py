@@ -19,6 +19,7 @@ TABLE = os.path.join(TOP, "docs", "PROOFS.md")
 HEADING = "## Where want of memory is answered"
 ANSWER = re.compile(r"\bAllocError\b(?!::from|>)|\bAllocFailed\b(?!::from|<)|\b\w+::OutOfMemory\b")
 FUNCTION = re.compile(r"\bfn (\w+)")
+PATTERN = re.compile(r"\blet [^=]*=(?!=)")
 CLAUSE = re.compile(r"^\s*(//|ghost\b|use\b|requires\b|ensures\b|pub use\b|#\[)")
 
 
@@ -26,7 +27,7 @@ def answers(line):
     """Whether the line answers want of memory that no call on its left answered."""
     if CLAUSE.match(line) or "->" in line or line.lstrip().startswith(("impl", ") -> ")):
         return False
-    pattern, arrow, value = line.rpartition("=>")
+    pattern, arrow, value = PATTERN.sub("", line).rpartition("=>")
     if arrow and ANSWER.search(pattern):
         return False
     return bool(ANSWER.search(value))

@@ -5,10 +5,11 @@ ghost use Rattle.idl_linear.specs.Differences.{difference_of};
 ghost use Rattle.idl_linear.specs.Steps.{ends_with};
 
 use crate::error::DifferenceRefusal;
-use crate::limits::{NUMBER_LIMIT, within};
+use crate::limits::NUMBER_LIMIT;
 use crate::linear::Linear;
 use crate::merge::Merge;
 use crate::summand::Summand;
+use crate::within::within;
 
 /// The difference `x - y` of two time points, with the number `n` that it is compared with.
 #[derive(Clone, Copy, Debug, PartialEq, Eq)]

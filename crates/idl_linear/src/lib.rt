@@ -11,11 +11,13 @@ mod merge;
 mod runs;
 mod sum;
 mod summand;
+mod within;
 
 pub use difference::{Difference, compare};
 pub use error::{DifferenceRefusal, LinearRefusal};
 pub use examples::{worked_comparisons, worked_linear_terms};
 pub use laws::{comparison_law, linear_law};
+pub use limits::{COEFFICIENT_LIMIT, CONSTANT_LIMIT, NAMES_LIMIT, NUMBER_LIMIT};
 pub use linear::Linear;
 pub use sum::LinearSum;
 pub use summand::Summand;

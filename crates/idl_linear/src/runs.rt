@@ -6,8 +6,9 @@ ghost use Rattle.idl_linear.specs.Forms.{IsSummand};
 ghost use Rattle.idl_linear.specs.Steps.{RiseFrom};
 
 use crate::error::LinearRefusal;
-use crate::limits::{COEFFICIENT_LIMIT, within};
+use crate::limits::COEFFICIENT_LIMIT;
 use crate::summand::Summand;
+use crate::within::within;
 
 /// The first so many summands, which have one time point, and the sum of their coefficients.
 #[derive(Clone, Copy)]

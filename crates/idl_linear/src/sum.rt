@@ -5,10 +5,11 @@ ghost use Rattle.idl_linear.specs.Linear.{negative_summand, is_limited};
 ghost use Rattle.idl_linear.specs.Forms.{IsSummand, with_term, with_negative, term_of};
 
 use crate::error::LinearRefusal;
-use crate::limits::{CONSTANT_LIMIT, within};
+use crate::limits::CONSTANT_LIMIT;
 use crate::linear::Linear;
 use crate::runs::combine;
 use crate::summand::Summand;
+use crate::within::within;
 use std::alloc::{AllocError, AllocFailed, Global};
 use std::marker::Model;
 

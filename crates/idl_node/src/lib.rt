@@ -5,6 +5,7 @@
 mod error;
 mod examples;
 mod laws;
+mod limits;
 mod making;
 mod node;
 mod nodes;
@@ -14,6 +15,7 @@ mod truth;
 pub use error::{NodeError, NodeRefusal};
 pub use examples::{worked_formulas, worked_truths};
 pub use laws::{list_making_law, making_law, truth_law};
+pub use limits::NODES_LIMIT;
 pub use node::Node;
 pub use nodes::Nodes;
 pub use sort::Sort;

@@ -5,15 +5,13 @@ ghost use Rattle.idl_node.specs.Made.{Makes};
 ghost use Rattle.idl_node.specs.Nodes.{node_value, placed, shown};
 
 use crate::error::{NodeError, NodeRefusal};
+use crate::limits::NODES_LIMIT;
 use crate::node::Node;
 use indexmap::IndexSet;
 use std::alloc::Global;
 use std::marker::Model;
 
-/// The greatest number of nodes.
-const NODES_LIMIT: usize = 1_048_576;
-
-/// Different nodes, found by hash. A node's number is its place, from 0. There are 2^20 at most.
+/// Different nodes, found by hash. A node's number is its place, from 0. There are `NODES_LIMIT` at most.
 #[derive(Drop)]
 pub struct Nodes {
     set: IndexSet<Node>,

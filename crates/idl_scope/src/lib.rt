@@ -8,6 +8,7 @@ mod names;
 mod scope;
 
 pub use cases::{Case, Cases};
+pub use idl_linear::NAMES_LIMIT;
 pub use locals::Locals;
 pub use lowered::Lowered;
 pub use names::Names;

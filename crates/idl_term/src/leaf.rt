@@ -17,15 +17,12 @@ ghost use Rattle.idl_term.specs.Shapes.{Lowers};
 use crate::applied::as_formula;
 use crate::error::{LeftOutTerm, TermError, TermRefusal};
 use crate::reserved::is_reserved;
-use idl_linear::Linear;
+use idl_linear::{CONSTANT_LIMIT, Linear};
 use idl_node::{Node, Nodes, Sort};
 use idl_scope::{FoundName, Lowered};
 use smt_lex::{TokenKind, numeral_value};
 use std::alloc::Global;
 use stn_core::Literal;
-
-/// The greatest numeral.
-const CONSTANT_LIMIT: u64 = 1 << 62;
 
 /// What a name stands for.
 fn lower_found(alloc: Global, meaning: FoundName, nodes: &mut Nodes) -> Result<Lowered, TermError>

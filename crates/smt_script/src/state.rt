@@ -17,21 +17,17 @@ ghost use Rattle.smt_script.specs.declared.state.Level.{Level as Before};
 
 use crate::command::{Request, Signature, request_of};
 use crate::error::{Refusal, ScriptError};
+use crate::limits::LEVELS_LIMIT;
 use crate::option::{OptionEffect, option_effect};
 use crate::parts::{is_taken, lower_formula, lower_of_sort, signature_sort};
 use crate::value::{TermValue, term_value};
 use idl_node::Nodes;
+use idl_scope::NAMES_LIMIT;
 use idl_term::{Lowered, Names, Scope, TermError, context_law, lower, lowered_law};
 use smt_sexpr::{SexprId, Sexprs};
 use std::alloc::Global;
 use std::marker::Model;
 use stn_core::NamedValues;
-
-/// The greatest number of declared names.
-const NAMES_LIMIT: usize = 65_536;
-
-/// The greatest number of levels above the bottom.
-const LEVELS_LIMIT: u64 = 65_536;
 
 /// What is told of a command that is carried out, where nothing else answers it.
 #[derive(Clone, Copy, Debug, PartialEq, Eq)]
@@ -168,7 +164,7 @@ impl<'a> State<'a> {
         if is_taken(&self.scope, signature.name) {
             return Err(ScriptError::Refused(Refusal::AlreadyDeclared));
         }
-        if self.scope.names().len() >= NAMES_LIMIT {
+        if self.scope.names().len() >= NAMES_LIMIT as usize {
             return Err(ScriptError::Refused(Refusal::TooManyNames));
         }
         self.scope.declare(signature.name, sort)?;
