@@ -18,8 +18,8 @@ returns-then-is_taken-clause-agrees c = λ s parameters x stands signature.
     let h = subst (λ (k : Kept). StandsFor k s) (sym c.self.view_is) stands in
     declaration_taken _ s h c.args.signature.name.now parameters (sort_of x) c.in_ok-sort.sort (c.in_ok-sort.ensures parameters x signature) c.if-is_taken.ensures
 
-pub returns-then-len-ge-NAMES_LIMIT-clause-agrees : goal.returns-then-len-ge-NAMES_LIMIT-clause-agrees
-returns-then-len-ge-NAMES_LIMIT-clause-agrees c = λ s parameters x stands signature.
+pub returns-then-len-clause-agrees : goal.returns-then-len-clause-agrees
+returns-then-len-clause-agrees c = λ s parameters x stands signature.
     let h = subst (λ (k : Kept). StandsFor k s) (sym c.self.view_is) stands in
     let count : c.len.result ≡ length c.self.inside.scope.declared = c.len.ensures ∙ ap (λ (ds : List Declaration). length ds) c.names.ensures in
     let full : names_limit ≤ length c.self.inside.scope.declared = omega (arith, count) in
