@@ -2,19 +2,8 @@
 use Rattle.std.proofs.Common.{subst, ◌≡◌, ℕ, List, Option, Some, None, Ok, Err}
 use Rattle.smt_sexpr.specs.Tree.{Sexpr}
 use Rattle.smt_sexpr.specs.Table.{Table, Means}
-use Rattle.smt_sexpr.specs.Reading.{Finds, Spells, Outcomes, finished, refused, Explains}
+use Rattle.smt_sexpr.specs.Reading.{Finds, Spells, Outcomes, finished, Explains}
 use Rattle.smt_sexpr.specs.declared.error.SexprError.{SexprError}
-use Rattle.smt_sexpr.specs.declared.error.SexprError.TheVariants.{Refused, OutOfMemory}
-use Rattle.smt_sexpr.specs.declared.error.SexprRefusal.{SexprRefusal}
-use Rattle.smt_answer.specs.declared.kind.Kind.{Kind}
-use Rattle.smt_answer.specs.Kinds.{kind_of_unreadable, kind_of_error}
-
--- what the reader refuses, by the kind that its error line has
-pub explained : (bytes : List ℕ) (place behind : ℕ) (error : SexprError) (kind : Kind) → Explains bytes place error behind → kind_of_error error ≡ Some kind → (why : SexprRefusal) × Outcomes bytes place (refused why) behind × (kind_of_unreadable why ≡ kind)
-explained bytes place behind (Refused why) kind h e = let same : kind_of_unreadable why ≡ kind = cc in (why, h, same)
-explained bytes place behind OutOfMemory kind h e = absurd cc
-
--- ---- what the reader found
 
 pub record IsFound (t : Table) (bytes : List ℕ) (place id behind : ℕ) : Type 0 where
   pub x : Sexpr

@@ -88,4 +88,3 @@ module _ (c : Context) (context : IsContext c) where
       let nodes : length c.nodes ≤ nodes_limit = over.room in
       let points = few (length c.declared + 1) c.nodes c.roots in
       omega (arith, names, nodes, points)
-

@@ -76,12 +76,19 @@ pub data Reply : Type 0 where
   error : Kind → Reply
 
 abbrev pub checked : Report → State → Entry → Answered
-checked report s entry = record { text = decision_line report entry; found = entry ∷ []; held = Some entry; state = settled (verdict_of entry) s }
+checked report s entry = record {
+  text = decision_line report entry;
+  found = entry ∷ [];
+  held = Some entry;
+  state = settled (verdict_of entry) s;
+}
 
 -- the answer to an effect, in the state behind the command
 abbrev pub Answers : Report → Held → State → Effect → Reply → Type 0
-Answers report held s CheckSat reply = (entry : Entry) × Decides s.context entry × (reply ≡ answered (checked report s entry))
-Answers report held s (Tell notice) reply = reply ≡ answered (record { text = told report held s notice; found = []; held = held; state = s })
+Answers report held s CheckSat reply =
+    (entry : Entry) × Decides s.context entry × (reply ≡ answered (checked report s entry))
+Answers report held s (Tell notice) reply =
+    reply ≡ answered (record { text = told report held s notice; found = []; held = held; state = s })
 Answers report held s Exit reply = reply ≡ last (closing report)
 
 -- the answer to a command in a state
@@ -122,7 +129,8 @@ Stops xs ending = (xs ≡ []) × (ending ≡ stopped)
 
 -- the answer of command k, and what the commands behind it are answered
 abbrev pub GoesOn : ℕ → Reply → List Sexpr → Ending → Output → (Held → State → Output → Type 0) → Type 0
-GoesOn k (answered a) xs ending out Rest = (rest : Output) × Rest a.held a.state rest × (out ≡ behind a.text a.found rest)
+GoesOn k (answered a) xs ending out Rest =
+    (rest : Output) × Rest a.held a.state rest × (out ≡ behind a.text a.found rest)
 GoesOn k (last text) xs ending out Rest = Stops xs ending × (out ≡ done text)
 GoesOn k (error kind) xs ending out Rest = Stops xs ending × (out ≡ refused k kind)
 
@@ -130,7 +138,8 @@ GoesOn k (error kind) xs ending out Rest = Stops xs ending × (out ≡ refused k
 unfoldable pub Follows : Report → Held → State → ℕ → List Sexpr → Ending → Output → Type 0
 Follows report held s k [] ending out = Closes report k ending out
 Follows report held s k (x ∷ xs) ending out =
-    (reply : Reply) × Replies report held s x reply × GoesOn k reply xs ending out (λ kept next rest. Follows report kept next (k + 1) xs ending rest)
+    (reply : Reply) × Replies report held s x reply
+    × GoesOn k reply xs ending out (λ kept next rest. Follows report kept next (k + 1) xs ending rest)
 
 -- the text from the place on, read in this state as command k and those behind it
 pub record TranscribesFrom (report : Report) (bytes : List ℕ) (place : ℕ) (held : Held) (s : State) (k : ℕ) (out : Output) : Type 0 where
@@ -143,11 +152,13 @@ pub record TranscribesFrom (report : Report) (bytes : List ℕ) (place : ℕ) (h
 
 -- what is written of a script, with the entries that decided its check-sats
 abbrev pub IsOutput : Report → List ℕ → Output → Type 0
-IsOutput report script out = (rest : Output) × TranscribesFrom report script 0 None start_state 1 rest × (out ≡ behind (opening report) [] rest)
+IsOutput report script out =
+    (rest : Output) × TranscribesFrom report script 0 None start_state 1 rest × (out ≡ behind (opening report) [] rest)
 
 -- what is written of a script, and the status
 abbrev pub IsReport : Report → List ℕ → List ℕ → ℕ → Type 0
-IsReport report script text status = (found : List Entry) × IsOutput report script (record { text = text; found = found; status = status })
+IsReport report script text status =
+    (found : List Entry) × IsOutput report script (record { text = text; found = found; status = status })
 
 -- the transcript of a script: what it is answered
 abbrev pub IsTranscript : List ℕ → List ℕ → ℕ → Type 0
@@ -172,7 +183,8 @@ GoesOnPart k (error kind) xs ending text Rest = Stops xs ending × IsFront text 
 unfoldable pub FollowsPart : Report → Held → State → ℕ → List Sexpr → Ending → List ℕ → Type 0
 FollowsPart report held s k [] ending text = ClosesPart report k ending text
 FollowsPart report held s k (x ∷ xs) ending text =
-    (reply : Reply) × Replies report held s x reply × GoesOnPart k reply xs ending text (λ kept next rest. FollowsPart report kept next (k + 1) xs ending rest)
+    (reply : Reply) × Replies report held s x reply
+    × GoesOnPart k reply xs ending text (λ kept next rest. FollowsPart report kept next (k + 1) xs ending rest)
 
 pub record TranscribesPartFrom (report : Report) (bytes : List ℕ) (place : ℕ) (held : Held) (s : State) (k : ℕ) (text : List ℕ) : Type 0 where
   pub commands : List Sexpr
@@ -185,4 +197,5 @@ pub record TranscribesPartFrom (report : Report) (bytes : List ℕ) (place : ℕ
 -- a legal front of what is written of a script
 abbrev pub IsReportPart : Report → List ℕ → List ℕ → Type 0
 IsReportPart report script text =
-    IsFront text (opening report) ⊎ ((rest : List ℕ) × TranscribesPartFrom report script 0 None start_state 1 rest × (text ≡ opening report ++ rest))
+    IsFront text (opening report)
+    ⊎ ((rest : List ℕ) × TranscribesPartFrom report script 0 None start_state 1 rest × (text ≡ opening report ++ rest))

@@ -29,11 +29,7 @@ pub enum Piece {
 }
 
 /// Appends the line of a check-sat.
-fn append_decision(
-    report: Report,
-    entry: &Entry,
-    text: &mut Vec<u8>,
-) -> Result<(), AllocError>
+fn append_decision(report: Report, entry: &Entry, text: &mut Vec<u8>) -> Result<(), AllocError>
     ensures { OnOk result (text.new.items ≡ text.old.items ++ decision_line report entry.now) }
 {
     match report {
@@ -65,7 +61,8 @@ fn append_notice(
 impl<'a> Session<'a> {
     /// Appends a piece.
     fn append(&self, piece: Piece, text: &mut Vec<u8>) -> Result<(), AllocError>
-        ensures { OnOk result ((added : List ℕ) × IsText self.now piece added × (text.new.items ≡ text.old.items ++ added)) }
+        ensures { OnOk result ((added : List ℕ) × IsText self.now piece added
+            × (text.new.items ≡ text.old.items ++ added)) }
     {
         match piece {
             Piece::Opening => match self.report {
@@ -76,7 +73,12 @@ impl<'a> Session<'a> {
                 Some(entry) => append_decision(self.report, entry, text),
                 None => Ok(()),
             },
-            Piece::Notice(notice) => append_notice(self.report, self.state.print_success(), notice, text),
+            Piece::Notice(notice) => append_notice(
+                self.report,
+                self.state.print_success(),
+                notice,
+                text,
+            ),
             Piece::Closing => match self.report {
                 Report::Verdicts => Ok(()),
                 Report::Certificate => write_end(text),
@@ -96,7 +98,8 @@ impl<'a> Session<'a> {
 
     /// Writes a piece.
     pub fn write<K: Sink>(&self, piece: Piece, sink: &mut K) -> Result<(), SessionError>
-        ensures { WritesOne (IsText self.now piece) (K.holds sink.old) (K.holds sink.new) (K.faults sink.old) (K.faults sink.new) result }
+        ensures { WritesOne (IsText self.now piece) (K.holds sink.old) (K.holds sink.new)
+            (K.faults sink.old) (K.faults sink.new) result }
     {
         let text = self.text(piece)?;
         write_text(sink, &text)

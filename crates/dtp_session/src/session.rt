@@ -75,7 +75,8 @@ impl<'a> Session<'a> {
         requires { IsStart self.old }
         ensures whole { IfOk result (λ end. Writes (K.holds sink.old) (K.holds sink.new)
             (λ added. IsReport self.old.report self.old.lexer.bytes added (status_of end))) }
-        ensures part { OnErr result (Writes (K.holds sink.old) (K.holds sink.new) (IsReportPart self.old.report self.old.lexer.bytes)) }
+        ensures part { OnErr result (Writes (K.holds sink.old) (K.holds sink.new)
+            (IsReportPart self.old.report self.old.lexer.bytes)) }
         ensures fault { result ≡ Err SessionError.WriteFault → Rose (K.faults sink.old) (K.faults sink.new) }
         ensures quiet { result ≢ Err SessionError.WriteFault → K.faults sink.new ≡ K.faults sink.old }
         ensures later { K.faults sink.old ≤ K.faults sink.new }
