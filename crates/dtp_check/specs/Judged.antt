@@ -94,8 +94,8 @@ abbrev pub values_flaw : Context → List NamedValue → Option EntryFlaw
 values_flaw c values =
     if length values == length c.declared
     then first_of_two
-        (option_map WrongSort (first_of_wrong_sort 1 (sorts_of c.declared) values))
-        (option_map FalseAssertion (first_false (environment c values) 1 c.assertions))
+    (option_map WrongSort (first_of_wrong_sort 1 (sorts_of c.declared) values))
+    (option_map FalseAssertion (first_false (environment c values) 1 c.assertions))
     else Some WrongCount
 
 -- what is wrong with the entry of a check-sat where these assertions are active

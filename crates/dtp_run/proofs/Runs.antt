@@ -84,7 +84,7 @@ not_refused accepted one search script certificate a b c d code whole written gi
     let report : IsReport Certificate script certificate 0 = certificate_of script certificate a b written.has gives (ends_as Done written (done written.run.status written.run.code_is)) in
     let good : IsJudged (script ++ certificate) judgement.Accepted = accepted script certificate report whole in
     let bad : (j : Judgement) × IsJudged (script ++ certificate) j × (Unaccepted ≡ checked_of j) =
-        is_judged Unaccepted (script ++ certificate) c d checked.has (ends_as NotAccepted checked (not_accepted checked.run.status (sym six ∙ checked.run.code_is))) in
+    is_judged Unaccepted (script ++ certificate) c d checked.has (ends_as NotAccepted checked (not_accepted checked.run.status (sym six ∙ checked.run.code_is))) in
     let same : bad.0 ≡ judgement.Accepted = one (script ++ certificate) bad.0 judgement.Accepted bad.1 good in
     let end : Unaccepted ≡ Accepted = bad.2 ∙ ap (λ j. checked_of j) same in
     cc

@@ -105,7 +105,11 @@ fn try_row<R: Threads + Wait + Sync, K: Sink>(
 }
 
 /// Puts what `certify` writes of the row's source behind it.
-fn certify<R: Threads + Wait + Sync>(rt: &R, alloc: Global, row: &mut Row) -> Result<(), AllocError> {
+fn certify<R: Threads + Wait + Sync>(
+    rt: &R,
+    alloc: Global,
+    row: &mut Row,
+) -> Result<(), AllocError> {
     let mut words = Vec::new(alloc);
     words.push("certify".to_string(alloc)?)?;
     let mut sink = MemSink::new(alloc, &[]);
