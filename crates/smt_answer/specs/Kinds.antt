@@ -1,9 +1,6 @@
 -- Why a command is refused, of all that may refuse it.
-use Rattle.std.specs.Prelude.{Option, Some, None}
 use Rattle.smt_lex.specs.declared.token.LexErrorKind.{LexErrorKind}
 use Rattle.smt_lex.specs.declared.token.LexErrorKind.TheVariants as lex
-use Rattle.smt_sexpr.specs.declared.error.SexprError.{SexprError}
-use Rattle.smt_sexpr.specs.declared.error.SexprError.TheVariants.{Refused, OutOfMemory}
 use Rattle.smt_sexpr.specs.declared.error.SexprRefusal.{SexprRefusal}
 use Rattle.smt_sexpr.specs.declared.error.SexprRefusal.TheVariants as sexpr
 use Rattle.idl_term.specs.declared.error.TermRefusal.{TermRefusal}
@@ -25,11 +22,6 @@ abbrev pub kind_of_unreadable : SexprRefusal → Kind
 kind_of_unreadable (sexpr.Lex error) = lexical_kind error.kind
 kind_of_unreadable (sexpr.UnclosedList place) = UnclosedList
 kind_of_unreadable (sexpr.StrayClose place) = StrayClose
-
--- the same of an error of the reader; want of memory is no refusal
-abbrev pub kind_of_error : SexprError → Option Kind
-kind_of_error (Refused why) = Some (kind_of_unreadable why)
-kind_of_error OutOfMemory = None
 
 abbrev pub kind_of_term : TermRefusal → Kind
 kind_of_term term.UnknownSymbol = UnknownSymbol

@@ -1,11 +1,11 @@
 //! Why a command is refused, of all that may refuse it.
 ghost use Rattle.std.specs.Prelude.{◌≡◌};
-ghost use Rattle.smt_answer.specs.Kinds.{kind_of_error, kind_of_unreadable};
+ghost use Rattle.smt_answer.specs.Kinds.{kind_of_unreadable};
 
 use idl_term::{LeftOutTerm, TermRefusal};
 use smt_lex::LexErrorKind;
 use smt_script::{LeftOutCommand, Refusal};
-use smt_sexpr::{SexprError, SexprRefusal};
+use smt_sexpr::SexprRefusal;
 
 /// What is left out of the language.
 #[derive(Clone, Copy, Debug, PartialEq, Eq)]
@@ -102,15 +102,5 @@ pub fn kind_of_unreadable(why: SexprRefusal) -> Kind
         },
         SexprRefusal::UnclosedList(_) => Kind::UnclosedList,
         SexprRefusal::StrayClose(_) => Kind::StrayClose,
-    }
-}
-
-/// The kind of a reader's error, or `None` for want of memory.
-pub fn kind_of_error(error: SexprError) -> Option<Kind>
-    ensures { result ≡ kind_of_error error }
-{
-    match error {
-        SexprError::Refused(why) => Some(kind_of_unreadable(why)),
-        SexprError::OutOfMemory => None,
     }
 }

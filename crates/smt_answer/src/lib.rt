@@ -4,5 +4,5 @@
 mod kind;
 mod text;
 
-pub use kind::{Kind, LeftOut, kind_of_error, kind_of_unreadable};
+pub use kind::{Kind, LeftOut, kind_of_unreadable};
 pub use text::{error_text, kind_text, success_text, unsupported_text, verdict_text};
