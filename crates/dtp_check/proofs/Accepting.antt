@@ -53,6 +53,7 @@ use Rattle.dtp_check.specs.declared.judgement.Judgement.TheVariants.{Accepted}
 use Rattle.dtp_check.specs.declared.script_part.PartEnd.{PartEnd}
 use Rattle.dtp_check.specs.declared.script_part.PartEnd.TheVariants as part
 use Rattle.dtp_check.specs.Judged.{EndsPart, ExitEnds, FollowsExit, ScriptPart, is_true, first_false, entry_flaw, judged_entry, judged, IsJudged}
+use Rattle.dtp_check.specs.Laws.{CertifiedIsAccepted}
 use Rattle.dtp_check.specs.Whole.{IsWholeFrom, IsWhole}
 use Rattle.dtp_check.proofs.Judging.{none_of_wrong_sort, of_sorts_count, values_flaw_is, judged_ok, judged_none, not_exit, told_apart, check_apart, step_of}
 
@@ -308,7 +309,7 @@ module _ (one : OneOutcome) (on : ListReadsOn) (within : ListIsWithin) (flaw : F
       judged_part = (certificate h.entries, reads_there.2, sym (h.accepted 1));
     }
 
-  pub certified : CertificateReadsBack → (script out : List ℕ) → IsReport Certificate script out 0 → IsWhole script → IsJudged (script ++ out) Accepted
+  pub certified : CertificateReadsBack → CertifiedIsAccepted
   certified back script out (found, output) (ys, is) =
       let rest = output.0 in
       let report = output.1 in

@@ -2,7 +2,8 @@
 use Rattle.std.proofs.Common.{refl, sym, ap, subst, ◌∙◌, ◌≡◌, ◌≢◌, ◌+◌, ◌≤◌, ℕ, List, [], ◌∷◌, length, drop, Bool, true, false}
 use Rattle.smt_sexpr.specs.Tree.{Sexpr}
 use Rattle.smt_sexpr.specs.declared.error.SexprRefusal.{SexprRefusal}
-use Rattle.smt_sexpr.specs.Reading.{Spells, Outcome, expression, finished, refused, Outcomes}
+use Rattle.smt_sexpr.specs.Laws.{OneOutcome}
+use Rattle.smt_sexpr.specs.Reading.{Spells, expression, finished, refused, Outcomes}
 use Rattle.cert_text.specs.declared.entry.Entry.{Entry}
 use Rattle.cert_text.specs.Form.{header_sexpr}
 use Rattle.smt_answer.specs.declared.kind.Kind.{Kind}
@@ -17,8 +18,10 @@ use Rattle.dtp_check.specs.declared.script_part.PartEnd.TheVariants as part
 use Rattle.dtp_check.specs.declared.judge.Turn.{Turn}
 use Rattle.dtp_check.specs.declared.judge.Turn.TheVariants.{Going, Judged}
 use Rattle.dtp_check.specs.declared.judgement.Judgement.{Judgement}
-use Rattle.cert_read.specs.Certificates.{CertificateOutcome, ReadsEntries, ReadsCertificate}
+use Rattle.cert_read.specs.Certificates.{CertificateOutcome}
+use Rattle.cert_read.specs.Laws.{OneCertificate, OneRest}
 use Rattle.dtp_check.specs.Judged.{CertificateBehind, judged_with, JudgedPart, IsJudged, EndsPart, ExitEnds, FollowsExit, ScriptPart, surplus_of, judged}
+use Rattle.dtp_check.specs.Laws.{OneJudgement}
 use Rattle.dtp_check.specs.Parts.{IsReadable}
 use Rattle.dtp_check.specs.Turns.{IsJudgedTurn}
 use Rattle.dtp_check.proofs.Judging.{judged_none}
@@ -57,7 +60,7 @@ turn_used s k used entries x new turn now is j =
     let w : IsJudgedTurn s k used entries x new (Going now) = subst (λ (t : Turn). IsJudgedTurn s k used entries x new t) is j in
     w.3
 
-module _ (one : (bytes : List ℕ) (place : ℕ) (o p : Outcome) (m n : ℕ) → Outcomes bytes place o m → Outcomes bytes place p n → (o ≡ p) × (m ≡ n)) where
+module _ (one : OneOutcome) where
   same_sexpr : (bytes : List ℕ) (place : ℕ) (x y : Sexpr) (m n : ℕ) → Spells bytes place x m → Spells bytes place y n → (x ≡ y) × (m ≡ n)
   same_sexpr bytes place x y m n h k =
       let w = one bytes place (expression x) (expression y) m n h k in
@@ -147,8 +150,7 @@ module _ (one : (bytes : List ℕ) (place : ℕ) (o p : Outcome) (m n : ℕ) →
       let same = same_behind bytes x mid (is_exit x) xs other.others e f m n follows other.follows (λ a b. same_part bytes mid xs other.others e f m n a b) in
       record { commands = ap (λ (zs : List Sexpr). x ∷ zs) same.commands ∙ sym other.is; ends = same.ends; behind = same.behind }
 
-  module _ (one_read : (bytes : List ℕ) (place : ℕ) (o p : CertificateOutcome) → ReadsCertificate bytes place o → ReadsCertificate bytes place p → o ≡ p)
-      (one_rest : (bytes : List ℕ) (place : ℕ) (o p : CertificateOutcome) → ReadsEntries bytes place o → ReadsEntries bytes place p → o ≡ p) where
+  module _ (one_read : OneCertificate) (one_rest : OneRest) where
     same_certificate : (bytes : List ℕ) (end : PartEnd) (behind : ℕ) (o p : CertificateOutcome) → CertificateBehind bytes end behind o → CertificateBehind bytes end behind p → o ≡ p
     same_certificate bytes part.Exit behind o p h k = one_read bytes behind o p h k
     same_certificate bytes part.Header behind o p h k = one_rest bytes behind o p h k
@@ -161,7 +163,7 @@ module _ (one : (bytes : List ℕ) (place : ℕ) (o p : Outcome) (m n : ℕ) →
     same_judgement bytes xs part.End behind i j h k = h.2 ∙ ap (judged_with xs) (same_certificate bytes part.End behind h.0 k.0 h.1 k.1) ∙ sym k.2
     same_judgement bytes xs (part.Unread kind) behind i j h k = h ∙ sym k
 
-    pub judgement_is_one : (bytes : List ℕ) (i j : Judgement) → IsJudged bytes i → IsJudged bytes j → i ≡ j
+    pub judgement_is_one : OneJudgement
     judgement_is_one bytes i j h k =
         let same = same_part bytes 0 h.commands k.commands h.end k.end h.behind k.behind h.script k.script in
         let first : JudgedPart bytes k.commands h.end h.behind i = subst (λ (xs : List Sexpr). JudgedPart bytes xs h.end h.behind i) same.commands h.judged_part in

@@ -7,13 +7,16 @@ use Rattle.smt_sexpr.specs.Tree.{Sexpr}
 use Rattle.stn_core.specs.declared.literal.Literal.{Literal}
 use Rattle.stn_core.specs.declared.named.NamedValue.{NamedValue}
 use Rattle.refute_tree.specs.declared.lemma.Lemma.{Lemma}
+use Rattle.refute_tree.specs.Laws.{RefutationLaw}
 use Rattle.refute_tree.specs.Trees.{IsRefutation}
 use Rattle.cert_text.specs.declared.entry.Entry.{Entry}
 use Rattle.cert_text.specs.declared.entry.Entry.TheVariants.{Sat, Unsat}
 use Rattle.cert_check.specs.declared.flaw.Flaw.{Flaw}
 use Rattle.cert_check.specs.Flaws.{refutation_flaw}
 use Rattle.cert_read.specs.Certificates.{CertificateOutcome, certificate, no_certificate}
+use Rattle.clause_form.specs.Laws.{ProblemFollows}
 use Rattle.idl_term.specs.Contexts.{Context, IsContext, environment, IsSatisfiable}
+use Rattle.idl_term.specs.Laws.{ContextsHaveScopes, RootsAreNodes, RootsAreExact}
 use Rattle.idl_term.specs.Scopes.{sorts_of}
 use Rattle.idl_term.specs.Values.{Value, whole, truth, nothing, Named, value}
 use Rattle.smt_script.specs.declared.error.Refusal.{Refusal}
@@ -23,8 +26,8 @@ use Rattle.smt_script.specs.States.{State, start_state, Step, IsMadeState, after
 use Rattle.smt_answer.specs.Kinds.{kind_of}
 use Rattle.dtp_entry.specs.Entries.{points_of, problem_of, verdict_of}
 use Rattle.cert_check.specs.Laws.{FlawLaw}
-use Rattle.smt_script.specs.Laws.{StepMade, SettledMade}
-use Rattle.dtp_entry.proofs.Verdicts.{ScopeLaw, RootsLaw, ExactLaw, HoldsLaw, RefutationLaw, refuted_unsatisfiable, sorts_count}
+use Rattle.smt_script.specs.Laws.{StartMade, StepMade, SettledMade}
+use Rattle.dtp_entry.proofs.Verdicts.{refuted_unsatisfiable, sorts_count}
 use Rattle.dtp_check.specs.declared.judgement.EntryFlaw.{EntryFlaw}
 use Rattle.dtp_check.specs.declared.judgement.EntryFlaw.TheVariants.{WrongCount, WrongSort, FalseAssertion, Flawed}
 use Rattle.dtp_check.specs.declared.judgement.Judgement.{Judgement}
@@ -32,6 +35,7 @@ use Rattle.dtp_check.specs.declared.judgement.Judgement.TheVariants.{Accepted, S
 use Rattle.dtp_check.specs.declared.script_part.PartEnd.{PartEnd}
 use Rattle.dtp_check.specs.declared.script_part.PartEnd.TheVariants as part
 use Rattle.dtp_check.specs.Judged.{first_of_wrong_sort, is_true, first_false, first_of_two, entry_flaw, surplus_of, judged_entry, judged_check, judged_effect, judged_after, judged, judged_with, ScriptPart, CertificateBehind, JudgedPart, IsJudged}
+use Rattle.dtp_check.specs.Laws.{NothingFalseIsAccepted}
 use Rattle.dtp_check.specs.Told.{Tells, IsToldAt, IsToldBy, IsToldAfter, IsTold, SaysNothingFalse}
 use Rattle.dtp_check.proofs.Judging.{are_of_sorts}
 
@@ -70,7 +74,7 @@ no_flaw : (f : Option Flaw) → option_map Flawed f ≡ None → f ≡ None
 no_flaw None e = refl
 no_flaw (Some f) e = absurd cc
 
-module _ (flaws : FlawLaw) (refutes : RefutationLaw) (scope : ScopeLaw) (roots : RootsLaw) (exact : ExactLaw) (holds : HoldsLaw) (step_made : StepMade) (settled_made : SettledMade) where
+module _ (flaws : FlawLaw) (refutes : RefutationLaw) (scope : ContextsHaveScopes) (roots : RootsAreNodes) (exact : RootsAreExact) (holds : ProblemFollows) (step_made : StepMade) (settled_made : SettledMade) where
   entry_right : (c : Context) (entry : Entry) → IsContext c → entry_flaw c entry ≡ None → Tells c entry
   entry_right c (Sat values) made e = values_right_by c values (length values == length c.declared) refl e
   entry_right c (Unsat lemmas) made e =
@@ -113,7 +117,7 @@ module _ (flaws : FlawLaw) (refutes : RefutationLaw) (scope : ScopeLaw) (roots :
 
   -- ---- the source
 
-  module _ (start_made : IsMadeState start_state) where
+  module _ (start_made : StartMade) where
     told_with : (bytes : List ℕ) (xs : List Sexpr) (end : PartEnd) (behind : ℕ) (outcome : CertificateOutcome) → ScriptPart bytes 0 xs end behind → CertificateBehind bytes end behind outcome → Accepted ≡ judged_with xs outcome → SaysNothingFalse bytes
     told_with bytes xs end behind (certificate entries) p is e =
         record { commands = xs; end = end; behind = behind; entries = entries; script = p; stands = is; told = told start_state 1 1 xs entries start_made (sym e) }
@@ -125,5 +129,5 @@ module _ (flaws : FlawLaw) (refutes : RefutationLaw) (scope : ScopeLaw) (roots :
     told_part bytes xs part.End behind p j = told_with bytes xs part.End behind j.0 p j.1 j.2
     told_part bytes xs (part.Unread kind) behind p j = absurd cc
 
-    pub accepted_told : (bytes : List ℕ) → IsJudged bytes Accepted → SaysNothingFalse bytes
+    pub accepted_told : NothingFalseIsAccepted
     accepted_told bytes j = told_part bytes j.commands j.end j.behind j.script j.judged_part

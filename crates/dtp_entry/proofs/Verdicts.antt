@@ -7,11 +7,12 @@ use Rattle.stn_core.specs.declared.named.NamedValue.{NamedValue}
 use Rattle.stn_core.specs.Literal.{IsOver}
 use Rattle.stn_core.specs.Problem.{ProblemHolds}
 use Rattle.refute_tree.specs.declared.lemma.Lemma.{Lemma}
+use Rattle.refute_tree.specs.Laws.{RefutationLaw}
 use Rattle.refute_tree.specs.Trees.{IsRefutation}
 use Rattle.cert_text.specs.declared.entry.Entry.TheVariants.{Sat, Unsat}
 use Rattle.cert_text.specs.Limits.{limit}
 use Rattle.clause_form.specs.ClauseForm as clause_form
-use Rattle.clause_form.specs.Restricting.{restricted}
+use Rattle.clause_form.specs.Laws.{ProblemFollows, PointsAreFew}
 use Rattle.clause_form.proofs.Points.{weaker_table}
 use Rattle.idl_node.specs.declared.sort.Sort.{Sort}
 use Rattle.idl_node.specs.Limits.{nodes_limit}
@@ -20,53 +21,18 @@ use Rattle.idl_node.specs.Sorts.{AreOfSorts, IsAtomFor}
 use Rattle.idl_node.specs.Tables.{IsTableOf, IsTableOver}
 use Rattle.idl_node.specs.Truth.{truth, point_values}
 use Rattle.idl_term.specs.Contexts.{Context, IsContext, IsScheduleFor, IsTrueOn, IsSatisfiable, scope_of}
+use Rattle.idl_term.specs.Laws.{ContextsHaveScopes, RootsAreNodes, RootsAreExact}
 use Rattle.idl_term.specs.Limits.{names_limit}
 use Rattle.idl_term.specs.Meanings.{IsScopeOver, AreRoots}
 use Rattle.idl_term.specs.Scopes.{sorts_of, Declaration}
 use Rattle.dtp_entry.specs.Entries.{points_of, problem_of, IsEntryOf}
 use Rattle.dtp_entry.proofs.Roots.{roots_true}
 
--- ---- the laws that verdicts rest on
-
-abbrev pub AreInRange : List NodeValue → List ℕ → Type 0
-AreInRange nodes roots = AllByRecursion (λ r. r < length nodes) roots
-
-abbrev pub AreTrue : List NodeValue → List NamedValue → List ℕ → Type 0
-AreTrue nodes schedule roots = AllByRecursion (λ r. truth nodes (point_values schedule) r ≡ true) roots
-
-abbrev pub ScopeLaw : Type 0
-ScopeLaw = (c : Context) → IsContext c → IsScopeOver (scope_of c) c.nodes
-
-abbrev pub RootsLaw : Type 0
-RootsLaw = (c : Context) → IsContext c → AreInRange c.nodes c.roots
-
-abbrev pub ExactLaw : Type 0
-ExactLaw = (c : Context) (schedule : List NamedValue) → IsContext c → IsScheduleFor c schedule → AreRoots c schedule c.assertions c.roots
-
-abbrev pub HoldsLaw : Type 0
-HoldsLaw = (sorts : List Sort) (nodes : List NodeValue) (roots : List ℕ) (schedule : List NamedValue) → IsTableOf (IsAtomFor sorts) nodes → AreInRange nodes roots → AreOfSorts sorts schedule → AreTrue nodes schedule roots
-    → (values : List ℤ) × (length values ≡ clause_form.points_of (length sorts + 1) nodes roots) × (restricted sorts values ≡ schedule) × ProblemHolds values (clause_form.clauses_of (length sorts + 1) nodes roots)
-
-abbrev pub ScheduleLaw : Type 0
-ScheduleLaw = (sorts : List Sort) (nodes : List NodeValue) (roots : List ℕ) (values : List ℤ) → IsTableOf (IsAtomFor sorts) nodes → AreInRange nodes roots → length values ≡ clause_form.points_of (length sorts + 1) nodes roots
-    → ProblemHolds values (clause_form.clauses_of (length sorts + 1) nodes roots) → AreOfSorts sorts (restricted sorts values) × AreTrue nodes (restricted sorts values) roots
-
-abbrev pub OverLaw : Type 0
-OverLaw = (sorts : List Sort) (nodes : List NodeValue) (roots : List ℕ) → IsTableOf (IsAtomFor sorts) nodes → AreInRange nodes roots
-    → All (λ (clause : List Literal). All (IsOver (clause_form.points_of (length sorts + 1) nodes roots)) clause) (clause_form.clauses_of (length sorts + 1) nodes roots)
-
--- the literals of a problem are within the limits and over its points
 -- the table that a state lends is over the zero point and the names' points
 pub table_over : (points : ℕ) (lent nodes : List NodeValue) (sorts : List Sort) → points ≡ length sorts + 1 → lent ≡ nodes → IsTableOf (IsAtomFor sorts) nodes → IsTableOver points lent
 table_over points lent nodes sorts e f table =
     let over : IsTableOver (length sorts + 1) nodes = weaker_table (IsAtomFor sorts) (IsOver (length sorts + 1)) nodes (λ l is. is.over) table in
     subst (λ (n : ℕ). IsTableOver n lent) (sym e) (subst (λ (ns : List NodeValue). IsTableOver (length sorts + 1) ns) (sym f) over)
-
-abbrev pub FewLaw : Type 0
-FewLaw = (points : ℕ) (nodes : List NodeValue) (roots : List ℕ) → clause_form.points_of points nodes roots ≤ points + length nodes
-
-abbrev pub RefutationLaw : Type 0
-RefutationLaw = (points : ℕ) (clauses : List (List Literal)) (lemmas : List Lemma) → IsRefutation points clauses lemmas → (values : List ℤ) → ProblemHolds values clauses → ⊥
 
 -- as many sorts as names
 pub sorts_count : (declared : List Declaration) → length (sorts_of declared) ≡ length declared
@@ -75,13 +41,13 @@ sorts_count (d ∷ declared) = ap suc (sorts_count declared)
 
 module _ (c : Context) (context : IsContext c) where
   -- where the problem is refuted, no schedule satisfies the assertions
-  pub refuted_unsatisfiable : ScopeLaw → RootsLaw → ExactLaw → HoldsLaw → RefutationLaw → (lemmas : List Lemma) → IsRefutation (points_of c) (problem_of c) lemmas → IsSatisfiable c → ⊥
+  pub refuted_unsatisfiable : ContextsHaveScopes → RootsAreNodes → RootsAreExact → ProblemFollows → RefutationLaw → (lemmas : List Lemma) → IsRefutation (points_of c) (problem_of c) lemmas → IsSatisfiable c → ⊥
   refuted_unsatisfiable scope roots exact law refutes lemmas h sat =
       let sorts = sorts_of c.declared in
       let w = law sorts c.nodes c.roots sat.0 (scope c context).table (roots c context) sat.1 (roots_true c sat.0 c.assertions c.roots (exact c sat.0 context sat.1) sat.2) in
       refutes (points_of c) (problem_of c) lemmas h w.0 (subst (λ (n : ℕ). ProblemHolds w.0 (clause_form.clauses_of (n + 1) c.nodes c.roots)) (sorts_count c.declared) w.3)
 
-  pub few_points : ScopeLaw → FewLaw → points_of c ≤ 2 ^ 32
+  pub few_points : ContextsHaveScopes → PointsAreFew → points_of c ≤ 2 ^ 32
   few_points scope few =
       let over = scope c context in
       let names : length c.declared ≤ names_limit = over.few in

@@ -6,6 +6,7 @@ use Rattle.std.proofs.lemmas.Int.{ints}
 use Rattle.std.proofs.lemmas.List.Elements.{All-contains, All-get_or, All-from_get_or, All-push, All-nil, recursion_from_All, All-from_recursion}
 use Rattle.std.proofs.lemmas.Option.{slice_get_within, get_or_from_slice_get, slice_get-get_or}
 use Rattle.stn_core.specs.declared.literal.Literal.{Literal}
+use Rattle.stn_core.specs.Laws.{NegationKept}
 use Rattle.stn_core.specs.Literal.{negation_of, IsOver}
 use Rattle.stn_core.specs.Schedule.{IsInRange}
 use Rattle.refute_tree.specs.declared.step.Step.{Step}
@@ -68,9 +69,6 @@ Within s = StepWithin (2 ^ 32) s
 -- the steps of a tree are within the limits where those behind it are, and those behind it are plain
 abbrev Continues : List Step → List Step → Type 0
 Continues steps rest = (AllByRecursion Within rest → AllByRecursion Within steps) × AllByRecursion IsPlain rest
-
-abbrev pub NegationKept : Type 0
-NegationKept = (points : ℕ) (l : Literal) → IsOver points l → IsOver points (negation_of l)
 
 module _ (kept : NegationKept) (points : ℕ) (few_points : points ≤ 2 ^ 32) (clauses : List (List Literal)) (few : length clauses ≤ limit) (over : All (λ (clause : List Literal). All (IsOver points) clause) clauses) where
   abbrev AreOver : List Literal → Type 0

@@ -4,13 +4,16 @@ use Rattle.std.specs.Prelude.{All}
 use Rattle.std.specs.List.{AllByRecursion}
 use Rattle.stn_core.specs.declared.literal.Literal.{Literal}
 use Rattle.stn_core.specs.declared.named.NamedValue.{NamedValue}
+use Rattle.stn_core.specs.Laws.{NegationKept}
 use Rattle.stn_core.specs.Literal.{IsOver}
 use Rattle.stn_core.specs.Problem.{ProblemHolds}
 use Rattle.refute_tree.specs.declared.lemma.Lemma.{Lemma}
+use Rattle.refute_tree.specs.Laws.{RefutationLaw}
 use Rattle.refute_tree.specs.Trees.{IsRefutation}
 use Rattle.cert_text.specs.declared.entry.Entry.TheVariants.{Sat, Unsat}
 use Rattle.cert_text.specs.Limits.{limit}
 use Rattle.clause_form.specs.ClauseForm as clause_form
+use Rattle.clause_form.specs.Laws.{ProblemFollows, ScheduleFollows, LiteralsAreOver, PointsAreFew}
 use Rattle.clause_form.specs.Restricting.{restricted}
 use Rattle.clause_form.proofs.Points.{weaker_table}
 use Rattle.idl_node.specs.declared.sort.Sort.{Sort}
@@ -20,16 +23,16 @@ use Rattle.idl_node.specs.Sorts.{AreOfSorts, IsAtomFor}
 use Rattle.idl_node.specs.Tables.{IsTableOf, IsTableOver}
 use Rattle.idl_node.specs.Truth.{truth, point_values}
 use Rattle.idl_term.specs.Contexts.{Context, IsContext, IsScheduleFor, IsTrueOn, IsSatisfiable, scope_of}
-use Rattle.idl_term.specs.Limits.{names_limit}
+use Rattle.idl_term.specs.Laws.{ContextsHaveScopes, RootsAreNodes, RootsAreExact}
 use Rattle.idl_term.specs.Meanings.{IsScopeOver, AreRoots}
 use Rattle.idl_term.specs.Scopes.{sorts_of, Declaration}
 use Rattle.plain_search.specs.declared.verdict.Verdict.{Verdict}
 use Rattle.plain_search.specs.Verdicts.{IsSolution, IsOfInputs, IsVerdict}
 use Rattle.dtp_entry.specs.Entries.{points_of, problem_of}
 use Rattle.dtp_entry.specs.Transcripts.{Decides}
-use Rattle.dtp_session.proofs.Fitting.{NegationKept, values_within, refutation_within}
+use Rattle.dtp_session.proofs.Fitting.{values_within, refutation_within}
 use Rattle.dtp_entry.proofs.Roots.{assertions_true}
-use Rattle.dtp_entry.proofs.Verdicts.{ScopeLaw, RootsLaw, ExactLaw, HoldsLaw, ScheduleLaw, OverLaw, FewLaw, RefutationLaw, sorts_count, few_points, refuted_unsatisfiable}
+use Rattle.dtp_entry.proofs.Verdicts.{sorts_count, few_points, refuted_unsatisfiable}
 
 -- what was found, of the assertions' problem
 pub as_found : (points p : ℕ) (clauses q : List (List Literal)) (found other : Verdict) → points ≡ p → clauses ≡ q → found ≡ other → IsVerdict points clauses found → IsVerdict p q other
@@ -38,7 +41,7 @@ as_found points p clauses q found other e f g h =
 
 module _ (c : Context) (context : IsContext c) where
   -- a solution of the problem is a schedule that satisfies the assertions
-  pub solution_schedule : ScopeLaw → RootsLaw → ExactLaw → ScheduleLaw → (values : List ℤ) → IsSolution (points_of c) (problem_of c) values
+  pub solution_schedule : ContextsHaveScopes → RootsAreNodes → RootsAreExact → ScheduleFollows → (values : List ℤ) → IsSolution (points_of c) (problem_of c) values
       → IsScheduleFor c (restricted (sorts_of c.declared) values) × AllByRecursion (IsTrueOn c (restricted (sorts_of c.declared) values)) c.assertions
   solution_schedule scope roots exact law values h =
       let sorts = sorts_of c.declared in
@@ -47,14 +50,14 @@ module _ (c : Context) (context : IsContext c) where
       (subst (λ (n : ℕ). ProblemHolds values (clause_form.clauses_of (n + 1) c.nodes c.roots)) (sym count) h.holds) in
       (w.0, assertions_true c (restricted sorts values) c.assertions c.roots (exact c (restricted sorts values) context w.0) w.1)
 
-  pub sat_decides : ScopeLaw → RootsLaw → ExactLaw → ScheduleLaw → (values : List ℤ) (named : List NamedValue) → IsSolution (points_of c) (problem_of c) values → named ≡ restricted (sorts_of c.declared) values → Decides c (Sat named)
+  pub sat_decides : ContextsHaveScopes → RootsAreNodes → RootsAreExact → ScheduleFollows → (values : List ℤ) (named : List NamedValue) → IsSolution (points_of c) (problem_of c) values → named ≡ restricted (sorts_of c.declared) values → Decides c (Sat named)
   sat_decides scope roots exact law values named h e =
       let shown = restricted (sorts_of c.declared) values in
       let w = solution_schedule scope roots exact law values h in
       let within = values_within (sorts_of c.declared) values h.range in
       subst (λ (found : List NamedValue). Decides c (Sat found)) (sym e) (record { right = ((w.0, w.1), within); so = (shown, w.0, w.1) })
 
-  pub unsat_decides : ScopeLaw → RootsLaw → ExactLaw → HoldsLaw → RefutationLaw → OverLaw → FewLaw → NegationKept → length (problem_of c) ≤ limit → (lemmas : List Lemma) → IsRefutation (points_of c) (problem_of c) lemmas → IsOfInputs lemmas
+  pub unsat_decides : ContextsHaveScopes → RootsAreNodes → RootsAreExact → ProblemFollows → RefutationLaw → LiteralsAreOver → PointsAreFew → NegationKept → length (problem_of c) ≤ limit → (lemmas : List Lemma) → IsRefutation (points_of c) (problem_of c) lemmas → IsOfInputs lemmas
       → Decides c (Unsat lemmas)
   unsat_decides scope roots exact holds refutes law few kept few_clauses lemmas h inputs =
       let over = law (sorts_of c.declared) c.nodes c.roots (scope c context).table (roots c context) in
