@@ -4,7 +4,6 @@ ghost use Rattle.smt_sexpr.specs.Tree.{Sexpr};
 ghost use Rattle.smt_sexpr.specs.Table.{Means, HasMeaning};
 ghost use Rattle.smt_answer.specs.Kinds.{kind_of};
 ghost use Rattle.smt_script.specs.States.{State as Meaning, start_state};
-ghost use Rattle.dtp_entry.specs.Entries.{verdict_of};
 ghost use Rattle.dtp_entry.specs.Standing.{Stands};
 ghost use Rattle.dtp_check.specs.declared.script_part.PartEnd.{PartEnd as End};
 ghost use Rattle.dtp_check.specs.Judged.{surplus_of, judged, ScriptPart};
@@ -15,9 +14,10 @@ use crate::entry_flaw::entry_flaw;
 use crate::judgement::Judgement;
 use crate::script_part::{Next, PartEnd, next_command};
 use cert_text::Entry;
+use dtp_entry::verdict_of;
 use smt_answer::Kind;
 use smt_lex::Lexer;
-use smt_script::{Effect, Refusal, Satisfiability, ScriptError, State};
+use smt_script::{Effect, Refusal, ScriptError, State};
 use smt_sexpr::{SexprId, Sexprs};
 use std::alloc::{AllocError, Global};
 
@@ -38,16 +38,6 @@ fn surplus(entries: &[Entry], used: usize) -> Judgement
         Judgement::Surplus(used + 1)
     } else {
         Judgement::Accepted
-    }
-}
-
-/// What an entry says.
-fn verdict_of(entry: &Entry) -> Satisfiability
-    ensures { result ≡ verdict_of entry.now }
-{
-    match entry {
-        Entry::Sat(_) => Satisfiability::Sat,
-        Entry::Unsat(_) => Satisfiability::Unsat,
     }
 }
 
