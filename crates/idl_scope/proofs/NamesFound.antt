@@ -1,12 +1,12 @@
 -- Where a name is found among those that the code keeps.
-use Rattle.std.proofs.Common.{arith, refl, ap, ◌∙◌, ◌≡◌, ◌+◌, ◌<◌, ℕ, zero, suc, List, [], ◌∷◌, length, get_or, Bool, true, false, ◌||◌, Some, Bor}
+use Rattle.std.proofs.Common.{arith, refl, ap, ◌∙◌, ◌≡◌, ◌+◌, ◌<◌, ℕ, zero, suc, List, [], ◌∷◌, length, get_or, Bool, true, false, ◌||◌, not, Some, Bor}
 use Rattle.std.specs.Prelude.{if◌then◌else◌, slice_get}
 use Rattle.std.specs.List.{position}
 use Rattle.std.specs.Str.{bytes_eq}
 use Rattle.std.proofs.lemmas.List.Quantifiers.{position-Some}
 use Rattle.idl_node.specs.declared.sort.Sort.{Sort}
-use Rattle.idl_scope.specs.Kept.{declarations_of, definitions_of}
-use Rattle.idl_scope.specs.Scopes.{LoweredTerm, Declaration, Binding, Scope, Found, declared_at, stands_for, unknown, found_declared, found_bound, found, is_known, is_found, shown_term}
+use Rattle.idl_scope.specs.Kept.{declarations_of, definitions_of, Adds, Declares}
+use Rattle.idl_scope.specs.Scopes.{LoweredTerm, Declaration, Scope, Found, declared_at, stands_for, unknown, found_declared, found_bound, found, is_known, is_found, shown_term}
 use Rattle.idl_scope.specs.declared.lowered.Lowered.{Lowered}
 use Rattle.idl_scope.proofs.NamesKept.{texts, is_among}
 
@@ -20,19 +20,6 @@ pub declared-absent : (name : List ℕ) (i : ℕ) (keys : List (Bor (List ℕ)))
 declared-absent name i [] sorts e = refl
 declared-absent name i (x ∷ keys) [] e = refl
 declared-absent name i (x ∷ keys) (s ∷ sorts) e = absent_step (bytes_eq name x.now) (is_among name keys) i s (found_declared name (i + 1) (declarations_of (texts keys) sorts)) (declared-absent name (i + 1) keys sorts) e
-
-undeclared_step : (b any : Bool) (i : ℕ) (s : Sort) (rest : Found) → (rest ≡ unknown → any ≡ false) → (if b then declared_at i s else rest) ≡ unknown → (b || any) ≡ false
-undeclared_step true any i s rest h e = absurd cc
-undeclared_step false any i s rest h e = h e
-
-undeclared_from : (name : List ℕ) (i : ℕ) (keys : List (Bor (List ℕ))) (sorts : List Sort) → length keys ≡ length sorts → found_declared name i (declarations_of (texts keys) sorts) ≡ unknown → is_among name keys ≡ false
-undeclared_from name i [] sorts l e = refl
-undeclared_from name i (x ∷ keys) [] l e = absurd (omega arith)
-undeclared_from name i (x ∷ keys) (s ∷ sorts) l e =
-    undeclared_step (bytes_eq name x.now) (is_among name keys) i s (found_declared name (i + 1) (declarations_of (texts keys) sorts)) (undeclared_from name (i + 1) keys sorts (omega arith)) e
-
-pub undeclared : (name : List ℕ) (keys : List (Bor (List ℕ))) (sorts : List Sort) → length keys ≡ length sorts → found_declared name 0 (declarations_of (texts keys) sorts) ≡ unknown → is_among name keys ≡ false
-undeclared name = undeclared_from name 0
 
 same_some : {A : Type 0} (a b : A) → Some a ≡ Some b → a ≡ b
 same_some a b e = grind arith
@@ -111,13 +98,37 @@ pub unknown-undefined : (name : List ℕ) (keys : List (Bor (List ℕ))) (terms 
     → is_known (record { declared = declared; bound = definitions_of (texts keys) terms }) name ≡ false → is_among name keys ≡ false
 unknown-undefined name keys terms declared l e = undefined name keys terms declared l (not_found (found_bound name (definitions_of (texts keys) terms) declared) e)
 
-beyond_step : (b : Bool) (t : LoweredTerm) (rest : Found) → (if b then stands_for t else rest) ≡ unknown → rest ≡ unknown
-beyond_step true t rest e = absurd cc
-beyond_step false t rest e = e
+-- ---- names that are known
 
-beyond : (name : List ℕ) (bound : List Binding) (declared : List Declaration) → found_bound name bound declared ≡ unknown → found_declared name 0 declared ≡ unknown
-beyond name [] declared e = e
-beyond name (b ∷ bound) declared e = beyond name bound declared (beyond_step (bytes_eq name b.name) b.stands (found_bound name bound declared) e)
+found_step : (b any : Bool) (f rest : Found) → is_found f ≡ true → (any ≡ true → is_found rest ≡ true) → (b || any) ≡ true → is_found (if b then f else rest) ≡ true
+found_step true any f rest here h e = here
+found_step false any f rest here h e = h e
 
-pub unknown-undeclared : (name : List ℕ) (scope : Scope) → is_known scope name ≡ false → found_declared name 0 scope.declared ≡ unknown
-unknown-undeclared name scope e = beyond name scope.bound scope.declared (not_found (found scope name) e)
+among-declared_from : (name : List ℕ) (i : ℕ) (keys : List (Bor (List ℕ))) (sorts : List Sort) → length keys ≡ length sorts → is_among name keys ≡ true → is_found (found_declared name i (declarations_of (texts keys) sorts)) ≡ true
+among-declared_from name i [] sorts l e = absurd cc
+among-declared_from name i (x ∷ keys) [] l e = absurd (omega arith)
+among-declared_from name i (x ∷ keys) (s ∷ sorts) l e =
+    found_step (bytes_eq name x.now) (is_among name keys) (declared_at i s) (found_declared name (i + 1) (declarations_of (texts keys) sorts)) refl (among-declared_from name (i + 1) keys sorts (omega arith)) e
+
+pub among-declared : (name : List ℕ) (keys : List (Bor (List ℕ))) (sorts : List Sort) → length keys ≡ length sorts → is_among name keys ≡ true → is_found (found_declared name 0 (declarations_of (texts keys) sorts)) ≡ true
+among-declared name = among-declared_from name 0
+
+pub among-defined : (name : List ℕ) (keys : List (Bor (List ℕ))) (terms : List Lowered) (declared : List Declaration) → length keys ≡ length terms → is_among name keys ≡ true
+    → is_found (found_bound name (definitions_of (texts keys) terms) declared) ≡ true
+among-defined name [] terms declared l e = absurd cc
+among-defined name (x ∷ keys) [] declared l e = absurd (omega arith)
+among-defined name (x ∷ keys) (t ∷ terms) declared l e =
+    found_step (bytes_eq name x.now) (is_among name keys) (stands_for (shown_term t)) (found_bound name (definitions_of (texts keys) terms) declared) refl (among-defined name keys terms declared (omega arith)) e
+
+-- a name that isn't defined is declared in the scope where it is among the declared names
+pub declares-by : (old : Scope) (names : List Declaration) (name : List ℕ) (s : Sort) (new : Bool) → found old name ≡ found_declared name 0 old.declared → Adds old.declared name s new names → Declares old name s new (record { declared = names; bound = old.bound })
+declares-by old names name s true same h = (rw same h.0, ap (λ (ds : List Declaration). record { declared = ds; bound = old.bound }) h.1)
+declares-by old names name s false same h = (rw same h.0, ap (λ (ds : List Declaration). record { declared = ds; bound = old.bound }) h.1)
+
+pub not_false : (b new : Bool) → new ≡ not b → new ≡ false → b ≡ true
+not_false true new e f = refl
+not_false false new e f = absurd cc
+
+pub not_true : (b new : Bool) → new ≡ not b → new ≡ true → b ≡ false
+not_true false new e f = refl
+not_true true new e f = absurd cc

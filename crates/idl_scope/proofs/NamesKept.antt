@@ -1,5 +1,5 @@
 -- The lists that the code keeps of names, beside what they stand for.
-use Rattle.std.proofs.Common.{arith, refl, ap, ◌≡◌, ℕ, zero, suc, List, [], ◌∷◌, ◌++◌, length, take, map, Bool, false, Bor}
+use Rattle.std.proofs.Common.{arith, refl, ap, ◌≡◌, ℕ, zero, suc, List, [], ◌∷◌, ◌++◌, length, take, map, Bool, true, false, Bor}
 use Rattle.std.specs.List.{list_any}
 use Rattle.std.specs.Str.{bytes_eq}
 use Rattle.indexmap.specs.IndexSet.{insert_key}
@@ -76,3 +76,7 @@ definitions-push (x ∷ keys) (t' ∷ terms) name t e = ap (λ (bs : List Bindin
 -- a key that isn't there goes last
 pub key_added : (keys : List (Bor (List ℕ))) (name : Bor (List ℕ)) → is_among name.now keys ≡ false → insert_key (λ (a b : Bor (List ℕ)). bytes_eq a.now b.now) keys name ≡ keys ++ name ∷ []
 key_added keys name absent = rw absent refl
+
+-- a key that is there stays alone
+pub key_kept : (keys : List (Bor (List ℕ))) (name : Bor (List ℕ)) → is_among name.now keys ≡ true → insert_key (λ (a b : Bor (List ℕ)). bytes_eq a.now b.now) keys name ≡ keys
+key_kept keys name among = rw among refl

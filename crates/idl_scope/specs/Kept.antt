@@ -1,11 +1,11 @@
 -- How the code keeps names. These are words of the code, and no part of the meaning.
-use Rattle.std.specs.Prelude.{◌≡◌, ℕ, ◌<◌, List, [], ◌∷◌, map, Option, Some, None}
+use Rattle.std.specs.Prelude.{◌≡◌, ℕ, ◌<◌, List, [], ◌∷◌, ◌++◌, map, Bool, true, false, Option, Some, None}
 use Rattle.idl_node.specs.declared.sort.Sort.{Sort}
 use Rattle.idl_node.specs.declared.sort.Sort.TheVariants as sort
 use Rattle.idl_scope.specs.declared.lowered.Lowered.{Lowered}
 use Rattle.idl_scope.specs.declared.scope.FoundName.{FoundName}
 use Rattle.idl_scope.specs.declared.scope.FoundName.TheVariants as name
-use Rattle.idl_scope.specs.Scopes.{LoweredTerm, formula, numeric, Declaration, Binding, Found, declared_at, stands_for, unknown, shown_term}
+use Rattle.idl_scope.specs.Scopes.{LoweredTerm, formula, numeric, Declaration, Binding, Scope, Found, declared_at, stands_for, unknown, found_declared, is_found, is_known, shown_term}
 use Rattle.idl_scope.specs.Limits.{names_limit}
 
 -- each name with its sort
@@ -25,6 +25,17 @@ names_of declared = map (λ (d : Declaration). d.name) declared
 abbrev pub found_place : Option (ℕ × Sort) → Found
 found_place (Some found) = declared_at found.0 found.1
 found_place None = unknown
+
+-- a name is new, and is declared last, or it was declared, and nothing changes
+abbrev pub Adds : List Declaration → List ℕ → Sort → Bool → List Declaration → Type 0
+Adds old name s true new = (is_found (found_declared name 0 old) ≡ false) × (new ≡ old ++ record { name = name; sort = s } ∷ [])
+Adds old name s false new = (is_found (found_declared name 0 old) ≡ true) × (new ≡ old)
+
+-- a name is new, and is declared last, or it was known, and nothing changes
+abbrev pub Declares : Scope → List ℕ → Sort → Bool → Scope → Type 0
+Declares old name s true new =
+    (is_known old name ≡ false) × (new ≡ record { declared = old.declared ++ record { name = name; sort = s } ∷ []; bound = old.bound })
+Declares old name s false new = (is_known old name ≡ true) × (new ≡ old)
 
 -- a declared name's place is below the count
 abbrev pub IsPlaceBelow : ℕ → FoundName → Type 0

@@ -1,7 +1,7 @@
 //! The declared names.
-ghost use Rattle.std.specs.Prelude.{◌≡◌, ◌≤◌, ◌<◌, ◌++◌, ◌∷◌, [], length, take, slice_get, Some, IfSome, OnOk, OnErr};
-ghost use Rattle.idl_scope.specs.Kept.{found_place, names_of};
-ghost use Rattle.idl_scope.specs.Scopes.{Declaration, found_declared, sorts_of, unknown};
+ghost use Rattle.std.specs.Prelude.{◌≡◌, ◌≤◌, ◌<◌, [], length, take, slice_get, Some, IfSome, IfOk, OnErr};
+ghost use Rattle.idl_scope.specs.Kept.{Adds, found_place, names_of};
+ghost use Rattle.idl_scope.specs.Scopes.{found_declared, sorts_of};
 
 use idl_node::Sort;
 use indexmap::IndexSet;
@@ -70,16 +70,18 @@ impl<'a> Names<'a> {
         *self.set.get_index(place).unwrap()
     }
 
-    /// One more name, which isn't there yet.
-    pub fn add(&mut self, name: &'a [u8], sort: Sort) -> Result<(), AllocError>
-        requires { found_declared name.now 0 self.old ≡ unknown }
-        ensures ok { OnOk result (self.new ≡ self.old ++ record { name = name.now; sort = sort } ∷ []) }
+    /// One more name, unless it is there; says whether it was new. It is looked up once.
+    pub fn add(&mut self, name: &'a [u8], sort: Sort) -> Result<bool, AllocError>
+        ensures ok { IfOk result (λ new. Adds self.old name.now sort new self.new) }
         ensures err { OnErr result (self.new ≡ self.old) }
     {
         self.sorts.reserve(1)?;
-        self.set.insert(name)?;
+        let new = self.set.insert(name)?;
+        if !new {
+            return Ok(false);
+        }
         self.sorts.push_reserved(sort);
-        Ok(())
+        Ok(true)
     }
 
     /// The first names stay.

@@ -1,6 +1,6 @@
 //! The names that terms may use.
-ghost use Rattle.std.specs.Prelude.{◌≡◌, ◌≤◌, ◌++◌, ◌∷◌, [], length, take, false, OnOk, OnErr};
-ghost use Rattle.idl_scope.specs.Kept.{IsPlaceBelow, FoundIs};
+ghost use Rattle.std.specs.Prelude.{◌≡◌, ◌≤◌, ◌++◌, ◌∷◌, [], length, take, false, IfOk, OnOk, OnErr};
+ghost use Rattle.idl_scope.specs.Kept.{Declares, IsPlaceBelow, FoundIs};
 ghost use Rattle.idl_scope.specs.Scopes.{Scope as Meaning, found, is_known, shown_term};
 
 use crate::lowered::Lowered;
@@ -91,17 +91,16 @@ impl<'a> Scope<'a> {
         }
     }
 
-    /// One more declared name, which isn't known yet.
-    pub fn declare(&mut self, name: &'a [u8], sort: Sort) -> Result<(), AllocError>
-        requires { is_known self.old name.now ≡ false }
-        ensures ok { OnOk result (self.new
-            ≡ record {
-              declared = self.old.declared ++ record { name = name.now; sort = sort } ∷ [];
-              bound = self.old.bound;
-            }) }
+    /// One more declared name, unless it is known; says whether it was new. Each table is looked up once.
+    pub fn declare(&mut self, name: &'a [u8], sort: Sort) -> Result<bool, AllocError>
+        ensures ok { IfOk result (λ new. Declares self.old name.now sort new self.new) }
         ensures err { OnErr result (self.new ≡ self.old) }
     {
-        self.names.add(name, sort)
+        if self.defined.get_index_of(name).is_some() {
+            return Ok(false);
+        }
+        let new = self.names.add(name, sort)?;
+        Ok(new)
     }
 
     /// One more defined name, which isn't known yet, with what it stands for.

@@ -5,6 +5,7 @@ use Rattle.std.proofs.lemmas.Bool.Decides.{nat_tests}
 use Rattle.idl_node.specs.Nodes.{NodeValue}
 use Rattle.idl_node.specs.declared.sort.Sort.{Sort}
 use Rattle.smt_sexpr.specs.Tree.{Sexpr, Items, none, more}
+use Rattle.idl_scope.specs.Kept.{Declares}
 use Rattle.idl_term.specs.Applied.{Made}
 use Rattle.idl_term.specs.Contexts.{scope_of, with_declaration, with_definition, with_assertion}
 use Rattle.idl_term.specs.Limits.{names_limit}
@@ -105,6 +106,29 @@ pub defined_refused : (s : State) (name : List ℕ) (sort : Sort) (t : Sexpr) (m
 defined_refused s name sort t (Err w) why e = let same : Term w ≡ why = cc in ap Err same
 defined_refused s name sort t (Ok n) why e = defined_refused_by s name sort t n (is_of_sort sort n.is) refl why e
 
+-- ---- names that are declared
+
+pub reserved_taken : (reserved known : Bool) → true ≡ reserved → true ≡ (reserved || known)
+reserved_taken true known e = refl
+reserved_taken false known e = absurd cc
+
+pub known_taken : (reserved known : Bool) → known ≡ true → true ≡ (reserved || known)
+known_taken true known e = refl
+known_taken false known e = sym e
+
+pub neither_taken : (reserved known : Bool) → false ≡ reserved → known ≡ false → false ≡ (reserved || known)
+neither_taken true known e f = absurd cc
+neither_taken false known e f = sym f
+
+module _ (old new : Scope) (name : List ℕ) (sort : Sort) where
+  pub declares_known : (is_new : Bool) → Declares old name sort is_new new → is_new ≡ false → is_known old name ≡ true
+  declares_known true h e = absurd cc
+  declares_known false h e = h.0
+
+  pub declares_new : (is_new : Bool) → Declares old name sort is_new new → is_new ≡ true → Declares old name sort true new
+  declares_new true h e = h
+  declares_new false h e = absurd cc
+
 -- ---- steps
 
 module _ (kept : Kept) (s : State) (h : StandsFor kept s) where
@@ -124,11 +148,20 @@ module _ (kept : Kept) (s : State) (h : StandsFor kept s) where
     pub declaration_taken : true ≡ (is_reserved name || is_known kept.scope name) → after_declaration s name parameters found ≡ Err AlreadyDeclared
     declaration_taken taken = declaration_is s name parameters found sort given ∙ chosen (is_taken s.context name) _ _ (taken_same name true taken)
 
-    pub declaration_full : false ≡ (is_reserved name || is_known kept.scope name) → names_limit ≤ length kept.scope.declared → after_declaration s name parameters found ≡ Err TooManyNames
+    declaration_full : false ≡ (is_reserved name || is_known kept.scope name) → names_limit ≤ length kept.scope.declared → after_declaration s name parameters found ≡ Err TooManyNames
     declaration_full free full =
         let same = names_same in
         let test : nat_lt (length s.context.declared) names_limit ≡ false = grind (arith, nat_tests, same) in
         declaration_is s name parameters found sort given ∙ passed (is_taken s.context name) _ _ (taken_same name false free) ∙ passed (nat_lt (length s.context.declared) names_limit) _ _ test
+
+    full_by : (taken : Bool) (why : Refusal) → taken ≡ (is_reserved name || is_known kept.scope name) → why ≡ (if taken then AlreadyDeclared else TooManyNames) → names_limit ≤ length kept.scope.declared
+        → after_declaration s name parameters found ≡ Err why
+    full_by true why is e full = declaration_taken is ∙ ap Err (sym e)
+    full_by false why is e full = declaration_full is full ∙ ap Err (sym e)
+
+    pub declaration_when_full : (why : Refusal) → why ≡ (if is_reserved name || is_known kept.scope name then AlreadyDeclared else TooManyNames) → names_limit ≤ length kept.scope.declared
+        → after_declaration s name parameters found ≡ Err why
+    declaration_when_full why = full_by (is_reserved name || is_known kept.scope name) why refl
 
     pub declaration_steps : false ≡ (is_reserved name || is_known kept.scope name) → length kept.scope.declared < names_limit → Agrees (after_declaration s name parameters found) (declared_in kept name sort) (Ok (Tell Success))
     declaration_steps free few =

@@ -1,5 +1,5 @@
 //! The parts of a command that a state is asked for: names, sorts and terms.
-ghost use Rattle.std.specs.Prelude.{◌≡◌, ◌≤◌, ◌||◌, length, take, OnErr};
+ghost use Rattle.std.specs.Prelude.{◌≡◌, ◌≤◌, ◌||◌, if◌then◌else◌, length, take, OnErr};
 ghost use Rattle.smt_sexpr.specs.Tree.{Sexpr, Items, symbol_of};
 ghost use Rattle.smt_sexpr.specs.Table.{Means, HasMeaning};
 ghost use Rattle.idl_term.specs.Limits.{names_limit};
@@ -7,6 +7,7 @@ ghost use Rattle.idl_term.specs.Lowered.{lowered};
 ghost use Rattle.idl_term.specs.Operators.{is_reserved};
 ghost use Rattle.idl_term.specs.Scopes.{is_known, shown_term};
 ghost use Rattle.smt_script.specs.States.{sort_of, is_of_sort};
+ghost use Rattle.smt_script.specs.declared.error.Refusal.TheVariants.{AlreadyDeclared, TooManyNames};
 ghost use Rattle.smt_script.specs.Shapes.{IsSignature, HasSignature, signature_sort, only_of_sort, only_formula, TermIs, FormulaIs};
 
 use crate::command::Signature;
@@ -51,6 +52,17 @@ pub fn is_taken(scope: &Scope, name: &[u8]) -> bool
     ensures { result ≡ (is_reserved name.now || is_known scope.now name.now) }
 {
     is_reserved(name) || scope.is_known(name)
+}
+
+/// Why no name can be declared where there is no place for one more: a name that is taken is told first.
+pub fn refusal_when_full(scope: &Scope, name: &[u8]) -> Refusal
+    ensures { result ≡ (if is_reserved name.now || is_known scope.now name.now then AlreadyDeclared else TooManyNames) }
+{
+    if is_taken(scope, name) {
+        Refusal::AlreadyDeclared
+    } else {
+        Refusal::TooManyNames
+    }
 }
 
 /// Whether the term has the sort.

@@ -19,11 +19,11 @@ use crate::command::{Request, Signature, request_of};
 use crate::error::{Refusal, ScriptError};
 use crate::limits::LEVELS_LIMIT;
 use crate::option::{OptionEffect, option_effect};
-use crate::parts::{is_taken, lower_formula, lower_of_sort, signature_sort};
+use crate::parts::{is_taken, lower_formula, lower_of_sort, refusal_when_full, signature_sort};
 use crate::value::{TermValue, term_value};
 use idl_node::Nodes;
 use idl_scope::NAMES_LIMIT;
-use idl_term::{Lowered, Names, Scope, TermError, context_law, lower, lowered_law};
+use idl_term::{Lowered, Names, Scope, TermError, context_law, is_reserved, lower, lowered_law};
 use smt_sexpr::{SexprId, Sexprs};
 use std::alloc::Global;
 use std::marker::Model;
@@ -161,13 +161,16 @@ impl<'a> State<'a> {
         ensures err { OnErr result (self.new ≡ self.old) }
     {
         let sort = signature_sort(sexprs, signature)?;
-        if is_taken(&self.scope, signature.name) {
+        if self.scope.names().len() >= NAMES_LIMIT as usize {
+            return Err(ScriptError::Refused(refusal_when_full(&self.scope, signature.name)));
+        }
+        if is_reserved(signature.name) {
             return Err(ScriptError::Refused(Refusal::AlreadyDeclared));
         }
-        if self.scope.names().len() >= NAMES_LIMIT as usize {
-            return Err(ScriptError::Refused(Refusal::TooManyNames));
+        let new = self.scope.declare(signature.name, sort)?;
+        if !new {
+            return Err(ScriptError::Refused(Refusal::AlreadyDeclared));
         }
-        self.scope.declare(signature.name, sort)?;
         self.mode = Mode::Nothing;
         Ok(SUCCESS)
     }

@@ -1,23 +1,25 @@
-use Rattle.std.proofs.Common.{arith, ◌∙◌, ◌≡◌, ap, List, [], ◌∷◌, ◌++◌, false}
-use Rattle.std.proofs.lemmas.List.{length-append}
+use Rattle.std.proofs.Common.{arith, ◌∙◌, ◌≡◌, ap, sym, List, [], ◌∷◌, ◌++◌, true, false}
 use Rattle.idl_node.specs.declared.sort.Sort.{Sort}
-use Rattle.idl_scope.specs.Scopes.{Declaration, found_declared}
-use Rattle.idl_scope.proofs.NamesKept.{is_among, key_added, declarations-push}
-use Rattle.idl_scope.proofs.NamesFound.{undeclared}
+use Rattle.idl_scope.specs.Scopes.{Declaration, found_declared, is_found}
+use Rattle.idl_scope.proofs.NamesKept.{is_among, key_added, key_kept, declarations-push}
+use Rattle.idl_scope.proofs.NamesFound.{among-declared, declared-absent, not_false, not_true}
 use Rattle.idl_scope.proofs.names.Names.add.Goals as goal
 
-pub invariant_of-self-2 : goal.invariant_of-self-2
-invariant_of-self-2 c =
-    let absent : is_among c.args.name.now c.self.inside.set.keys ≡ false =
-    undeclared c.args.name.now c.self.inside.set.keys c.self.inside.sorts.items c.self.invariant (ap (λ (ds : List Declaration). found_declared c.args.name.now 0 ds) c.self.view_is ∙ c.requires) in
-    let keys : c.insert.new.self.keys ≡ c.self.inside.set.keys ++ c.args.name ∷ [] = c.in_ok-insert.ensures.keys ∙ key_added c.self.inside.set.keys c.args.name absent in
-    let sorts : c.push_reserved.new.self.items ≡ c.self.inside.sorts.items ++ c.args.sort ∷ [] = c.push_reserved.ensures.items ∙ ap (λ (ss : List Sort). ss ++ c.args.sort ∷ []) c.reserve.ensures.items in
-    rw keys (rw sorts (omega (arith, length-append c.self.inside.set.keys (c.args.name ∷ []), length-append c.self.inside.sorts.items (c.args.sort ∷ []), c.self.invariant)))
+pub returns-then-not-new-clause-ok : goal.returns-then-not-new-clause-ok
+returns-then-not-new-clause-ok c =
+    let was : c.in_ok-new.new ≡ false = grind arith in
+    let among : is_among c.args.name.now c.self.inside.set.keys ≡ true = not_false _ c.in_ok-new.new c.in_ok-new.ensures.added was in
+    let keys : c.insert.new.self.keys ≡ c.self.inside.set.keys = c.in_ok-new.ensures.keys ∙ key_kept c.self.inside.set.keys c.args.name among in (
+      ap (λ (ds : List Declaration). is_found (found_declared c.args.name.now 0 ds)) (sym c.self.view_is) ∙ among-declared c.args.name.now c.self.inside.set.keys c.self.inside.sorts.items c.self.invariant among,
+      rw keys (rw c.reserve.ensures.items c.self.view_is),
+    )
 
 pub returns-clause-ok : goal.returns-clause-ok
 returns-clause-ok c =
-    let absent : is_among c.args.name.now c.self.inside.set.keys ≡ false =
-    undeclared c.args.name.now c.self.inside.set.keys c.self.inside.sorts.items c.self.invariant (ap (λ (ds : List Declaration). found_declared c.args.name.now 0 ds) c.self.view_is ∙ c.requires) in
-    let keys : c.insert.new.self.keys ≡ c.self.inside.set.keys ++ c.args.name ∷ [] = c.in_ok-insert.ensures.keys ∙ key_added c.self.inside.set.keys c.args.name absent in
-    let sorts : c.push_reserved.new.self.items ≡ c.self.inside.sorts.items ++ c.args.sort ∷ [] = c.push_reserved.ensures.items ∙ ap (λ (ss : List Sort). ss ++ c.args.sort ∷ []) c.reserve.ensures.items in
-    rw keys (rw sorts (declarations-push c.self.inside.set.keys c.self.inside.sorts.items c.args.name c.args.sort c.self.invariant ∙ ap (λ (ds : List Declaration). ds ++ record { name = c.args.name.now; sort = c.args.sort } ∷ []) c.self.view_is))
+    let is_new : c.in_ok-new.new ≡ true = grind arith in
+    let absent : is_among c.args.name.now c.self.inside.set.keys ≡ false = not_true _ c.in_ok-new.new c.in_ok-new.ensures.added is_new in
+    let keys : c.insert.new.self.keys ≡ c.self.inside.set.keys ++ c.args.name ∷ [] = c.in_ok-new.ensures.keys ∙ key_added c.self.inside.set.keys c.args.name absent in
+    let sorts : c.push_reserved.new.self.items ≡ c.self.inside.sorts.items ++ c.args.sort ∷ [] = c.push_reserved.ensures.items ∙ ap (λ (ss : List Sort). ss ++ c.args.sort ∷ []) c.reserve.ensures.items in (
+      ap (λ (ds : List Declaration). is_found (found_declared c.args.name.now 0 ds)) (sym c.self.view_is) ∙ ap is_found (declared-absent c.args.name.now 0 c.self.inside.set.keys c.self.inside.sorts.items absent),
+      rw keys (rw sorts (declarations-push c.self.inside.set.keys c.self.inside.sorts.items c.args.name c.args.sort c.self.invariant ∙ ap (λ (ds : List Declaration). ds ++ record { name = c.args.name.now; sort = c.args.sort } ∷ []) c.self.view_is)),
+    )
