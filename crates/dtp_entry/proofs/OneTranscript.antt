@@ -3,7 +3,7 @@ use Rattle.std.proofs.Common.{refl, sym, ap, subst, ◌∙◌, ◌≡◌, ◌+�
 use Rattle.smt_sexpr.specs.Tree.{Sexpr}
 use Rattle.smt_sexpr.specs.declared.error.SexprRefusal.{SexprRefusal}
 use Rattle.smt_sexpr.specs.Laws.{OneOutcome}
-use Rattle.smt_sexpr.specs.Reading.{Spells, Outcome, expression, finished, refused as unreadable, Outcomes}
+use Rattle.smt_sexpr.specs.Reading.{Spells, expression, finished, refused as unreadable}
 use Rattle.smt_sexpr.specs.Commands.{Commands, Ending, ended, stopped, unread, EndsAs}
 use Rattle.cert_text.specs.declared.entry.Entry.{Entry}
 use Rattle.cert_text.specs.declared.entry.Entry.TheVariants.{Sat, Unsat}
@@ -22,7 +22,7 @@ use Rattle.dtp_entry.specs.declared.report.Report.{Report}
 use Rattle.dtp_entry.specs.declared.report.Report.TheVariants.{Verdicts, Certificate}
 use Rattle.dtp_entry.specs.Entries.{verdict_of}
 use Rattle.dtp_entry.specs.Laws.{OneVerdict, OneTranscript}
-use Rattle.dtp_entry.specs.Transcripts.{IsVerdict, Held, told, decision_line, opening, closing, checked, Answered, Reply, answered, last, error, Answers, Output, done, refused, behind, Closes, GoesOn, Follows, TranscribesFrom, IsOutput, IsTranscript}
+use Rattle.dtp_entry.specs.Transcripts.{IsVerdict, Held, told, decision_line, opening, closing, checked, Reply, answered, last, error, Answers, Output, done, refused, behind, Closes, GoesOn, Follows, IsOutput}
 
 same_refusal : (e f : SexprRefusal) → unreadable e ≡ unreadable f → e ≡ f
 same_refusal e f h = cc

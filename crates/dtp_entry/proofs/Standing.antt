@@ -1,5 +1,4 @@
 -- What is active goes on coming about by declarations, definitions and assertions.
-use Rattle.std.proofs.Common.{◌≡◌, Ok}
 use Rattle.smt_sexpr.specs.Tree.{Sexpr}
 use Rattle.smt_script.specs.declared.state.Effect.{Effect}
 use Rattle.smt_script.specs.Kept.{Kept, Steps}

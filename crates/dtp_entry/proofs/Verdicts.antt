@@ -1,31 +1,23 @@
 -- What a right entry says is so.
-use Rattle.std.proofs.Common.{arith, refl, sym, ap, subst, ◌∙◌, ◌≡◌, ◌+◌, ◌<◌, ◌≤◌, ◌^◌, ℕ, suc, List, [], ◌∷◌, length, true, ℤ}
-use Rattle.std.specs.Prelude.{All}
-use Rattle.std.specs.List.{AllByRecursion}
-use Rattle.stn_core.specs.declared.literal.Literal.{Literal}
-use Rattle.stn_core.specs.declared.named.NamedValue.{NamedValue}
+use Rattle.std.proofs.Common.{arith, refl, sym, ap, subst, ◌≡◌, ◌+◌, ◌≤◌, ◌^◌, ℕ, suc, List, [], ◌∷◌, length}
 use Rattle.stn_core.specs.Literal.{IsOver}
 use Rattle.stn_core.specs.Problem.{ProblemHolds}
 use Rattle.refute_tree.specs.declared.lemma.Lemma.{Lemma}
 use Rattle.refute_tree.specs.Laws.{RefutationLaw}
 use Rattle.refute_tree.specs.Trees.{IsRefutation}
-use Rattle.cert_text.specs.declared.entry.Entry.TheVariants.{Sat, Unsat}
-use Rattle.cert_text.specs.Limits.{limit}
 use Rattle.clause_form.specs.ClauseForm as clause_form
 use Rattle.clause_form.specs.Laws.{ProblemFollows, PointsAreFew}
 use Rattle.clause_form.proofs.Points.{weaker_table}
 use Rattle.idl_node.specs.declared.sort.Sort.{Sort}
 use Rattle.idl_node.specs.Limits.{nodes_limit}
 use Rattle.idl_node.specs.Nodes.{NodeValue}
-use Rattle.idl_node.specs.Sorts.{AreOfSorts, IsAtomFor}
+use Rattle.idl_node.specs.Sorts.{IsAtomFor}
 use Rattle.idl_node.specs.Tables.{IsTableOf, IsTableOver}
-use Rattle.idl_node.specs.Truth.{truth, point_values}
-use Rattle.idl_term.specs.Contexts.{Context, IsContext, IsScheduleFor, IsTrueOn, IsSatisfiable, scope_of}
+use Rattle.idl_term.specs.Contexts.{Context, IsContext, IsSatisfiable}
 use Rattle.idl_term.specs.Laws.{ContextsHaveScopes, RootsAreNodes, RootsAreExact}
 use Rattle.idl_term.specs.Limits.{names_limit}
-use Rattle.idl_term.specs.Meanings.{IsScopeOver, AreRoots}
 use Rattle.idl_term.specs.Scopes.{sorts_of, Declaration}
-use Rattle.dtp_entry.specs.Entries.{points_of, problem_of, IsEntryOf}
+use Rattle.dtp_entry.specs.Entries.{points_of, problem_of}
 use Rattle.dtp_entry.proofs.Roots.{roots_true}
 
 -- the table that a state lends is over the zero point and the names' points

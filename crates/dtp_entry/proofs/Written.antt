@@ -1,5 +1,5 @@
 -- What is written, and fronts of it.
-use Rattle.std.proofs.Common.{sym, inr, ◌≡◌, ℕ, List, [], Option, Some, None, Result, Ok, Err}
+use Rattle.std.proofs.Common.{sym, inr, ℕ, List, [], Option, Some, None, Result, Ok, Err}
 use Rattle.std.specs.Prelude.{OnErr}
 use Rattle.std.specs.Io.KnownBytes.{Appends}
 use Rattle.std.proofs.lemmas.List.{append-nil}
