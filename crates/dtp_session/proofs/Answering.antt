@@ -2,7 +2,6 @@
 use Rattle.std.proofs.Common.{refl, sym, ap, subst, ◌∙◌, ◌≡◌, List, ℕ, [], ◌++◌, Bool, Result, Ok, Err}
 use Rattle.std.specs.Prelude.{if◌then◌else◌, OnOk}
 use Rattle.smt_sexpr.specs.Tree.{Sexpr}
-use Rattle.cert_text.specs.declared.entry.Entry.{Entry}
 use Rattle.smt_answer.specs.declared.kind.Kind.{Kind}
 use Rattle.smt_answer.specs.Kinds.{kind_of}
 use Rattle.smt_answer.specs.Texts.{success_line}

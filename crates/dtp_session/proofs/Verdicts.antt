@@ -1,5 +1,5 @@
 -- The two verdicts.
-use Rattle.std.proofs.Common.{arith, refl, sym, ap, subst, ◌∙◌, ◌≡◌, ◌+◌, ◌<◌, ◌≤◌, ◌^◌, ℕ, suc, List, [], ◌∷◌, length, true, ℤ}
+use Rattle.std.proofs.Common.{sym, ap, subst, ◌∙◌, ◌≡◌, ◌+◌, ◌≤◌, ℕ, List, length, ℤ}
 use Rattle.std.specs.Prelude.{All}
 use Rattle.std.specs.List.{AllByRecursion}
 use Rattle.stn_core.specs.declared.literal.Literal.{Literal}
@@ -15,17 +15,9 @@ use Rattle.cert_text.specs.Limits.{limit}
 use Rattle.clause_form.specs.ClauseForm as clause_form
 use Rattle.clause_form.specs.Laws.{ProblemFollows, ScheduleFollows, LiteralsAreOver, PointsAreFew}
 use Rattle.clause_form.specs.Restricting.{restricted}
-use Rattle.clause_form.proofs.Points.{weaker_table}
-use Rattle.idl_node.specs.declared.sort.Sort.{Sort}
-use Rattle.idl_node.specs.Limits.{nodes_limit}
-use Rattle.idl_node.specs.Nodes.{NodeValue}
-use Rattle.idl_node.specs.Sorts.{AreOfSorts, IsAtomFor}
-use Rattle.idl_node.specs.Tables.{IsTableOf, IsTableOver}
-use Rattle.idl_node.specs.Truth.{truth, point_values}
-use Rattle.idl_term.specs.Contexts.{Context, IsContext, IsScheduleFor, IsTrueOn, IsSatisfiable, scope_of}
+use Rattle.idl_term.specs.Contexts.{Context, IsContext, IsScheduleFor, IsTrueOn}
 use Rattle.idl_term.specs.Laws.{ContextsHaveScopes, RootsAreNodes, RootsAreExact}
-use Rattle.idl_term.specs.Meanings.{IsScopeOver, AreRoots}
-use Rattle.idl_term.specs.Scopes.{sorts_of, Declaration}
+use Rattle.idl_term.specs.Scopes.{sorts_of}
 use Rattle.plain_search.specs.declared.verdict.Verdict.{Verdict}
 use Rattle.plain_search.specs.Verdicts.{IsSolution, IsOfInputs, IsVerdict}
 use Rattle.dtp_entry.specs.Entries.{points_of, problem_of}

@@ -1,7 +1,6 @@
 -- A session: what it writes next, and what it goes on to.
 -- These are words of the code's inner contracts, and no part of the meaning.
 use Rattle.std.specs.Prelude.{◌≡◌, ◌<◌, ◌^◌, ℕ, ◌+◌, List, [], ◌++◌, length, Some, None}
-use Rattle.std.specs.Io.KnownBytes.{Appends}
 use Rattle.cert_text.specs.declared.entry.Entry.{Entry}
 use Rattle.smt_answer.specs.Texts.{error_line}
 use Rattle.smt_script.specs.States.{State, start_state, settled}

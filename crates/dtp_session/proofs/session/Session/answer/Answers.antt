@@ -1,4 +1,4 @@
-use Rattle.std.proofs.Common.{refl, sym, ap, subst, arith, ◌∙◌, ◌≡◌, ◌≤◌, ◌<◌, ◌^◌, ◌+◌, ℕ, List, length}
+use Rattle.std.proofs.Common.{refl, sym, subst, arith, ◌∙◌, ◌≡◌, ◌≤◌, ◌<◌, ◌^◌, ◌+◌, ℕ, List, length}
 use Rattle.dtp_entry.proofs.Written.{on_err}
 use Rattle.dtp_session.proofs.Looping.{so_far_starts, opening_cut, goes_on, next_going, is_going, cut, closes, stops, nothing_more, ok_quiet}
 use Rattle.dtp_session.proofs.session.Session.answer.Goals as goal
