@@ -1,51 +1,34 @@
 -- A script with the certificate that was written of it is accepted.
 use Rattle.std.proofs.Common.{refl, sym, ap, subst, arith, ◌∙◌, ◌≡◌, ◌≢◌, ◌≤◌, ◌+◌, ℕ, List, [], ◌∷◌, ◌++◌, length, take, drop, Bool, true, false, Option, Some, None, Result, Ok, Err}
-use Rattle.std.specs.Prelude.{if◌then◌else◌, option_map, All, nat_le, nat_lt, codes}
+use Rattle.std.specs.Prelude.{if◌then◌else◌, option_map, All}
 use Rattle.std.specs.List.{AllByRecursion}
 use Rattle.std.proofs.lemmas.List.Elements.{All-nil, All-cons}
 use Rattle.std.proofs.lemmas.List.{append_assoc, append-nil, drop-append-le, length-drop, take_all}
 use Rattle.smt_lex.specs.Grammar.{is_gap}
-use Rattle.smt_sexpr.specs.Tree.{Sexpr, Items, leaf, list, none, more}
-use Rattle.smt_sexpr.specs.Reading.{Spells, Outcome, expression, finished, Outcomes}
+use Rattle.smt_sexpr.specs.Tree.{Sexpr, Items, leaf, list}
+use Rattle.smt_sexpr.specs.Reading.{Spells, expression, finished, Outcomes}
 use Rattle.smt_sexpr.specs.Commands.{Commands, Ending, ended, stopped, unread, EndsAs}
-use Rattle.stn_core.specs.declared.literal.Literal.{Literal}
-use Rattle.refute_tree.specs.declared.lemma.Lemma.{Lemma}
-use Rattle.refute_tree.specs.Trees.{IsRefutation}
 use Rattle.cert_text.specs.declared.entry.Entry.{Entry}
 use Rattle.cert_text.specs.declared.entry.Entry.TheVariants.{Sat, Unsat}
 use Rattle.cert_text.specs.Form.{header_sexpr, entry_sexpr, end_sexpr, line_of}
 use Rattle.cert_read.specs.Certificates.{certificate, ReadsCertificate}
 use Rattle.cert_read.specs.Written.{entries_text, certificate_text, IsClosedGap, EntryFits}
-use Rattle.cert_check.specs.Flaws.{refutation_flaw}
-use Rattle.idl_node.specs.declared.sort.Sort.{Sort}
-use Rattle.idl_term.specs.Applied.{Made}
-use Rattle.idl_term.specs.Contexts.{Context, environment, scope_of}
-use Rattle.idl_term.specs.Limits.{names_limit}
-use Rattle.idl_term.specs.Lowered.{lowered}
-use Rattle.idl_term.specs.Operators.{is_symbol}
-use Rattle.idl_term.specs.Scopes.{LoweredTerm, formula, numeric, sorts_of}
+use Rattle.idl_term.specs.Contexts.{Context, environment}
+use Rattle.idl_term.specs.Scopes.{sorts_of}
 use Rattle.idl_term.specs.Values.{Named, truth, value}
-use Rattle.idl_term.specs.declared.error.TermRefusal.{TermRefusal}
 use Rattle.smt_script.specs.declared.error.Refusal.{Refusal}
-use Rattle.smt_script.specs.declared.error.Refusal.TheVariants.{AlreadyDeclared, LogicNotSupported, TooManyNames, TooManyLevels, PopBelowTheBottom}
 use Rattle.smt_script.specs.declared.state.Effect.{Effect}
 use Rattle.smt_script.specs.declared.state.Effect.TheVariants.{CheckSat, Exit, Tell}
-use Rattle.smt_script.specs.declared.state.Notice.{Notice}
-use Rattle.smt_script.specs.declared.state.Notice.TheVariants.{Success, Unsupported}
-use Rattle.smt_script.specs.declared.state.Satisfiability.{Satisfiability}
-use Rattle.smt_script.specs.Commands
-use Rattle.smt_script.specs.Commands.{Command, naming_command, changing_command, asking_command, is_unsupported, left_out_of, command_of, is_exiting, is_exit}
+use Rattle.smt_script.specs.Commands.{naming_command, changing_command, asking_command, is_unsupported, left_out_of, command_of, is_exit}
 use Rattle.smt_sexpr.specs.Laws.{OneOutcome, ListReadsOn, ListIsWithin}
 use Rattle.cert_read.specs.Laws.{CertificateReadsBack}
 use Rattle.cert_check.specs.Laws.{FlawLaw}
 use Rattle.smt_script.specs.Laws.{OnlyExitEnds}
-use Rattle.smt_script.specs.Options.{OptionEffect, printing_success, no_effect, not_supported, ill_formed_value, option_effect}
-use Rattle.smt_script.specs.States.{State, start_state, Step, after_option, is_taken, sort_of, after_declaration, is_of_sort, defined_by, after_definition, asserted_by, named_by, levels_of, after_by, after, settled}
+use Rattle.smt_script.specs.States.{State, start_state, Step, after, settled}
 use Rattle.smt_answer.specs.Kinds.{kind_of}
-use Rattle.smt_answer.specs.Texts.{error_line}
 use Rattle.dtp_entry.specs.declared.report.Report.TheVariants.{Certificate}
 use Rattle.dtp_entry.specs.Entries.{verdict_of, IsRight, IsEntryOf}
-use Rattle.dtp_entry.specs.Transcripts.{Held, Answered, Reply, answered, last as finally, error, checked, Answers, Output, behind, GoesOn, Follows, IsReport}
+use Rattle.dtp_entry.specs.Transcripts.{Held, Answered, Reply, answered, last as finally, error, checked, Answers, Output, behind, GoesOn, Follows}
 use Rattle.dtp_entry.proofs.Verdicts.{sorts_count}
 use Rattle.dtp_check.specs.declared.judgement.EntryFlaw.{EntryFlaw}
 use Rattle.dtp_check.specs.declared.judgement.EntryFlaw.TheVariants.{Flawed}
@@ -54,7 +37,7 @@ use Rattle.dtp_check.specs.declared.script_part.PartEnd.{PartEnd}
 use Rattle.dtp_check.specs.declared.script_part.PartEnd.TheVariants as part
 use Rattle.dtp_check.specs.Judged.{EndsPart, ExitEnds, FollowsExit, ScriptPart, is_true, first_false, entry_flaw, judged_entry, judged, IsJudged}
 use Rattle.dtp_check.specs.Laws.{CertifiedIsAccepted}
-use Rattle.dtp_check.specs.Whole.{IsWholeFrom, IsWhole}
+use Rattle.dtp_check.specs.Whole.{IsWholeFrom}
 use Rattle.dtp_check.proofs.Judging.{none_of_wrong_sort, of_sorts_count, values_flaw_is, judged_ok, judged_none, not_exit, told_apart, check_apart, step_of}
 
 -- ---- a right entry has no flaw

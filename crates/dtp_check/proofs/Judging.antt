@@ -27,10 +27,9 @@ use Rattle.smt_script.specs.declared.state.Effect.{Effect}
 use Rattle.smt_script.specs.declared.state.Effect.TheVariants.{CheckSat, Exit, Tell}
 use Rattle.smt_script.specs.declared.state.Notice.{Notice}
 use Rattle.smt_script.specs.declared.state.Satisfiability.{Satisfiability}
-use Rattle.smt_script.specs.Commands
-use Rattle.smt_script.specs.Commands.{Command, command_of, is_exiting, is_exit}
+use Rattle.smt_script.specs.Commands.{is_exit}
 use Rattle.smt_script.specs.Kept.{Kept, StandsFor, Steps}
-use Rattle.smt_script.specs.States.{State, Step, IsMadeState, after, after_by, settled}
+use Rattle.smt_script.specs.States.{State, Step, IsMadeState, after, settled}
 use Rattle.smt_answer.specs.Kinds.{kind_of}
 use Rattle.dtp_entry.specs.Entries.{verdict_of}
 use Rattle.dtp_entry.specs.Standing.{Stands}

@@ -20,7 +20,7 @@ use Rattle.dtp_check.specs.declared.judge.Turn.TheVariants.{Going, Judged}
 use Rattle.dtp_check.specs.declared.judgement.Judgement.{Judgement}
 use Rattle.cert_read.specs.Certificates.{CertificateOutcome}
 use Rattle.cert_read.specs.Laws.{OneCertificate, OneRest}
-use Rattle.dtp_check.specs.Judged.{CertificateBehind, judged_with, JudgedPart, IsJudged, EndsPart, ExitEnds, FollowsExit, ScriptPart, surplus_of, judged}
+use Rattle.dtp_check.specs.Judged.{CertificateBehind, judged_with, JudgedPart, EndsPart, ExitEnds, FollowsExit, ScriptPart, surplus_of, judged}
 use Rattle.dtp_check.specs.Laws.{OneJudgement}
 use Rattle.dtp_check.specs.Parts.{IsReadable}
 use Rattle.dtp_check.specs.Turns.{IsJudgedTurn}

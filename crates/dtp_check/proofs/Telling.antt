@@ -1,10 +1,10 @@
 -- What stands behind the script, and the whole.
-use Rattle.std.proofs.Common.{refl, sym, ap, subst, ◌∙◌, ◌≡◌, ◌+◌, ℕ, List, [], length, Option, Some, inl, inr}
+use Rattle.std.proofs.Common.{refl, subst, ◌∙◌, ◌≡◌, ◌+◌, ℕ, List, [], length, Option, inl, inr}
 use Rattle.smt_sexpr.specs.Tree.{Sexpr}
 use Rattle.cert_text.specs.declared.entry.Entry.{Entry as Shown}
 use Rattle.cert_read.specs.Certificates.{certificate, no_certificate, ErrorSays}
 use Rattle.cert_read.specs.declared.error.CertReadError.{CertReadError}
-use Rattle.cert_read.specs.declared.error.CertReadError.TheVariants.{Refused, OutOfMemory}
+use Rattle.cert_read.specs.declared.error.CertReadError.TheVariants.{Refused}
 use Rattle.cert_read.specs.declared.error.CertificateRefusal.{CertificateRefusal}
 use Rattle.smt_answer.specs.declared.kind.Kind.{Kind}
 use Rattle.smt_script.specs.States.{start_state}

@@ -1,14 +1,11 @@
 -- What is accepted is so.
 use Rattle.std.proofs.Common.{refl, sym, ap, ◌∙◌, ◌≡◌, ◌+◌, ◌==◌, ℕ, List, [], ◌∷◌, length, Bool, true, false, Option, Some, None, Result, Ok, Err}
-use Rattle.std.specs.Prelude.{◌↔◌, if◌then◌else◌, option_map}
+use Rattle.std.specs.Prelude.{if◌then◌else◌, option_map}
 use Rattle.std.specs.List.{AllByRecursion}
 use Rattle.std.proofs.lemmas.Bool.{eqb-true}
 use Rattle.smt_sexpr.specs.Tree.{Sexpr}
-use Rattle.stn_core.specs.declared.literal.Literal.{Literal}
 use Rattle.stn_core.specs.declared.named.NamedValue.{NamedValue}
-use Rattle.refute_tree.specs.declared.lemma.Lemma.{Lemma}
 use Rattle.refute_tree.specs.Laws.{RefutationLaw}
-use Rattle.refute_tree.specs.Trees.{IsRefutation}
 use Rattle.cert_text.specs.declared.entry.Entry.{Entry}
 use Rattle.cert_text.specs.declared.entry.Entry.TheVariants.{Sat, Unsat}
 use Rattle.cert_check.specs.declared.flaw.Flaw.{Flaw}
@@ -23,7 +20,6 @@ use Rattle.smt_script.specs.declared.error.Refusal.{Refusal}
 use Rattle.smt_script.specs.declared.state.Effect.{Effect}
 use Rattle.smt_script.specs.declared.state.Effect.TheVariants.{CheckSat, Exit, Tell}
 use Rattle.smt_script.specs.States.{State, start_state, Step, IsMadeState, after, settled}
-use Rattle.smt_answer.specs.Kinds.{kind_of}
 use Rattle.dtp_entry.specs.Entries.{points_of, problem_of, verdict_of}
 use Rattle.cert_check.specs.Laws.{FlawLaw}
 use Rattle.smt_script.specs.Laws.{StartMade, StepMade, SettledMade}
@@ -31,10 +27,10 @@ use Rattle.dtp_entry.proofs.Verdicts.{refuted_unsatisfiable, sorts_count}
 use Rattle.dtp_check.specs.declared.judgement.EntryFlaw.{EntryFlaw}
 use Rattle.dtp_check.specs.declared.judgement.EntryFlaw.TheVariants.{WrongCount, WrongSort, FalseAssertion, Flawed}
 use Rattle.dtp_check.specs.declared.judgement.Judgement.{Judgement}
-use Rattle.dtp_check.specs.declared.judgement.Judgement.TheVariants.{Accepted, Script}
+use Rattle.dtp_check.specs.declared.judgement.Judgement.TheVariants.{Accepted}
 use Rattle.dtp_check.specs.declared.script_part.PartEnd.{PartEnd}
 use Rattle.dtp_check.specs.declared.script_part.PartEnd.TheVariants as part
-use Rattle.dtp_check.specs.Judged.{first_of_wrong_sort, is_true, first_false, first_of_two, entry_flaw, surplus_of, judged_entry, judged_check, judged_effect, judged_after, judged, judged_with, ScriptPart, CertificateBehind, JudgedPart, IsJudged}
+use Rattle.dtp_check.specs.Judged.{first_of_wrong_sort, is_true, first_false, first_of_two, entry_flaw, surplus_of, judged_entry, judged_check, judged_effect, judged_after, judged, judged_with, ScriptPart, CertificateBehind, JudgedPart}
 use Rattle.dtp_check.specs.Laws.{NothingFalseIsAccepted}
 use Rattle.dtp_check.specs.Told.{Tells, IsToldAt, IsToldBy, IsToldAfter, IsTold, SaysNothingFalse}
 use Rattle.dtp_check.proofs.Judging.{are_of_sorts}

@@ -1,5 +1,5 @@
 -- The worked examples of whole scripts.
-use Rattle.std.proofs.Common.{refl, sym, subst, ◌≡◌, ◌+◌, ℕ, List, [], ◌∷◌, ◌++◌, length, drop, Bool, true, false}
+use Rattle.std.proofs.Common.{refl, sym, subst, ◌≡◌, ℕ, List, [], ◌∷◌, ◌++◌, drop, Bool, true, false}
 use Rattle.std.specs.Prelude.{codes}
 use Rattle.smt_lex.specs.Bytes.{is_space, is_line_end, is_symbol_byte, is_quoted_byte}
 use Rattle.smt_lex.specs.Grammar.{is_gap}
