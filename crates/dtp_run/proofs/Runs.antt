@@ -1,16 +1,12 @@
 -- What the record of a run comes to, where the source tells its bytes.
-use Rattle.std.proofs.Common.{◌≡◌, ℕ, List, [], ◌++◌, Option, Some, None, refl, sym, ap, subst, ◌∙◌, append-nil, arith}
+use Rattle.std.proofs.Common.{◌≡◌, ℕ, List, ◌++◌, Option, Some, None, refl, sym, ap, subst, ◌∙◌, append-nil, arith}
 use Rattle.std.proofs.lemmas.List.{append_cancel_left}
-use Rattle.std.specs.Prelude.{◌≢◌}
 use Rattle.std.specs.Io.KnownBytes.{Consumes, Appends, IsAtEnd}
 use Rattle.command_line.specs.declared.line.Line.{Line}
-use Rattle.command_line.specs.declared.line.Line.TheVariants.{Certify, Check}
-use Rattle.command_line.specs.declared.line.Search.{Search}
 use Rattle.dtp_entry.specs.Transcripts.{IsReport}
 use Rattle.dtp_entry.specs.declared.report.Report.TheVariants.{Certificate}
-use Rattle.dtp_check.specs.Answered.{IsAnswer, checked_of}
+use Rattle.dtp_check.specs.Answered.{checked_of}
 use Rattle.dtp_check.specs.Judged.{IsJudged}
-use Rattle.dtp_check.specs.Whole.{IsWhole}
 use Rattle.dtp_check.specs.declared.check.Checked.{Checked}
 use Rattle.dtp_check.specs.declared.check.Checked.TheVariants.{Accepted, NotAccepted as Unaccepted}
 use Rattle.dtp_check.specs.declared.judgement.Judgement.{Judgement}
