@@ -1,5 +1,5 @@
 //! The shape of a `let`.
-ghost use Rattle.std.specs.Prelude.{◌≡◌, ◌&&◌, if◌then◌else◌, IfOk, Option, Some, None, option_map};
+ghost use Rattle.std.specs.Prelude.{◌≡◌, ◌&&◌, [], if◌then◌else◌, IfOk, Option, Some, None, option_map};
 ghost use Rattle.idl_term.specs.Lowered.{are_bindings, is_binding, variable_in, variables_in, are_different};
 ghost use Rattle.idl_term.specs.Heads.{LetIs};
 ghost use Rattle.idl_term.specs.Trees.{tree_of, trees_of, IsTree, AreTrees};
@@ -22,13 +22,17 @@ fn variable_of<'a>(sexprs: &Sexprs<'a>, id: SexprId) -> Option<&'a [u8]>
     if is_reserved(name) { None } else { Some(name) }
 }
 
-/// Whether all are bindings, of different variables.
-fn are_bindings(alloc: Global, sexprs: &Sexprs, bindings: &[SexprId]) -> Result<bool, AllocError>
-    requires { AreTrees sexprs.now bindings.now }
+/// Whether all are bindings, of different variables. The variables are kept in the set, which is empty before.
+fn bind_apart<'a>(
+    sexprs: &Sexprs<'a>,
+    bindings: &[SexprId],
+    variables: &mut IndexSet<&'a [u8]>,
+) -> Result<bool, AllocError>
+    requires trees { AreTrees sexprs.now bindings.now }
+    requires empty { variables.old.keys ≡ [] }
     ensures { IfOk result (λ b. b ≡ (are_bindings (trees_of sexprs.now bindings.now) && are_different
         (variables_in (trees_of sexprs.now bindings.now)))) }
 {
-    let mut variables = IndexSet::new(alloc);
     for binding in bindings {
         let Some(name) = variable_of(sexprs, *binding) else {
             return Ok(false);
@@ -39,6 +43,16 @@ fn are_bindings(alloc: Global, sexprs: &Sexprs, bindings: &[SexprId]) -> Result<
         }
     }
     Ok(true)
+}
+
+/// Whether all are bindings, of different variables.
+fn are_bindings(alloc: Global, sexprs: &Sexprs, bindings: &[SexprId]) -> Result<bool, AllocError>
+    requires { AreTrees sexprs.now bindings.now }
+    ensures { IfOk result (λ b. b ≡ (are_bindings (trees_of sexprs.now bindings.now) && are_different
+        (variables_in (trees_of sexprs.now bindings.now)))) }
+{
+    let mut variables = IndexSet::new(alloc);
+    bind_apart(sexprs, bindings, &mut variables)
 }
 
 /// The parts of a `let`.

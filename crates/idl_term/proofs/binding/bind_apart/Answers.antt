@@ -1,12 +1,15 @@
-use Rattle.std.proofs.Common.{arith, ◌≡◌, ℕ, ap, sym, ◌∙◌, List, ◌++◌, [], ◌∷◌, false, true, Bor}
+use Rattle.std.proofs.Common.{arith, refl, ◌≡◌, ℕ, ap, sym, ◌∙◌, List, ◌++◌, [], ◌∷◌, false, true, Bor}
 use Rattle.std.proofs.lemmas.List.{map-append}
 use Rattle.idl_scope.proofs.NamesKept.{texts, is_among, key_added}
 use Rattle.idl_term.proofs.BindingNames.{so_far_more, not_shaped, not_different, among_texts, not_true, not_false}
 use Rattle.idl_term.proofs.TreesOfIds.{tree_at}
-use Rattle.idl_term.proofs.binding.are_bindings.Goals as goal
+use Rattle.idl_term.proofs.binding.bind_apart.Goals as goal
+
+pub loop-binding-init : goal.loop-binding-init
+loop-binding-init c = rw c.requires.empty (record { binds = refl; names = refl; differ = refl })
 
 pub variable_of-requires : goal.variable_of-requires
-variable_of-requires c = tree_at c.args.sexprs.now c.args.bindings.now c.loop-binding.binding-index c.requires (omega (arith, c.loop-binding-test.true))
+variable_of-requires c = tree_at c.args.sexprs.now c.args.bindings.now c.loop-binding.binding-index c.requires.trees (omega (arith, c.loop-binding-test.true))
 
 pub returns-in_default : goal.returns-in_default
 returns-in_default c = sym (not_shaped c.args.sexprs.now c.args.bindings.now c.loop-binding.binding-index (omega (arith, c.loop-binding-test.true)) c.in_default.ensures)
