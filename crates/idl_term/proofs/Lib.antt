@@ -8,6 +8,7 @@ pub mod ContextNames
 pub mod ContextMeanings
 pub mod Arguments
 pub mod ComparisonNodes
+pub mod PairsCompared
 pub mod SumsOfTerms
 pub mod Leaves
 pub mod TreesOfIds

@@ -1,0 +1,28 @@
+-- One term in its relation to those behind it, one after another.
+use Rattle.std.proofs.Common.{◌≡◌, ◌∙◌, ◌<◌, ◌≤◌, ◌+◌, ◌++◌, ℕ, List, [], ◌∷◌, ap, sym, length, drop, get_or, map, Bor}
+use Rattle.std.specs.Prelude.{Result, Ok}
+use Rattle.std.proofs.lemmas.List.{at_drop_more, at_drop_all}
+use Rattle.idl_linear.specs.Linear.{LinearValue}
+use Rattle.idl_node.specs.Nodes.{NodeValue, Placed}
+use Rattle.idl_term.specs.Comparing.{compared, each_compared, follows}
+use Rattle.idl_term.specs.declared.comparing.Relation.{Relation}
+use Rattle.idl_term.specs.declared.error.TermRefusal.{TermRefusal}
+use Rattle.idl_term.proofs.Arguments.{seen}
+
+module _ (relation : Relation) (first : LinearValue) (rest : List (LinearValue × LinearValue)) where
+  -- what is made of the first term with each of these, and then of the rest
+  abbrev pub from : List NodeValue → List ℕ → List (Bor LinearValue) → Result Placed TermRefusal
+  from nodes members seconds = each_compared relation nodes members (map (λ (b : LinearValue). (first, b)) (seen seconds) ++ rest)
+
+  module _ (nodes : List NodeValue) (members : List ℕ) (seconds : List (Bor LinearValue)) (k : ℕ) where
+    pub pairs_end : length seconds ≤ k → from nodes members (drop k seconds) ≡ each_compared relation nodes members rest
+    pairs_end all = at_drop_all (λ (bs : List (Bor LinearValue)). from nodes members bs) seconds k all
+
+    pub pairs_step : (later : List NodeValue) (number : ℕ) (more : List ℕ) (second : Bor LinearValue) → k < length seconds → get_or seconds k second ≡ second
+        → compared relation nodes first second.now ≡ Ok (record { nodes = later; number = number }) → more ≡ members ++ number ∷ []
+        → from nodes members (drop k seconds) ≡ from later more (drop (k + 1) seconds)
+    pairs_step later number more second within at made are =
+        at_drop_more (λ (bs : List (Bor LinearValue)). from nodes members bs) seconds k second within
+        ∙ ap (λ (b : Bor LinearValue). from nodes members (b ∷ drop (k + 1) seconds)) at
+        ∙ ap (λ (o : Result Placed TermRefusal). follows o (λ (q : Placed). from q.nodes (members ++ q.number ∷ []) (drop (k + 1) seconds))) made
+        ∙ ap (λ (ms : List ℕ). from later ms (drop (k + 1) seconds)) (sym are)
