@@ -1,4 +1,5 @@
 pub mod SameLiteral
+pub mod Saturating
 pub mod Ends
 pub mod Consequences
 pub mod Ranges

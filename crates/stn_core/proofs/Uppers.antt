@@ -1,5 +1,5 @@
 -- Lowering by a literal that fails keeps values above every schedule.
-use Rattle.std.proofs.Common.{arith, refl, ap, sym, subst, ◌∙◌, inl, inr, ◌≡◌, ◌≢◌, ℕ, ◌<◌, ◌≤◌, ◌+◌, List, length, replicate, set, All, Contains, ℤ, pos, neg_ℤ, ◌+ℤ◌, ◌≤ℤ◌, ◌<ℤ◌}
+use Rattle.std.proofs.Common.{arith, ap, subst, ◌∙◌, inl, inr, ◌≡◌, ◌≢◌, ℕ, ◌<◌, ◌≤◌, List, length, replicate, set, All, Contains, ℤ, pos, neg_ℤ, ◌+ℤ◌, ◌≤ℤ◌, ◌<ℤ◌}
 use Rattle.std.proofs.lemmas.Int.{ints}
 use Rattle.std.proofs.lemmas.Bool.{cases_eq, cases_lt}
 use Rattle.std.proofs.lemmas.List.{get_or-set_same, get_or-set_other, length-set, get_or-replicate, length-replicate, get_or_past, get_or_default}
@@ -8,7 +8,7 @@ use Rattle.stn_core.specs.declared.literal.Literal.{Literal}
 use Rattle.stn_core.specs.Answer.{IsBest}
 use Rattle.stn_core.specs.Limits.{points_limit, value_limit}
 use Rattle.stn_core.specs.Literal.{value_at, literal_at, Holds, IsOver}
-use Rattle.stn_core.specs.Schedule.{IsSchedule, IsGreatestSchedule}
+use Rattle.stn_core.specs.Schedule.{IsGreatestSchedule}
 use Rattle.stn_core.proofs.Ranges.{in_range_of_greatest}
 use Rattle.stn_core.specs.Uppers.{IsUpper}
 

@@ -32,4 +32,5 @@ OneGreatestLaw =
 abbrev pub GreatestRangeLaw : Type 0
 GreatestRangeLaw =
     (points : ℕ) (literals : List Literal) (values : List ℤ)
-    → points ≤ points_limit → All (IsOver points) literals → IsGreatestSchedule points literals values → All IsInRange values
+    → points ≤ points_limit → All (IsOver points) literals
+    → IsGreatestSchedule points literals values → All IsInRange values

@@ -1,7 +1,7 @@
 -- The limits, by the constants that the code has for them.
-use Rattle.std.specs.Prelude.{ℕ, ◌^◌, ℤ, FitsSigned}
-use Rattle.std.specs.Int.{w64}
-use Rattle.stn_core.specs.declared.limits.TheConstants.{POINTS_LIMIT, BOUND_LIMIT, VALUE_LIMIT}
+use Rattle.std.specs.Prelude.{ℕ, ℤ, FitsSigned}
+use Rattle.std.specs.Int.{w128}
+use Rattle.stn_core.specs.declared.limits.TheConstants.{POINTS_LIMIT, BOUND_LIMIT, VALUE_LIMIT, VALUE_SPAN}
 
 -- the greatest count of time points
 abbrev pub points_limit : ℕ
@@ -17,8 +17,8 @@ value_limit = VALUE_LIMIT
 
 -- half the count of the numbers that a `Value` can be
 abbrev pub value_span : ℕ
-value_span = 2 ^ 63
+value_span = VALUE_SPAN
 
 -- the number is a `Value`
 abbrev pub FitsValue : ℤ → Type 0
-FitsValue n = FitsSigned w64 n
+FitsValue n = FitsSigned w128 n

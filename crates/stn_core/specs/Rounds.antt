@@ -1,6 +1,6 @@
 -- Of the code and not of the meaning: what holds of the labels in the rounds of `greatest`. Contracts of private
 -- functions alone cite it.
-use Rattle.std.specs.Prelude.{◌≡◌, ℕ, ◌<◌, ◌≤◌, ◌+◌, ◌*◌, List, length, take, All, Contains, slice_index_or, ℤ, pos, ◌+ℤ◌, ◌≤ℤ◌, ◌<ℤ◌}
+use Rattle.std.specs.Prelude.{◌≡◌, ℕ, ◌<◌, ◌≤◌, ◌+◌, ◌*◌, List, Option, None, Some, length, take, All, Contains, slice_index_or, ℤ, pos, ◌+ℤ◌, ◌≤ℤ◌, ◌<ℤ◌}
 use Rattle.stn_core.specs.Limits.{bound_limit}
 use Rattle.stn_core.specs.declared.literal.Literal.{Literal}
 use Rattle.stn_core.specs.declared.label.Label.{Label}
@@ -84,9 +84,15 @@ pub record IsLoweredIn (points : ℕ) (labels : List Label) (round p : ℕ) : Ty
   pub p_in : p < points
   pub round_is : round_of labels p ≡ round
 
+-- a point that the round lowered, or that it lowered none
+abbrev pub TellsLowered : ℕ → List Label → ℕ → Option ℕ → Type 0
+TellsLowered points labels round None = NoneLowered points labels round
+TellsLowered points labels round (Some p) = IsLoweredIn points labels round p
+
 -- each point that was lowered has a literal that tells how
 abbrev pub AreFallen : List Label → Type 0
-AreFallen labels = (p : ℕ) → p < length labels → 0 < round_of labels p → IsFallen (length labels) labels p (by_of labels p)
+AreFallen labels =
+    (p : ℕ) → p < length labels → 0 < round_of labels p → IsFallen (length labels) labels p (by_of labels p)
 
 -- the literal is the one that lowered its first point last
 pub record IsLatest (labels : List Label) (l : Literal) : Type 0 where

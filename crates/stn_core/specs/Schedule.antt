@@ -13,7 +13,8 @@ pub record IsSchedule (points : ℕ) (literals : List Literal) (values : List �
 -- (Dechter, Meiri, Pearl 1991, section 3)
 pub record IsGreatestSchedule (points : ℕ) (literals : List Literal) (values : List ℤ) : Type 0 where
   pub schedule : IsSchedule points literals values
-  pub greatest : (others : List ℤ) → IsSchedule points literals others → (p : ℕ) → p < points → value_at others p ≤ℤ value_at values p
+  pub greatest : (others : List ℤ) → IsSchedule points literals others
+      → (p : ℕ) → p < points → value_at others p ≤ℤ value_at values p
 
 -- the values that a greatest schedule can have
 pub record IsInRange (value : ℤ) : Type 0 where

@@ -9,4 +9,5 @@ pub record IsUpper (points : ℕ) (literals : List Literal) (values : List ℤ) 
   pub count : length values ≡ points
   pub low : (p : ℕ) → neg_ℤ (pos value_limit) ≤ℤ value_at values p
   pub high : (p : ℕ) → value_at values p ≤ℤ pos 0
-  pub bounds : (others : List ℤ) → IsSchedule points literals others → (p : ℕ) → p < points → value_at others p ≤ℤ value_at values p
+  pub bounds : (others : List ℤ) → IsSchedule points literals others
+      → (p : ℕ) → p < points → value_at others p ≤ℤ value_at values p

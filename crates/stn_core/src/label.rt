@@ -1,7 +1,7 @@
-ghost use Rattle.std.specs.Prelude.{◌≡◌, ◌<◌, ◌≤◌, ◌*◌, length, map, MatchOption, All};
+ghost use Rattle.std.specs.Prelude.{◌≡◌, ◌<◌, ◌≤◌, ◌*◌, length, map, All};
 ghost use Rattle.stn_core.specs.Limits.{points_limit};
 ghost use Rattle.stn_core.specs.Literal.{IsOver};
-ghost use Rattle.stn_core.specs.Rounds.{begun, IsRound, NoneLowered, IsLoweredIn};
+ghost use Rattle.stn_core.specs.Rounds.{begun, IsRound, NoneLowered, TellsLowered};
 
 use crate::limits::Value;
 use crate::literal::Literal;
@@ -44,7 +44,7 @@ pub fn lower(labels: &mut [Label], literals: &[Literal], round: u32) -> Option<u
     requires ready { IsRound (length labels.old) literals.now labels.old round 0 }
     requires none_lowered { NoneLowered (length labels.old) labels.old round }
     ensures after { IsRound (length labels.old) literals.now labels.new round (length literals.now) }
-    ensures some { MatchOption result (NoneLowered (length labels.old) labels.new round) (IsLoweredIn (length labels.old) labels.new round) }
+    ensures some { TellsLowered (length labels.old) labels.new round result }
 {
     let mut lowered = None;
     for literal in literals {

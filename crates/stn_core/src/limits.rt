@@ -1,11 +1,14 @@
-/// The value of a time point. The sum of a value of a greatest schedule and a bound is one too.
-pub type Value = i64;
+/// The value of a time point. The sum of a value of a greatest schedule and any `i64` is one too.
+pub type Value = i128;
 
 /// The greatest count of time points.
 pub const POINTS_LIMIT: u32 = 1 << 21;
 
 /// The greatest bound of a literal. The least is one below its negative, so that negation keeps the limits.
-pub const BOUND_LIMIT: u64 = 1 << 40;
+pub const BOUND_LIMIT: u64 = 1 << 60;
 
 /// The values of a greatest schedule lie strictly above the negative of this.
-pub const VALUE_LIMIT: u128 = 1 << 61;
+pub const VALUE_LIMIT: u128 = 1 << 81;
+
+/// Half the count of the numbers that a `Value` can be.
+pub const VALUE_SPAN: u128 = 1 << (Value::BITS - 1);

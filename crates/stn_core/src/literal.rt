@@ -24,16 +24,16 @@ pub fn negate(literal: Literal) -> Literal
     }
 }
 
-/// Whether the literal holds on these values, one for each time point. Values and bound may be any: the difference is
-/// taken in 128 bits.
+/// Whether the literal holds on these values, one for each time point. Values and bound may be any: a difference that is
+/// no `Value` lies beyond every bound.
 pub fn holds(literal: Literal, values: &[Value]) -> bool
     requires x_in { literal.x < length values.now }
     requires y_in { literal.y < length values.now }
     ensures { IsTrue result ↔ Holds values.now literal }
 {
-    let x = i128::from(values[literal.x as usize]);
-    let y = i128::from(values[literal.y as usize]);
-    x - y <= i128::from(literal.c)
+    let x = values[literal.x as usize];
+    let y = values[literal.y as usize];
+    x.saturating_sub(y) <= Value::from(literal.c)
 }
 
 /// A list of literals.

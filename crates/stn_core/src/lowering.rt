@@ -1,6 +1,6 @@
 ghost use Rattle.std.specs.Prelude.{◌≡◌, ◌<◌, ◌≤◌, length, ℕ, slice_set, IsTrue, All, pos, neg_ℤ, ◌+ℤ◌, ◌<ℤ◌, ◌≤ℤ◌};
 ghost use Rattle.stn_core.specs.Limits.{value_limit};
-ghost use Rattle.stn_core.specs.Literal.{IsOver, Holds, value_at, literal_at};
+ghost use Rattle.stn_core.specs.Literal.{IsOver, HoldEach, value_at, literal_at, most_allowed};
 ghost use Rattle.stn_core.specs.Uppers.{IsUpper};
 
 use crate::limits::{VALUE_LIMIT, Value};
@@ -14,7 +14,7 @@ fn allowed(values: &[Value], literals: &[Literal], place: usize) -> Value
     requires place { place < length literals.now }
     requires over { All (IsOver (length values.now)) literals.now }
     requires upper { IsUpper (length values.now) literals.now values.now }
-    ensures { result ≡ value_at values.now (literal_at literals.now place).y +ℤ (literal_at literals.now place).c }
+    ensures { result ≡ most_allowed values.now (literal_at literals.now place) }
 {
     let literal = literals[place];
     values[literal.y as usize] + Value::from(literal.c)
@@ -65,7 +65,7 @@ pub fn fails(values: &[Value], literals: &[Literal], place: usize) -> bool
 /// Whether all literals hold.
 pub fn all_hold(values: &[Value], literals: &[Literal]) -> bool
     requires over { All (IsOver (length values.now)) literals.now }
-    ensures { IsTrue result → (k : ℕ) → k < length literals.now → Holds values.now (literal_at literals.now k) }
+    ensures { IsTrue result → HoldEach values.now literals.now }
 {
     'literals: for literal in literals {
         if !holds(*literal, values) {

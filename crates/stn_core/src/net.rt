@@ -53,7 +53,8 @@ pub trait Net {
     fn add(&mut self, literal: Literal) -> Result<Added, AllocError>
         requires { IsOver (points_of self.old) literal }
         ensures points { points_of self.new ≡ points_of self.old }
-        ensures ok { IfOk result (IsAdded (points_of self.old) (literals_of self.old) literal (literals_of self.new)) }
+        ensures ok { IfOk result
+            (IsAdded (points_of self.old) (literals_of self.old) literal (literals_of self.new)) }
         ensures err { OnErr result (literals_of self.new ≡ literals_of self.old) }
         ensures err_adds { OnErr result (adds_of self.new ≡ adds_of self.old) }
         ensures counts { OnOk result (adds_of self.new ≡ min (adds_of self.old + 1) u64.MAX) };

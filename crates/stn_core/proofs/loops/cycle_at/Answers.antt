@@ -1,5 +1,4 @@
-use Rattle.std.proofs.Common.{arith, ◌≡◌, subst, sym, ◌∙◌, List}
-use Rattle.stn_core.specs.declared.literal.Literal.{Literal}
+use Rattle.std.proofs.Common.{◌≡◌, subst, sym, ◌∙◌}
 use Rattle.stn_core.specs.Cycle.{IsNegativeCycle}
 use Rattle.stn_core.proofs.loops.cycle_at.Goals as goal
 

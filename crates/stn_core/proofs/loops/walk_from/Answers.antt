@@ -1,6 +1,5 @@
-use Rattle.std.proofs.Common.{arith, All, Contains, ◌≡◌, ◌<◌, ◌-◌, length, slice_index_or, ℕ, ◌≤◌, ◌≢◌, List, ◌++◌, ◌∷◌, []}
+use Rattle.std.proofs.Common.{arith, Contains, ◌<◌, ◌-◌, length}
 use Rattle.std.proofs.lemmas.List.Elements.{All-push, Contains-get_or}
-use Rattle.stn_core.specs.declared.literal.Literal.{Literal}
 use Rattle.stn_core.proofs.loops.walk_from.Goals as goal
 
 pub returns-then-point-start : goal.returns-then-point-start

@@ -1,4 +1,4 @@
-use Rattle.std.proofs.Common.{arith, ap, subst, sym, inl, inr, ◌≡◌, ◌<◌, length, ℕ, true}
+use Rattle.std.proofs.Common.{arith, subst, sym, inl, inr, ℕ}
 use Rattle.std.proofs.lemmas.Bool.{cases_eq}
 use Rattle.stn_core.specs.Literal.{Holds, literal_at}
 use Rattle.stn_core.proofs.lowering.all_hold.Goals as goal

@@ -1,4 +1,5 @@
-use Rattle.std.proofs.Common.{rules, arith, length, set, w64, FitsSigned, ◌≡◌, ◌^◌, ℕ, neg_ℤ, pos, ◌<ℤ◌, ◌≤ℤ◌}
+use Rattle.std.proofs.Common.{rules, length, set, FitsSigned, ◌≡◌, neg_ℤ, pos, ◌<ℤ◌, ◌≤ℤ◌}
+use Rattle.std.specs.Int.{w128}
 use Rattle.std.proofs.lemmas.Int.{to_z-of_z}
 use Rattle.stn_core.specs.Limits.{value_limit}
 use Rattle.stn_core.specs.Literal.{value_at, literal_at}
@@ -7,7 +8,7 @@ use Rattle.stn_core.proofs.lowering.lower.Goals as goal
 
 pub returns-then-falls : goal.returns-then-falls
 returns-then-falls c =
-    let fit : FitsSigned w64 c.allowed-now.result = search rules in
+    let fit : FitsSigned w128 c.allowed-now.result = search rules in
     let e : c.put.new.values ≡ set c.args.values.now (literal_at c.args.literals.now c.args.place).x c.allowed-now.result = simp to_z-of_z at c.put.ensures in
     let bad : c.allowed-now.result <ℤ value_at c.args.values.now (literal_at c.args.literals.now c.args.place).x = simp to_z-of_z at (c.falls.ensures.bad c.if-falls.true) in
     let low : neg_ℤ (pos (value_limit)) ≤ℤ c.allowed-now.result = simp to_z-of_z at (c.falls.ensures.low c.if-falls.true) in

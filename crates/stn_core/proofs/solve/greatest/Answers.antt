@@ -1,4 +1,4 @@
-use Rattle.std.proofs.Common.{arith, rules, subst, sym, ◌∙◌, ◌≡◌, ◌≤◌, ◌<◌, ℕ, length, List, ℤ, replicate, pos}
+use Rattle.std.proofs.Common.{arith, rules, subst, sym, ◌∙◌, ◌≡◌, ◌<◌, ℕ, length, List, ℤ, replicate, pos}
 use Rattle.std.proofs.lemmas.List.{take-append-le, take_all}
 use Rattle.stn_core.specs.Literal.{Holds, literal_at}
 use Rattle.stn_core.specs.Uppers.{IsUpper}
