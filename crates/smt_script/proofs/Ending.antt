@@ -7,7 +7,7 @@ use Rattle.idl_term.specs.Applied.{Made}
 use Rattle.idl_term.specs.Contexts.{scope_of}
 use Rattle.idl_term.specs.Limits.{names_limit}
 use Rattle.idl_term.specs.Lowered.{lowered}
-use Rattle.idl_term.specs.Operators.{is_symbol}
+use Rattle.smt_sexpr.specs.Shapes.{is_symbol}
 use Rattle.idl_term.specs.Scopes.{LoweredTerm, formula, numeric}
 use Rattle.idl_term.specs.declared.error.TermRefusal.{TermRefusal}
 use Rattle.smt_script.specs.declared.error.Refusal.{Refusal}

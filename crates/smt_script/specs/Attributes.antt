@@ -10,7 +10,8 @@ pub record Attribute : Type 0 where
 
 -- an attribute with those behind it
 abbrev pub with_attribute : Option (List ℕ) → Option Sexpr → Option (List Attribute) → Option (List Attribute)
-with_attribute (Some keyword) value (Some behind) = Some (record { keyword = keyword; value = value } ∷ behind)
+with_attribute (Some keyword) value (Some behind) =
+    Some (record { keyword = keyword; value = value } ∷ behind)
 with_attribute _ _ _ = None
 
 -- the attributes that the items are; nothing where they are none

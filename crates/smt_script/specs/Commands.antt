@@ -121,7 +121,8 @@ with_keyword None make = ill_formed
 -- k, or k v
 abbrev pub option_command : Items → Result Command Refusal
 option_command (more k none) = with_keyword (keyword_of k) (λ keyword. setting_option keyword None)
-option_command (more k (more v none)) = with_keyword (keyword_of k) (λ keyword. setting_option keyword (Some v))
+option_command (more k (more v none)) =
+    with_keyword (keyword_of k) (λ keyword. setting_option keyword (Some v))
 option_command _ = ill_formed
 
 abbrev pub info_command : Items → Result Command Refusal

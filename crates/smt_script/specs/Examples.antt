@@ -2,11 +2,12 @@
 use Rattle.std.specs.Prelude.{ℕ, List, [], ◌∷◌, codes, pos}
 use Rattle.smt_lex.specs.Symbols.{symbol_content}
 use Rattle.smt_lex.specs.declared.token.TokenKind.TheVariants.{Keyword}
-use Rattle.smt_sexpr.specs.Tree.{Sexpr, leaf, list}
+use Rattle.smt_sexpr.specs.Tree.{Sexpr, leaf}
+use Rattle.smt_sexpr.specs.Shapes.{symbol, list_of, form}
 use Rattle.idl_node.specs.Nodes.{atom}
 use Rattle.idl_node.specs.declared.sort.Sort.TheVariants as sort
 use Rattle.idl_term.specs.Contexts.{Context, start_context}
-use Rattle.idl_term.specs.Examples.{symbol, p, items_of, apply, literal}
+use Rattle.idl_term.specs.Examples.{p, literal}
 use Rattle.idl_term.specs.Scopes.{formula}
 use Rattle.smt_script.specs.States.{State, start_state}
 
@@ -18,15 +19,15 @@ abbrev pub written : List ℕ → Sexpr
 written raw = symbol (symbol_content raw)
 
 abbrev pub no_parameters : Sexpr
-no_parameters = list (items_of [])
+no_parameters = list_of []
 
 -- (declare-const name sort)
 abbrev pub declares : Sexpr → List ℕ → Sexpr
-declares name sort_name = apply (codes "declare-const") (name ∷ symbol sort_name ∷ [])
+declares name sort_name = form (codes "declare-const") (name ∷ symbol sort_name ∷ [])
 
 -- (assert (! p ..))
 abbrev pub asserts_p : List Sexpr → Sexpr
-asserts_p attributes = apply (codes "assert") (apply (codes "!") (p ∷ attributes) ∷ [])
+asserts_p attributes = form (codes "assert") (form (codes "!") (p ∷ attributes) ∷ [])
 
 -- :named name
 abbrev pub named : List ℕ → List Sexpr
@@ -48,7 +49,12 @@ with_p = in_context context_p
 
 -- and (assert (! p :named n))
 abbrev pub context_n : Context
-context_n = record context_p { defined = record { name = codes "n"; term = p; stands = formula 0 } ∷ []; assertions = p ∷ []; nodes = atom (literal 1 0 (pos 0)) ∷ []; roots = 0 ∷ [] }
+context_n = record context_p {
+  defined = record { name = codes "n"; term = p; stands = formula 0 } ∷ [];
+  assertions = p ∷ [];
+  nodes = atom (literal 1 0 (pos 0)) ∷ [];
+  roots = 0 ∷ [];
+}
 
 abbrev pub with_n : State
 with_n = in_context context_n

@@ -1,5 +1,5 @@
 -- What the code keeps of a state, which has no terms. These are words of the code's contracts, and no part of the meaning.
-use Rattle.std.specs.Prelude.{◌≡◌, ℕ, ◌≤◌, List, [], ◌∷◌, ◌++◌, length, take, Bool, Ok}
+use Rattle.std.specs.Prelude.{◌≡◌, ℕ, ◌≤◌, List, [], ◌∷◌, ◌++◌, length, take, Bool, false, Ok}
 use Rattle.smt_sexpr.specs.Tree.{Sexpr}
 use Rattle.idl_node.specs.Nodes.{NodeValue}
 use Rattle.idl_term.specs.Contexts.{Context, scope_of}
@@ -21,13 +21,31 @@ pub record Kept : Type 0 where
   pub mode : Mode
   pub print_success : Bool
 
+-- nothing yet
+abbrev pub nothing_kept : Kept
+nothing_kept = record {
+  scope = record { declared = []; bound = [] };
+  nodes = [];
+  roots = [];
+  levels = [];
+  mode = mode.Nothing;
+  print_success = false;
+}
+
+-- the names that there were at a push
+abbrev pub scope_at : Kept → Level → Scope
+scope_at kept level = record {
+  declared = take level.names kept.scope.declared;
+  bound = take level.defined kept.scope.bound;
+}
+
 -- what there was at a push is a front of what there is now
 pub record IsLevelOf (kept : Kept) (level : Level) (c : Context) : Type 0 where
   pub names : level.names ≤ length kept.scope.declared
   pub defined : level.defined ≤ length kept.scope.bound
   pub table : level.nodes ≤ length kept.nodes
   pub asserted : level.roots ≤ length kept.roots
-  pub scope : scope_of c ≡ record { declared = take level.names kept.scope.declared; bound = take level.defined kept.scope.bound }
+  pub scope : scope_of c ≡ scope_at kept level
   pub nodes : c.nodes ≡ take level.nodes kept.nodes
   pub roots : c.roots ≡ take level.roots kept.roots
 
@@ -50,7 +68,12 @@ Ascend (a ∷ b ∷ rest) = IsNoLess a b × Ascend (b ∷ rest)
 
 -- how much there is now
 abbrev pub amount_of : Kept → Level
-amount_of kept = record { names = length kept.scope.declared; defined = length kept.scope.bound; nodes = length kept.nodes; roots = length kept.roots }
+amount_of kept = record {
+  names = length kept.scope.declared;
+  defined = length kept.scope.bound;
+  nodes = length kept.nodes;
+  roots = length kept.roots;
+}
 
 -- what holds of what is kept whatever the commands were: there is no less now than at the last push
 pub record IsKept (kept : Kept) : Type 0 where
@@ -60,7 +83,7 @@ pub record IsKept (kept : Kept) : Type 0 where
 -- back to what there was at a push, with so many levels left
 abbrev pub cut_to : Kept → ℕ → Level → Kept
 cut_to kept left level = record {
-  scope = record { declared = take level.names kept.scope.declared; bound = take level.defined kept.scope.bound };
+  scope = scope_at kept level;
   nodes = take level.nodes kept.nodes;
   roots = take level.roots kept.roots;
   levels = take left kept.levels;

@@ -14,7 +14,9 @@ pub data OptionEffect : Type 0 where
 
 abbrev pub truth_named : Option (List ℕ) → Option Bool
 truth_named None = None
-truth_named (Some text) = if bytes_eq text (codes "true") then Some true else (if bytes_eq text (codes "false") then Some false else None)
+truth_named (Some text) =
+    if bytes_eq text (codes "true") then Some true
+    else (if bytes_eq text (codes "false") then Some false else None)
 
 -- the symbol `true` or `false`
 abbrev pub truth_given : Option Sexpr → Option Bool
@@ -24,8 +26,12 @@ truth_given (Some v) = truth_named (symbol_of v)
 -- the options that take a truth value and have no effect: models and proofs may be asked for without them
 unfoldable pub is_production : List ℕ → Bool
 is_production keyword =
-    bytes_eq keyword (codes ":produce-models") || (bytes_eq keyword (codes ":produce-proofs") || (bytes_eq keyword (codes ":produce-unsat-cores")
-    || (bytes_eq keyword (codes ":produce-unsat-assumptions") || (bytes_eq keyword (codes ":produce-assertions") || bytes_eq keyword (codes ":produce-assignments")))))
+    bytes_eq keyword (codes ":produce-models")
+    || (bytes_eq keyword (codes ":produce-proofs")
+    || (bytes_eq keyword (codes ":produce-unsat-cores")
+    || (bytes_eq keyword (codes ":produce-unsat-assumptions")
+    || (bytes_eq keyword (codes ":produce-assertions")
+    || bytes_eq keyword (codes ":produce-assignments")))))
 
 abbrev pub printing_by : Option Bool → OptionEffect
 printing_by (Some on) = printing_success on

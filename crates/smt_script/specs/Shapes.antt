@@ -82,11 +82,17 @@ named_after awaited.Name given (more x xs) = elim (symbol_of x) [
 ]
 named_after awaited.Value given (more x xs) = elim (keyword_of x) [
   | None ↦ named_after awaited.Keyword given xs
-  | Some text ↦ elim (may_come given (after_keyword text)) [ None ↦ None | Some next ↦ named_after next given xs ]
+  | Some text ↦ elim (may_come given (after_keyword text)) [
+    | None ↦ None
+    | Some next ↦ named_after next given xs
+  ]
 ]
 named_after awaited.Keyword given (more x xs) = elim (keyword_of x) [
   | None ↦ None
-  | Some text ↦ elim (may_come given (after_keyword text)) [ None ↦ None | Some next ↦ named_after next given xs ]
+  | Some text ↦ elim (may_come given (after_keyword text)) [
+    | None ↦ None
+    | Some next ↦ named_after next given xs
+  ]
 ]
 
 abbrev pub left_after : AttributesRead → Items → Option Named
@@ -95,7 +101,8 @@ left_after read xs = named_after read.awaited (shown_name read.name) xs
 -- one more item leads from these attributes to those
 abbrev pub AttributeIs : AttributesRead → Sexpr → Result AttributesRead Refusal → Type 0
 AttributeIs before x (Ok after) = (xs : Items) → left_after before (more x xs) ≡ left_after after xs
-AttributeIs before x (Err why) = (why ≡ IllFormedCommand) × ((xs : Items) → left_after before (more x xs) ≡ None)
+AttributeIs before x (Err why) =
+    (why ≡ IllFormedCommand) × ((xs : Items) → left_after before (more x xs) ≡ None)
 
 abbrev pub AttributesAre : Option Named → Result (Option (Bor (List ℕ))) Refusal → Type 0
 AttributesAre found (Ok name) = found ≡ Some (named_as (shown_name name))
@@ -119,9 +126,11 @@ pub record IsSignature (t : Table) (signature : Signature) (parameters : Items) 
 -- n (..) S
 abbrev pub SignatureIs : Table → Sexpr → Sexpr → Sexpr → Result Signature Refusal → Type 0
 SignatureIs t n p s (Ok signature) =
-    (parameters : Items) × (p ≡ list parameters) × (symbol_of n ≡ Some signature.name.now) × IsSignature t signature parameters s
+    (parameters : Items) × (p ≡ list parameters) × (symbol_of n ≡ Some signature.name.now)
+    × IsSignature t signature parameters s
 SignatureIs t n p s (Err why) =
-    (function_command (more n (more p (more s none))) ≡ Err why) × ((x : Sexpr) → definition_command (more n (more p (more s (more x none)))) ≡ Err why)
+    (function_command (more n (more p (more s none))) ≡ Err why)
+    × ((x : Sexpr) → definition_command (more n (more p (more s (more x none)))) ≡ Err why)
 
 -- a number of levels; from 2^64 on it isn't known
 abbrev pub CountIs : Option ℕ → ℕ → Type 0
@@ -139,9 +148,12 @@ CommandIs t (SetOption keyword value) meant =
     (v : Option Sexpr) × ValueIs t value v × (meant ≡ Ok (setting_option keyword.now v))
 CommandIs t SetInfo meant = meant ≡ Ok informing
 CommandIs t (Declare signature) meant =
-    (parameters : Items) × (sort : Sexpr) × IsSignature t signature parameters sort × (meant ≡ Ok (declaring signature.name.now parameters sort))
+    (parameters : Items) × (sort : Sexpr) × IsSignature t signature parameters sort
+    × (meant ≡ Ok (declaring signature.name.now parameters sort))
 CommandIs t (Define signature id) meant =
-    (parameters : Items) × (sort : Sexpr) × (x : Sexpr) × IsSignature t signature parameters sort × Means t id x × (meant ≡ Ok (defining signature.name.now parameters sort x))
+    (parameters : Items) × (sort : Sexpr) × (x : Sexpr)
+    × IsSignature t signature parameters sort × Means t id x
+    × (meant ≡ Ok (defining signature.name.now parameters sort x))
 CommandIs t (Assert id) meant = (x : Sexpr) × Means t id x × (meant ≡ Ok (asserting x))
 CommandIs t (AssertNamed id name) meant = (x : Sexpr) × Means t id x × (meant ≡ Ok (naming x name.now))
 CommandIs t (Push count) meant = (n : ℕ) × CountIs count n × (meant ≡ Ok (pushing n))
@@ -173,8 +185,10 @@ Agrees step kept (Err (Refused why)) = step ≡ Err why
 Agrees step kept (Err OutOfMemory) = Unit {0}
 
 -- from each state that is kept, with what the request's part stands for, the call leads where the step does
-abbrev pub Carries : {X : Type 0} → (X → Type 0) → (State → X → Result Step Refusal) → Kept → Kept → Result Effect ScriptError → Type 0
-Carries {X} Is step old new result = (s : State) (x : X) → StandsFor old s → Is x → Agrees (step s x) new result
+abbrev pub Carries : {X : Type 0} → (X → Type 0) → (State → X → Result Step Refusal) → Kept → Kept
+    → Result Effect ScriptError → Type 0
+Carries {X} Is step old new result =
+    (s : State) (x : X) → StandsFor old s → Is x → Agrees (step s x) new result
 
 -- the sort of a function without parameters
 abbrev pub signature_sort : Items → Option Sort → Result Sort Refusal

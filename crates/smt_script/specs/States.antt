@@ -3,13 +3,14 @@ use Rattle.std.specs.Prelude.{ℕ, ◌+◌, ◌-◌, List, [], ◌++◌, length,
 use Rattle.std.specs.List.{AllByRecursion}
 use Rattle.std.specs.Str.{bytes_eq}
 use Rattle.smt_sexpr.specs.Tree.{Sexpr, Items, none, more, symbol_of}
+use Rattle.smt_sexpr.specs.Shapes.{is_symbol}
 use Rattle.idl_node.specs.declared.sort.Sort.{Sort}
 use Rattle.idl_node.specs.declared.sort.Sort.TheVariants as sort
 use Rattle.idl_term.specs.Applied.{Made}
 use Rattle.idl_term.specs.Contexts.{Context, start_context, scope_of, with_declaration, with_definition, with_assertion, IsContext}
 use Rattle.idl_term.specs.Limits.{names_limit}
 use Rattle.idl_term.specs.Lowered.{lowered}
-use Rattle.idl_term.specs.Operators.{is_reserved, is_symbol}
+use Rattle.idl_term.specs.Operators.{is_reserved}
 use Rattle.idl_term.specs.Scopes.{LoweredTerm, formula, numeric, is_known}
 use Rattle.idl_term.specs.declared.error.TermRefusal.{TermRefusal}
 use Rattle.idl_term.specs.declared.error.TermRefusal.TheVariants.{WrongSort}
@@ -82,7 +83,8 @@ after_declaration s name (more _ _) found = Err (LeftOut Parameters)
 after_declaration s name none None = Err (LeftOut SortLeftOut)
 after_declaration s name none (Some found) =
     if is_taken s.context name then Err AlreadyDeclared
-    else (if nat_lt (length s.context.declared) names_limit then changed s (with_declaration s.context name found)
+    else (if nat_lt (length s.context.declared) names_limit
+    then changed s (with_declaration s.context name found)
     else Err TooManyNames)
 
 -- a term of the sort
@@ -94,7 +96,8 @@ is_of_sort _ _ = false
 abbrev pub defined_by : State → List ℕ → Sort → Sexpr → Result Made TermRefusal → Result Step Refusal
 defined_by s name found term (Err why) = Err (Term why)
 defined_by s name found term (Ok made) =
-    if is_of_sort found made.is then changed s (with_definition s.context name term made) else Err (Term WrongSort)
+    if is_of_sort found made.is then changed s (with_definition s.context name term made)
+    else Err (Term WrongSort)
 
 abbrev pub after_definition : State → List ℕ → Items → Option Sort → Sexpr → Result Step Refusal
 after_definition s name (more _ _) found term = Err (LeftOut Parameters)
@@ -157,14 +160,16 @@ after_command s (Commands.setting_logic logic) = after_logic s logic
 after_command s (Commands.setting_option keyword v) = after_option s (option_effect keyword v)
 after_command s Commands.informing = carried_out s
 after_command s (Commands.declaring name parameters sort) = after_declaration s name parameters (sort_of sort)
-after_command s (Commands.defining name parameters sort term) = after_definition s name parameters (sort_of sort) term
+after_command s (Commands.defining name parameters sort term) =
+    after_definition s name parameters (sort_of sort) term
 after_command s (Commands.asserting term) = after_assertion s term
 after_command s (Commands.naming term name) = after_naming s name term
 after_command s (Commands.pushing n) = after_push s n
 after_command s (Commands.popping n) = after_pop s n
 after_command s Commands.checking = Ok (record { state = s; effect = CheckSat })
 -- options stay
-after_command s Commands.resetting_assertions = carried_out (record start_state { print_success = s.print_success })
+after_command s Commands.resetting_assertions =
+    carried_out (record start_state { print_success = s.print_success })
 after_command s Commands.resetting = carried_out start_state
 after_command s Commands.exiting = Ok (record { state = s; effect = Exit })
 after_command s Commands.unsupported = Ok (record { state = s; effect = Tell Unsupported })

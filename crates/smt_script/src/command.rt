@@ -123,8 +123,8 @@ fn signature_of<'a>(
 ) -> Result<Signature<'a>, Refusal>
     requires name { HasMeaning sexprs.now name }
     requires parameters { HasMeaning sexprs.now parameters }
-    ensures { (n p s : Sexpr) → Means sexprs.now name n → Means sexprs.now parameters p → Means sexprs.now sort s
-        → SignatureIs sexprs.now n p s result }
+    ensures { (n p s : Sexpr) → Means sexprs.now name n → Means sexprs.now parameters p
+        → Means sexprs.now sort s → SignatureIs sexprs.now n p s result }
 {
     match (sexprs.symbol(name), sexprs.items(parameters)) {
         (Some(name), Some(parameters)) => Ok(Signature {

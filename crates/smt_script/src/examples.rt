@@ -1,10 +1,10 @@
 //! What the definitions say of small inputs.
 ghost use Rattle.std.specs.Prelude.{◌≡◌, ◌∷◌, [], codes, true, Ok, Err};
 ghost use Rattle.idl_term.specs.Contexts.{scope_of};
-ghost use Rattle.idl_term.specs.Examples.{symbol, numeral, x, p, z, items_of, apply};
+ghost use Rattle.idl_term.specs.Examples.{numeral, x, p, z};
 ghost use Rattle.idl_term.specs.Scopes.{is_known};
 ghost use Rattle.idl_term.specs.declared.error.TermRefusal.TheVariants.{UnknownSymbol, WrongSort};
-ghost use Rattle.smt_sexpr.specs.Tree.{list};
+ghost use Rattle.smt_sexpr.specs.Shapes.{symbol, list_of, form};
 ghost use Rattle.smt_script.specs.Examples.{keyword, written, no_parameters, declares, asserts_p, named, with_x, with_p, context_p, context_n, with_n, with_levels, with_n_on_top};
 ghost use Rattle.smt_script.specs.States.{start_state, after, carried_out};
 ghost use Rattle.smt_script.specs.declared.error.LeftOutCommand.TheVariants.{Parameters, Sort, DefineSort};
@@ -16,70 +16,84 @@ ghost use Rattle.smt_script.specs.declared.state.Notice.TheVariants.{Success, Un
 #[tactic(auto, unfolding(crate::specs::States::after, crate::specs::Commands::command_of, crate::specs::Commands::naming_command, crate::specs::Commands::changing_command, crate::specs::Commands::asking_command, crate::specs::Commands::is_unsupported, crate::specs::Commands::left_out_of, idl_term::specs::Operators::operator_of, idl_term::specs::Operators::connective_of, idl_term::specs::Operators::order_of, idl_term::specs::Operators::sign_of, idl_term::specs::Operators::equality_of, idl_term::specs::Operators::left_out_of, idl_term::specs::Operators::theory_symbols, idl_term::specs::Operators::reserved_words, idl_term::specs::Lowered::lowered, idl_term::specs::Lowered::lowered_leaf, idl_term::specs::Lowered::head_of, idl_term::specs::Lowered::is_let, smt_lex::specs::Numbers::value_from, smt_lex::specs::Symbols::symbol_content))]
 pub fn worked_names()
     ensures declares { after start_state (declares x (codes "Int")) ≡ carried_out with_x }
-    ensures function { after start_state (apply (codes "declare-fun") (x ∷ no_parameters ∷ symbol (codes "Int") ∷ []))
+    ensures function { after start_state
+        (form (codes "declare-fun") (x ∷ no_parameters ∷ symbol (codes "Int") ∷ []))
         ≡ carried_out with_x }
     ensures again { after with_x (declares x (codes "Bool")) ≡ Err AlreadyDeclared }
     ensures barred { after with_x (declares (written (codes "|x|")) (codes "Int")) ≡ Err AlreadyDeclared }
-    ensures reserved { after start_state (declares (symbol (codes "and")) (codes "Int")) ≡ Err AlreadyDeclared }
-    ensures parameters { after start_state (apply (codes "declare-fun") (symbol (codes "f") ∷ list (items_of (symbol (codes "Int") ∷ [])) ∷ symbol (codes "Int") ∷ []))
+    ensures reserved { after start_state (declares (symbol (codes "and")) (codes "Int"))
+        ≡ Err AlreadyDeclared }
+    ensures parameters { after start_state (form (codes "declare-fun")
+        (symbol (codes "f") ∷ list_of (symbol (codes "Int") ∷ []) ∷ symbol (codes "Int") ∷ []))
         ≡ Err (LeftOut Parameters) }
     ensures sort { after start_state (declares (symbol (codes "r")) (codes "Real")) ≡ Err (LeftOut Sort) }
     ensures sort_first { after with_x (declares x (codes "Real")) ≡ Err (LeftOut Sort) }
-    ensures defined { after with_p (apply (codes "define-fun") (p ∷ no_parameters ∷ symbol (codes "Bool") ∷ z ∷ []))
+    ensures defined { after with_p
+        (form (codes "define-fun") (p ∷ no_parameters ∷ symbol (codes "Bool") ∷ z ∷ []))
         ≡ Err AlreadyDeclared }
-    ensures unknown { after with_p (apply (codes "define-fun") (x ∷ no_parameters ∷ symbol (codes "Bool") ∷ z ∷ []))
+    ensures unknown { after with_p
+        (form (codes "define-fun") (x ∷ no_parameters ∷ symbol (codes "Bool") ∷ z ∷ []))
         ≡ Err (Term UnknownSymbol) }
-    ensures wrong_sort { after with_p (apply (codes "define-fun") (x ∷ no_parameters ∷ symbol (codes "Int") ∷ p ∷ []))
+    ensures wrong_sort { after with_p
+        (form (codes "define-fun") (x ∷ no_parameters ∷ symbol (codes "Int") ∷ p ∷ []))
         ≡ Err (Term WrongSort) }
-    ensures number { after with_p (apply (codes "assert") (numeral (codes "5") ∷ [])) ≡ Err (Term WrongSort) }
+    ensures number { after with_p (form (codes "assert") (numeral (codes "5") ∷ [])) ≡ Err (Term WrongSort) }
     ensures names { after with_p (asserts_p (named (codes "n"))) ≡ carried_out with_n }
     ensures named { is_known (scope_of context_n) (codes "n") ≡ true }
     ensures named_again { after with_n (declares (symbol (codes "n")) (codes "Int")) ≡ Err AlreadyDeclared }
-    ensures attributes { after with_p (asserts_p (keyword (codes ":weight") ∷ numeral (codes "3") ∷ named (codes "n")))
+    ensures attributes { after with_p
+        (asserts_p (keyword (codes ":weight") ∷ numeral (codes "3") ∷ named (codes "n")))
         ≡ carried_out with_n }
     ensures no_attribute { after with_p (asserts_p []) ≡ Err IllFormedCommand }
-    ensures two_names { after with_p (asserts_p (keyword (codes ":named") ∷ symbol (codes "n") ∷ named (codes "m")))
+    ensures two_names { after with_p
+        (asserts_p (keyword (codes ":named") ∷ symbol (codes "n") ∷ named (codes "m")))
         ≡ Err IllFormedCommand }
 {}
 
 /// Options, levels and the other commands.
 #[tactic(auto, unfolding(crate::specs::States::after, crate::specs::Commands::command_of, crate::specs::Commands::naming_command, crate::specs::Commands::changing_command, crate::specs::Commands::asking_command, crate::specs::Commands::is_unsupported, crate::specs::Commands::left_out_of, crate::specs::Options::option_effect, crate::specs::Options::is_production, smt_lex::specs::Numbers::value_from))]
 pub fn worked_commands()
-    ensures logic { after start_state (apply (codes "set-logic") (symbol (codes "QF_IDL") ∷ []))
+    ensures logic { after start_state (form (codes "set-logic") (symbol (codes "QF_IDL") ∷ []))
         ≡ carried_out start_state }
-    ensures other_logic { after start_state (apply (codes "set-logic") (symbol (codes "QF_LIA") ∷ []))
+    ensures other_logic { after start_state (form (codes "set-logic") (symbol (codes "QF_LIA") ∷ []))
         ≡ Err LogicNotSupported }
-    ensures option { after start_state (apply (codes "set-option") (keyword (codes ":print-success") ∷ symbol (codes "true") ∷ []))
+    ensures option { after start_state
+        (form (codes "set-option") (keyword (codes ":print-success") ∷ symbol (codes "true") ∷ []))
         ≡ carried_out (record start_state { print_success = true }) }
-    ensures no_value { after start_state (apply (codes "set-option") (keyword (codes ":print-success") ∷ []))
+    ensures no_value { after start_state (form (codes "set-option") (keyword (codes ":print-success") ∷ []))
         ≡ Err IllFormedCommand }
-    ensures other_option { after start_state (apply (codes "set-option") (keyword (codes ":verbosity") ∷ numeral (codes "3") ∷ []))
+    ensures other_option { after start_state
+        (form (codes "set-option") (keyword (codes ":verbosity") ∷ numeral (codes "3") ∷ []))
         ≡ Ok (record { state = start_state; effect = Tell Unsupported }) }
-    ensures pushes { after with_p (apply (codes "push") (numeral (codes "2") ∷ [])) ≡ carried_out with_levels }
-    ensures pops { after with_n_on_top (apply (codes "pop") (numeral (codes "1") ∷ []))
+    ensures pushes { after with_p (form (codes "push") (numeral (codes "2") ∷ []))
+        ≡ carried_out with_levels }
+    ensures pops { after with_n_on_top (form (codes "pop") (numeral (codes "1") ∷ []))
         ≡ carried_out (record with_p { below = context_p ∷ [] }) }
-    ensures pops_all { after with_n_on_top (apply (codes "pop") (numeral (codes "2") ∷ []))
+    ensures pops_all { after with_n_on_top (form (codes "pop") (numeral (codes "2") ∷ []))
         ≡ carried_out with_p }
-    ensures bottom { after with_p (apply (codes "pop") (numeral (codes "1") ∷ [])) ≡ Err PopBelowTheBottom }
-    ensures too_many { after start_state (apply (codes "push") (numeral (codes "65537") ∷ []))
+    ensures bottom { after with_p (form (codes "pop") (numeral (codes "1") ∷ [])) ≡ Err PopBelowTheBottom }
+    ensures too_many { after start_state (form (codes "push") (numeral (codes "65537") ∷ []))
         ≡ Err TooManyLevels }
-    ensures pop_beyond { after with_p (apply (codes "pop") (numeral (codes "99999999999999999999") ∷ []))
+    ensures pop_beyond { after with_p (form (codes "pop") (numeral (codes "99999999999999999999") ∷ []))
         ≡ Err PopBelowTheBottom }
-    ensures reset { after with_n_on_top (apply (codes "reset") []) ≡ carried_out start_state }
-    ensures reset_assertions { after (record with_n_on_top { print_success = true }) (apply (codes "reset-assertions") [])
+    ensures reset { after with_n_on_top (form (codes "reset") []) ≡ carried_out start_state }
+    ensures reset_assertions { after (record with_n_on_top { print_success = true })
+        (form (codes "reset-assertions") [])
         ≡ carried_out (record start_state { print_success = true }) }
-    ensures checks { after with_n (apply (codes "check-sat") [])
+    ensures checks { after with_n (form (codes "check-sat") [])
         ≡ Ok (record { state = with_n; effect = CheckSat }) }
-    ensures exits { after with_n (apply (codes "exit") []) ≡ Ok (record { state = with_n; effect = Exit }) }
-    ensures exit_of_one { after start_state (apply (codes "exit") (numeral (codes "1") ∷ []))
+    ensures exits { after with_n (form (codes "exit") []) ≡ Ok (record { state = with_n; effect = Exit }) }
+    ensures exit_of_one { after start_state (form (codes "exit") (numeral (codes "1") ∷ []))
         ≡ Err IllFormedCommand }
-    ensures unknown { after start_state (apply (codes "frob") []) ≡ Err UnknownCommand }
+    ensures unknown { after start_state (form (codes "frob") []) ≡ Err UnknownCommand }
     ensures no_list { after start_state (numeral (codes "5")) ≡ Err IllFormedCommand }
-    ensures not_yet { after start_state (apply (codes "get-model") []) ≡ Err NotYet }
-    ensures left_out { after start_state (apply (codes "define-sort") (symbol (codes "A") ∷ no_parameters ∷ symbol (codes "Int") ∷ []))
+    ensures not_yet { after start_state (form (codes "get-model") []) ≡ Err NotYet }
+    ensures left_out { after start_state
+        (form (codes "define-sort") (symbol (codes "A") ∷ no_parameters ∷ symbol (codes "Int") ∷ []))
         ≡ Err (LeftOut DefineSort) }
-    ensures unsupported { after start_state (apply (codes "check-sat-assuming") [])
+    ensures unsupported { after start_state (form (codes "check-sat-assuming") [])
         ≡ Ok (record { state = start_state; effect = Tell Unsupported }) }
-    ensures unsupported_with { after start_state (apply (codes "check-sat-assuming") (numeral (codes "5") ∷ x ∷ []))
+    ensures unsupported_with { after start_state
+        (form (codes "check-sat-assuming") (numeral (codes "5") ∷ x ∷ []))
         ≡ Ok (record { state = start_state; effect = Tell Unsupported }) }
 {}

@@ -9,9 +9,11 @@ mod examples;
 mod exit;
 mod laws;
 mod limits;
+mod lowering;
 mod option;
-mod parts;
+mod sorts;
 mod state;
+mod taken;
 mod value;
 
 pub use command_name::CommandName;

@@ -60,7 +60,8 @@ fn is_production(keyword: &[u8]) -> bool
 #[tactic(auto, unfolding(crate::specs::Options::option_effect))]
 pub fn option_effect(sexprs: &Sexprs, keyword: &[u8], value: Option<SexprId>) -> OptionEffect
     requires { HasValue sexprs.now value }
-    ensures { (v : Option Sexpr) → ValueIs sexprs.now value v → shown_effect result ≡ option_effect keyword.now v }
+    ensures { (v : Option Sexpr) → ValueIs sexprs.now value v
+        → shown_effect result ≡ option_effect keyword.now v }
 {
     let truth = truth_given(sexprs, value);
     if keyword == b":print-success".as_slice() {

@@ -7,7 +7,7 @@ ghost use Rattle.idl_term.specs.Limits.{names_limit};
 ghost use Rattle.idl_term.specs.Lowered.{lowered};
 ghost use Rattle.idl_term.specs.declared.error.TermRefusal.{TermRefusal};
 ghost use Rattle.smt_script.specs.Commands.{Command};
-ghost use Rattle.smt_script.specs.Kept.{StandsFor, Steps, cut_to};
+ghost use Rattle.smt_script.specs.Kept.{StandsFor, Steps, nothing_kept, cut_to};
 ghost use Rattle.smt_script.specs.Options.{option_effect};
 ghost use Rattle.smt_script.specs.Shapes.{ValueIs, HasValue, IsSignature, HasSignature, CountIs, CommandIs, Agrees, Carries};
 ghost use Rattle.smt_script.specs.States.{State as Meaning, start_state, after_logic, after_option, sort_of, after_declaration, after_definition, after_assertion, after_naming, after_push, after_pop, after_by, after, settled, IsMadeState};
@@ -18,8 +18,10 @@ ghost use Rattle.smt_script.specs.declared.state.Level.{Level as Before};
 use crate::command::{Request, Signature, request_of};
 use crate::error::{Refusal, ScriptError};
 use crate::limits::LEVELS_LIMIT;
+use crate::lowering::{lower_formula, lower_of_sort};
 use crate::option::{OptionEffect, option_effect};
-use crate::parts::{is_taken, lower_formula, lower_of_sort, refusal_when_full, signature_sort};
+use crate::sorts::signature_sort;
+use crate::taken::{is_taken, refusal_when_full};
 use crate::value::{TermValue, term_value};
 use idl_node::Nodes;
 use idl_scope::NAMES_LIMIT;
@@ -94,15 +96,29 @@ impl<'a> Model for State<'a> {
 
     ghost Value = { Kept };
 
-    ghost view = { λ s. record { scope = s.scope; nodes = s.nodes; roots = s.roots.items; levels = s.levels.items; mode = s.mode; print_success = s.print_success } };
+    ghost view = { λ s. record {
+      scope = s.scope;
+      nodes = s.nodes;
+      roots = s.roots.items;
+      levels = s.levels.items;
+      mode = s.mode;
+      print_success = s.print_success;
+    } };
 
-    ghost invariant = { λ s. IsKept (record { scope = s.scope; nodes = s.nodes; roots = s.roots.items; levels = s.levels.items; mode = s.mode; print_success = s.print_success }) };
+    ghost invariant = { λ s. IsKept (record {
+      scope = s.scope;
+      nodes = s.nodes;
+      roots = s.roots.items;
+      levels = s.levels.items;
+      mode = s.mode;
+      print_success = s.print_success;
+    }) };
 }
 
 impl<'a> State<'a> {
     /// The state before the first command. It takes no memory yet.
     pub fn new(alloc: Global) -> Self
-        ensures { result ≡ record { scope = record { declared = []; bound = [] }; nodes = []; roots = []; levels = []; mode = Mode.Nothing; print_success = false } }
+        ensures { result ≡ nothing_kept }
     {
         State {
             alloc,
@@ -134,7 +150,8 @@ impl<'a> State<'a> {
         value: Option<SexprId>,
     ) -> Result<Effect, ScriptError>
         requires { HasValue sexprs.now value }
-        ensures agrees { Carries (ValueIs sexprs.now value) (λ s v. after_option s (option_effect keyword.now v)) self.old self.new result }
+        ensures agrees { Carries (ValueIs sexprs.now value)
+            (λ s v. after_option s (option_effect keyword.now v)) self.old self.new result }
         ensures err { OnErr result (self.new ≡ self.old) }
     {
         match option_effect(sexprs, keyword, value) {
@@ -228,7 +245,8 @@ impl<'a> State<'a> {
         name: &'a [u8],
     ) -> Result<Effect, ScriptError>
         requires { HasMeaning sexprs.now term }
-        ensures agrees { Carries (Means sexprs.now term) (λ s t. after_naming s name.now t) self.old self.new result }
+        ensures agrees { Carries (Means sexprs.now term) (λ s t. after_naming s name.now t)
+            self.old self.new result }
         ensures err { OnErr result (self.new ≡ self.old) }
     {
         self.roots.reserve(1)?;
@@ -277,7 +295,8 @@ impl<'a> State<'a> {
     /// Back to what there was at a push. It takes time in proportion to what goes.
     fn cut(&mut self, left: usize)
         requires { left < length self.old.levels }
-        ensures { (level : Before) → slice_get self.old.levels left ≡ Some level → self.new ≡ cut_to self.old left level }
+        ensures { (level : Before) → slice_get self.old.levels left ≡ Some level
+            → self.new ≡ cut_to self.old left level }
     {
         let level = self.levels[left];
         self.scope.cut(level.names, level.defined);
@@ -371,8 +390,8 @@ impl<'a> State<'a> {
     /// One command, whose s-expression is in the table. The table may be cleared afterwards.
     pub fn step(&mut self, sexprs: &Sexprs<'a>, id: SexprId) -> Result<Effect, ScriptError>
         requires { HasMeaning sexprs.now id }
-        ensures ok { IfOk result (λ effect. (s : Meaning) (x : Sexpr) → StandsFor self.old s → Means sexprs.now id x
-            → Steps s x effect self.new) }
+        ensures ok { IfOk result (λ effect. (s : Meaning) (x : Sexpr)
+            → StandsFor self.old s → Means sexprs.now id x → Steps s x effect self.new) }
         ensures refused { (why : Why) → result ≡ Err (ScriptError.Refused why) → (s : Meaning) (x : Sexpr)
             → StandsFor self.old s → Means sexprs.now id x → after s x ≡ Err why }
         ensures err { OnErr result (self.new ≡ self.old) }
@@ -401,12 +420,15 @@ impl<'a> State<'a> {
         values: &NamedValues,
     ) -> Result<TermValue, TermError>
         requires meaning { HasMeaning sexprs.now id }
-        requires state { (s : Meaning) × StandsFor self.old s × IsMadeState s × IsScheduleFor s.context values.now }
-        ensures accepted { IfOk result (λ v. (s : Meaning) (x : Sexpr) → StandsFor self.old s → Means sexprs.now id x
-            → IsAccepted s x) }
-        ensures ok { IfOk result (λ v. (s : Meaning) (x : Sexpr) → StandsFor self.old s → Means sexprs.now id x
-            → IsMadeState s → IsScheduleFor s.context values.now → IsValue s values.now x v) }
-        ensures refused { (why : TermRefusal) → result ≡ Err (TermError.Refused why) → (s : Meaning) (x : Sexpr)
+        requires state { (s : Meaning) × StandsFor self.old s × IsMadeState s
+            × IsScheduleFor s.context values.now }
+        ensures accepted { IfOk result (λ v. (s : Meaning) (x : Sexpr)
+            → StandsFor self.old s → Means sexprs.now id x → IsAccepted s x) }
+        ensures ok { IfOk result (λ v. (s : Meaning) (x : Sexpr)
+            → StandsFor self.old s → Means sexprs.now id x → IsMadeState s
+            → IsScheduleFor s.context values.now → IsValue s values.now x v) }
+        ensures refused { (why : TermRefusal) → result ≡ Err (TermError.Refused why)
+            → (s : Meaning) (x : Sexpr)
             → StandsFor self.old s → Means sexprs.now id x → IsRefused s x why }
         ensures same { self.new ≡ self.old }
     {
