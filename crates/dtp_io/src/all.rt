@@ -65,7 +65,8 @@ pub fn read_all<S: Source>(alloc: Global, source: &mut S, limit: u64) -> Result<
     ensures told_too_long { IfSome (S.left source.old) (λ input.
         result ≡ Err ReadError.TooLong → limit < length input) }
     ensures quiet { OnOk result (S.faults source.new ≡ S.faults source.old) }
-    ensures stops { IfErr result (Stops limit (S.left source.old) (S.left source.new) (S.faults source.old) (S.faults source.new)) }
+    ensures stops { IfErr result (Stops limit
+        (S.left source.old) (S.left source.new) (S.faults source.old) (S.faults source.new)) }
     ensures later { S.faults source.old ≤ S.faults source.new }
 {
     let mut all = Vec::new(alloc);

@@ -61,7 +61,8 @@ impl<W: Write> StdSink<W> {
     /// One write, and then a flush.
     fn write_and_flush(&mut self, piece: &[u8]) -> std::io::Result<usize>
         ensures bound { WritesAtMost result piece.now }
-        ensures taken { IfOk result (λ n. Appends (W.contents self.old.writer) (W.contents self.new.writer) (take n piece.now)) }
+        ensures taken { IfOk result (λ n.
+            Appends (W.contents self.old.writer) (W.contents self.new.writer) (take n piece.now)) }
         ensures faults { self.new.faults ≡ self.old.faults }
     {
         let count = self.writer.write(piece)?;
@@ -80,7 +81,8 @@ impl<W: Write> Sink for StdSink<W> {
         ensures some { IfOk result (λ n. 0 < length piece.now → 0 < n) }
         ensures bytes { WriteAppends None None result piece.now }
         ensures cause { HasCause self.old.faults self.new.faults result }
-        ensures taken { IfOk result (λ n. Appends (W.contents self.old.writer) (W.contents self.new.writer) (take n piece.now)) }
+        ensures taken { IfOk result (λ n.
+            Appends (W.contents self.old.writer) (W.contents self.new.writer) (take n piece.now)) }
     {
         match self.write_and_flush(piece) {
             Ok(count) if count > 0 || piece.is_empty() => Ok(count),
