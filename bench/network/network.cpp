@@ -2,6 +2,8 @@
 //
 //     g++ -O2 -o /tmp/network bench/network/network.cpp && time /tmp/network && time /tmp/network search
 //
+// A point's value has 64 bits, or with -DWIDE 128, as Network's have. A literal's bound has 64 in both.
+//
 // 60,000 points, 400,000 random literals that a hidden schedule satisfies, and with the word `search` 1,000,000 adds and
 // retracts: after one literal in ten, and after each refused one, up to 19 of the last literals are taken back.
 #include <algorithm>
@@ -10,6 +12,14 @@
 #include <utility>
 #include <vector>
 
+#ifdef WIDE
+using Value = __int128;
+using Fall = unsigned __int128;
+#else
+using Value = int64_t;
+using Fall = uint64_t;
+#endif
+
 struct Literal {
     uint32_t x, y;
     int64_t c;
@@ -17,16 +27,16 @@ struct Literal {
 
 struct Lowering {
     Literal literal;
-    int64_t now, old;
+    Value now, old;
     size_t parent;
 };
 
 struct Network {
     std::vector<Literal> literals;
     std::vector<size_t> heads, nexts, ends;
-    std::vector<int64_t> values, before;
+    std::vector<Value> values, before;
     std::vector<Lowering> trail;
-    std::vector<std::pair<uint64_t, size_t>> queue;
+    std::vector<std::pair<Fall, size_t>> queue;
     size_t start = 0;
     uint64_t adds = 0;
 
@@ -35,8 +45,8 @@ struct Network {
     bool fails(const Literal &l) const { return values[l.y] + l.c < values[l.x]; }
 
     void lower(const Literal &l, size_t parent) {
-        int64_t now = values[l.y] + l.c;
-        queue.emplace_back(uint64_t(before[l.x] - now), trail.size());
+        Value now = values[l.y] + l.c;
+        queue.emplace_back(Fall(before[l.x] - now), trail.size());
         std::push_heap(queue.begin(), queue.end());
         trail.push_back({l, now, values[l.x], parent});
         values[l.x] = now;
@@ -133,6 +143,6 @@ int main(int argc, char **) {
         }
     }
     uint64_t sum = 0;
-    for (int64_t value : net.values) sum = sum * 31 + uint64_t(-value);
+    for (Value value : net.values) sum = sum * 31 + uint64_t(-value);
     std::printf("adds %lu length %zu refused %lu sum %lu\n", net.adds, net.literals.size(), refused, sum);
 }

@@ -1,6 +1,7 @@
 #!/usr/bin/env bash
-# Times the incremental network beside the same algorithm in C++, where a C++ compiler is there. It prints, and asserts
-# nothing: both programs print how many adds they made, and a sum of the schedule that must be the same.
+# Times the incremental network, whose values have 128 bits, beside the same algorithm in C++ with values of 64 and of
+# 128 bits, where a C++ compiler is there. It prints, and asserts nothing: all print how many adds they made, and a sum
+# of the schedule that must be the same.
 #
 #     bench/network/run.sh
 set -u
@@ -8,8 +9,9 @@ top=$(cd "$(dirname "$0")/../.." && pwd)
 (cd "$top/crates/network_bench" && rt run > /dev/null) || exit 1
 programs=("$top/crates/network_bench/out/network_bench")
 if command -v g++ > /dev/null; then
-    built=$(mktemp)
-    g++ -O2 -o "$built" "$top/bench/network/network.cpp" && programs+=("$built")
+    built=$(mktemp -d)
+    g++ -O2 -o "$built/cpp_64_bits" "$top/bench/network/network.cpp" && programs+=("$built/cpp_64_bits")
+    g++ -O2 -DWIDE -o "$built/cpp_128_bits" "$top/bench/network/network.cpp" && programs+=("$built/cpp_128_bits")
 fi
 for words in "" search; do
     for program in "${programs[@]}"; do

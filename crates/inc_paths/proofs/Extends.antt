@@ -1,13 +1,13 @@
 -- One literal more.
-use Rattle.std.proofs.Common.{arith, refl, ap, sym, subst, ◌∙◌, inl, inr, ◌≡◌, ◌≢◌, ℕ, ◌<◌, ◌≤◌, ◌+◌, List, [], ◌∷◌, ◌++◌, length, take, set, All, Contains, IsPermutation, FitsSigned, w64, ℤ, pos, ◌+ℤ◌, ◌≤ℤ◌, ◌<ℤ◌}
+use Rattle.std.proofs.Common.{arith, refl, ap, sym, subst, ◌∙◌, inl, inr, ◌≡◌, ◌≢◌, ℕ, ◌<◌, ◌≤◌, ◌+◌, List, [], ◌∷◌, ◌++◌, length, take, set, All, Contains, IsPermutation, ℤ, pos, ◌+ℤ◌, ◌≤ℤ◌, ◌<ℤ◌}
 use Rattle.std.proofs.lemmas.Int.{ints}
 use Rattle.std.proofs.lemmas.Bool.{cases_eq, cases_lt}
 use Rattle.std.proofs.lemmas.List.{get_or_append_left, get_or_push, get_or_past, length_push, take_all}
 use Rattle.std.proofs.lemmas.List.Elements.{All-push, Contains-get_or}
 use Rattle.stn_core.specs.declared.literal.Literal.{Literal}
 use Rattle.stn_core.specs.Answer.{IsBest, IsCycleAmong}
-use Rattle.stn_core.specs.Limits.{points_limit}
-use Rattle.stn_core.specs.Literal.{value_at, Holds, IsOver, literal_at}
+use Rattle.stn_core.specs.Limits.{points_limit, FitsValue}
+use Rattle.stn_core.specs.Literal.{most_allowed, value_at, Holds, IsOver, literal_at}
 use Rattle.stn_core.specs.Schedule.{IsSchedule, IsGreatestSchedule, IsInRange}
 use Rattle.stn_core.proofs.Ranges.{in_range_of_greatest}
 use Rattle.inc_paths.specs.declared.labels.Lowering.{Lowering}
@@ -59,7 +59,7 @@ module _ (points : ℕ) (ls : List Literal) (new : Literal) (values : List ℤ) 
   pub y_in : new.y < length values
   y_in = let o = new_over.y_in in let c = best.greatest.schedule.count in omega arith
 
-  pub fits : FitsSigned w64 (value_at values new.y +ℤ new.c)
+  pub fits : FitsValue (most_allowed values new)
   fits =
       let r = range_at values new.y best.range in
       let low = r.low in

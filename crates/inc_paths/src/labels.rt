@@ -1,6 +1,6 @@
 ghost use Rattle.std.specs.Prelude.{◌≡◌, ◌<◌, ◌≤◌, ◌+◌, ◌-◌, [], ◌∷◌, ◌++◌, ◌↔◌, ℕ, length, take, replicate, slice_set, IfOk, OnOk, OnErr, All, IfSome, IfNone, IsTrue, IsPermutation, pos, ◌+ℤ◌, ◌<ℤ◌};
 ghost use Rattle.stn_core.specs.Limits.{FitsValue};
-ghost use Rattle.stn_core.specs.Literal.{value_at};
+ghost use Rattle.stn_core.specs.Literal.{most_allowed, value_at};
 ghost use Rattle.inc_paths.specs.declared.labels.Lowering.{Lowering};
 ghost use Rattle.inc_paths.specs.Trails.{entry_at, fall_of, first_of, lowering};
 
@@ -10,7 +10,7 @@ use std::marker::Model;
 use stn_core::{Literal, Value};
 
 /// How far a value falls; the unsigned type beside `Value`.
-type Fall = u64;
+type Fall = u128;
 
 /// One lowering of a point's value.
 #[derive(Clone, Copy)]
@@ -100,24 +100,33 @@ impl Labels {
         self.values[entry.literal.x as usize] == entry.now
     }
 
+    /// What the literal allows its first point.
+    fn allowed(&self, literal: Literal) -> Value
+        requires y_in { literal.y < length self.now.values }
+        requires fits { FitsValue (most_allowed self.now.values literal) }
+        ensures { result ≡ most_allowed self.now.values literal }
+    {
+        self.values[literal.y as usize] + Value::from(literal.c)
+    }
+
     /// Whether the literal does not hold.
     pub fn fails(&self, literal: Literal) -> bool
         requires x_in { literal.x < length self.now.values }
         requires y_in { literal.y < length self.now.values }
-        requires fits { FitsValue (value_at self.now.values literal.y +ℤ literal.c) }
-        ensures { IsTrue result ↔ ((value_at self.now.values literal.y +ℤ literal.c) <ℤ value_at self.now.values literal.x) }
+        requires fits { FitsValue (most_allowed self.now.values literal) }
+        ensures { IsTrue result ↔ ((most_allowed self.now.values literal) <ℤ value_at self.now.values literal.x) }
     {
-        self.values[literal.y as usize] + literal.c < self.values[literal.x as usize]
+        self.allowed(literal) < self.values[literal.x as usize]
     }
 
     /// How far the literal's first point falls below its value before the start.
     fn fall_of(&self, literal: Literal) -> Fall
         requires x_in { literal.x < length self.now.values }
         requires y_in { literal.y < length self.now.values }
-        requires fits { FitsValue (value_at self.now.values literal.y +ℤ literal.c) }
+        requires fits { FitsValue (most_allowed self.now.values literal) }
         ensures { result ≡ fall_of self.now literal }
     {
-        let now = self.values[literal.y as usize] + literal.c;
+        let now = self.allowed(literal);
         self.before[literal.x as usize].abs_diff(now)
     }
 
@@ -125,15 +134,15 @@ impl Labels {
     pub fn lower(&mut self, literal: Literal, parent: usize) -> Result<(), AllocError>
         requires x_in { literal.x < length self.old.values }
         requires y_in { literal.y < length self.old.values }
-        requires fits { FitsValue (value_at self.old.values literal.y +ℤ literal.c) }
-        ensures values { OnOk result (self.new.values ≡ slice_set self.old.values literal.x (value_at self.old.values literal.y +ℤ literal.c)) }
+        requires fits { FitsValue (most_allowed self.old.values literal) }
+        ensures values { OnOk result (self.new.values ≡ slice_set self.old.values literal.x (most_allowed self.old.values literal)) }
         ensures trail { OnOk result (self.new.trail ≡ self.old.trail ++ lowering self.old.values literal parent ∷ []) }
         ensures queue { OnOk result (IsPermutation ((fall_of self.old literal, length self.old.trail) ∷ self.old.queue) self.new.queue) }
         ensures start { self.new.start ≡ self.old.start }
         ensures err_values { OnErr result (self.new.values ≡ self.old.values) }
         ensures err_trail { OnErr result (self.new.trail ≡ self.old.trail) }
     {
-        let now = self.values[literal.y as usize] + literal.c;
+        let now = self.allowed(literal);
         let old = self.values[literal.x as usize];
         let fall = self.fall_of(literal);
         self.queue.push((fall, self.trail.len()))?;

@@ -78,10 +78,11 @@ fn main(rt: HostRuntime) -> io::Result<()> {
             }
         }
     }
-    let mut sum = 0u64;
+    let mut sum = 0u128;
     for value in net.schedule() {
         sum = sum.wrapping_mul(31).wrapping_add(value.unsigned_abs());
     }
+    let sum = sum & u128::from(u64::MAX);
     let adds = net.adds();
     let length = net.mark().length;
     println!(rt; "adds {adds} length {length} refused {refused} sum {sum}")?;

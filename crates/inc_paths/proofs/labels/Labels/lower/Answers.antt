@@ -1,8 +1,9 @@
-use Rattle.std.proofs.Common.{arith, rules, vec_len, refl, ap, sym, ◌∙◌, ◌≡◌, ◌<◌, ◌++◌, ◌∷◌, [], length, w64, FitsSigned, ◌+ℤ◌}
+use Rattle.std.proofs.Common.{arith, rules, vec_len, refl, ap, sym, ◌∙◌, ◌≡◌, ◌<◌, ◌++◌, ◌∷◌, [], length, FitsSigned}
+use Rattle.std.specs.Int.{w128}
 use Rattle.std.proofs.lemmas.Int.{to_z-of_z}
 use Rattle.std.proofs.lemmas.Grind.{common_steps}
 use Rattle.std.specs.BinaryHeap.{heap_items}
-use Rattle.stn_core.specs.Literal.{value_at}
+use Rattle.stn_core.specs.Literal.{value_at, most_allowed}
 use Rattle.inc_paths.specs.Trails.{Labelled, lowering}
 use Rattle.inc_paths.proofs.Undoing.{labelled_more}
 use Rattle.inc_paths.proofs.labels.Labels.lower.Goals as goal
@@ -11,15 +12,13 @@ pub invariant_of-self-2 : goal.invariant_of-self-2
 invariant_of-self-2 c =
     let shown : length c.self.inside.values.items ≡ length c.args.self.now.values = ap (λ (l : Labelled). length l.values) c.self.view_is in
     let lt : c.args.literal.x < length c.self.inside.values.items = omega (arith, c.requires.x_in) in
-    let y : c.index.result.now ≡ value_at c.self.inside.values.items c.args.literal.y = grind (arith, common_steps) in
     let x : c.index-old.result.now ≡ value_at c.self.inside.values.items c.args.literal.x = grind (arith, common_steps) in
-    let fx : FitsSigned w64 c.index-old.result.now = search rules in
-    let fy : FitsSigned w64 c.index.result.now = search rules in
-    let fc : FitsSigned w64 c.args.literal.c = search rules in
+    let fx : FitsSigned w128 c.index-old.result.now = search rules in
+    let fy : FitsSigned w128 c.allowed-now.result = search rules in
     let values : c.self.inside.values.items ≡ c.args.self.now.values = ap (λ (l : Labelled). l.values) c.self.view_is in
-    let fs : FitsSigned w64 (c.index.result.now +ℤ c.args.literal.c) = rw (y, values) c.requires.fits in
+    let now : c.allowed-now.result ≡ most_allowed c.self.inside.values.items c.args.literal = rw values c.allowed-now.ensures in
     let pushed = simp to_z-of_z at c.in_ok-push-2.ensures.items in
-    let trail : c.push-2.new.self.items ≡ c.self.inside.trail.items ++ lowering c.self.inside.values.items c.args.literal c.args.parent ∷ [] = rw (← x, ← y) pushed in
+    let trail : c.push-2.new.self.items ≡ c.self.inside.trail.items ++ lowering c.self.inside.values.items c.args.literal c.args.parent ∷ [] = rw (← x, ← now) pushed in
     rw trail (labelled_more c.self.inside.values.items c.self.inside.trail.items c.self.inside.start c.self.inside.before.items (lowering c.self.inside.values.items c.args.literal c.args.parent) _ c.self.invariant lt refl)
 
 pub returns-clause-queue : goal.returns-clause-queue
