@@ -1,112 +1,289 @@
+use crate::activities::Activities;
+use crate::assignment::{Assignment, Truth};
+use crate::clauses::{Clauses, Source};
+use crate::forgetting::Forgetting;
+use crate::ladders::Ladders;
+use crate::numbers::{LiteralNumber, Numbers, narrow, negated};
+use crate::phases::{Phases, holds_on};
+use crate::restarts::Restarts;
+use crate::watches::{Proposal, Watches};
 use std::alloc::{AllocError, Global};
 use stn_core::{Literal, Problem, Value};
 
-/// The number of a literal. A literal and its negation have the numbers 2v and 2v + 1, in either order.
-pub type LiteralNumber = u32;
-
-/// A clause, by where it comes from: the problem's clauses and the lemmas are counted from 0, each by itself.
-#[derive(Clone, Copy, Debug, PartialEq, Eq)]
-pub enum Source {
-    Input(usize),
-    Lemma(usize),
-}
-
-/// What follows from a literal of the trail.
-#[derive(Clone, Copy, Debug, PartialEq, Eq)]
-pub enum Proposal {
-    /// Nothing more.
-    Nothing,
-    /// This weaker bound on the same two points, which isn't on the trail; its negation may be.
-    Weaker(LiteralNumber),
-    /// The literal at this place of the clause: all others are denied.
-    Unit(Source, usize),
-    /// All literals of the clause are denied.
-    Conflict(Source),
-}
-
-/// The hints of a search.
+/// The hints of a search. It is told what happens on the trail (`set`, `unset`), what is learned (`add_lemma`) and what
+/// took part in conflicts (`bump`, `bump_clause`, `decay`, `after_conflict`), and answers what to look at. What it was told
+/// wrongly makes its hints worse, and nothing else.
 #[derive(Drop)]
 pub struct Guide {
-    atoms: Vec<Literal>,
+    alloc: Global,
+    numbers: Numbers,
+    clauses: Clauses,
+    assignment: Assignment,
+    ladders: Ladders,
+    watches: Watches,
+    activities: Activities,
+    phases: Phases,
+    restarts: Restarts,
+    forgetting: Forgetting,
+    /// the clause of the problem from which the next look for a model goes on
+    pointer: usize,
+}
+
+/// Numbers the literals, and puts the problem's clauses into the table.
+fn read(alloc: Global, problem: &Problem) -> Result<(Numbers, Clauses), AllocError> {
+    let mut numbers = Numbers::new(alloc);
+    let mut clauses = Clauses::new(alloc);
+    for clause in problem.clauses.as_slice() {
+        for literal in clause.as_slice() {
+            clauses.push(numbers.insert(*literal)?)?;
+        }
+        clauses.end_clause()?;
+    }
+    clauses.end_inputs();
+    Ok((numbers, clauses))
 }
 
 impl Guide {
-    pub fn new(alloc: Global, _problem: &Problem) -> Result<Self, AllocError> {
-        Ok(Guide {
-            atoms: Vec::new(alloc),
-        })
+    /// The hints at the start of a search: no literal is on the trail, and there is no lemma.
+    pub fn new(alloc: Global, problem: &Problem) -> Result<Self, AllocError> {
+        let (numbers, clauses) = read(alloc, problem)?;
+        let ladders = Ladders::start(alloc, numbers.atoms())?;
+        let phases = Phases::start(alloc, problem.points, numbers.atoms())?;
+        let mut guide = Guide {
+            alloc,
+            numbers,
+            clauses,
+            assignment: Assignment::new(alloc),
+            ladders,
+            watches: Watches::new(alloc),
+            activities: Activities::new(alloc),
+            phases,
+            restarts: Restarts::new(),
+            forgetting: Forgetting::new(alloc),
+            pointer: 0,
+        };
+        for _atom in 0..guide.numbers.len() {
+            guide.push_atom()?;
+        }
+        guide.start_clauses()?;
+        Ok(guide)
     }
 
-    pub fn add_literal(&mut self, literal: Literal) -> Result<LiteralNumber, AllocError> {
-        self.atoms.push(literal)?;
-        Ok(0)
+    /// Room for one more atom in the tables that begin empty.
+    fn push_atom(&mut self) -> Result<(), AllocError> {
+        self.assignment.push()?;
+        self.watches.push()?;
+        self.activities.push()?;
+        self.forgetting.push_level()
     }
 
-    pub fn add_lemma(&mut self, _clause: &[Literal]) -> Result<(), AllocError> {
+    /// First activities, and watches.
+    fn start_clauses(&mut self) -> Result<(), AllocError> {
+        for clause in 0..self.clauses.inputs() {
+            let clause = narrow(clause);
+            let literals = self.clauses.literals(clause);
+            for literal in literals {
+                self.activities.count_clause(*literal, literals.len());
+            }
+            self.watches.attach(&mut self.clauses, clause, 0, 1)?;
+        }
+        self.activities.order();
         Ok(())
     }
 
+    /// The literal's number, a new one where it wasn't met before. The one error is want of memory.
+    pub fn add_literal(&mut self, literal: Literal) -> Result<LiteralNumber, AllocError> {
+        let before = self.numbers.len();
+        let number = self.numbers.insert(literal)?;
+        if self.numbers.len() > before {
+            self.push_atom()?;
+            self.phases.push()?;
+            self.ladders.add(self.numbers.atoms(), number & !1)?;
+        }
+        Ok(number)
+    }
+
+    /// The next lemma's clause. It is watched at the two places that leave the trail last. The one error is want of memory.
+    pub fn add_lemma(&mut self, clause: &[Literal]) -> Result<(), AllocError> {
+        self.watches.end();
+        self.clauses.begin_clause();
+        for literal in clause {
+            let number = self.add_literal(*literal)?;
+            self.clauses.push(number)?;
+        }
+        let index = self.clauses.end_clause()?;
+        let literals = self.clauses.literals(index);
+        self.forgetting.push(literals, &self.assignment)?;
+        let (first, second) = self.assignment.last_two(literals);
+        self.watches.attach(&mut self.clauses, index, first, second)
+    }
+
+    /// The literal's number, if it was met before.
+    pub fn number_of(&self, literal: Literal) -> Option<LiteralNumber> {
+        self.numbers.number(literal)
+    }
+
     pub fn literal(&self, number: LiteralNumber) -> Option<Literal> {
-        self.atoms.get(number as usize).copied()
+        self.numbers.literal(number)
     }
 
     pub fn negated(number: LiteralNumber) -> LiteralNumber {
-        number ^ 1
+        negated(number)
     }
 
+    /// How many numbers of literals there are. It is even.
     pub fn literals(&self) -> usize {
-        self.atoms.len()
+        self.numbers.len().saturating_mul(2)
     }
 
-    pub fn number_at(&self, _source: Source, _place: usize) -> Option<LiteralNumber> {
-        None
+    /// The number of the clause's literal at a place. There is none beyond the clause, and none for a lemma that was
+    /// forgotten.
+    pub fn number_at(&self, source: Source, place: usize) -> Option<LiteralNumber> {
+        self.clauses.literals_of(source).get(place).copied()
     }
 
-    pub fn is_pure(&self, _number: LiteralNumber) -> bool {
-        false
+    /// Whether the literal was of the problem, and one of its points is in no other atom of it.
+    pub fn is_pure(&self, number: LiteralNumber) -> bool {
+        self.phases.is_pure(number)
     }
 
-    pub fn set(&mut self, _number: LiteralNumber, _place: usize, _level: usize) {}
-
-    pub fn unset(&mut self, _number: LiteralNumber) {}
-
-    pub fn place(&self, _number: LiteralNumber) -> Option<usize> {
-        None
+    /// The literal stands on the trail now.
+    pub fn set(&mut self, number: LiteralNumber, place: usize, level: usize) {
+        self.assignment.set(number, place, level);
     }
 
-    pub fn begin(&mut self, _number: LiteralNumber) {}
+    /// The literal leaves the trail.
+    pub fn unset(&mut self, number: LiteralNumber) {
+        self.assignment.unset(number);
+        self.phases.save(number);
+        self.activities.reopen(number);
+    }
 
+    /// Where the literal stands on the trail.
+    pub fn place(&self, number: LiteralNumber) -> Option<usize> {
+        match self.assignment.truth(number) {
+            Truth::True => Some(self.assignment.place(number)),
+            Truth::False | Truth::Open => None,
+        }
+    }
+
+    /// From here on `next` answers what follows from this literal of the trail.
+    pub fn begin(&mut self, number: LiteralNumber) {
+        let weaker = self.ladders.weaker(number);
+        self.watches.begin(number, weaker);
+    }
+
+    /// What follows next. After a unit or a conflict the next call goes on behind it. The one error is want of memory.
     pub fn next(&mut self) -> Result<Proposal, AllocError> {
-        Ok(Proposal::Nothing)
+        self.watches
+            .next(&mut self.clauses, &self.ladders, &self.assignment)
     }
 
-    pub fn choose(&mut self, _values: &[Value]) -> Option<LiteralNumber> {
+    /// The open literal to decide, or nothing where all are on the trail. The values are the net's schedule.
+    pub fn choose(&mut self, values: &[Value]) -> Option<LiteralNumber> {
+        for _turn in 0..self.literals() {
+            let number = self.activities.top()?.wrapping_mul(2);
+            if self.assignment.truth(number) == Truth::Open {
+                let atom = self.numbers.literal(number)?;
+                let side = self.phases.side(number, atom, values);
+                return Some(if side { number } else { negated(number) });
+            }
+            self.activities.pop();
+        }
         None
     }
 
-    pub fn seems_model(&mut self, _values: &[Value]) -> bool {
+    fn seems_true(&self, clause: u32, values: &[Value]) -> bool {
+        for literal in self.clauses.literals(clause) {
+            if self.side(*literal, values) {
+                return true;
+            }
+        }
         false
     }
 
-    pub fn side(&self, _number: LiteralNumber, _values: &[Value]) -> bool {
-        false
+    /// Whether each clause of the problem has a literal whose `side` is true. It looks from where it found none the last
+    /// time, so that a call that answers no is mostly short.
+    pub fn seems_model(&mut self, values: &[Value]) -> bool {
+        let inputs = self.clauses.inputs();
+        for _turn in 0..inputs {
+            if !self.seems_true(narrow(self.pointer), values) {
+                return false;
+            }
+            let next = self.pointer.wrapping_add(1);
+            self.pointer = if next < inputs { next } else { 0 };
+        }
+        true
     }
 
-    pub fn bump(&mut self, _number: LiteralNumber) {}
-
-    pub fn bump_clause(&mut self, _source: Source) {}
-
-    pub fn decay(&mut self) {}
-
-    pub fn after_conflict(&mut self, _clause: &[LiteralNumber]) -> usize {
-        0
+    /// Whether the literal is true: on the trail, or else, if it is pure, by its phase, or else on the values.
+    pub fn side(&self, number: LiteralNumber, values: &[Value]) -> bool {
+        match self.assignment.truth(number) {
+            Truth::True => true,
+            Truth::False => false,
+            Truth::Open if self.phases.is_pure(number) => self.phases.pure_side(number),
+            Truth::Open => match self.numbers.literal(number) {
+                Some(literal) => holds_on(literal, values),
+                None => false,
+            },
+        }
     }
 
+    /// The literal took part in a conflict.
+    pub fn bump(&mut self, number: LiteralNumber) {
+        self.activities.bump(number);
+    }
+
+    /// The clause took part in a conflict.
+    pub fn bump_clause(&mut self, source: Source) {
+        if let Source::Lemma(lemma) = source {
+            let literals = self.clauses.literals_of(source);
+            self.forgetting.bump(lemma, literals, &self.assignment);
+        }
+    }
+
+    /// What took part in earlier conflicts counts less from now on.
+    pub fn decay(&mut self) {
+        self.activities.decay();
+        self.forgetting.decay();
+    }
+
+    /// The level to jump back to from a conflict, whose learned clause has these literals, all denied: the second greatest
+    /// of their levels, or 0 for one literal.
+    pub fn after_conflict(&mut self, clause: &[LiteralNumber]) -> usize {
+        self.restarts.count_conflict();
+        self.forgetting.count_conflict();
+        let mut greatest = 0;
+        let mut second = 0;
+        for number in clause {
+            let level = self.assignment.level(*number);
+            if level >= greatest {
+                second = greatest;
+                greatest = level;
+            } else if level > second {
+                second = level;
+            }
+        }
+        second
+    }
+
+    /// Whether it is time to go back to the root; if so, the next wait begins.
     pub fn wants_restart(&mut self) -> bool {
-        false
+        self.restarts.is_due()
     }
 
+    /// Takes lemmas out of the watches where it is time, and answers how many. Their numbers stay theirs; `number_at`
+    /// answers nothing for them from then on. The one error is want of memory.
     pub fn forget(&mut self) -> Result<usize, AllocError> {
-        Ok(0)
+        if !self.forgetting.is_due() {
+            return Ok(0);
+        }
+        let (kept, dropped) = self
+            .forgetting
+            .select(self.alloc, &self.clauses, &self.assignment)?;
+        self.watches.end();
+        self.clauses.keep_lemmas(&kept);
+        self.watches.drop_forgotten(&self.clauses);
+        Ok(dropped)
     }
 }

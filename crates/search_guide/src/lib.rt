@@ -4,6 +4,18 @@
 //! numbers and in any order of calls.
 #![tactic(auto)]
 
+mod activities;
+mod assignment;
+mod clauses;
+mod forgetting;
 mod guide;
+mod ladders;
+mod numbers;
+mod phases;
+mod restarts;
+mod watches;
 
-pub use guide::{Guide, LiteralNumber, Proposal, Source};
+pub use clauses::Source;
+pub use guide::Guide;
+pub use numbers::LiteralNumber;
+pub use watches::Proposal;

@@ -1,0 +1,204 @@
+//! Forgetting: a search learns a lemma a conflict, and each that is watched makes every step slower. After 2,000 conflicts,
+//! and then after 2,000 + 300 k more, half of the lemmas that matter least are taken out of the watches; they stay with
+//! their owner, since refutations cite them. A lemma matters the more, the fewer levels its literals had when they were
+//! denied (Audemard, Simon 2009), and then the more it took part in late conflicts. Lemmas of two literals or of at most
+//! two levels stay for ever, and so does a lemma that may be the reason of a literal of the trail.
+use crate::assignment::{Assignment, Truth};
+use crate::clauses::Clauses;
+use crate::numbers::LiteralNumber;
+use std::alloc::{AllocError, Global};
+
+/// Conflicts before the first time, and how many more lie between each two times than between the two before.
+const FIRST: u64 = 2_000;
+
+const MORE: u64 = 300;
+
+/// A lemma's activity grows by an increment that grows by a thousandth with each conflict.
+const START: u64 = 1 << 20;
+
+const LARGE: u64 = 1 << 60;
+
+const SHIFT: u32 = 40;
+
+/// At most so many levels, and a lemma stays.
+const FEW_LEVELS: u32 = 2;
+
+/// What is known of a lemma.
+#[derive(Clone, Copy)]
+struct Merit {
+    levels: u32,
+    activity: u64,
+}
+
+/// A lemma that can be forgotten; the least is the best.
+#[derive(Clone, Copy, PartialEq, Eq, PartialOrd, Ord)]
+struct Candidate {
+    levels: u32,
+    idleness: u64,
+    lemma: usize,
+}
+
+#[derive(Drop)]
+pub struct Forgetting {
+    merits: Vec<Merit>,
+    increment: u64,
+    conflicts: u64,
+    due: u64,
+    wait: u64,
+    /// for each level the last count of levels in which it came up
+    stamps: Vec<u64>,
+    stamp: u64,
+}
+
+impl Forgetting {
+    pub fn new(alloc: Global) -> Self {
+        Forgetting {
+            merits: Vec::new(alloc),
+            increment: START,
+            conflicts: 0,
+            due: FIRST,
+            wait: FIRST,
+            stamps: Vec::new(alloc),
+            stamp: 0,
+        }
+    }
+
+    /// Room for one more level.
+    pub fn push_level(&mut self) -> Result<(), AllocError> {
+        self.stamps.push(0)?;
+        Ok(())
+    }
+
+    pub fn count_conflict(&mut self) {
+        self.conflicts = self.conflicts.saturating_add(1);
+    }
+
+    /// How many levels the literals have; a level beyond the table counts each time.
+    fn count_levels(&mut self, literals: &[LiteralNumber], assignment: &Assignment) -> u32 {
+        self.stamp = self.stamp.wrapping_add(1);
+        let mut count = 0u32;
+        for literal in literals {
+            match self.stamps.get_mut(assignment.level(*literal)) {
+                Some(stamp) if *stamp == self.stamp => {}
+                Some(stamp) => {
+                    *stamp = self.stamp;
+                    count = count.saturating_add(1);
+                }
+                None => count = count.saturating_add(1),
+            }
+        }
+        count
+    }
+
+    /// One more lemma. Where two of its literals aren't denied, it counts as if each had a level of its own.
+    pub fn push(
+        &mut self,
+        literals: &[LiteralNumber],
+        assignment: &Assignment,
+    ) -> Result<(), AllocError> {
+        let denied = literals
+            .iter()
+            .filter(|literal| assignment.truth(**literal) == Truth::False)
+            .count();
+        let levels = if denied.saturating_add(1) < literals.len() {
+            crate::numbers::narrow(literals.len())
+        } else {
+            self.count_levels(literals, assignment)
+        };
+        self.merits.push(Merit {
+            levels,
+            activity: self.increment,
+        })?;
+        Ok(())
+    }
+
+    /// The lemma took part in a conflict: its literals are denied, but at most one.
+    pub fn bump(&mut self, lemma: usize, literals: &[LiteralNumber], assignment: &Assignment) {
+        let Some(merit) = self.merits.get(lemma).copied() else {
+            return;
+        };
+        let mut levels = merit.levels;
+        if levels > FEW_LEVELS {
+            levels = levels.min(self.count_levels(literals, assignment));
+        }
+        let activity = merit.activity.saturating_add(self.increment);
+        if let Some(slot) = self.merits.get_mut(lemma) {
+            *slot = Merit { levels, activity };
+        }
+        if activity > LARGE {
+            self.scale();
+        }
+    }
+
+    fn scale(&mut self) {
+        for merit in self.merits.iter_mut() {
+            merit.activity >>= SHIFT;
+        }
+        self.increment = (self.increment >> SHIFT).max(START);
+    }
+
+    pub fn decay(&mut self) {
+        self.increment = self.increment.saturating_add(self.increment / 1_000);
+        if self.increment > LARGE {
+            self.scale();
+        }
+    }
+
+    /// Whether it is time; if so, the next wait begins.
+    pub fn is_due(&mut self) -> bool {
+        if self.conflicts < self.due {
+            return false;
+        }
+        self.wait = self.wait.saturating_add(MORE);
+        self.due = self.conflicts.saturating_add(self.wait);
+        true
+    }
+
+    /// For each lemma whether it is kept, and how many aren't that were.
+    pub fn select(
+        &self,
+        alloc: Global,
+        clauses: &Clauses,
+        assignment: &Assignment,
+    ) -> Result<(Vec<bool>, usize), AllocError> {
+        let mut kept = Vec::with_capacity(alloc, self.merits.len())?;
+        let mut candidates = Vec::new(alloc);
+        for (lemma, merit) in self.merits.iter().enumerate() {
+            let literals = clauses.literals_of(crate::clauses::Source::Lemma(lemma));
+            kept.push(!literals.is_empty())?;
+            if merit.levels > FEW_LEVELS
+                && literals.len() > 2
+                && !may_be_reason(literals, assignment)
+            {
+                candidates.push(Candidate {
+                    levels: merit.levels,
+                    idleness: u64::MAX - merit.activity,
+                    lemma,
+                })?;
+            }
+        }
+        candidates.sort_unstable();
+        let half = candidates.len() / 2;
+        let mut dropped = 0usize;
+        for candidate in candidates.iter().skip(half) {
+            if let Some(slot) = kept.get_mut(candidate.lemma) {
+                *slot = false;
+                dropped = dropped.saturating_add(1);
+            }
+        }
+        Ok((kept, dropped))
+    }
+}
+
+/// Whether one literal holds and all others are denied.
+fn may_be_reason(literals: &[LiteralNumber], assignment: &Assignment) -> bool {
+    let mut holding = 0u32;
+    for literal in literals {
+        match assignment.truth(*literal) {
+            Truth::True => holding = holding.saturating_add(1),
+            Truth::False => {}
+            Truth::Open => return false,
+        }
+    }
+    holding == 1
+}

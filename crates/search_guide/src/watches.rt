@@ -1,0 +1,359 @@
+//! Watches: each clause of three literals or more has two that aren't denied, as long as it has two, and is looked at only
+//! where one of them is denied (Moskewicz and others 2001). A watch also names another literal of its clause, a blocker:
+//! where that one holds, the clause isn't read at all. A clause of two literals stands in lists of its own, where the
+//! blocker is the other literal, and these lists come first. A search for a new watch begins behind the old one and goes
+//! round, so that a branch of the search reads a long clause about once (Gent 2013).
+//!
+//! Coming back from a branch costs nothing: the watches stay where they are.
+use crate::assignment::{Assignment, Truth};
+use crate::clauses::{Clauses, Source};
+use crate::ladders::Ladders;
+use crate::numbers::{LiteralNumber, narrow, negated};
+use std::alloc::{AllocError, Global};
+use std::mem;
+
+/// What follows from a literal of the trail.
+#[derive(Clone, Copy, Debug, PartialEq, Eq)]
+pub enum Proposal {
+    /// Nothing more.
+    Nothing,
+    /// This weaker bound on the same two points, which isn't on the trail; its negation may be.
+    Weaker(LiteralNumber),
+    /// The literal at this place of the clause, which is open: all others are denied.
+    Unit(Source, usize),
+    /// All literals of the clause are denied.
+    Conflict(Source),
+}
+
+#[derive(Clone, Copy)]
+struct Watch {
+    clause: u32,
+    /// another literal of the clause
+    blocker: LiteralNumber,
+}
+
+/// What a clause says when one of its watched literals is denied.
+#[derive(Clone, Copy)]
+enum Visit {
+    /// Its other watched literal holds.
+    Holds(LiteralNumber),
+    /// This literal of it, at this place, isn't denied and is to be watched in place of the denied one.
+    Moves(Move),
+    /// All are denied but the other watched one, at this place, which is open.
+    Unit(u32, LiteralNumber),
+    /// All are denied, the other watched one too.
+    Conflict(LiteralNumber),
+    /// There is no such clause.
+    Gone,
+}
+
+#[derive(Clone, Copy)]
+struct Move {
+    from: u32,
+    to: u32,
+    literal: LiteralNumber,
+    other: LiteralNumber,
+}
+
+#[derive(Drop)]
+pub struct Watches {
+    alloc: Global,
+    /// for each literal the clauses of two literals with its negation
+    pairs: Vec<Vec<Watch>>,
+    /// for each literal the longer clauses that watch its negation
+    lists: Vec<Vec<Watch>>,
+    /// the literal from which consequences are drawn
+    literal: Option<LiteralNumber>,
+    /// the next step of its ladder
+    weaker: Option<LiteralNumber>,
+    /// how many of its pairs were looked at
+    pair: usize,
+    /// its list, taken out of the lists, how much of it was looked at, and how much of that stays
+    list: Vec<Watch>,
+    seen: usize,
+    kept: usize,
+}
+
+impl Watches {
+    pub fn new(alloc: Global) -> Self {
+        Watches {
+            alloc,
+            pairs: Vec::new(alloc),
+            lists: Vec::new(alloc),
+            literal: None,
+            weaker: None,
+            pair: 0,
+            list: Vec::new(alloc),
+            seen: 0,
+            kept: 0,
+        }
+    }
+
+    /// Room for one more atom.
+    pub fn push(&mut self) -> Result<(), AllocError> {
+        for _side in 0..2 {
+            self.pairs.push(Vec::new(self.alloc))?;
+            self.lists.push(Vec::new(self.alloc))?;
+        }
+        Ok(())
+    }
+
+    /// The clause is looked at when one of the two literals at these places is denied.
+    pub fn attach(
+        &mut self,
+        clauses: &mut Clauses,
+        clause: u32,
+        first: u32,
+        second: u32,
+    ) -> Result<(), AllocError> {
+        let literals = clauses.literals(clause);
+        if literals.len() < 2 {
+            return Ok(());
+        }
+        let is_pair = literals.len() == 2;
+        let one = literals.get(first as usize).copied();
+        let two = literals.get(second as usize).copied();
+        let (Some(one), Some(two)) = (one, two) else {
+            return Ok(());
+        };
+        clauses.watch(clause, first, second);
+        let lists = if is_pair {
+            &mut self.pairs
+        } else {
+            &mut self.lists
+        };
+        append(
+            lists,
+            negated(one),
+            Watch {
+                clause,
+                blocker: two,
+            },
+        )?;
+        append(
+            lists,
+            negated(two),
+            Watch {
+                clause,
+                blocker: one,
+            },
+        )
+    }
+
+    fn keep(&mut self, watch: Watch) {
+        if let Some(slot) = self.list.get_mut(self.kept) {
+            *slot = watch;
+        }
+        self.kept = self.kept.wrapping_add(1);
+    }
+
+    /// The list that was taken out goes back.
+    pub fn end(&mut self) {
+        let Some(literal) = self.literal else {
+            return;
+        };
+        self.literal = None;
+        if self.kept < self.seen {
+            for place in self.seen..self.list.len() {
+                if let Some(watch) = self.list.get(place).copied() {
+                    self.keep(watch);
+                }
+            }
+            self.list.truncate(self.kept);
+        }
+        if let Some(list) = self.lists.get_mut(literal as usize) {
+            mem::swap(list, &mut self.list);
+        }
+    }
+
+    /// From here on `next` answers what follows from the literal.
+    pub fn begin(&mut self, literal: LiteralNumber, weaker: Option<LiteralNumber>) {
+        self.end();
+        if let Some(list) = self.lists.get_mut(literal as usize) {
+            mem::swap(list, &mut self.list);
+            self.literal = Some(literal);
+        }
+        self.weaker = weaker;
+        self.pair = 0;
+        self.seen = 0;
+        self.kept = 0;
+    }
+
+    /// What follows next from the literal that was begun with.
+    pub fn next(
+        &mut self,
+        clauses: &mut Clauses,
+        ladders: &Ladders,
+        assignment: &Assignment,
+    ) -> Result<Proposal, AllocError> {
+        let Some(literal) = self.literal else {
+            return Ok(Proposal::Nothing);
+        };
+        if let Some(weaker) = self.weaker {
+            if assignment.truth(weaker) != Truth::True {
+                self.weaker = ladders.weaker(weaker);
+                return Ok(Proposal::Weaker(weaker));
+            }
+            self.weaker = None;
+        }
+        if let Some(proposal) = self.next_pair(literal, clauses, assignment) {
+            return Ok(proposal);
+        }
+        self.next_longer(literal, clauses, assignment)
+    }
+
+    fn next_pair(
+        &mut self,
+        literal: LiteralNumber,
+        clauses: &Clauses,
+        assignment: &Assignment,
+    ) -> Option<Proposal> {
+        let list = self.pairs.get(literal as usize)?;
+        for place in self.pair..list.len() {
+            let watch = *list.get(place)?;
+            let truth = assignment.truth(watch.blocker);
+            if truth != Truth::True {
+                self.pair = place + 1;
+                let source = clauses.source(watch.clause);
+                if truth == Truth::False {
+                    return Some(Proposal::Conflict(source));
+                }
+                let is_first = clauses.literals(watch.clause).first().copied()
+                    == Some(watch.blocker);
+                return Some(Proposal::Unit(source, if is_first { 0 } else { 1 }));
+            }
+        }
+        self.pair = list.len();
+        None
+    }
+
+    fn next_longer(
+        &mut self,
+        literal: LiteralNumber,
+        clauses: &mut Clauses,
+        assignment: &Assignment,
+    ) -> Result<Proposal, AllocError> {
+        let denied = negated(literal);
+        for place in self.seen..self.list.len() {
+            let Some(watch) = self.list.get(place).copied() else {
+                break;
+            };
+            self.seen = place + 1;
+            if assignment.truth(watch.blocker) == Truth::True {
+                self.keep(watch);
+                continue;
+            }
+            let clause = watch.clause;
+            match look_at(clauses, clause, denied, assignment) {
+                Visit::Holds(blocker) => self.keep(Watch { clause, blocker }),
+                Visit::Moves(step) => self.follow(clauses, watch, step)?,
+                Visit::Unit(place, blocker) => {
+                    self.keep(Watch { clause, blocker });
+                    return Ok(Proposal::Unit(clauses.source(clause), place as usize));
+                }
+                Visit::Conflict(blocker) => {
+                    self.keep(Watch { clause, blocker });
+                    return Ok(Proposal::Conflict(clauses.source(clause)));
+                }
+                Visit::Gone => {}
+            }
+        }
+        self.end();
+        Ok(Proposal::Nothing)
+    }
+
+    /// The clause is watched at another place. Where there is no memory, the watch stays.
+    fn follow(
+        &mut self,
+        clauses: &mut Clauses,
+        watch: Watch,
+        step: Move,
+    ) -> Result<(), AllocError> {
+        let moved = Watch {
+            clause: watch.clause,
+            blocker: step.other,
+        };
+        if let Err(error) = append(&mut self.lists, negated(step.literal), moved) {
+            self.keep(watch);
+            return Err(error);
+        }
+        clauses.move_watch(watch.clause, step.from, step.to);
+        Ok(())
+    }
+
+    /// The lists lose the clauses that have no literals any more.
+    pub fn drop_forgotten(&mut self, clauses: &Clauses) {
+        self.end();
+        for list in self.lists.iter_mut() {
+            list.retain(|watch| !clauses.literals(watch.clause).is_empty());
+        }
+    }
+}
+
+/// The list of this number gets a watch at its end.
+fn append(
+    lists: &mut Vec<Vec<Watch>>,
+    number: LiteralNumber,
+    watch: Watch,
+) -> Result<(), AllocError> {
+    if let Some(list) = lists.get_mut(number as usize) {
+        list.push(watch)?;
+    }
+    Ok(())
+}
+
+/// Reads the clause, one of whose watched literals is `denied`.
+fn look_at(
+    clauses: &Clauses,
+    clause: u32,
+    denied: LiteralNumber,
+    assignment: &Assignment,
+) -> Visit {
+    let Some(span) = clauses.span(clause) else {
+        return Visit::Gone;
+    };
+    let literals = clauses.literals(clause);
+    let first = literals.get(span.first as usize).copied();
+    let (from, place) = if first == Some(denied) {
+        (span.first, span.second)
+    } else {
+        (span.second, span.first)
+    };
+    let Some(other) = literals.get(place as usize).copied() else {
+        return Visit::Gone;
+    };
+    let truth = assignment.truth(other);
+    if truth == Truth::True {
+        return Visit::Holds(other);
+    }
+    match find(literals, from as usize, place as usize, assignment) {
+        Some((to, literal)) => Visit::Moves(Move {
+            from,
+            to: narrow(to),
+            literal,
+            other,
+        }),
+        None if truth == Truth::False => Visit::Conflict(other),
+        None => Visit::Unit(place, other),
+    }
+}
+
+/// The first literal that isn't denied, behind the place `from` and then before it, but at the place `other`.
+fn find(
+    literals: &[LiteralNumber],
+    from: usize,
+    other: usize,
+    assignment: &Assignment,
+) -> Option<(usize, LiteralNumber)> {
+    for (place, literal) in literals.iter().enumerate().skip(from) {
+        if place != other && assignment.truth(*literal) != Truth::False {
+            return Some((place, *literal));
+        }
+    }
+    for (place, literal) in literals.iter().enumerate().take(from) {
+        if place != other && assignment.truth(*literal) != Truth::False {
+            return Some((place, *literal));
+        }
+    }
+    None
+}
