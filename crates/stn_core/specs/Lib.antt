@@ -4,6 +4,7 @@ pub mod Problem
 pub mod Cycle
 pub mod Schedule
 pub mod Answer
+pub mod Named
 pub mod Net
 pub mod Laws
 pub mod Rounds

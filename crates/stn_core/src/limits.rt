@@ -12,3 +12,6 @@ pub const VALUE_LIMIT: u128 = 1 << 81;
 
 /// Half the count of the numbers that a `Value` can be.
 pub const VALUE_SPAN: u128 = 1 << (Value::BITS - 1);
+
+/// The greatest absolute value of a name of sort Int that is read, and in which terms are evaluated.
+pub const NAMED_VALUE_LIMIT: u128 = 1 << 90;
