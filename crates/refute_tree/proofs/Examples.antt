@@ -1,14 +1,22 @@
 -- The worked refutations are ones.
-use Rattle.std.proofs.Common.{arith, ◌≡◌, List, [], ◌∷◌, All, Contains, pos, ◌+ℤ◌, ◌<ℤ◌, refl}
+use Rattle.std.proofs.Common.{arith, ◌≡◌, ℕ, List, [], ◌∷◌, All, Contains, pos, ◌+ℤ◌, ◌<ℤ◌, refl}
 use Rattle.std.proofs.lemmas.Int.{ints}
-use Rattle.std.proofs.lemmas.List.Elements.{All-nil, All-cons, All-from_recursion}
+use Rattle.std.proofs.lemmas.List.Elements.{All-nil, All-cons, All-same}
 use Rattle.stn_core.specs.declared.literal.Literal.{Literal}
 use Rattle.stn_core.specs.Answer.{IsCycleAmong}
 use Rattle.refute_tree.specs.declared.step.Step.{Step}
 use Rattle.refute_tree.specs.declared.step.Step.TheVariants.{Cycle, Input}
-use Rattle.refute_tree.specs.Trees.{Tree, leaf, cases, none, more, IsOnPoints, StepIsOnPoints, IsRefutation}
+use Rattle.refute_tree.specs.Trees.{Tree, leaf, cases, none, more, IsOnPoints, literals_named, NamesPoints, IsRefutation}
 use Rattle.refute_tree.specs.Examples.{literal, less, two_orders, two_orders_refutation, two_ways, two_ways_refutation}
-use Rattle.refute_tree.proofs.Conjunctions.{alone}
+use Rattle.refute_tree.proofs.Alone.{alone}
+
+abbrev NameNone : List Step → Type 0
+NameNone [] = Unit {0}
+NameNone (step ∷ steps) = (literals_named step ≡ []) × NameNone steps
+
+names_none : (points : ℕ) (steps : List Step) → NameNone steps → All (NamesPoints points) steps
+names_none points [] h = All-nil (NamesPoints points)
+names_none points (step ∷ steps) h = All-cons (NamesPoints points) step steps (All-same (IsOnPoints points) (literals_named step) [] h.0 (All-nil (IsOnPoints points))) (names_none points steps h.1)
 
 -- two literals that lead back
 two_cycle : (assumed : List Literal) (a b : Literal) → Contains assumed a → Contains assumed b → b.x ≡ a.y → b.y ≡ a.x → (a.c +ℤ (b.c +ℤ pos 0)) <ℤ pos 0 → IsCycleAmong assumed (a ∷ b ∷ [])
@@ -25,8 +33,8 @@ two_orders_tree : Tree two_orders [] [] two_orders_steps []
 two_orders_tree =
     cases refl (more (cases refl (more (leaf (two_cycle _ _ _ (0, omega arith, refl) (1, omega arith, refl) refl refl (omega (arith, ints)))) none)) none)
 
-two_orders_on_points : All (StepIsOnPoints 3) two_orders_steps
-two_orders_on_points = All-from_recursion (StepIsOnPoints 3) two_orders_steps (tt, (tt, (tt, tt)))
+two_orders_on_points : All (NamesPoints 3) two_orders_steps
+two_orders_on_points = names_none 3 two_orders_steps (refl, (refl, (refl, tt)))
 
 pub two_orders_refuted : IsRefutation 3 two_orders two_orders_refutation
 two_orders_refuted = alone 3 two_orders _ refl (record { clause = All-nil (IsOnPoints 3); steps = two_orders_on_points; tree = two_orders_tree })
@@ -50,8 +58,8 @@ two_ways_tree =
     (more (leaf (two_cycle _ _ _ (4, omega arith, refl) (0, omega arith, refl) refl refl (omega (arith, ints)))) none)))
     (more (leaf (two_cycle _ _ _ (3, omega arith, refl) (1, omega arith, refl) refl refl (omega (arith, ints)))) none))) none)) none)
 
-two_ways_on_points : All (StepIsOnPoints 5) two_ways_steps
-two_ways_on_points = All-from_recursion (StepIsOnPoints 5) two_ways_steps (tt, (tt, (tt, (tt, (tt, (tt, (tt, tt)))))))
+two_ways_on_points : All (NamesPoints 5) two_ways_steps
+two_ways_on_points = names_none 5 two_ways_steps (refl, (refl, (refl, (refl, (refl, (refl, (refl, tt)))))))
 
 pub two_ways_refuted : IsRefutation 5 two_ways two_ways_refutation
 two_ways_refuted = alone 5 two_ways _ refl (record { clause = All-nil (IsOnPoints 5); steps = two_ways_on_points; tree = two_ways_tree })

@@ -1,13 +1,13 @@
 -- What keeps a tree a tree.
-use Rattle.std.proofs.Common.{◌≡◌, ℕ, zero, suc, inl, inr, List, [], ◌∷◌, ◌++◌, Some, Contains}
+use Rattle.std.proofs.Common.{◌≡◌, ℕ, zero, suc, inl, inr, List, [], ◌∷◌, ◌++◌, map, Some, Contains}
 use Rattle.std.specs.Prelude.{slice_get}
 use Rattle.std.proofs.lemmas.List.Elements.{All-weaker, Contains-append_left, Contains-append_right, Contains-append_cases}
 use Rattle.stn_core.specs.declared.literal.Literal.{Literal}
 use Rattle.stn_core.specs.Literal.{negation_of}
 use Rattle.stn_core.specs.Answer.{IsCycleAmong}
 use Rattle.refute_tree.specs.declared.step.Step.{Step}
-use Rattle.refute_tree.specs.declared.step.Step.TheVariants.{Cycle, Input, Lemma as Earlier, Either}
-use Rattle.refute_tree.specs.Trees.{clause_of, Tree, Forest, leaf, cases, none, more}
+use Rattle.refute_tree.specs.declared.step.Step.TheVariants.{Cycle, Input, Lemma as Earlier, Clash, Either}
+use Rattle.refute_tree.specs.Trees.{clause_of, Tree, Forest, IsDenied, leaf, clash, cases, none, more}
 
 -- each literal of the one list is in the other
 abbrev pub AreIn : List Literal → List Literal → Type 0
@@ -25,12 +25,17 @@ IsCycleAmong-more fewer many cycle in_ h = record {
   given = All-weaker (Contains fewer) (Contains many) in_ cycle h.given;
 }
 
+pub IsDenied-more : (fewer many clause : List Literal) → AreIn fewer many → IsDenied fewer clause → IsDenied many clause
+IsDenied-more fewer many clause in_ h = All-weaker (Contains fewer) (Contains many) in_ (map negation_of clause) h
+
 -- other clauses, among which each step that opens a clause opens the same
 module _ (inputs lemmas inputs_new lemmas_new : List (List Literal))
+    (kept : (i : ℕ) (clause : List Literal) → slice_get inputs i ≡ Some clause → slice_get inputs_new i ≡ Some clause)
     (same : (s : Step) (clause : List Literal) → clause_of inputs lemmas s ≡ Some clause → clause_of inputs_new lemmas_new s ≡ Some clause) where
   mutual
     pub tree_kept : {fewer : List Literal} {steps rest : List Step} → (many : List Literal) → AreIn fewer many → Tree inputs lemmas fewer steps rest → Tree inputs_new lemmas_new many steps rest
     tree_kept many in_ (leaf {assumed = fewer} {cycle = cycle} h) = leaf (IsCycleAmong-more fewer many cycle in_ h)
+    tree_kept many in_ (clash {assumed = fewer} {clause = clause} {i = i} e h) = clash (kept i clause e) (IsDenied-more fewer many clause in_ h)
     tree_kept many in_ (cases {clause = clause} {step = step} e f) = cases (same step clause e) (forest_kept many in_ f)
 
     forest_kept : {fewer clause : List Literal} {steps rest : List Step} → (many : List Literal) → AreIn fewer many → Forest inputs lemmas fewer clause steps rest → Forest inputs_new lemmas_new many clause steps rest
@@ -47,19 +52,21 @@ clause_of-later : (inputs lemmas later : List (List Literal)) (s : Step) (clause
 clause_of-later inputs lemmas later (Cycle cycle) clause e = e
 clause_of-later inputs lemmas later (Input i) clause e = e
 clause_of-later inputs lemmas later (Earlier j) clause e = slice_get-longer lemmas later j clause e
+clause_of-later inputs lemmas later (Clash i) clause e = e
 clause_of-later inputs lemmas later (Either l) clause e = e
 
 pub tree_assuming_more : (inputs lemmas : List (List Literal)) (fewer many : List Literal) (steps rest : List Step) → Tree inputs lemmas fewer steps rest → AreIn fewer many → Tree inputs lemmas many steps rest
-tree_assuming_more inputs lemmas fewer many steps rest t in_ = tree_kept inputs lemmas inputs lemmas (λ s clause e. e) many in_ t
+tree_assuming_more inputs lemmas fewer many steps rest t in_ = tree_kept inputs lemmas inputs lemmas (λ i clause e. e) (λ s clause e. e) many in_ t
 
 pub tree_with_later : (inputs lemmas later : List (List Literal)) (assumed : List Literal) (steps rest : List Step) → Tree inputs lemmas assumed steps rest → Tree inputs (lemmas ++ later) assumed steps rest
-tree_with_later inputs lemmas later assumed steps rest t = tree_kept inputs lemmas inputs (lemmas ++ later) (clause_of-later inputs lemmas later) assumed (λ l h. h) t
+tree_with_later inputs lemmas later assumed steps rest t = tree_kept inputs lemmas inputs (lemmas ++ later) (λ i clause e. e) (clause_of-later inputs lemmas later) assumed (λ l h. h) t
 
 -- other steps may follow
 module _ (inputs lemmas : List (List Literal)) (after : List Step) where
   mutual
     tree_then : {assumed : List Literal} {steps rest : List Step} → Tree inputs lemmas assumed steps rest → Tree inputs lemmas assumed (steps ++ after) (rest ++ after)
     tree_then (leaf h) = leaf h
+    tree_then (clash e h) = clash e h
     tree_then (cases e f) = cases e (forest_then f)
 
     forest_then : {assumed clause : List Literal} {steps rest : List Step} → Forest inputs lemmas assumed clause steps rest → Forest inputs lemmas assumed clause (steps ++ after) (rest ++ after)

@@ -1,5 +1,11 @@
 pub mod Kept
 pub mod Built
 pub mod Sound
-pub mod Conjunctions
+pub mod Alone
 pub mod Examples
+pub mod Flats
+pub mod Cuts
+pub mod Extended
+pub mod MovedNumbers
+pub mod Lengthened
+pub mod Shortened

@@ -1,5 +1,9 @@
 pub mod Trees
-pub mod Conjunctions
+pub mod Store
+pub mod Lists
+pub mod Views
+pub mod Moves
+pub mod Lengths
 pub mod Examples
 pub mod Laws
 pub use Rattle.stn_core.specs.Cycle

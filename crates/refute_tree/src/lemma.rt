@@ -1,6 +1,6 @@
 ghost use Rattle.std.specs.Prelude.{◌≡◌};
 
-use crate::step::Steps;
+use crate::store::Steps;
 use std::marker::Model;
 use stn_core::Clause;
 
@@ -9,42 +9,6 @@ use stn_core::Clause;
 pub struct Lemma {
     pub clause: Clause,
     pub steps: Steps,
-}
-
-/// A list of lemmas.
-#[derive(Drop)]
-pub struct Lemmas {
-    lemmas: Vec<Lemma>,
-}
-
-impl Model for Lemmas {
-    ghost use Rattle.std.specs.Prelude.{List};
-    ghost use Rattle.refute_tree.specs.declared.lemma.Lemma.{Lemma as Shown};
-
-    ghost Value = { List Shown };
-
-    ghost view = { λ l. l.lemmas.items };
-}
-
-impl Lemmas {
-    pub fn new(lemmas: Vec<Lemma>) -> Self
-        ensures { result ≡ lemmas.items }
-    {
-        Lemmas { lemmas }
-    }
-
-    pub fn as_slice(&self) -> &[Lemma]
-        ensures { result.now ≡ self.now }
-    {
-        self.lemmas.as_slice()
-    }
-
-    /// The lemmas in a `Vec`, without taking memory.
-    pub fn into_vec(self) -> Vec<Lemma>
-        ensures { result.items ≡ self }
-    {
-        self.lemmas
-    }
 }
 
 /// A list of lemmas that is to end with one without literals, and so to show that a problem has no solution. What it

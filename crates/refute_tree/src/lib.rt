@@ -2,16 +2,23 @@
 //! solution.
 #![tactic(auto)]
 
-mod conjunction;
 mod earlier;
+mod kind;
 mod laws;
 mod lemma;
+mod lengths;
+mod lists;
+mod moving;
+mod reader;
 mod step;
+mod store;
 mod tree;
 
-pub use conjunction::conjunction_refutation;
 pub use earlier::Earlier;
-pub use laws::{conjunction_law, examples_law, kept_law, refutation_law};
-pub use lemma::{Lemma, Lemmas, Refutation};
-pub use step::{Step, Steps};
-pub use tree::{cases, leaf};
+pub use laws::{examples_law, refutation_law};
+pub use lemma::{Lemma, Refutation};
+pub use lengths::{lengthen, shorten};
+pub use reader::{Reader, StepView};
+pub use step::Step;
+pub use store::Steps;
+pub use tree::{cases, clash, leaf};

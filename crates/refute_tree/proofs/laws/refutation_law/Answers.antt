@@ -3,4 +3,4 @@ use Rattle.refute_tree.proofs.laws.refutation_law.Goals as goal
 
 pub returns : goal.returns
 returns c points clauses lemmas refutes values =
-    refutation_sound values (λ cycle. c.cycle_law.ensures cycle values) (c.negation_law.ensures.either values) points clauses lemmas refutes
+    refutation_sound values (λ cycle. c.cycle_law.ensures cycle values) (c.negation_law.ensures.either values) (λ l h n. (c.negation_law.ensures.exact values l).0 n h) points clauses lemmas refutes

@@ -1,9 +1,7 @@
-use Rattle.std.proofs.Common.{◌≡◌, ◌∷◌, ◌++◌, length}
-use Rattle.refute_tree.proofs.Built.{joined}
+use Rattle.std.proofs.Common.{◌≡◌, ◌∷◌, ◌++◌, drop}
+use Rattle.refute_tree.specs.Trees.{joined}
+use Rattle.refute_tree.specs.Views.{step_seen}
 use Rattle.refute_tree.proofs.tree.cases.Given as goal
 
 abbrev pub invariant-loop-child : goal.invariant-loop-child
-invariant-loop-child l = record {
-  counted : length l.child-iterator.rest.items ≡ l.child-iterator.rest.len;
-  built : l.steps.items ++ joined l.child-iterator.rest.items ≡ l.fn.step ∷ joined l.fn.children.items;
-}
+invariant-loop-child l = l.steps ++ joined (drop l.child-index l.children) ≡ step_seen l.fn.step ∷ joined l.children
