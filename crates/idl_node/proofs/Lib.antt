@@ -1,3 +1,4 @@
+pub mod Comparing
 pub mod Sharing
 pub mod Truths
 pub mod Keeping

@@ -8,11 +8,11 @@ ghost use Rattle.stn_core.specs.Literal.{IsOver, value_at};
 
 use crate::node::Node;
 use crate::nodes::Nodes;
-use stn_core::{Literal, NamedValue, NamedValues};
+use stn_core::{Literal, NamedValue, NamedValues, Value};
 
 /// The value of a time point: 0 of the zero point, and then each name's. An Int name's is its number; a Bool name's is 0 where
 /// the name is true, else 1.
-pub fn point_value(values: &[NamedValue], point: u32) -> i64
+pub fn point_value(values: &[NamedValue], point: u32) -> Value
     requires { point < length values.now + 1 }
     ensures { result ≡ value_at (point_values values.now) point }
 {
@@ -32,9 +32,9 @@ fn literal_holds(literal: Literal, values: &[NamedValue]) -> bool
     requires y { literal.y < length values.now + 1 }
     ensures { result ≡ literal_truth (point_values values.now) literal }
 {
-    let x = i128::from(point_value(values, literal.x));
-    let y = i128::from(point_value(values, literal.y));
-    x - y <= i128::from(literal.c)
+    let x = point_value(values, literal.x);
+    let y = point_value(values, literal.y);
+    x.saturating_sub(y) <= Value::from(literal.c)
 }
 
 /// Whether all of the members are true.
