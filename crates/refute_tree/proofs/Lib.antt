@@ -9,3 +9,6 @@ pub mod Extended
 pub mod MovedNumbers
 pub mod Lengthened
 pub mod Shortened
+pub mod Renamed
+pub mod Moved
+pub mod References

@@ -3,6 +3,7 @@ pub mod Store
 pub mod Lists
 pub mod Views
 pub mod Moves
+pub mod Batches
 pub mod Lengths
 pub mod Examples
 pub mod Laws

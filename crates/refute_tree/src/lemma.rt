@@ -1,6 +1,7 @@
-ghost use Rattle.std.specs.Prelude.{◌≡◌};
+ghost use Rattle.std.specs.Prelude.{◌≡◌, IfOk};
 
 use crate::store::Steps;
+use std::alloc::{AllocError, Global};
 use std::marker::Model;
 use stn_core::Clause;
 
@@ -9,6 +10,18 @@ use stn_core::Clause;
 pub struct Lemma {
     pub clause: Clause,
     pub steps: Steps,
+}
+
+impl Lemma {
+    /// An equal lemma in memory of its own.
+    pub fn copy(&self, alloc: Global) -> Result<Self, AllocError>
+        ensures { IfOk result (λ lemma. lemma ≡ self.now) }
+    {
+        Ok(Lemma {
+            clause: self.clause.copy()?,
+            steps: self.steps.copy(alloc)?,
+        })
+    }
 }
 
 /// A list of lemmas that is to end with one without literals, and so to show that a problem has no solution. What it

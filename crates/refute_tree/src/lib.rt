@@ -2,6 +2,8 @@
 //! solution.
 #![tactic(auto)]
 
+mod batch;
+mod batch_laws;
 mod earlier;
 mod kind;
 mod laws;
@@ -14,6 +16,8 @@ mod step;
 mod store;
 mod tree;
 
+pub use batch::Batch;
+pub use batch_laws::{joined_law, moved_batch_law, references_law};
 pub use earlier::Earlier;
 pub use laws::{examples_law, refutation_law};
 pub use lemma::{Lemma, Refutation};
