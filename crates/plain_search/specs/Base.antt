@@ -5,7 +5,7 @@ use Rattle.std.specs.List.{position, list_any}
 use Rattle.stn_core.specs.declared.literal.Literal.{Literal}
 use Rattle.stn_core.specs.Literal.{same_literal}
 use Rattle.refute_tree.specs.declared.step.Step.{Step}
-use Rattle.refute_tree.specs.declared.step.Step.TheVariants.{Cycle, Input, Lemma as Earlier, Either}
+use Rattle.refute_tree.specs.declared.step.Step.TheVariants.{Cycle, Input, Lemma as Earlier, Clash, Either}
 
 -- different literals, and beside each the number of a clause
 pub record Base : Type 0 where
@@ -34,6 +34,7 @@ abbrev pub is_plain : Step → Bool
 is_plain (Cycle cycle) = true
 is_plain (Input i) = true
 is_plain (Earlier j) = false
+is_plain (Clash i) = false
 is_plain (Either l) = false
 
 abbrev pub IsPlain : Step → Type 0

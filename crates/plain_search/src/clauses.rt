@@ -4,7 +4,7 @@ ghost use Rattle.stn_core.specs.Literal.{IsOver};
 ghost use Rattle.stn_core.specs.Problem.{ClauseHolds, ProblemHolds};
 ghost use Rattle.plain_search.specs.Clauses.{HoldBetween, IsFalse, IsFalseAt, IsNext, IsNotEmpty};
 
-use stn_core::{Clause, holds};
+use stn_core::{Clause, Value, holds};
 
 // The number of a clause without literals.
 pub fn empty_clause(clauses: &[Clause]) -> Option<usize>
@@ -18,7 +18,7 @@ pub fn empty_clause(clauses: &[Clause]) -> Option<usize>
     None
 }
 
-fn clause_holds(clause: &Clause, values: &[i64]) -> bool
+fn clause_holds(clause: &Clause, values: &[Value]) -> bool
     requires { All (IsOver (length values.now)) clause.now }
     ensures holds { result ≡ true → ClauseHolds values.now clause.now }
     ensures fails { result ≡ false → IsFalse values.now clause.now }
@@ -32,7 +32,7 @@ fn clause_holds(clause: &Clause, values: &[i64]) -> bool
 }
 
 // The first clause from one number up to another that doesn't hold on the values.
-fn false_between(clauses: &[Clause], values: &[i64], low: usize, high: usize) -> Option<usize>
+fn false_between(clauses: &[Clause], values: &[Value], low: usize, high: usize) -> Option<usize>
     requires over { All (λ clause. All (IsOver (length values.now)) clause) clauses.now }
     requires high { high ≤ length clauses.now }
     ensures found { MatchOption result (HoldBetween values.now clauses.now low high) (IsFalseAt values.now clauses.now) }
@@ -47,7 +47,7 @@ fn false_between(clauses: &[Clause], values: &[i64], low: usize, high: usize) ->
 }
 
 // A clause that doesn't hold on the values: the first from a number on, or else the first of all.
-pub fn false_clause(clauses: &[Clause], values: &[i64], from: usize) -> Option<usize>
+pub fn false_clause(clauses: &[Clause], values: &[Value], from: usize) -> Option<usize>
     requires over { All (λ clause. All (IsOver (length values.now)) clause) clauses.now }
     requires from { from ≤ length clauses.now }
     ensures found { MatchOption result (ProblemHolds values.now clauses.now) (IsFalseAt values.now clauses.now) }

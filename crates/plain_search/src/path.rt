@@ -11,7 +11,7 @@ ghost use Rattle.plain_search.specs.Paths.{case_of, cases_of, IsFalsified, IsOpe
 
 use crate::frame::Frame;
 use crate::units::Units;
-use refute_tree::Step;
+use refute_tree::Steps;
 use std::alloc::{AllocError, Global};
 use stn_core::{Added, Literal, Literals, Net, Problem, negate};
 
@@ -99,28 +99,28 @@ pub struct Path {
     // outermost first
     pub frames: Vec<Frame>,
     // of the refutation
-    pub steps: Vec<Step>,
-    ghost plain: { All IsPlain steps.items },
+    pub steps: Steps,
+    ghost plain: { All IsPlain steps },
 }
 
 impl Path {
     pub fn new(alloc: Global) -> Self
         ensures frames { result.frames.items ≡ [] }
-        ensures steps { result.steps.items ≡ [] }
+        ensures steps { result.steps ≡ [] }
     {
         Path {
             frames: Vec::new(alloc),
-            steps: Vec::new(alloc),
+            steps: Steps::new(alloc),
         }
     }
 
     // Assumes the literal of the unit clause with the number, if there is one.
     fn assume_unit(&mut self, number: Option<usize>) -> Result<(), AllocError>
         ensures frames { self.new.frames.items ≡ self.old.frames.items }
-        ensures steps { OnOk result (self.new.steps.items ≡ self.old.steps.items ++ steps_of number) }
+        ensures steps { OnOk result (self.new.steps ≡ self.old.steps ++ steps_of number) }
     {
         if let Some(number) = number {
-            self.steps.push(Step::Input(number))?;
+            self.steps.push_input(number)?;
         }
         Ok(())
     }
@@ -128,12 +128,12 @@ impl Path {
     // Closes the case with a cycle of what is assumed.
     pub fn close(&mut self, units: &Units, cycle: Literals) -> Result<(), AllocError>
         ensures frames { self.new.frames.items ≡ self.old.frames.items }
-        ensures steps { OnOk result (self.new.steps.items ≡ self.old.steps.items ++ leaf_steps units.now cycle) }
+        ensures steps { OnOk result (self.new.steps ≡ self.old.steps ++ leaf_steps units.now cycle) }
     {
         for literal in cycle.as_slice() {
             self.assume_unit(units.number(*literal))?;
         }
-        self.steps.push(Step::Cycle(cycle))?;
+        self.steps.push_cycle(cycle.as_slice())?;
         Ok(())
     }
 
@@ -148,10 +148,10 @@ impl Path {
     ) -> Result<bool, AllocError>
         requires points { N.points_of net.old ≡ problem.now.points }
         requires base { IsBase problem.now.clauses units.now }
-        requires ready { IsReady problem.now.clauses units.now.literals (self.old.frames.items ++ frame ∷ []) self.old.steps.items (N.literals_of net.old) }
+        requires ready { IsReady problem.now.clauses units.now.literals (self.old.frames.items ++ frame ∷ []) self.old.steps (N.literals_of net.old) }
         ensures points { N.points_of net.new ≡ N.points_of net.old }
         ensures cases { IfOk result (λ _. cases_of problem.now.clauses self.new.frames.items ≡ cases_of problem.now.clauses (self.old.frames.items ++ frame ∷ [])) }
-        ensures tried { IfOk result (Tries problem.now.clauses units.now.literals self.new.frames.items self.new.steps.items (length self.old.steps.items) (N.literals_of net.new)) }
+        ensures tried { IfOk result (Tries problem.now.clauses units.now.literals self.new.frames.items self.new.steps (length self.old.steps) (N.literals_of net.new)) }
     {
         self.frames.push(frame)?;
         match net.add(literal_of(problem, frame))? {
@@ -177,11 +177,11 @@ impl Path {
         requires points { N.points_of net.old ≡ problem.now.points }
         requires base { IsBase problem.now.clauses units.now }
         requires later { IsLater (clause_at problem.now.clauses frame.clause) frame.case later }
-        requires closed { (place : ℕ) × IsClosed problem.now.clauses units.now.literals (self.old.frames.items ++ frame ∷ []) self.old.steps.items place (N.literals_of net.old) }
+        requires closed { (place : ℕ) × IsClosed problem.now.clauses units.now.literals (self.old.frames.items ++ frame ∷ []) self.old.steps place (N.literals_of net.old) }
         ensures points { N.points_of net.new ≡ N.points_of net.old }
         ensures count { IfOk result (λ _. length self.new.frames.items ≡ length self.old.frames.items + 1) }
         ensures turns { IfOk result (λ _. turns_with problem.now.clauses self.new.frames.items ≤ turns_behind problem.now.clauses (self.old.frames.items ++ frame ∷ [])) }
-        ensures tried { IfOk result (Tries problem.now.clauses units.now.literals self.new.frames.items self.new.steps.items (length self.old.steps.items) (N.literals_of net.new)) }
+        ensures tried { IfOk result (Tries problem.now.clauses units.now.literals self.new.frames.items self.new.steps (length self.old.steps) (N.literals_of net.new)) }
     {
         stn_core::cycle_law();
         stn_core::negation_law();
@@ -201,11 +201,11 @@ impl Path {
     // Takes out the steps from one place up to another.
     fn cut_out(&mut self, low: usize, high: usize)
         requires order { low ≤ high }
-        requires within { high ≤ length self.old.steps.items }
+        requires within { high ≤ length self.old.steps }
         ensures frames { self.new.frames.items ≡ self.old.frames.items }
-        ensures steps { self.new.steps.items ≡ take low self.old.steps.items ++ drop high self.old.steps.items }
+        ensures steps { self.new.steps ≡ take low self.old.steps ++ drop high self.old.steps }
     {
-        self.steps.drain(low..high);
+        self.steps.remove(low, high);
     }
 
     // The innermost case is closed by the steps from the place on: on to the next case that the net takes. There is none
@@ -219,9 +219,9 @@ impl Path {
     ) -> Result<bool, AllocError>
         requires points { N.points_of net.old ≡ problem.now.points }
         requires base { IsBase problem.now.clauses units.now }
-        requires closed { IsClosed problem.now.clauses units.now.literals self.old.frames.items self.old.steps.items closed (N.literals_of net.old) }
+        requires closed { IsClosed problem.now.clauses units.now.literals self.old.frames.items self.old.steps closed (N.literals_of net.old) }
         ensures points { N.points_of net.new ≡ N.points_of net.old }
-        ensures goes { IfOk result (Goes problem.now.clauses units.now.literals self.new.frames.items self.new.steps.items (N.literals_of net.new)) }
+        ensures goes { IfOk result (Goes problem.now.clauses units.now.literals self.new.frames.items self.new.steps (N.literals_of net.new)) }
         ensures turns { IfOk result (λ taken. taken ≡ true → turns_with problem.now.clauses self.new.frames.items ≤ turns_behind problem.now.clauses self.old.frames.items) }
     {
         let mut place = closed;
@@ -251,16 +251,16 @@ impl Path {
     ) -> Result<bool, AllocError>
         requires points { N.points_of net.old ≡ problem.now.points }
         requires base { IsBase problem.now.clauses units.now }
-        requires open { IsOpen problem.now.clauses units.now.literals self.old.frames.items self.old.steps.items (N.literals_of net.old) }
+        requires open { IsOpen problem.now.clauses units.now.literals self.old.frames.items self.old.steps (N.literals_of net.old) }
         requires within { clause < length problem.now.clauses }
         requires some { 0 < length (clause_at problem.now.clauses clause) }
         requires falsified { IsFalsified (N.literals_of net.old) (clause_at problem.now.clauses clause) }
         ensures points { N.points_of net.new ≡ N.points_of net.old }
-        ensures goes { IfOk result (Goes problem.now.clauses units.now.literals self.new.frames.items self.new.steps.items (N.literals_of net.new)) }
+        ensures goes { IfOk result (Goes problem.now.clauses units.now.literals self.new.frames.items self.new.steps (N.literals_of net.new)) }
         ensures turns { IfOk result (λ taken. taken ≡ true → turns_with problem.now.clauses self.new.frames.items < turns_with problem.now.clauses self.old.frames.items) }
     {
         let start = self.steps.len();
-        self.steps.push(Step::Input(clause))?;
+        self.steps.push_input(clause)?;
         let place = self.steps.len();
         let frame = Frame {
             clause,

@@ -12,18 +12,18 @@ use crate::clauses::{empty_clause, false_clause};
 use crate::path::Path;
 use crate::units::Units;
 use crate::verdict::Verdict;
-use refute_tree::{Lemma, Refutation, Step, Steps};
+use refute_tree::{Lemma, Refutation};
 use std::alloc::{AllocError, Global};
 use stn_core::{Clause, Greatest, Net, Problem, Schedule, greatest};
 
 // The refutation with one lemma, which the path's steps show.
 fn refutation_of(alloc: Global, path: Path) -> Result<Refutation, AllocError>
-    ensures tree { IfOk result (λ lemmas. (points : ℕ) (clauses : List (List Bound)) → Tree clauses [] [] path.steps.items [] → IsRefutation points clauses lemmas) }
+    ensures tree { IfOk result (λ lemmas. (points : ℕ) (clauses : List (List Bound)) → Tree clauses [] [] path.steps [] → IsRefutation points clauses lemmas) }
     ensures plain { IfOk result IsOfInputs }
 {
     let lemma = Lemma {
         clause: Clause::new(Vec::new(alloc)),
-        steps: Steps::new(path.steps),
+        steps: path.steps,
     };
     Ok(Refutation::new(vec![in alloc; lemma]?))
 }
@@ -54,7 +54,7 @@ fn branch<N: Net>(
     requires points { N.points_of net.old ≡ problem.now.points }
     requires base { IsBase problem.now.clauses units.now }
     requires some { All IsNotEmpty problem.now.clauses }
-    requires start { IsOpen problem.now.clauses units.now.literals path.frames.items path.steps.items (N.literals_of net.old) }
+    requires start { IsOpen problem.now.clauses units.now.literals path.frames.items path.steps (N.literals_of net.old) }
     ensures verdict { IfOk result (IsVerdict problem.now.points problem.now.clauses) }
     ensures points { N.points_of net.new ≡ N.points_of net.old }
 {
@@ -83,7 +83,7 @@ fn search<N: Net>(alloc: Global, problem: &Problem, net: &mut N) -> Result<Verdi
 {
     let mut path = Path::new(alloc);
     if let Some(clause) = empty_clause(problem.clauses.as_slice()) {
-        path.steps.push(Step::Input(clause))?;
+        path.steps.push_input(clause)?;
         return Ok(Verdict::Unsat(refutation_of(alloc, path)?));
     }
     let units = Units::of(alloc, problem.clauses.as_slice())?;

@@ -8,7 +8,7 @@ invariant-loop-clause g l =
     record {
       points : net.points_of l.net ≡ net.points_of l.fn.net;
       from : l.from ≤ length l.problem.clauses;
-      is_open : IsOpen l.problem.clauses l.units.literals l.path.frames.items l.path.steps.items (net.literals_of l.net);
+      is_open : IsOpen l.problem.clauses l.units.literals l.path.frames.items l.path.steps (net.literals_of l.net);
     }
 
 abbrev pub decreases-loop-clause : goal.decreases-loop-clause

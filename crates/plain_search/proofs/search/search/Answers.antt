@@ -10,7 +10,7 @@ use Rattle.plain_search.proofs.search.search.Goals as goal
 pub returns-in-Some-clause-verdict : goal.returns-in-Some-clause-verdict
 returns-in-Some-clause-verdict g c =
     let at : slice_get c.args.problem.now.clauses c.in-Some.clause ≡ Some [] = subst (λ (clauses : List (List Literal)). slice_get clauses c.in-Some.clause ≡ Some []) c.as_slice.ensures c.in-Some.ensures in
-    (c.in_ok-refutation_of.ensures.tree c.args.problem.now.points c.args.problem.now.clauses (empty_tree c.args.problem.now.clauses c.in-Some.clause _ _ c.new-path.ensures.steps c.in_ok-push.ensures.items at), c.in_ok-refutation_of.ensures.plain)
+    (c.in_ok-refutation_of.ensures.tree c.args.problem.now.points c.args.problem.now.clauses (empty_tree c.args.problem.now.clauses c.in-Some.clause _ _ c.new-path.ensures.steps c.in_ok-push_input.ensures.ok at), c.in_ok-refutation_of.ensures.plain)
 
 pub greatest-requires-clause-over : goal.greatest-requires-clause-over
 greatest-requires-clause-over g c =

@@ -7,5 +7,5 @@ use Rattle.plain_search.proofs.path.Path.close.Goals as goal
 pub loop-literal-preserved : goal.loop-literal-preserved
 loop-literal-preserved c = record {
   frames = c.in_ok-assume_unit.ensures.frames ∙ c.loop-literal.invariant.frames;
-  steps = one_more (λ (m : Literal). unit_steps c.args.units.now m) c.args.self.now.steps.items c.loop-literal.self.steps.items _ c.as_slice-literal-items.result.now c.loop-literal.literal-index _ c.loop-literal-test.true c.loop-literal.invariant.steps (c.in_ok-assume_unit.ensures.steps ∙ ap (λ n. c.loop-literal.self.steps.items ++ steps_of n) c.number.ensures);
+  steps = one_more (λ (m : Literal). unit_steps c.args.units.now m) c.args.self.now.steps c.loop-literal.self.steps _ c.as_slice-literal-items.result.now c.loop-literal.literal-index _ c.loop-literal-test.true c.loop-literal.invariant.steps (c.in_ok-assume_unit.ensures.steps ∙ ap (λ n. c.loop-literal.self.steps ++ steps_of n) c.number.ensures);
 }

@@ -6,5 +6,5 @@ use Rattle.plain_search.proofs.path.Path.close.Given as goal
 abbrev pub invariant-loop-literal : goal.invariant-loop-literal
 invariant-loop-literal l = record {
   frames : l.self.frames.items ≡ l.fn.self.frames.items;
-  steps : l.self.steps.items ≡ l.fn.self.steps.items ++ flat_map (λ (m : Literal). unit_steps l.units m) (take l.literal-index l.literal-items);
+  steps : l.self.steps ≡ l.fn.self.steps ++ flat_map (λ (m : Literal). unit_steps l.units m) (take l.literal-index l.literal-items);
 }

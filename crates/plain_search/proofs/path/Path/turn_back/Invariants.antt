@@ -7,7 +7,7 @@ invariant-loop-frame g l =
     let net = g.N.Net in
     record {
       points : net.points_of l.net ≡ net.points_of l.fn.net;
-      closed : IsClosed l.problem.clauses l.units.literals l.self.frames.items l.self.steps.items l.place (net.literals_of l.net);
+      closed : IsClosed l.problem.clauses l.units.literals l.self.frames.items l.self.steps l.place (net.literals_of l.net);
       turns : turns_behind l.problem.clauses l.self.frames.items ≤ turns_behind l.problem.clauses l.fn.self.frames.items;
     }
 
