@@ -1,13 +1,18 @@
 -- The value of a linear term, summand by summand, and how large it may be; and values of the names' sorts.
-use Rattle.std.proofs.Common.{refl, ap, sym, subst, ◌∙◌, arith, ◌≡◌, ◌<◌, ◌≤◌, ◌+◌, ◌*◌, ◌^◌, ℕ, zero, suc, List, [], ◌∷◌, length, drop, get_or, slice_get, Some, true, ℤ, pos, negsuc, neg_ℤ, ◌+ℤ◌, ◌*ℤ◌, ◌≤ℤ◌, FitsSigned, w64, to_z, of_z, unsigned_abs}
+use Rattle.std.proofs.Common.{refl, ap, sym, subst, ◌∙◌, arith, ◌≡◌, ◌<◌, ◌≤◌, ◌+◌, ◌*◌, ◌^◌, ℕ, zero, suc, List, [], ◌∷◌, length, drop, get_or, slice_get, Some, true, false, ℤ, pos, negsuc, neg_ℤ, ◌+ℤ◌, ◌*ℤ◌, ◌≤ℤ◌, FitsSigned, w64, to_z, of_z, unsigned_abs}
 use Rattle.std.proofs.lemmas.Int.{ints, unsigned_abs-mul, fits_signed_mul, to_z-of_z}
 use Rattle.std.specs.Int.{w128}
 use Rattle.idl_linear.proofs.Merging.{within_low, within_high}
 use Rattle.std.proofs.lemmas.Nat.{mul-le}
-use Rattle.std.proofs.lemmas.List.{at_drop_more}
+use Rattle.std.proofs.lemmas.List.{at_drop_more, get_or-map}
 use Rattle.std.specs.List.{AllByRecursion}
 use Rattle.stn_core.specs.Literal.{IsOver, value_at}
 use Rattle.stn_core.specs.declared.named.NamedValue.{NamedValue}
+use Rattle.stn_core.specs.declared.named.NamedValue.TheVariants.{Int, Truth}
+use Rattle.stn_core.specs.Limits.{named_value_limit}
+use Rattle.stn_core.specs.Named.{IsWithinLimit, AreWithinLimit}
+use Rattle.idl_node.specs.Truth.{point_value, point_values}
+use Rattle.idl_term.specs.Evaluating.{product_limit}
 use Rattle.std.proofs.lemmas.Option.{slice_get_within}
 use Rattle.idl_node.specs.declared.sort.Sort.{Sort}
 use Rattle.idl_node.specs.declared.sort.Sort.TheVariants as sort
@@ -20,7 +25,7 @@ use Rattle.idl_scope.specs.Guarded.{CaseValue}
 use Rattle.idl_scope.specs.Scopes.{numeric}
 use Rattle.idl_linear.specs.declared.summand.Summand.{Summand}
 use Rattle.idl_linear.specs.Forms.{AscendAbove, IsLinear}
-use Rattle.idl_linear.specs.Limits.{points_limit, coefficient_limit}
+use Rattle.idl_linear.specs.Limits.{points_limit, coefficient_limit, constant_limit}
 use Rattle.idl_linear.specs.Linear.{LinearValue, is_within}
 use Rattle.idl_linear.specs.Values.{summands_value}
 
@@ -49,10 +54,10 @@ summand_taken values xs i sum p within e =
     let next : summands_value values (drop i xs) ≡ ((get_or xs i no_summand).coefficient *ℤ value_at values (get_or xs i no_summand).point) +ℤ summands_value values (drop (i + 1) xs) = at_drop_more (summands_value values) xs i no_summand within in
     omega (arith, ints, next, e)
 
-pub sum_low : (i : ℕ) (sum p : ℤ) → neg_ℤ (pos (2 ^ 62 + 2 ^ 83 * i)) ≤ℤ sum → neg_ℤ (pos (2 ^ 83)) ≤ℤ p → neg_ℤ (pos (2 ^ 62 + 2 ^ 83 * (i + 1))) ≤ℤ (sum +ℤ p)
+pub sum_low : (i : ℕ) (sum p : ℤ) → neg_ℤ (pos (constant_limit + product_limit * i)) ≤ℤ sum → neg_ℤ (pos product_limit) ≤ℤ p → neg_ℤ (pos (constant_limit + product_limit * (i + 1))) ≤ℤ (sum +ℤ p)
 sum_low i sum p h k = omega (arith, ints)
 
-pub sum_high : (i : ℕ) (sum p : ℤ) → sum ≤ℤ pos (2 ^ 62 + 2 ^ 83 * i) → p ≤ℤ pos (2 ^ 83) → (sum +ℤ p) ≤ℤ pos (2 ^ 62 + 2 ^ 83 * (i + 1))
+pub sum_high : (i : ℕ) (sum p : ℤ) → sum ≤ℤ pos (constant_limit + product_limit * i) → p ≤ℤ pos product_limit → (sum +ℤ p) ≤ℤ pos (constant_limit + product_limit * (i + 1))
 sum_high i sum p h k = omega (arith, ints)
 
 -- what the code's sum is
@@ -69,27 +74,56 @@ within_abs : (z : ℤ) (n : ℕ) → unsigned_abs z ≤ n → z ≤ℤ pos n
 within_abs (pos m) n h = omega (arith, ints)
 within_abs (negsuc m) n h = omega (arith, ints)
 
-product_high : (a b : ℤ) → is_within coefficient_limit a ≡ true → FitsSigned w64 b → (a *ℤ b) ≤ℤ pos (2 ^ 83)
-product_high a b limited fits =
-    let few : unsigned_abs a ≤ 2 ^ 20 = abs_within a (2 ^ 20) (within_low coefficient_limit a limited) (within_high coefficient_limit a limited) in
-    let near : unsigned_abs b ≤ 2 ^ 63 = abs_within b (2 ^ 63) (omega (arith, ints)) (omega (arith, ints)) in
-    within_abs (a *ℤ b) (2 ^ 83) (rw (unsigned_abs-mul a b) (mul-le (unsigned_abs a) (unsigned_abs b) (2 ^ 20) (2 ^ 63) few near))
+above_abs : (z : ℤ) (n : ℕ) → unsigned_abs z ≤ n → neg_ℤ (pos n) ≤ℤ z
+above_abs (pos m) n h = omega (arith, ints)
+above_abs (negsuc m) n h = omega (arith, ints)
 
-product_fits : (a b : ℤ) → is_within coefficient_limit a ≡ true → FitsSigned w64 b → FitsSigned w128 (a *ℤ b)
-product_fits a b limited fits =
-    let few : unsigned_abs a ≤ 2 ^ 20 = abs_within a (2 ^ 20) (within_low coefficient_limit a limited) (within_high coefficient_limit a limited) in
-    let near : unsigned_abs b ≤ 2 ^ 63 = abs_within b (2 ^ 63) (omega (arith, ints)) (omega (arith, ints)) in
-    fits_signed_mul w128 a b (2 ^ 20) (2 ^ 63) few near (omega arith)
+-- a whole number is within the limit on names' values
+pub record IsSmall (b : ℤ) : Type 0 where
+  pub low : neg_ℤ (pos named_value_limit) ≤ℤ b
+  pub high : b ≤ℤ pos named_value_limit
 
--- what the code's product is
-pub product_bounded : (a b p q : ℤ) → is_within coefficient_limit a ≡ true → FitsSigned w64 b → p ≡ to_z w64 (of_z w64 a) → q ≡ to_z w64 (of_z w64 b)
-    → to_z w128 (of_z w128 (to_z w128 (of_z w128 p) *ℤ to_z w128 (of_z w128 q))) ≤ℤ pos (2 ^ 83)
-product_bounded a b p q limited fits e f =
-    let low = within_low coefficient_limit a limited in
-    let high = within_high coefficient_limit a limited in
-    let first : to_z w128 (of_z w128 p) ≡ a = omega (arith, ints, low, high, e) in
-    let second : to_z w128 (of_z w128 q) ≡ b = omega (arith, ints, f) in
-    rw (first, second, to_z-of_z w128 (a *ℤ b) (product_fits a b limited fits)) (product_high a b limited fits)
+small_value : (v : NamedValue) → IsWithinLimit v → IsSmall (point_value v)
+small_value (Int n) h = record { low = h.0; high = h.1 }
+small_value (Truth true) h = record { low = omega (arith, ints); high = omega (arith, ints) }
+small_value (Truth false) h = record { low = omega (arith, ints); high = omega (arith, ints) }
+
+-- and so is the value of each time point
+pub small_point : (values : List NamedValue) (point : ℕ) → AreWithinLimit values → point < length values + 1 → IsSmall (value_at (point_values values) point)
+small_point values zero h lt = record { low = omega (arith, ints); high = omega (arith, ints) }
+small_point values (suc k) h lt =
+    let k_in : k < length values = omega arith in
+    rw (get_or-map point_value values k (Truth true) (pos 0) k_in) (small_value (get_or values k (Truth true)) (h k (Truth true) k_in))
+
+module _ (a b : ℤ) (limited : is_within coefficient_limit a ≡ true) (small : IsSmall b) where
+  coefficient_near : unsigned_abs a ≤ coefficient_limit
+  coefficient_near = abs_within a coefficient_limit (within_low coefficient_limit a limited) (within_high coefficient_limit a limited)
+
+  value_near : unsigned_abs b ≤ named_value_limit
+  value_near = abs_within b named_value_limit small.low small.high
+
+  product_near : unsigned_abs (a *ℤ b) ≤ product_limit
+  product_near = rw (unsigned_abs-mul a b) (mul-le (unsigned_abs a) (unsigned_abs b) coefficient_limit named_value_limit coefficient_near value_near)
+
+  pub product_fits : FitsSigned w128 (a *ℤ b)
+  product_fits = fits_signed_mul w128 a b coefficient_limit named_value_limit coefficient_near value_near (omega arith)
+
+  -- what the code multiplies
+  pub product_is : (p : ℤ) → p ≡ to_z w64 (of_z w64 a) → to_z w128 (of_z w128 p) *ℤ to_z w128 (of_z w128 b) ≡ a *ℤ b
+  product_is p e =
+      let low = within_low coefficient_limit a limited in
+      let high = within_high coefficient_limit a limited in
+      let small_low = small.low in
+      let small_high = small.high in
+      let first : to_z w128 (of_z w128 p) ≡ a = omega (arith, ints, low, high, e) in
+      let second : to_z w128 (of_z w128 b) ≡ b = omega (arith, ints, small_low, small_high) in
+      ap (λ (z : ℤ). z *ℤ to_z w128 (of_z w128 b)) first ∙ ap (λ (z : ℤ). a *ℤ z) second
+
+  pub product_low : neg_ℤ (pos product_limit) ≤ℤ (a *ℤ b)
+  product_low = above_abs (a *ℤ b) product_limit product_near
+
+  pub product_high : (a *ℤ b) ≤ℤ pos product_limit
+  product_high = within_abs (a *ℤ b) product_limit product_near
 
 -- ---- values of the names' sorts
 

@@ -82,13 +82,13 @@ within_limit n e = grind (arith, ints)
 module _ (sorts : List Sort) (d : Difference) (x : IsIntPoint sorts d.x) (y : IsIntPoint sorts d.y) (within : is_within number_limit d.n ≡ true) where
   from_x : (c : ℤ) → neg_ℤ (pos (number_limit + 1)) ≤ℤ c → c ≤ℤ pos number_limit → IsAtomFor sorts (record { x = d.x; y = d.y; c = c })
   from_x c low high = record {
-    over = record { x_in = int_point_in sorts d.x x; y_in = int_point_in sorts d.y y; low = low; high = high };
+    over = record { x_in = int_point_in sorts d.x x; y_in = int_point_in sorts d.y y; low = omega (arith, ints, low); high = omega (arith, ints, high) };
     kind = inl (record { x = x; y = y });
   }
 
   from_y : (c : ℤ) → neg_ℤ (pos (number_limit + 1)) ≤ℤ c → c ≤ℤ pos number_limit → IsAtomFor sorts (record { x = d.y; y = d.x; c = c })
   from_y c low high = record {
-    over = record { x_in = int_point_in sorts d.y y; y_in = int_point_in sorts d.x x; low = low; high = high };
+    over = record { x_in = int_point_in sorts d.y y; y_in = int_point_in sorts d.x x; low = omega (arith, ints, low); high = omega (arith, ints, high) };
     kind = inl (record { x = y; y = x });
   }
 

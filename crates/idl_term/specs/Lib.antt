@@ -1,3 +1,4 @@
+pub mod Evaluating
 pub mod Operators
 pub mod Reserved
 pub mod Values
