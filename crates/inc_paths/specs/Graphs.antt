@@ -21,5 +21,6 @@ number_at numbers place = slice_index_or numbers place 0
 pub record IsLinked (literals : List Literal) (heads nexts : List ℕ) : Type 0 where
   pub count : length nexts ≡ length literals
   pub y_in : (k : ℕ) → k < length literals → (literal_at literals k).y < length heads
-  pub newest : (point : ℕ) → point < length heads → IsNewest literals point (length literals) (number_at heads point)
+  pub newest : (point : ℕ) → point < length heads
+      → IsNewest literals point (length literals) (number_at heads point)
   pub next : (k : ℕ) → k < length literals → IsNewest literals (literal_at literals k).y k (number_at nexts k)

@@ -67,7 +67,8 @@ impl Arcs {
     pub fn older(&self, number: usize) -> usize
         requires some { 1 ≤ number }
         requires within { number ≤ length self.now.literals }
-        ensures { IsNewest self.now.literals (literal_at self.now.literals (number - 1)).y (number - 1) result }
+        ensures { IsNewest self.now.literals (literal_at self.now.literals (number - 1)).y
+            (number - 1) result }
     {
         self.nexts[number - 1]
     }

@@ -28,8 +28,10 @@ pub fn extend(
     requires few { arcs.now.points ≤ points_limit }
     requires over { All (IsOver arcs.now.points) arcs.now.literals }
     requires extending { IsExtending arcs.now.points arcs.now.literals new labels.old.values }
-    ensures kept { IsKept (length labels.old.trail) labels.old.values labels.old.trail labels.new.trail labels.new.values }
-    ensures none { IfOk result (λ cycle. IfNone cycle (IsBest arcs.now.points arcs.now.literals labels.new.values)) }
+    ensures kept { IsKept (length labels.old.trail) labels.old.values labels.old.trail
+        labels.new.trail labels.new.values }
+    ensures none { IfOk result (λ cycle.
+        IfNone cycle (IsBest arcs.now.points arcs.now.literals labels.new.values)) }
     ensures some { IfOk result (λ cycle. IfSome cycle (IsCycleAmong arcs.now.literals)) }
 {
     labels.begin();

@@ -1,8 +1,10 @@
-ghost use Rattle.std.specs.Prelude.{◌≡◌, ◌<◌, ◌≤◌, ◌+◌, ◌-◌, [], ◌∷◌, ◌++◌, ◌↔◌, ℕ, length, take, replicate, slice_set, IfOk, OnOk, OnErr, All, IfSome, IfNone, IsTrue, IsPermutation, pos, ◌+ℤ◌, ◌<ℤ◌};
+ghost use Rattle.std.specs.Prelude.{◌≡◌, ◌<◌, ◌+◌, ◌-◌, [], ◌∷◌, ◌++◌, ◌↔◌, length, take};
+ghost use Rattle.std.specs.Prelude.{IfOk, OnOk, OnErr, All, IfSome, IfNone, IsTrue, IsPermutation};
 ghost use Rattle.stn_core.specs.Limits.{FitsValue};
-ghost use Rattle.stn_core.specs.Literal.{most_allowed, value_at};
+ghost use Rattle.stn_core.specs.Literal.{most_allowed};
 ghost use Rattle.inc_paths.specs.declared.labels.Lowering.{Lowering};
-ghost use Rattle.inc_paths.specs.Trails.{entry_at, fall_of, first_of, lowering};
+ghost use Rattle.inc_paths.specs.Trails.{entry_at, fall_of, first_of, last_entry, lowered_values, lowering};
+ghost use Rattle.inc_paths.specs.Trails.{queued, undone_one, unlabelled, IsCurrent, IsViolated};
 
 use std::alloc::{AllocError, Global};
 use std::collections::BinaryHeap;
@@ -45,14 +47,19 @@ impl Model for Labels {
 
     ghost Value = { Labelled };
 
-    ghost view = { λ l. record { values = l.values.items; trail = l.trail.items; start = l.start; queue = heap_items l.queue } };
+    ghost view = { λ l. record {
+      values = l.values.items;
+      trail = l.trail.items;
+      start = l.start;
+      queue = heap_items l.queue;
+    } };
 
     ghost invariant = { λ l. IsLabelled l.values.items l.trail.items l.start l.before.items };
 }
 
 impl Labels {
     pub fn new(alloc: Global, points: u32) -> Result<Self, AllocError>
-        ensures { IfOk result (λ labels. labels ≡ record { values = replicate points (pos 0); trail = []; start = 0; queue = [] }) }
+        ensures { IfOk result (λ labels. labels ≡ unlabelled points) }
     {
         Ok(Labels {
             values: vec![in alloc; 0; points as usize]?,
@@ -94,7 +101,7 @@ impl Labels {
     /// Whether the value is still the one that the lowering gave.
     pub fn is_current(&self, place: usize) -> bool
         requires { place < length self.now.trail }
-        ensures { IsTrue result ↔ (value_at self.now.values (entry_at self.now.trail place).literal.x ≡ (entry_at self.now.trail place).now) }
+        ensures { IsTrue result ↔ IsCurrent self.now place }
     {
         let entry = self.entry(place);
         self.values[entry.literal.x as usize] == entry.now
@@ -114,7 +121,7 @@ impl Labels {
         requires x_in { literal.x < length self.now.values }
         requires y_in { literal.y < length self.now.values }
         requires fits { FitsValue (most_allowed self.now.values literal) }
-        ensures { IsTrue result ↔ ((most_allowed self.now.values literal) <ℤ value_at self.now.values literal.x) }
+        ensures { IsTrue result ↔ IsViolated self.now.values literal }
     {
         self.allowed(literal) < self.values[literal.x as usize]
     }
@@ -135,9 +142,10 @@ impl Labels {
         requires x_in { literal.x < length self.old.values }
         requires y_in { literal.y < length self.old.values }
         requires fits { FitsValue (most_allowed self.old.values literal) }
-        ensures values { OnOk result (self.new.values ≡ slice_set self.old.values literal.x (most_allowed self.old.values literal)) }
-        ensures trail { OnOk result (self.new.trail ≡ self.old.trail ++ lowering self.old.values literal parent ∷ []) }
-        ensures queue { OnOk result (IsPermutation ((fall_of self.old literal, length self.old.trail) ∷ self.old.queue) self.new.queue) }
+        ensures values { OnOk result (self.new.values ≡ lowered_values self.old.values literal) }
+        ensures trail { OnOk result
+            (self.new.trail ≡ self.old.trail ++ lowering self.old.values literal parent ∷ []) }
+        ensures queue { OnOk result (IsPermutation (queued self.old literal) self.new.queue) }
         ensures start { self.new.start ≡ self.old.start }
         ensures err_values { OnErr result (self.new.values ≡ self.old.values) }
         ensures err_trail { OnErr result (self.new.trail ≡ self.old.trail) }
@@ -179,7 +187,7 @@ impl Labels {
     /// Takes back the last lowering.
     fn undo_last(&mut self)
         requires { 0 < length self.old.trail }
-        ensures values { self.new.values ≡ slice_set self.old.values (entry_at self.old.trail (length self.old.trail - 1)).literal.x (entry_at self.old.trail (length self.old.trail - 1)).old }
+        ensures values { self.new.values ≡ undone_one (last_entry self.old.trail) self.old.values }
         ensures trail { self.new.trail ≡ take (length self.old.trail - 1) self.old.trail }
     {
         let last = self.trail.len() - 1;

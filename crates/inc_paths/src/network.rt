@@ -1,8 +1,7 @@
 ghost use Rattle.std.specs.Prelude.{◌≡◌, ◌≤◌, [], length, take, IfOk};
 ghost use Rattle.stn_core.specs.Limits.{points_limit};
 ghost use Rattle.stn_core.specs.RoundsNet.{Shown};
-ghost use Rattle.inc_paths.specs.Trails.{first_of};
-ghost use Rattle.inc_paths.specs.Networks.{end_at};
+ghost use Rattle.inc_paths.specs.Networks.{end_at, values_at};
 
 use crate::arcs::Arcs;
 use crate::extend::extend;
@@ -38,7 +37,8 @@ impl Model for Network {
 
     ghost view = { λ n. record { points = n.points; literals = n.arcs.literals; adds = n.adds } };
 
-    ghost invariant = { λ n. KeepsTrail n.points n.arcs.points n.arcs.literals n.labels.values n.labels.trail n.ends.items };
+    ghost invariant = { λ n. KeepsTrail n.points n.arcs.points n.arcs.literals n.labels.values
+        n.labels.trail n.ends.items };
 }
 
 impl Network {
@@ -62,7 +62,7 @@ impl Network {
 fn cut(arcs: &mut Arcs, labels: &mut Labels, ends: &mut Vec<usize>, count: usize)
     ensures points { arcs.new.points ≡ arcs.old.points }
     ensures literals { arcs.new.literals ≡ take count arcs.old.literals }
-    ensures values { labels.new.values ≡ first_of (end_at ends.old.items labels.old.trail count) labels.old.trail labels.old.values }
+    ensures values { labels.new.values ≡ values_at ends.old.items labels.old count }
     ensures trail { labels.new.trail ≡ take (end_at ends.old.items labels.old.trail count) labels.old.trail }
     ensures ends { ends.new.items ≡ take count ends.old.items }
 {

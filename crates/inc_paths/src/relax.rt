@@ -2,16 +2,17 @@ ghost use Rattle.std.specs.Prelude.{◌≡◌, ◌<◌, ◌≤◌, ◌-◌, leng
 ghost use Rattle.stn_core.specs.Answer.{IsCycleAmong};
 ghost use Rattle.stn_core.specs.Literal.{value_at, literal_at};
 ghost use Rattle.stn_core.specs.Schedule.{IsGreatestSchedule};
-ghost use Rattle.inc_paths.specs.Trails.{entry_at};
-ghost use Rattle.inc_paths.specs.Work.{first_in, older_in, IsStart, IsKept, AreTraced, IsLowering, IsPending, IsTaken, IsScanning, IsAt, IsClosing, room};
+ghost use Rattle.inc_paths.specs.Trails.{entry_at, first_in, point_at};
+ghost use Rattle.inc_paths.specs.Work.{AreTraced, GoesBack, IsAt, IsClosing, IsPending, IsScanning, IsStart, IsTaken};
+ghost use Rattle.inc_paths.specs.Work.{Lowers, room};
 
 use crate::arcs::Arcs;
 use crate::labels::Labels;
 use std::alloc::AllocError;
 use stn_core::{Literal, Literals};
 
-/// Looks at a literal that begins at the point of a lowering. Where it does not hold, it lowers its first point, unless the
-/// new literal begins there: then the answer is true.
+/// Looks at a literal that begins at the point of a lowering. Where it does not hold, it lowers its first point, unless
+/// the new literal begins there: then the answer is true.
 fn look(
     arcs: &Arcs,
     number: usize,
@@ -21,19 +22,21 @@ fn look(
 ) -> Result<bool, AllocError>
     requires start { IsStart arcs.now.points arcs.now.literals new (first_in labels.old) }
     requires within { labels.old.start ≤ length labels.old.trail }
-    requires lowering { IsLowering arcs.now.points arcs.now.literals new (first_in labels.old) labels.old }
+    requires lowering { Lowers arcs.now new labels.old labels.old }
     requires some { 1 ≤ number }
     requires number { number ≤ length arcs.now.literals }
     requires place { IsAt labels.old place }
-    requires point { (literal_at arcs.now.literals (number - 1)).y ≡ (entry_at labels.old.trail place).literal.x }
-    requires scanning { IsScanning arcs.now.literals labels.old (entry_at labels.old.trail place).literal.x number }
+    requires point { (literal_at arcs.now.literals (number - 1)).y ≡ point_at labels.old.trail place }
+    requires scanning { IsScanning arcs.now.literals labels.old (point_at labels.old.trail place) number }
     ensures start { labels.new.start ≡ labels.old.start }
-    ensures kept { IsKept labels.old.start (first_in labels.old) (older_in labels.old) labels.new.trail labels.new.values }
-    ensures lowering { OnOk result (IsLowering arcs.now.points arcs.now.literals new (first_in labels.old) labels.new) }
+    ensures kept { GoesBack labels.old labels.new }
+    ensures lowering { OnOk result (Lowers arcs.now new labels.old labels.new) }
     ensures place { OnOk result (IsAt labels.new place) }
     ensures entry { OnOk result (entry_at labels.new.trail place ≡ entry_at labels.old.trail place) }
-    ensures scanning { IfOk result (λ closes. closes ≡ false → IsScanning arcs.now.literals labels.new (entry_at labels.old.trail place).literal.x (number - 1)) }
-    ensures closing { IfOk result (λ closes. closes ≡ true → IsClosing arcs.now.literals labels.new new.y place (literal_at arcs.now.literals (number - 1))) }
+    ensures scanning { IfOk result (λ closes. closes ≡ false
+        → IsScanning arcs.now.literals labels.new (point_at labels.old.trail place) (number - 1)) }
+    ensures closing { IfOk result (λ closes. closes ≡ true
+        → IsClosing arcs.now.literals labels.new new.y place (literal_at arcs.now.literals (number - 1))) }
     ensures room { OnOk result (room labels.new ≤ room labels.old) }
 {
     let literal = arcs.at(number - 1);
@@ -48,8 +51,8 @@ fn look(
     Ok(false)
 }
 
-/// Looks at the literals that begin at the point of a lowering that was taken from the queue, the newest first, where its
-/// value still stands. The answer is one that would lower the point where the new literal begins.
+/// Looks at the literals that begin at the point of a lowering that was taken from the queue, the newest first, where
+/// its value still stands. The answer is one that would lower the point where the new literal begins.
 fn scan(
     arcs: &Arcs,
     labels: &mut Labels,
@@ -58,13 +61,13 @@ fn scan(
 ) -> Result<Option<Literal>, AllocError>
     requires start { IsStart arcs.now.points arcs.now.literals new (first_in labels.old) }
     requires within { labels.old.start ≤ length labels.old.trail }
-    requires lowering { IsLowering arcs.now.points arcs.now.literals new (first_in labels.old) labels.old }
+    requires lowering { Lowers arcs.now new labels.old labels.old }
     requires low { labels.old.start ≤ place }
     requires high { place < length labels.old.trail }
     requires taken { IsTaken arcs.now.literals labels.old place }
     ensures start { labels.new.start ≡ labels.old.start }
-    ensures kept { IsKept labels.old.start (first_in labels.old) (older_in labels.old) labels.new.trail labels.new.values }
-    ensures lowering { OnOk result (IsLowering arcs.now.points arcs.now.literals new (first_in labels.old) labels.new) }
+    ensures kept { GoesBack labels.old labels.new }
+    ensures lowering { OnOk result (Lowers arcs.now new labels.old labels.new) }
     ensures high { OnOk result (place < length labels.new.trail) }
     ensures none { IfOk result (λ last. IfNone last (IsPending arcs.now.literals labels.new)) }
     ensures some { IfOk result (λ last. IfSome last (IsClosing arcs.now.literals labels.new new.y place)) }
@@ -107,8 +110,8 @@ fn way_back(
     Ok(Literals::new(walk))
 }
 
-/// Lowers values until all literals hold. The answer is a negative cycle, where the point would be lowered at which the new
-/// literal begins.
+/// Lowers values until all literals hold. The answer is a negative cycle, where the point would be lowered at which the
+/// new literal begins.
 pub fn settle(
     arcs: &Arcs,
     labels: &mut Labels,
@@ -116,11 +119,12 @@ pub fn settle(
 ) -> Result<Option<Literals>, AllocError>
     requires start { IsStart arcs.now.points arcs.now.literals new (first_in labels.old) }
     requires within { labels.old.start ≤ length labels.old.trail }
-    requires lowering { IsLowering arcs.now.points arcs.now.literals new (first_in labels.old) labels.old }
+    requires lowering { Lowers arcs.now new labels.old labels.old }
     requires pending { IsPending arcs.now.literals labels.old }
     ensures start { labels.new.start ≡ labels.old.start }
-    ensures kept { IsKept labels.old.start (first_in labels.old) (older_in labels.old) labels.new.trail labels.new.values }
-    ensures none { IfOk result (λ cycle. IfNone cycle (IsGreatestSchedule arcs.now.points arcs.now.literals labels.new.values)) }
+    ensures kept { GoesBack labels.old labels.new }
+    ensures none { IfOk result (λ cycle.
+        IfNone cycle (IsGreatestSchedule arcs.now.points arcs.now.literals labels.new.values)) }
     ensures some { IfOk result (λ cycle. IfSome cycle (IsCycleAmong arcs.now.literals)) }
 {
     'queue: while let Some((_, place)) = labels.pop() {
