@@ -2,6 +2,7 @@
 ghost use Rattle.std.specs.Prelude.{◌≡◌, ◌≤◌, ◌<◌, ℕ, length, [], false, Some, slice_get, IfOk, OnErr, Err, Option, Result};
 ghost use Rattle.smt_sexpr.specs.Tree.{Sexpr, Items};
 ghost use Rattle.smt_sexpr.specs.Table.{Means, HasMeaning};
+ghost use Rattle.stn_core.specs.Named.{AreWithinLimit};
 ghost use Rattle.idl_term.specs.Contexts.{IsScheduleFor, environment, scope_of};
 ghost use Rattle.idl_term.specs.Limits.{names_limit};
 ghost use Rattle.idl_term.specs.Lowered.{lowered};
@@ -411,8 +412,8 @@ impl<'a> State<'a> {
         };
     }
 
-    /// The value of a term, where the names have these values: one of its sort for each. The state is as before. It takes time
-    /// and memory of the order of the node table and the term.
+    /// The value of a term, where the names have these values: one of its sort for each, an Int name's within
+    /// `stn_core::NAMED_VALUE_LIMIT`. The state is as before. It takes time and memory of the order of the node table and the term.
     pub fn value(
         &mut self,
         sexprs: &Sexprs<'a>,
@@ -422,6 +423,7 @@ impl<'a> State<'a> {
         requires meaning { HasMeaning sexprs.now id }
         requires state { (s : Meaning) × StandsFor self.old s × IsMadeState s
             × IsScheduleFor s.context values.now }
+        requires within { AreWithinLimit values.now }
         ensures accepted { IfOk result (λ v. (s : Meaning) (x : Sexpr)
             → StandsFor self.old s → Means sexprs.now id x → IsAccepted s x) }
         ensures ok { IfOk result (λ v. (s : Meaning) (x : Sexpr)

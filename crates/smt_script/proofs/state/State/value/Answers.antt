@@ -6,8 +6,8 @@ use Rattle.smt_script.specs.Kept.{Kept, StandsFor}
 use Rattle.smt_script.proofs.Stepping.{term_same}
 use Rattle.smt_script.proofs.state.State.value.Goals as goal
 
-pub term_value-value-requires : goal.term_value-value-requires
-term_value-value-requires c =
+pub term_value-value-requires-clause-term : goal.term_value-value-requires-clause-term
+term_value-value-requires-clause-term c =
     let s = c.requires.state.0 in
     let t = c.requires.meaning.0 in
     let h = subst (λ (k : Kept). StandsFor k s) (sym c.self.view_is) c.requires.state.1 in
