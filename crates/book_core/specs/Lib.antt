@@ -1,0 +1,11 @@
+pub mod Books
+pub mod Runs
+pub mod Facts
+pub mod Verdicts
+pub mod Prepared
+pub mod Closing
+pub use Rattle.refute_tree.specs.Trees
+pub use Rattle.refute_tree.specs.Batches
+pub use Rattle.refute_tree.specs.Moves
+pub use Rattle.cover_tree.specs.Covers
+pub use Rattle.cover_tree.specs.Partition

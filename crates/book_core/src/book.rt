@@ -1,0 +1,296 @@
+//! The book itself.
+ghost use Rattle.std.specs.Prelude.{◌≡◌, ◌+◌, ◌<◌, ◌++◌, ◌∷◌, [], ℕ, length, map, IfOk, OnOk, OnErr, IfErr, IfSome, IfNone, Some, slice_get};
+ghost use Rattle.std.specs.Arc.{arc_value};
+ghost use Rattle.refute_tree.specs.declared.lemma.Lemma.{Lemma as Stated};
+ghost use Rattle.cover_tree.specs.declared.node.Node.TheVariants.{Held, Free};
+ghost use Rattle.cover_tree.specs.Covers.{cube_at, node_at, holder_of, NoneHeld};
+ghost use Rattle.book_core.specs.declared.event.Event.TheVariants.{Take, Deliver, Release};
+ghost use Rattle.book_core.specs.declared.event.Taken.TheVariants.{Cube};
+ghost use Rattle.book_core.specs.Books.{IsJustified, IsHeldBy, IsAllowed, MayAnswer, cover_taken};
+ghost use Rattle.book_core.specs.Facts.{IsSound};
+ghost use Rattle.book_core.specs.Runs.{ledger, state_of, with_event, Answers, IsRun};
+ghost use Rattle.book_core.specs.Verdicts.{Concludes};
+
+use crate::answer::Answer;
+use crate::event::{Event, Outcome, Taken};
+use crate::prepared::{Prepared, prepare, publish, settle};
+use crate::refutation::refutation_of;
+use crate::verdict::Verdict;
+use cover_tree::Cover;
+use refute_tree::{Batch, Lemma};
+use std::alloc::{AllocError, Global};
+use std::marker::Model;
+use std::sync::Arc;
+use stn_core::{Problem, Schedule};
+
+/// A delivery for which there was no memory: what was handed in comes back.
+#[derive(Drop)]
+pub struct Refused {
+    pub batch: Batch,
+    pub outcome: Outcome,
+}
+
+/// The book of a problem. It keeps each lemma twice: published, and in the event that brought it.
+#[derive(Drop)]
+pub struct Book {
+    problem: Problem,
+    cover: Cover,
+    lemmas: Vec<Arc<Lemma>>,
+    found: Option<Schedule>,
+    journal: Vec<Event>,
+}
+
+impl Model for Book {
+    ghost use Rattle.std.specs.Prelude.{map, vec_capacity};
+    ghost use Rattle.std.specs.Arc.{arc_value};
+    ghost use Rattle.refute_tree.specs.declared.lemma.Lemma.{Lemma as Stated};
+    ghost use Rattle.book_core.specs.Runs.{Ledger, ledger, IsKept};
+
+    ghost Value = { Ledger };
+
+    ghost view = { λ b. ledger b.problem b.journal.items };
+
+    ghost invariant = { λ b. IsKept b.problem b.journal.items (record { cover = b.cover; lemmas = map (λ a. arc_value {X = Stated} a) b.lemmas.items; found = b.found }) (vec_capacity b.journal) };
+}
+
+impl Book {
+    /// The book of a problem, with one free cube.
+    pub fn new(alloc: Global, problem: Problem) -> Result<Self, AllocError>
+        ensures { IfOk result (λ book. book ≡ ledger problem []) }
+    {
+        Ok(Book {
+            problem,
+            cover: Cover::new(alloc)?,
+            lemmas: Vec::new(alloc),
+            found: None,
+            journal: Vec::new(alloc),
+        })
+    }
+
+    /// The book that these calls lead to. It takes their time again, but for what `take` looked for.
+    pub fn replay(alloc: Global, problem: Problem, events: &[Event]) -> Result<Self, AllocError>
+        requires { IsRun problem events.now }
+        ensures { IfOk result (λ book. book ≡ ledger problem events.now) }
+    {
+        let mut book = Book::new(alloc, problem)?;
+        for event in events {
+            book.repeat(event)?;
+        }
+        Ok(book)
+    }
+
+    /// The problem.
+    pub fn problem(&self) -> &Problem
+        ensures { result.now ≡ self.now.problem }
+    {
+        &self.problem
+    }
+
+    /// All calls so far.
+    pub fn journal(&self) -> &[Event]
+        ensures { result.now ≡ self.now.journal }
+    {
+        self.journal.as_slice()
+    }
+
+    /// How many lemmas there are.
+    pub fn lemma_count(&self) -> usize
+        ensures { result ≡ length (state_of self.now).lemmas }
+    {
+        self.lemmas.len()
+    }
+
+    /// The lemma with this number, from 0.
+    pub fn lemma(&self, j: usize) -> &Lemma
+        requires { j < length (state_of self.now).lemmas }
+        ensures { slice_get (state_of self.now).lemmas j ≡ Some result.now }
+    {
+        &self.lemmas[j]
+    }
+
+    /// All lemmas, shared.
+    pub fn lemmas(&self) -> &[Arc<Lemma>]
+        ensures { map (λ a. arc_value {X = Stated} a) result.now ≡ (state_of self.now).lemmas }
+    {
+        self.lemmas.as_slice()
+    }
+
+    /// The seat that holds the cube with this number; `None` also for a number that isn't there.
+    pub fn holder(&self, id: usize) -> Option<u32>
+        ensures { result ≡ holder_of (node_at (state_of self.now).cover id) }
+    {
+        self.cover.holder(id)
+    }
+
+    /// Some held cube and its seat.
+    pub fn first_held(&self) -> Option<(usize, u32)>
+        ensures some { IfSome result (λ r. node_at (state_of self.now).cover r.0 ≡ Some (Held r.1)) }
+        ensures none { IfNone result (NoneHeld (state_of self.now).cover) }
+    {
+        self.cover.first_held()
+    }
+
+    /// What always holds of a book.
+    pub fn sound(&self)
+        ensures run { IsRun self.now.problem self.now.journal }
+        ensures sound { IsSound self.now.problem (state_of self.now) }
+    {
+        let _ = &self.problem;
+    }
+
+    /// A cube for the seat, if one is free. At `Err` nothing changed.
+    pub fn take(&mut self, seat: u32) -> Result<Answer, AllocError>
+        ensures ok { IfOk result (λ answer. Answers self.old seat answer self.new) }
+        ensures err { OnErr result (self.new ≡ self.old) }
+    {
+        match self.next() {
+            Taken::Cube(id) => {
+                let literals = self.cover.cube_of(id)?;
+                self.record_take(seat, Taken::Cube(id))?;
+                Ok(Answer::Cube(id, literals))
+            }
+            Taken::Idle => {
+                self.record_take(seat, Taken::Idle)?;
+                Ok(Answer::Idle)
+            }
+            Taken::Done => {
+                self.record_take(seat, Taken::Done)?;
+                Ok(Answer::Done)
+            }
+        }
+    }
+
+    /// What a `take` is answered now.
+    fn next(&self) -> Taken
+        ensures { MayAnswer (state_of self.now) result }
+    {
+        if self.found.is_some() {
+            return Taken::Done;
+        }
+        match self.cover.first_open() {
+            Some(id) => Taken::Cube(id),
+            None => match self.cover.first_held() {
+                Some(_) => Taken::Idle,
+                None => Taken::Done,
+            },
+        }
+    }
+
+    /// Adds the event of a `take`, with room for one event more of each leaf that is held then.
+    fn record_take(&mut self, seat: u32, taken: Taken) -> Result<(), AllocError>
+        requires { MayAnswer (state_of self.old) taken }
+        ensures ok { OnOk result (self.new ≡ with_event self.old (Take seat taken)) }
+        ensures err { OnErr result (self.new ≡ self.old) }
+    {
+        let held = self.cover.held_count();
+        self.journal.reserve(held + 2)?;
+        hold(&mut self.cover, seat, taken);
+        self.journal.push_reserved(Event::Take(seat, taken));
+        Ok(())
+    }
+
+    /// What the seat found of its cube. A schedule that comes after another is not kept. At `Err` nothing changed.
+    pub fn deliver(
+        &mut self,
+        seat: u32,
+        id: usize,
+        batch: Batch,
+        outcome: Outcome,
+    ) -> Result<(), Refused>
+        requires held { IsHeldBy (state_of self.old) id seat }
+        requires justified { IsJustified self.old.problem (state_of self.old).lemmas (cube_at (state_of self.old).cover id) batch outcome }
+        ensures ok { OnOk result (self.new ≡ with_event self.old (Deliver seat id batch outcome)) }
+        ensures err { OnErr result (self.new ≡ self.old) }
+        ensures refused { IfErr result (λ refused. (refused.batch ≡ batch) × (refused.outcome ≡ outcome)) }
+    {
+        let alloc = *self.lemmas.allocator();
+        let base = self.lemmas.len();
+        let prepared = match prepare(alloc, base, &batch, &outcome) {
+            Ok(prepared) => prepared,
+            Err(_) => return Err(Refused { batch, outcome }),
+        };
+        let Prepared { shared, schedule } = prepared;
+        match self.lemmas.reserve(shared.len()) {
+            Ok(()) => {}
+            Err(_) => return Err(Refused { batch, outcome }),
+        }
+        match settle(
+            &mut self.cover,
+            &mut self.found,
+            id,
+            &batch,
+            base,
+            &outcome,
+            schedule,
+        ) {
+            Ok(()) => {}
+            Err(_) => return Err(Refused { batch, outcome }),
+        }
+        publish(&mut self.lemmas, shared);
+        self.journal
+            .push_reserved(Event::Deliver(seat, id, batch, outcome));
+        Ok(())
+    }
+
+    /// The seat gives its cube back. It takes no memory.
+    pub fn release(&mut self, seat: u32, id: usize)
+        requires { IsHeldBy (state_of self.old) id seat }
+        ensures { self.new ≡ with_event self.old (Release seat id) }
+    {
+        self.cover.release(id);
+        self.journal.push_reserved(Event::Release(seat, id));
+    }
+
+    /// The call that the event tells of, once more.
+    fn repeat(&mut self, event: &Event) -> Result<(), AllocError>
+        requires { IsAllowed self.old.problem (state_of self.old) event.now }
+        ensures { OnOk result (self.new ≡ with_event self.old event.now) }
+    {
+        match event {
+            Event::Take(seat, taken) => {
+                self.record_take(*seat, *taken)?;
+                Ok(())
+            }
+            Event::Deliver(seat, id, batch, outcome) => {
+                let batch_copy = batch.copy()?;
+                let outcome_copy = outcome.copy()?;
+                match self.deliver(*seat, *id, batch_copy, outcome_copy) {
+                    Ok(()) => Ok(()),
+                    Err(_) => Err(AllocError),
+                }
+            }
+            Event::Release(seat, id) => {
+                self.release(*seat, *id);
+                Ok(())
+            }
+        }
+    }
+
+    /// The verdict, where nothing is left to do: the schedule that was found first, or a refutation by the lemmas. It takes
+    /// time and memory in the sum of the lemmas and of the leaves' lemmas.
+    pub fn conclude(&self) -> Result<Option<Verdict>, AllocError>
+        ensures { IfOk result (Concludes self.now.problem (state_of self.now)) }
+    {
+        match &self.found {
+            Some(schedule) => return Ok(Some(Verdict::Sat(schedule.copy()?))),
+            None => {}
+        }
+        if !self.cover.is_closed() {
+            return Ok(None);
+        }
+        let alloc = *self.lemmas.allocator();
+        let refutation = refutation_of(alloc, &self.problem, &self.cover, self.lemmas.as_slice())?;
+        Ok(Some(Verdict::Unsat(refutation)))
+    }
+}
+
+// The seat holds the cube that it took.
+fn hold(cover: &mut Cover, seat: u32, taken: Taken)
+    requires { (id : ℕ) → taken ≡ Cube id → node_at cover.old id ≡ Some Free }
+    ensures { cover.new ≡ cover_taken cover.old seat taken }
+{
+    match taken {
+        Taken::Cube(id) => cover.take(id, seat),
+        Taken::Idle | Taken::Done => {}
+    }
+}

@@ -1,0 +1,24 @@
+//! Laws of runs, of their definitions alone.
+ghost use Rattle.book_core.specs.Facts.{SoundLaw, DividedLaw, DoneKeptLaw};
+
+/// What always holds, holds after every run: the leaves are a cover, each literal of a cube is decided once, each lemma is
+/// refuted over the problem and those before it and within the limits, the lemma of each shut leaf excludes its cube, and
+/// the problem holds on the schedule that was found.
+pub fn sound_law()
+    ensures { SoundLaw }
+{
+    refute_tree::moved_batch_law();
+    refute_tree::joined_law();
+}
+
+/// After every run each list of point values satisfies exactly one leaf's cube.
+pub fn divided_law()
+    ensures { DividedLaw }
+{
+    cover_tree::partition_law();
+}
+
+/// Done is kept by every later event.
+pub fn done_kept_law()
+    ensures { DoneKeptLaw }
+{}

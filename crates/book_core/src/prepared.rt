@@ -1,0 +1,108 @@
+//! The parts of a delivery: what takes memory comes first, and what changes the book takes none.
+ghost use Rattle.std.specs.Prelude.{◌≡◌, ◌+◌, ◌<◌, ◌≤◌, ◌^◌, ◌++◌, ℕ, length, map, vec_len, vec_capacity, IfOk, OnOk, OnErr, All, Some};
+ghost use Rattle.std.specs.Arc.{arc_value};
+ghost use Rattle.refute_tree.specs.declared.lemma.Lemma.{Lemma as Stated};
+ghost use Rattle.refute_tree.specs.Moves.{moved_number};
+ghost use Rattle.refute_tree.specs.Batches.{moved, LemmaRefersBelow};
+ghost use Rattle.cover_tree.specs.declared.node.Node.TheVariants.{Held};
+ghost use Rattle.cover_tree.specs.Covers.{node_at};
+ghost use Rattle.book_core.specs.declared.event.Outcome.TheVariants.{Shut};
+ghost use Rattle.book_core.specs.Books.{cover_delivered, found_delivered};
+ghost use Rattle.book_core.specs.Prepared.{given_schedule};
+
+use crate::event::Outcome;
+use cover_tree::Cover;
+use refute_tree::{Batch, Lemma};
+use std::alloc::{AllocError, Global};
+use std::sync::Arc;
+use stn_core::Schedule;
+
+/// What a delivery leaves in the book, in memory of its own.
+#[derive(Drop)]
+pub(crate) struct Prepared {
+    pub(crate) shared: Vec<Arc<Lemma>>,
+    pub(crate) schedule: Option<Schedule>,
+}
+
+/// The batch's lemmas as they stand behind the first `base` ones, and the schedule.
+pub(crate) fn prepare(
+    alloc: Global,
+    base: usize,
+    batch: &Batch,
+    outcome: &Outcome,
+) -> Result<Prepared, AllocError>
+    requires { All (LemmaRefersBelow (batch.now.seen + length batch.now.lemmas)) batch.now.lemmas }
+    ensures lemmas { IfOk result (λ p. map (λ a. arc_value {X = Stated} a) p.shared.items ≡ (moved base batch.now).lemmas) }
+    ensures fits { IfOk result (λ p. base + length batch.now.lemmas < 2 ^ 64) }
+    ensures schedule { IfOk result (λ p. p.schedule ≡ given_schedule outcome.now) }
+{
+    if batch.lemmas().len() > usize::MAX - base {
+        return Err(AllocError);
+    }
+    let mut moved = batch.copy()?;
+    moved.move_to(base);
+    let shared = share(alloc, moved.into_lemmas())?;
+    let schedule = match outcome {
+        Outcome::Found(schedule) => Some(schedule.copy()?),
+        _ => None,
+    };
+    Ok(Prepared { shared, schedule })
+}
+
+fn share(alloc: Global, lemmas: Vec<Lemma>) -> Result<Vec<Arc<Lemma>>, AllocError>
+    ensures { IfOk result (λ shared. map (λ a. arc_value {X = Stated} a) shared.items ≡ lemmas.items) }
+{
+    let mut shared = Vec::with_capacity(alloc, lemmas.len())?;
+    for lemma in lemmas {
+        match Arc::new(alloc, lemma) {
+            Ok(arc) => shared.push(arc)?,
+            Err(_) => return Err(AllocError),
+        }
+    }
+    Ok(shared)
+}
+
+/// The lemmas go behind the others, in the room that is there.
+pub(crate) fn publish(lemmas: &mut Vec<Arc<Lemma>>, mut shared: Vec<Arc<Lemma>>)
+    requires { vec_len lemmas.old + vec_len shared ≤ vec_capacity lemmas.old }
+    ensures { lemmas.new.items ≡ lemmas.old.items ++ shared.items }
+{
+    lemmas.append(&mut shared).unwrap();
+}
+
+/// What the outcome makes of the cover, and of the schedule found. At `Err` both are as before.
+pub(crate) fn settle(
+    cover: &mut Cover,
+    found: &mut Option<Schedule>,
+    id: usize,
+    batch: &Batch,
+    base: usize,
+    outcome: &Outcome,
+    schedule: Option<Schedule>,
+) -> Result<(), AllocError>
+    requires held { (seat : ℕ) × (node_at cover.old id ≡ Some (Held seat)) }
+    requires number { (j : ℕ) → outcome.now ≡ Shut j → moved_number batch.now.seen base j < 2 ^ 64 }
+    requires schedule { schedule ≡ given_schedule outcome.now }
+    ensures cover { OnOk result (cover.new ≡ cover_delivered cover.old id batch.now.seen base outcome.now) }
+    ensures found { OnOk result (found.new ≡ found_delivered found.old outcome.now) }
+    ensures cover_err { OnErr result (cover.new ≡ cover.old) }
+    ensures found_err { OnErr result (found.new ≡ found.old) }
+{
+    match outcome {
+        Outcome::Found(_) => {
+            cover.release(id);
+            if found.is_none() {
+                *found = schedule;
+            }
+            Ok(())
+        }
+        Outcome::Shut(j) => {
+            cover.close(id, batch.moved_number(*j, base));
+            Ok(())
+        }
+        Outcome::Split(literal) => {
+            let _ = cover.split(id, *literal)?;
+            Ok(())
+        }
+    }
+}
