@@ -5,3 +5,4 @@ pub mod Scans
 pub mod Backs
 pub mod Extends
 pub mod Networks
+pub mod Queues

@@ -1,5 +1,5 @@
 -- One lowering keeps what is known.
-use Rattle.std.proofs.Common.{drop, arith, refl, ap, sym, subst, ◌∙◌, inl, inr, ◌⊎◌, ◌≡◌, ◌≢◌, ℕ, zero, suc, ◌<◌, ◌≤◌, ◌+◌, ◌-◌, ◌^◌, List, [], ◌∷◌, ◌++◌, length, take, set, sum_by, All, Contains, IsPermutation, ℤ, pos, negsuc, neg_ℤ, ◌+ℤ◌, ◌≤ℤ◌, ◌<ℤ◌}
+use Rattle.std.proofs.Common.{arith, refl, ap, sym, subst, ◌∙◌, inl, inr, ◌⊎◌, ◌≡◌, ◌≢◌, ℕ, zero, suc, ◌<◌, ◌≤◌, ◌+◌, ◌-◌, List, [], ◌∷◌, ◌++◌, length, take, set, sum_by, All, Contains, IsPermutation, ℤ, pos, negsuc, neg_ℤ, ◌+ℤ◌, ◌≤ℤ◌, ◌<ℤ◌}
 use Rattle.std.proofs.lemmas.Int.{ints, by_lt_z}
 use Rattle.std.proofs.lemmas.Bool.{cases_eq, cases_lt}
 use Rattle.std.proofs.lemmas.List.{get_or_append_left, get_or_push, get_or-set_same, get_or-set_other, length_push, length-set, take-append-le}
@@ -10,7 +10,7 @@ use Rattle.stn_core.specs.declared.literal.Literal.{Literal}
 use Rattle.stn_core.specs.Limits.{bound_limit, value_span, FitsValue}
 use Rattle.stn_core.specs.Literal.{value_at, Holds, IsOver, literal_at}
 use Rattle.inc_paths.specs.declared.labels.Lowering.{Lowering}
-use Rattle.inc_paths.specs.Trails.{Labelled, no_lowering, entry_at, lowering, first_of, undone, point_of, level_of, IsTraced}
+use Rattle.inc_paths.specs.Trails.{Labelled, no_lowering, entry_at, lowering, first_of, point_of, level_of, IsTraced}
 use Rattle.inc_paths.specs.Trails.{first_in, older_in}
 use Rattle.inc_paths.specs.Work.{gap_of, IsStart, IsKept, IsBetween, IsLowering, IsWaiting, IsScanning, IsAt, height, room}
 use Rattle.inc_paths.proofs.Undoing.{first_of-more}

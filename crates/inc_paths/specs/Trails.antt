@@ -1,5 +1,8 @@
 -- Of the code and not of the meaning: the trail of lowerings.
 use Rattle.std.specs.Prelude.{◌≡◌, ℕ, zero, suc, ◌<◌, ◌≤◌, ◌-◌, List, [], ◌∷◌, length, drop, take, replicate, All, Contains, slice_index_or, slice_set, ℤ, pos, ◌+ℤ◌, ◌-ℤ◌, ◌<ℤ◌, unsigned_abs}
+use Rattle.std.specs.List.{AllByRecursion}
+use Rattle.std.specs.declared.cmp.Ordering.{Ordering}
+use Rattle.std.specs.Ordering.{nat_cmp, ordering_then}
 use Rattle.stn_core.specs.declared.literal.Literal.{Literal}
 use Rattle.stn_core.specs.Literal.{value_at, most_allowed}
 use Rattle.inc_paths.specs.declared.labels.Lowering.{Lowering}
@@ -72,6 +75,14 @@ fall_of labels l = unsigned_abs (value_at (first_in labels) l.x -ℤ most_allowe
 -- the queue with the lowering that the literal makes next
 abbrev pub queued : Labelled → Literal → List (ℕ × ℕ)
 queued labels l = (fall_of labels l, length labels.trail) ∷ labels.queue
+
+-- the order in the queue: by the fall, and by the place where falls are the same
+abbrev pub queue_order : ℕ × ℕ → ℕ × ℕ → Ordering
+queue_order a b = ordering_then (nat_cmp a.0 b.0) (nat_cmp a.1 b.1)
+
+-- no other falls further
+abbrev pub FallsFurthest : ℕ × ℕ → List (ℕ × ℕ) → Type 0
+FallsFurthest item others = AllByRecursion (λ (other : ℕ × ℕ). other.0 ≤ item.0) others
 
 -- the value that a lowering gave still stands
 abbrev pub IsCurrent : Labelled → ℕ → Type 0

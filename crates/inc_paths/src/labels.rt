@@ -4,7 +4,7 @@ ghost use Rattle.stn_core.specs.Limits.{FitsValue};
 ghost use Rattle.stn_core.specs.Literal.{most_allowed};
 ghost use Rattle.inc_paths.specs.declared.labels.Lowering.{Lowering};
 ghost use Rattle.inc_paths.specs.Trails.{entry_at, fall_of, first_of, last_entry, lowered_values, lowering};
-ghost use Rattle.inc_paths.specs.Trails.{queued, undone_one, unlabelled, IsCurrent, IsViolated};
+ghost use Rattle.inc_paths.specs.Trails.{FallsFurthest, queued, undone_one, unlabelled, IsCurrent, IsViolated};
 
 use std::alloc::{AllocError, Global};
 use std::collections::BinaryHeap;
@@ -42,8 +42,8 @@ pub struct Labels {
 }
 
 impl Model for Labels {
-    ghost use Rattle.std.specs.BinaryHeap.{heap_items};
-    ghost use Rattle.inc_paths.specs.Trails.{Labelled, IsLabelled};
+    ghost use Rattle.std.specs.BinaryHeap.{heap_items, IsHeap};
+    ghost use Rattle.inc_paths.specs.Trails.{Labelled, IsLabelled, queue_order};
 
     ghost Value = { Labelled };
 
@@ -54,7 +54,8 @@ impl Model for Labels {
       queue = heap_items l.queue;
     } };
 
-    ghost invariant = { λ l. IsLabelled l.values.items l.trail.items l.start l.before.items };
+    ghost invariant = { λ l. IsLabelled l.values.items l.trail.items l.start l.before.items
+        × IsHeap queue_order (heap_items l.queue) };
 }
 
 impl Labels {
@@ -170,6 +171,7 @@ impl Labels {
         ensures trail { self.new.trail ≡ self.old.trail }
         ensures start { self.new.start ≡ self.old.start }
         ensures some { IfSome result (λ item. IsPermutation self.old.queue (item ∷ self.new.queue)) }
+        ensures greatest { IfSome result (λ item. FallsFurthest item self.old.queue) }
         ensures none { IfNone result (self.old.queue ≡ []) }
     {
         self.queue.pop()

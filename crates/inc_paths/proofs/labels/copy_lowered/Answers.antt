@@ -1,6 +1,5 @@
-use Rattle.std.proofs.Common.{arith, ap, sym, ◌∙◌, ◌≡◌, ◌<◌, length, drop, ℤ}
-use Rattle.inc_paths.specs.Trails.{entry_at}
-use Rattle.inc_paths.proofs.Undoing.{length-undone, copied_first, copied_next, copied_all}
+use Rattle.std.proofs.Common.{arith}
+use Rattle.inc_paths.proofs.Undoing.{copied_first, copied_all}
 use Rattle.inc_paths.proofs.labels.copy_lowered.Goals as goal
 
 pub lowerings-init : goal.lowerings-init

@@ -1,4 +1,4 @@
-use Rattle.std.proofs.Common.{rules, arith, refl, ap, ◌≡◌, w64, FitsSigned, ◌+ℤ◌}
+use Rattle.std.proofs.Common.{rules, arith, refl, ◌≡◌, w64, FitsSigned, ◌+ℤ◌}
 use Rattle.std.specs.Int.{w128}
 use Rattle.std.proofs.lemmas.Int.{to_z-of_z}
 use Rattle.std.proofs.lemmas.Grind.{common_steps}

@@ -1,4 +1,4 @@
-use Rattle.std.proofs.Common.{rules, arith, refl, ap, sym, ◌∙◌, ◌≡◌, FitsSigned, ◌-ℤ◌}
+use Rattle.std.proofs.Common.{rules, arith, refl, ap, ◌∙◌, ◌≡◌, FitsSigned, ◌-ℤ◌}
 use Rattle.std.specs.Int.{w128}
 use Rattle.std.specs.Prelude.{unsigned_abs}
 use Rattle.std.proofs.lemmas.Int.{to_z-of_z}
@@ -9,7 +9,7 @@ use Rattle.inc_paths.proofs.labels.Labels.fall_of.Goals as goal
 
 pub returns : goal.returns
 returns c =
-    let began : c.self.inside.before.items ≡ first_of c.args.self.now.start c.args.self.now.trail c.args.self.now.values = c.self.invariant.began ∙ ap (λ (l : Labelled). first_of l.start l.trail l.values) c.self.view_is in
+    let began : c.self.inside.before.items ≡ first_of c.args.self.now.start c.args.self.now.trail c.args.self.now.values = c.self.invariant.0.began ∙ ap (λ (l : Labelled). first_of l.start l.trail l.values) c.self.view_is in
     let x : c.index.result.now ≡ value_at c.self.inside.before.items c.args.literal.x = grind (arith, common_steps) in
     let fx : FitsSigned w128 c.index.result.now = search rules in
     let fy : FitsSigned w128 c.allowed-now.result = search rules in

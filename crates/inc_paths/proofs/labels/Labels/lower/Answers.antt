@@ -18,8 +18,10 @@ invariant_of-self-2 c =
     let values : c.self.inside.values.items ≡ c.args.self.now.values = ap (λ (l : Labelled). l.values) c.self.view_is in
     let now : c.allowed-now.result ≡ most_allowed c.self.inside.values.items c.args.literal = rw values c.allowed-now.ensures in
     let pushed = simp to_z-of_z at c.in_ok-push-2.ensures.items in
-    let trail : c.push-2.new.self.items ≡ c.self.inside.trail.items ++ lowering c.self.inside.values.items c.args.literal c.args.parent ∷ [] = rw (← x, ← now) pushed in
-    rw trail (labelled_more c.self.inside.values.items c.self.inside.trail.items c.self.inside.start c.self.inside.before.items (lowering c.self.inside.values.items c.args.literal c.args.parent) _ c.self.invariant lt refl)
+    let trail : c.push-2.new.self.items ≡ c.self.inside.trail.items ++ lowering c.self.inside.values.items c.args.literal c.args.parent ∷ [] = rw (← x, ← now) pushed in (
+      rw trail (labelled_more c.self.inside.values.items c.self.inside.trail.items c.self.inside.start c.self.inside.before.items (lowering c.self.inside.values.items c.args.literal c.args.parent) _ c.self.invariant.0 lt refl),
+      c.in_ok-push.ensures.heap_order c.self.invariant.1,
+    )
 
 pub returns-clause-queue : goal.returns-clause-queue
 returns-clause-queue c =

@@ -7,4 +7,4 @@ pub invariant_of-self-else-last-self : goal.invariant_of-self-else-last-self
 invariant_of-self-else-last-self c =
     let some : 0 < length c.self.inside.trail.items = search rules in
     let last : c.len-last.result ≡ length c.self.inside.trail.items = search rules in
-    labelled_less c.self.inside.values.items c.self.inside.trail.items c.self.inside.start c.self.inside.before.items c.self.invariant some _ _ (grind (arith, common_steps)) (grind (arith, common_steps)) (omega (arith, c.if-last-self.false))
+    (labelled_less c.self.inside.values.items c.self.inside.trail.items c.self.inside.start c.self.inside.before.items c.self.invariant.0 some _ _ (grind (arith, common_steps)) (grind (arith, common_steps)) (omega (arith, c.if-last-self.false)), c.self.invariant.1)
