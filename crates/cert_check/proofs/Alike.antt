@@ -1,5 +1,5 @@
 -- What is read under some assumptions is read under any other list of the same literals.
-use Rattle.std.proofs.Common.{◌≡◌, ℕ, suc, List, [], ◌∷◌, ◌++◌, Option, Some, None, Bool, true, false, ◌&&◌, ◌||◌, inl, inr, refl, sym, ap, ◌∙◌, subst}
+use Rattle.std.proofs.Common.{◌≡◌, ℕ, suc, List, [], ◌∷◌, ◌++◌, Option, Some, None, Bool, true, false, ◌&&◌, ◌||◌, inl, inr, refl, sym, ap, ◌∙◌, subst, map}
 use Rattle.std.specs.Prelude.{slice_get, Result, Ok, Err, if◌then◌else◌}
 use Rattle.std.specs.List.{list_all}
 use Rattle.std.proofs.lemmas.Bool.{or_left, cases_Bool}
@@ -7,12 +7,12 @@ use Rattle.std.proofs.lemmas.List.Folds.{list_any-append}
 use Rattle.stn_core.specs.declared.literal.Literal.{Literal}
 use Rattle.stn_core.specs.Literal.{negation_of}
 use Rattle.refute_tree.specs.declared.step.Step.{Step}
-use Rattle.refute_tree.specs.declared.step.Step.TheVariants.{Cycle, Input, Lemma as Earlier, Either}
+use Rattle.refute_tree.specs.declared.step.Step.TheVariants.{Cycle, Input, Lemma as Earlier, Clash, Either}
 use Rattle.cert_check.specs.declared.flaw.FlawKind.{FlawKind}
-use Rattle.cert_check.specs.declared.flaw.FlawKind.TheVariants.{NoSuchPoint}
+use Rattle.cert_check.specs.declared.flaw.FlawKind.TheVariants.{NoSuchPoint, NotDenied}
 use Rattle.stn_core.specs.Literal.{same_literal}
 use Rattle.cert_check.specs.Tests.{is_assumed, is_on_points, is_negative_cycle}
-use Rattle.cert_check.specs.Flaws.{cases_of, cases_in, opened, flaw_at, after_step, steps_flaw}
+use Rattle.cert_check.specs.Flaws.{cases_of, cases_in, opened_by_clash, opened, flaw_at, after_step, steps_flaw}
 use Rattle.cert_check.specs.Walks.{with_literal, IsAlike, AreAlike}
 use Rattle.stn_core.proofs.SameLiteral.{same_literal_decides}
 use Rattle.cert_check.proofs.Reading.{leaf_opened}
@@ -87,6 +87,16 @@ cases_in_alike : (xs ys : List Literal) (found : Option (List Literal)) → IsAl
 cases_in_alike xs ys None h = refl
 cases_in_alike xs ys (Some clause) h = cases_alike xs ys clause h
 
+-- the test of a clash
+abbrev clash_opened : Bool → Result (List (List Literal)) FlawKind
+clash_opened denied = if denied then Ok [] else Err NotDenied
+
+clash_alike : (xs ys : List Literal) (found : Option (List Literal)) → IsAlike xs ys → FoundAlike (opened_by_clash xs found) (opened_by_clash ys found)
+clash_alike xs ys None h = refl
+clash_alike xs ys (Some clause) h =
+    subst (λ (b : Bool). FoundAlike (clash_opened (list_all (is_assumed xs) (map negation_of clause))) (clash_opened b)) (all_alike xs ys (map negation_of clause) h)
+    (FoundAlike-itself (clash_opened (list_all (is_assumed xs) (map negation_of clause))))
+
 either_alike : (xs ys : List Literal) (l : Literal) (b : Bool) → IsAlike xs ys → FoundAlike (if b then Ok (cases_of xs (l ∷ negation_of l ∷ [])) else Err NoSuchPoint) (if b then Ok (cases_of ys (l ∷ negation_of l ∷ [])) else Err NoSuchPoint)
 either_alike xs ys l true h = cases_alike xs ys (l ∷ negation_of l ∷ []) h
 either_alike xs ys l false h = refl
@@ -97,6 +107,7 @@ opened_alike points clauses earlier xs ys (Cycle cycle) h =
     (FoundAlike-itself (leaf_opened (list_all (is_assumed xs) cycle) (is_negative_cycle cycle)))
 opened_alike points clauses earlier xs ys (Input i) h = cases_in_alike xs ys (slice_get clauses i) h
 opened_alike points clauses earlier xs ys (Earlier j) h = cases_in_alike xs ys (slice_get earlier j) h
+opened_alike points clauses earlier xs ys (Clash i) h = clash_alike xs ys (slice_get clauses i) h
 opened_alike points clauses earlier xs ys (Either l) h = either_alike xs ys l (is_on_points points l) h
 
 module _ (points : ℕ) (clauses earlier : List (List Literal)) where

@@ -8,17 +8,17 @@ use Rattle.stn_core.specs.declared.literal.Literal.{Literal}
 use Rattle.stn_core.specs.Literal.{negation_of}
 use Rattle.stn_core.specs.Cycle.{IsNegativeCycle}
 use Rattle.refute_tree.specs.declared.step.Step.{Step}
-use Rattle.refute_tree.specs.declared.step.Step.TheVariants.{Cycle, Input, Lemma as Earlier, Either}
+use Rattle.refute_tree.specs.declared.step.Step.TheVariants.{Cycle, Input, Lemma as Earlier, Clash, Either}
 use Rattle.refute_tree.specs.declared.lemma.Lemma.{Lemma}
-use Rattle.refute_tree.specs.Trees.{Tree, Forest, leaf, cases, none, more, IsOnPoints, IsRefuted, stated}
+use Rattle.refute_tree.specs.Trees.{Tree, Forest, IsDenied, leaf, clash, cases, none, more, IsOnPoints, IsRefuted, stated}
 use Rattle.cert_check.specs.declared.flaw.FlawKind.{FlawKind}
-use Rattle.cert_check.specs.declared.flaw.FlawKind.TheVariants.{NoSuchPoint, NoSuchClause, NotAssumed, NotACycle, StepsMissing, StepsLeftOver, LastLemmaNotEmpty}
+use Rattle.cert_check.specs.declared.flaw.FlawKind.TheVariants.{NoSuchPoint, NoSuchClause, NotAssumed, NotACycle, NotDenied, StepsMissing, StepsLeftOver, LastLemmaNotEmpty}
 use Rattle.cert_check.specs.declared.flaw.Flaw.{Flaw}
 use Rattle.cert_check.specs.Tests.{is_assumed, is_on_points, is_negative_cycle}
-use Rattle.cert_check.specs.Flaws.{cases_of, cases_in, opened, flaw_at, after_step, steps_flaw, lemma_flaw, refutation_flaw}
+use Rattle.cert_check.specs.Flaws.{cases_of, cases_in, opened_by_clash, opened, flaw_at, after_step, steps_flaw, lemma_flaw, refutation_flaw}
 use Rattle.cert_check.specs.FirstFlaws.{Begun, ForestBegun, start, goes_on, inside, after, IsWrong, IsFlawOf, own, at_step, missing, left_over, IsFlawOfEnd, IsFirstFlaw}
 use Rattle.cert_check.proofs.Decided.{all_assumed_decides, is_on_points_decides, all_on_points_decides, is_negative_cycle_decides}
-use Rattle.cert_check.proofs.Reading.{leaf_opened, Reads, Opens, as_leaf, as_cases, OpensBy, step_opens, gathers, refuted_lemma}
+use Rattle.cert_check.proofs.Reading.{leaf_opened, clash_opened, Reads, Opens, as_leaf, as_clash, as_cases, OpensBy, step_opens, gathers, refuted_lemma}
 use Rattle.cert_check.proofs.Places.{first_flaw_at, last_flaw_at}
 
 same_flaw_at : (earlier : List (List Literal)) (number : ℕ) (kind : FlawKind) (flaw : Flaw) → flaw_at earlier number kind ≡ Some flaw → (number ≡ flaw.step) × (kind ≡ flaw.kind)
@@ -50,6 +50,22 @@ module _ (points : ℕ) (clauses earlier : List (List Literal)) where
       ]
       by (Some clause) at e = absurd (cc)
 
+  denied_wrong : (here : List Literal) (i : ℕ) (clause : List Literal) (b : Bool) → slice_get clauses i ≡ Some clause → list_all (is_assumed here) (map negation_of clause) ≡ b → (kind : FlawKind) → clash_opened b ≡ Err kind → WrongIn here (Clash i) kind
+  denied_wrong here i clause true at e kind is = absurd (cc)
+  denied_wrong here i clause false at e kind is =
+      let s : NotDenied ≡ kind = cc in
+      subst (WrongIn here (Clash i)) s (clause, at, λ h. both_ways (list_all (is_assumed here) (map negation_of clause)) e ((all_assumed_decides here (map negation_of clause)).1 h))
+
+  clash_wrong : (here : List Literal) (i : ℕ) (kind : FlawKind) → opened_by_clash here (slice_get clauses i) ≡ Err kind → WrongIn here (Clash i) kind
+  clash_wrong here i kind is = by (slice_get clauses i) refl is
+    where
+      by : (found : Option (List Literal)) → slice_get clauses i ≡ found → opened_by_clash here found ≡ Err kind → WrongIn here (Clash i) kind
+      by None at e = elim ((slice_get_cases clauses i).1) [
+        | inl x ↦ absurd (let there = x.2 in cc)
+        | inr beyond ↦ (let s : NoSuchClause ≡ kind = cc in subst (WrongIn here (Clash i)) s beyond.0)
+      ]
+      by (Some clause) at e = denied_wrong here i clause (list_all (is_assumed here) (map negation_of clause)) at refl kind e
+
   either_wrong : (here : List Literal) (l : Literal) (b : Bool) → is_on_points points l ≡ b → (kind : FlawKind) → (if b then Ok (cases_of here (l ∷ negation_of l ∷ [])) else Err NoSuchPoint) ≡ Err kind → WrongIn here (Either l) kind
   either_wrong here l true e kind is = absurd (cc)
   either_wrong here l false e kind is =
@@ -60,6 +76,7 @@ module _ (points : ℕ) (clauses earlier : List (List Literal)) where
   step_wrong here (Cycle cycle) kind e = leaf_wrong here cycle (list_all (is_assumed here) cycle) (is_negative_cycle cycle) refl refl kind e
   step_wrong here (Input i) kind e = let p = past clauses i here kind e in subst (WrongIn here (Input i)) p.1 p.0
   step_wrong here (Earlier j) kind e = let p = past earlier j here kind e in subst (WrongIn here (Earlier j)) p.1 p.0
+  step_wrong here (Clash i) kind e = clash_wrong here i kind e
   step_wrong here (Either l) kind e = either_wrong here l (is_on_points points l) refl kind e
 
   -- the steps are trees for the first cases, and begin one for the next
@@ -77,6 +94,7 @@ module _ (points : ℕ) (clauses earlier : List (List Literal)) where
 
   row_on : (assumed : List Literal) (step : Step) (opening others : List (List Literal)) (steps : List Step) (here : List Literal) → Opens points clauses earlier assumed step opening → Row (opening ++ others) steps here → Row (assumed ∷ others) (step ∷ steps) here
   row_on assumed step opening others steps here (as_leaf h) r = later (leaf h) r
+  row_on assumed step opening others steps here (as_clash e h) r = later (clash e h) r
   row_on assumed step opening others steps here (as_cases {clause = clause} e p) r = elim (gathered assumed clause others steps here r) [
     | inl f ↦ now (goes_on e f)
     | inr x ↦ later (cases e x.1) x.2
@@ -84,6 +102,7 @@ module _ (points : ℕ) (clauses earlier : List (List Literal)) where
 
   reads_opened : (assumed : List Literal) (step : Step) (opening others : List (List Literal)) (steps : List Step) → Opens points clauses earlier assumed step opening → Reads points clauses earlier (opening ++ others) steps → Reads points clauses earlier (assumed ∷ others) (step ∷ steps)
   reads_opened assumed step opening others steps (as_leaf h) r = (steps, leaf h, r)
+  reads_opened assumed step opening others steps (as_clash e h) r = (steps, clash e h, r)
   reads_opened assumed step opening others steps (as_cases {clause = clause} e p) r =
       let t = gathers points clauses earlier assumed clause others steps r in
       (t.0, cases e t.1, t.2)

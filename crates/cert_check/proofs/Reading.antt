@@ -9,18 +9,22 @@ use Rattle.stn_core.specs.Literal.{negation_of}
 use Rattle.stn_core.specs.Cycle.{IsNegativeCycle}
 use Rattle.stn_core.specs.Answer.{IsCycleAmong}
 use Rattle.refute_tree.specs.declared.step.Step.{Step}
-use Rattle.refute_tree.specs.declared.step.Step.TheVariants.{Cycle, Input, Lemma as Earlier, Either}
+use Rattle.refute_tree.specs.declared.step.Step.TheVariants.{Cycle, Input, Lemma as Earlier, Clash, Either}
 use Rattle.refute_tree.specs.declared.lemma.Lemma.{Lemma}
-use Rattle.refute_tree.specs.Trees.{clause_of, Tree, Forest, leaf, cases, none, more, StepIsOnPoints, IsRefuted}
+use Rattle.refute_tree.specs.Trees.{clause_of, Tree, Forest, IsDenied, leaf, clash, cases, none, more, IsOnPoints, NamesPoints, IsRefuted}
 use Rattle.cert_check.specs.declared.flaw.FlawKind.{FlawKind}
-use Rattle.cert_check.specs.declared.flaw.FlawKind.TheVariants.{NoSuchPoint, NotAssumed, NotACycle}
+use Rattle.cert_check.specs.declared.flaw.FlawKind.TheVariants.{NoSuchPoint, NoSuchClause, NotAssumed, NotACycle, NotDenied}
 use Rattle.cert_check.specs.Tests.{is_assumed, is_on_points, is_negative_cycle}
-use Rattle.cert_check.specs.Flaws.{cases_of, cases_in, opened_by_cycle, opened, flaw_at, after_step, steps_flaw, lemma_flaw}
+use Rattle.cert_check.specs.Flaws.{cases_of, cases_in, opened_by_cycle, opened_by_clash, opened, flaw_at, after_step, steps_flaw, lemma_flaw}
 use Rattle.cert_check.proofs.Decided.{all_assumed_decides, is_on_points_decides, all_on_points_decides, is_negative_cycle_decides}
 
 -- the test of a leaf
 abbrev pub leaf_opened : Bool → Bool → Result (List (List Literal)) FlawKind
 leaf_opened assumed negative = if assumed then (if negative then Ok [] else Err NotACycle) else Err NotAssumed
+
+-- the test of a clash
+abbrev pub clash_opened : Bool → Result (List (List Literal)) FlawKind
+clash_opened denied = if denied then Ok [] else Err NotDenied
 
 -- what the code finds of a leaf
 pub leaf_passes : (assumed cycle : List Literal) (a b : Bool) → a ≡ list_all (is_assumed assumed) cycle → (IsTrue b ↔ IsNegativeCycle cycle) → a ≡ true → b ≡ true → opened_by_cycle assumed cycle ≡ Ok []
@@ -40,12 +44,13 @@ module _ (points : ℕ) (clauses earlier : List (List Literal)) where
   Reads (assumed ∷ others) steps = (rest : List Step) × Tree clauses earlier assumed steps rest × Reads others rest
 
   abbrev OnPoints : List Step → Type 0
-  OnPoints steps = All (StepIsOnPoints points) steps
+  OnPoints steps = All (NamesPoints points) steps
 
   -- a step that opens these cases
   pub data Opens (assumed : List Literal) : Step → List (List Literal) → Type 0 where
     as_leaf : {cycle : List Literal} → IsCycleAmong assumed cycle → Opens assumed (Cycle cycle) []
-    as_cases : {step : Step} {clause : List Literal} → clause_of clauses earlier step ≡ Some clause → StepIsOnPoints points step → Opens assumed step (cases_of assumed clause)
+    as_clash : {i : ℕ} {clause : List Literal} → slice_get clauses i ≡ Some clause → IsDenied assumed clause → Opens assumed (Clash i) []
+    as_cases : {step : Step} {clause : List Literal} → clause_of clauses earlier step ≡ Some clause → NamesPoints points step → Opens assumed step (cases_of assumed clause)
 
   abbrev pub OpensBy : List Literal → Step → Result (List (List Literal)) FlawKind → Type 0
   OpensBy assumed step found = (opening : List (List Literal)) → found ≡ Ok opening → Opens assumed step opening
@@ -57,7 +62,17 @@ module _ (points : ℕ) (clauses earlier : List (List Literal)) where
   leaf_opens assumed cycle true false e f opening is = absurd (cc)
   leaf_opens assumed cycle false b e f opening is = absurd (cc)
 
-  clause_opens : (assumed : List Literal) (step : Step) (found : Option (List Literal)) → clause_of clauses earlier step ≡ found → StepIsOnPoints points step → OpensBy assumed step (cases_in assumed found)
+  clash_opens_by : (assumed : List Literal) (i : ℕ) (clause : List Literal) (b : Bool) → slice_get clauses i ≡ Some clause → list_all (is_assumed assumed) (map negation_of clause) ≡ b → OpensBy assumed (Clash i) (clash_opened b)
+  clash_opens_by assumed i clause true e f opening is =
+      let s : [] ≡ opening = cc in
+      subst (Opens assumed (Clash i)) s (as_clash e ((all_assumed_decides assumed (map negation_of clause)).0 f))
+  clash_opens_by assumed i clause false e f opening is = absurd (cc)
+
+  clash_opens : (assumed : List Literal) (i : ℕ) (found : Option (List Literal)) → slice_get clauses i ≡ found → OpensBy assumed (Clash i) (opened_by_clash assumed found)
+  clash_opens assumed i None e opening is = absurd (cc)
+  clash_opens assumed i (Some clause) e opening is = clash_opens_by assumed i clause (list_all (is_assumed assumed) (map negation_of clause)) e refl opening is
+
+  clause_opens : (assumed : List Literal) (step : Step) (found : Option (List Literal)) → clause_of clauses earlier step ≡ found → NamesPoints points step → OpensBy assumed step (cases_in assumed found)
   clause_opens assumed step None e p opening is = absurd (cc)
   clause_opens assumed step (Some clause) e p opening is =
       let s : cases_of assumed clause ≡ opening = cc in
@@ -66,13 +81,14 @@ module _ (points : ℕ) (clauses earlier : List (List Literal)) where
   either_opens : (assumed : List Literal) (l : Literal) (b : Bool) → is_on_points points l ≡ b → OpensBy assumed (Either l) (if b then Ok (cases_of assumed (l ∷ negation_of l ∷ [])) else Err NoSuchPoint)
   either_opens assumed l true e opening is =
       let s : cases_of assumed (l ∷ negation_of l ∷ []) ≡ opening = cc in
-      subst (Opens assumed (Either l)) s (as_cases refl ((is_on_points_decides points l).0 e))
+      subst (Opens assumed (Either l)) s (as_cases refl (All-cons (IsOnPoints points) l [] ((is_on_points_decides points l).0 e) (All-nil (IsOnPoints points))))
   either_opens assumed l false e opening is = absurd (cc)
 
   pub step_opens : (assumed : List Literal) (step : Step) → OpensBy assumed step (opened points clauses earlier assumed step)
   step_opens assumed (Cycle cycle) = leaf_opens assumed cycle (list_all (is_assumed assumed) cycle) (is_negative_cycle cycle) refl refl
-  step_opens assumed (Input i) = clause_opens assumed (Input i) (slice_get clauses i) refl tt
-  step_opens assumed (Earlier j) = clause_opens assumed (Earlier j) (slice_get earlier j) refl tt
+  step_opens assumed (Input i) = clause_opens assumed (Input i) (slice_get clauses i) refl (All-nil (IsOnPoints points))
+  step_opens assumed (Earlier j) = clause_opens assumed (Earlier j) (slice_get earlier j) refl (All-nil (IsOnPoints points))
+  step_opens assumed (Clash i) = clash_opens assumed i (slice_get clauses i) refl
   step_opens assumed (Either l) = either_opens assumed l (is_on_points points l) refl
 
   leaf_is_opened : (assumed cycle : List Literal) → IsCycleAmong assumed cycle → opened points clauses earlier assumed (Cycle cycle) ≡ Ok []
@@ -80,13 +96,17 @@ module _ (points : ℕ) (clauses earlier : List (List Literal)) where
       ap (λ (a : Bool). leaf_opened a (is_negative_cycle cycle)) ((all_assumed_decides assumed cycle).1 h.given)
       ∙ ap (leaf_opened true) ((is_negative_cycle_decides cycle).1 h.negative)
 
-  case_is_opened : (assumed : List Literal) (step : Step) (clause : List Literal) → clause_of clauses earlier step ≡ Some clause → StepIsOnPoints points step → opened points clauses earlier assumed step ≡ Ok (cases_of assumed clause)
+  clash_is_opened : (assumed : List Literal) (i : ℕ) (clause : List Literal) → slice_get clauses i ≡ Some clause → IsDenied assumed clause → opened points clauses earlier assumed (Clash i) ≡ Ok []
+  clash_is_opened assumed i clause e h = ap (opened_by_clash assumed) e ∙ ap clash_opened ((all_assumed_decides assumed (map negation_of clause)).1 h)
+
+  case_is_opened : (assumed : List Literal) (step : Step) (clause : List Literal) → clause_of clauses earlier step ≡ Some clause → NamesPoints points step → opened points clauses earlier assumed step ≡ Ok (cases_of assumed clause)
   case_is_opened assumed (Cycle cycle) clause e p = absurd (cc)
   case_is_opened assumed (Input i) clause e p = ap (cases_in assumed) e
   case_is_opened assumed (Earlier j) clause e p = ap (cases_in assumed) e
+  case_is_opened assumed (Clash i) clause e p = absurd (cc)
   case_is_opened assumed (Either l) clause e p =
       let s : (l ∷ negation_of l ∷ []) ≡ clause = cc in
-      ap (λ (b : Bool). if b then Ok (cases_of assumed (l ∷ negation_of l ∷ [])) else Err NoSuchPoint) ((is_on_points_decides points l).1 p)
+      ap (λ (b : Bool). if b then Ok (cases_of assumed (l ∷ negation_of l ∷ [])) else Err NoSuchPoint) ((is_on_points_decides points l).1 (All-head (IsOnPoints points) l [] p))
       ∙ ap (λ (c : List Literal). Ok (cases_of assumed c)) s
 
   pub gathers : (assumed clause : List Literal) (others : List (List Literal)) (steps : List Step) → Reads (cases_of assumed clause ++ others) steps → (rest : List Step) × Forest clauses earlier assumed clause steps rest × Reads others rest
@@ -95,10 +115,11 @@ module _ (points : ℕ) (clauses earlier : List (List Literal)) where
 
   -- what is read after the step makes what is read with it
   reads_on : (assumed : List Literal) (step : Step) (opening others : List (List Literal)) (steps : List Step) → Opens assumed step opening → Reads (opening ++ others) steps × OnPoints steps → Reads (assumed ∷ others) (step ∷ steps) × OnPoints (step ∷ steps)
-  reads_on assumed step opening others steps (as_leaf {cycle = cycle} h) r = ((steps, leaf h, r.0), All-cons (StepIsOnPoints points) (Cycle cycle) steps tt r.1)
+  reads_on assumed step opening others steps (as_leaf {cycle = cycle} h) r = ((steps, leaf h, r.0), All-cons (NamesPoints points) (Cycle cycle) steps (All-nil (IsOnPoints points)) r.1)
+  reads_on assumed step opening others steps (as_clash {i = i} e h) r = ((steps, clash e h, r.0), All-cons (NamesPoints points) (Clash i) steps (All-nil (IsOnPoints points)) r.1)
   reads_on assumed step opening others steps (as_cases {clause = clause} e p) r =
       let t = gathers assumed clause others steps r.0 in
-      ((t.0, cases e t.1, t.2), All-cons (StepIsOnPoints points) step steps p r.1)
+      ((t.0, cases e t.1, t.2), All-cons (NamesPoints points) step steps p r.1)
 
   unflawed_by : (assumed : List Literal) (step : Step) (others : List (List Literal)) (number : ℕ) (steps : List Step) (found : Result (List (List Literal)) FlawKind) → OpensBy assumed step found
       → ((opening : List (List Literal)) → steps_flaw points clauses earlier opening (suc number) steps ≡ None → Reads opening steps × OnPoints steps)
@@ -107,7 +128,7 @@ module _ (points : ℕ) (clauses earlier : List (List Literal)) where
   unflawed_by assumed step others number steps (Err kind) opens ih h = absurd (cc)
 
   pub unflawed : (steps : List Step) (open_ : List (List Literal)) (number : ℕ) → steps_flaw points clauses earlier open_ number steps ≡ None → Reads open_ steps × OnPoints steps
-  unflawed [] [] number h = (refl, All-nil (StepIsOnPoints points))
+  unflawed [] [] number h = (refl, All-nil (NamesPoints points))
   unflawed [] (assumed ∷ others) number h = absurd (cc)
   unflawed (step ∷ steps) [] number h = absurd (cc)
   unflawed (step ∷ steps) (assumed ∷ others) number h =
@@ -128,13 +149,18 @@ module _ (points : ℕ) (clauses earlier : List (List Literal)) where
     tree_goes others number (leaf {assumed = assumed} {cycle = cycle} {rest = rest} h) p = record {
       later = suc number;
       same = after_opening assumed (Cycle cycle) [] others number rest (leaf_is_opened assumed cycle h);
-      on_points = All-tail (StepIsOnPoints points) (Cycle cycle) rest p;
+      on_points = All-tail (NamesPoints points) (Cycle cycle) rest p;
+    }
+    tree_goes others number (clash {assumed = assumed} {clause = clause} {i = i} {rest = rest} e h) p = record {
+      later = suc number;
+      same = after_opening assumed (Clash i) [] others number rest (clash_is_opened assumed i clause e h);
+      on_points = All-tail (NamesPoints points) (Clash i) rest p;
     }
     tree_goes others number (cases {assumed = assumed} {clause = clause} {step = step} {steps = steps} e f) p =
-        let t = forest_goes others (suc number) f (All-tail (StepIsOnPoints points) step steps p) in
+        let t = forest_goes others (suc number) f (All-tail (NamesPoints points) step steps p) in
         record {
           later = t.later;
-          same = after_opening assumed step (cases_of assumed clause) others number steps (case_is_opened assumed step clause e (All-head (StepIsOnPoints points) step steps p)) ∙ t.same;
+          same = after_opening assumed step (cases_of assumed clause) others number steps (case_is_opened assumed step clause e (All-head (NamesPoints points) step steps p)) ∙ t.same;
           on_points = t.on_points;
         }
 

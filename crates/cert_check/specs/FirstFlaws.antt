@@ -4,11 +4,11 @@ use Rattle.stn_core.specs.declared.literal.Literal.{Literal}
 use Rattle.stn_core.specs.Literal.{negation_of}
 use Rattle.stn_core.specs.Cycle.{IsNegativeCycle}
 use Rattle.refute_tree.specs.declared.step.Step.{Step}
-use Rattle.refute_tree.specs.declared.step.Step.TheVariants.{Cycle, Input, Lemma as Earlier, Either}
+use Rattle.refute_tree.specs.declared.step.Step.TheVariants.{Cycle, Input, Lemma as Earlier, Clash, Either}
 use Rattle.refute_tree.specs.declared.lemma.Lemma.{Lemma}
-use Rattle.refute_tree.specs.Trees.{clause_of, Tree, IsOnPoints, IsRefuted, stated}
+use Rattle.refute_tree.specs.Trees.{clause_of, Tree, IsDenied, IsOnPoints, IsRefuted, stated}
 use Rattle.cert_check.specs.declared.flaw.FlawKind.{FlawKind}
-use Rattle.cert_check.specs.declared.flaw.FlawKind.TheVariants.{NoSuchPoint, NoSuchClause, NotAssumed, NotACycle, StepsMissing, StepsLeftOver, LastLemmaNotEmpty}
+use Rattle.cert_check.specs.declared.flaw.FlawKind.TheVariants.{NoSuchPoint, NoSuchClause, NotAssumed, NotACycle, NotDenied, StepsMissing, StepsLeftOver, LastLemmaNotEmpty}
 use Rattle.cert_check.specs.declared.flaw.Flaw.{Flaw}
 
 -- `Begun inputs lemmas assumed steps here`: the steps begin a tree under the assumptions, as far as they go, and what
@@ -33,6 +33,8 @@ IsWrong points clauses earlier here (Cycle cycle) NotAssumed = ¬ All (Contains 
 IsWrong points clauses earlier here (Cycle cycle) NotACycle = All (Contains here) cycle × ¬ IsNegativeCycle cycle
 IsWrong points clauses earlier here (Input i) NoSuchClause = length clauses ≤ i
 IsWrong points clauses earlier here (Earlier j) NoSuchClause = length earlier ≤ j
+IsWrong points clauses earlier here (Clash i) NoSuchClause = length clauses ≤ i
+IsWrong points clauses earlier here (Clash i) NotDenied = (clause : List Literal) × (slice_get clauses i ≡ Some clause) × ¬ IsDenied here clause
 IsWrong points clauses earlier here (Either l) NoSuchPoint = ¬ IsOnPoints points l
 IsWrong points clauses earlier here step kind = ⊥
 

@@ -5,10 +5,10 @@ use Rattle.std.specs.List.{list_all}
 use Rattle.stn_core.specs.declared.literal.Literal.{Literal}
 use Rattle.stn_core.specs.Literal.{negation_of}
 use Rattle.refute_tree.specs.declared.step.Step.{Step}
-use Rattle.refute_tree.specs.declared.step.Step.TheVariants.{Cycle, Input, Lemma as Earlier, Either}
+use Rattle.refute_tree.specs.declared.step.Step.TheVariants.{Cycle, Input, Lemma as Earlier, Clash, Either}
 use Rattle.refute_tree.specs.declared.lemma.Lemma.{Lemma}
 use Rattle.cert_check.specs.declared.flaw.FlawKind.{FlawKind}
-use Rattle.cert_check.specs.declared.flaw.FlawKind.TheVariants.{NoSuchPoint, NoSuchClause, NotAssumed, NotACycle, StepsMissing, StepsLeftOver, LastLemmaNotEmpty}
+use Rattle.cert_check.specs.declared.flaw.FlawKind.TheVariants.{NoSuchPoint, NoSuchClause, NotAssumed, NotACycle, NotDenied, StepsMissing, StepsLeftOver, LastLemmaNotEmpty}
 use Rattle.cert_check.specs.declared.flaw.Flaw.{Flaw}
 use Rattle.cert_check.specs.declared.flaw.CheckError.{CheckError}
 use Rattle.cert_check.specs.declared.flaw.CheckError.TheVariants.{OutOfMemory, Refused}
@@ -27,11 +27,17 @@ cases_in assumed (Some clause) = Ok (cases_of assumed clause)
 abbrev pub opened_by_cycle : List Literal → List Literal → Result (List (List Literal)) FlawKind
 opened_by_cycle assumed cycle = if list_all (is_assumed assumed) cycle then (if is_negative_cycle cycle then Ok [] else Err NotACycle) else Err NotAssumed
 
+-- nor does a clash
+abbrev pub opened_by_clash : List Literal → Option (List Literal) → Result (List (List Literal)) FlawKind
+opened_by_clash assumed None = Err NoSuchClause
+opened_by_clash assumed (Some clause) = if list_all (is_assumed assumed) (map negation_of clause) then Ok [] else Err NotDenied
+
 -- the cases that a step opens in a case, or what is wrong with it
 abbrev pub opened : ℕ → List (List Literal) → List (List Literal) → List Literal → Step → Result (List (List Literal)) FlawKind
 opened points clauses earlier assumed (Cycle cycle) = opened_by_cycle assumed cycle
 opened points clauses earlier assumed (Input i) = cases_in assumed (slice_get clauses i)
 opened points clauses earlier assumed (Earlier j) = cases_in assumed (slice_get earlier j)
+opened points clauses earlier assumed (Clash i) = opened_by_clash assumed (slice_get clauses i)
 opened points clauses earlier assumed (Either l) = if is_on_points points l then Ok (cases_of assumed (l ∷ negation_of l ∷ [])) else Err NoSuchPoint
 
 -- a flaw of the lemma after these

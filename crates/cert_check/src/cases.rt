@@ -1,13 +1,16 @@
-ghost use Rattle.std.specs.Prelude.{◌≡◌, ◌<◌, [], length, slice_get, Some, Ok, Err, IfOk, OnOk, IfErr};
+ghost use Rattle.std.specs.Prelude.{◌≡◌, ◌<◌, [], length, map, slice_get, Some, None, Ok, Err, IfOk, OnOk, IfErr};
 ghost use Rattle.std.specs.List.{list_all};
+ghost use Rattle.stn_core.specs.Literal.{negation_of};
+ghost use Rattle.refute_tree.specs.Views.{step_seen};
+ghost use Rattle.cert_check.specs.declared.flaw.FlawKind.TheVariants.{NoSuchClause};
 ghost use Rattle.cert_check.specs.Tests.{is_assumed, is_on_points};
-ghost use Rattle.cert_check.specs.Flaws.{cases_of, opened_by_cycle, opened};
-ghost use Rattle.cert_check.specs.Walks.{clause_in};
+ghost use Rattle.cert_check.specs.Flaws.{opened_by_cycle, opened_by_clash};
+ghost use Rattle.cert_check.specs.Walks.{clause_in, OpensCases, IsFlawedBy};
 
 use crate::assumptions::Assumptions;
 use crate::flaw::FlawKind;
 use neg_cycle::is_cycle;
-use refute_tree::{Earlier, Step};
+use refute_tree::{Earlier, StepView};
 use stn_core::{Literal, Problem, negate};
 
 /// The clause whose cases are read, borrowed from the problem or from an earlier lemma, or the literal of an `Either`
@@ -62,6 +65,18 @@ fn are_assumed(assumed: &Assumptions, literals: &[Literal]) -> bool
     literals.iter().all(|literal| assumed.contains(*literal))
 }
 
+/// Whether the negations of the literals are all assumed.
+fn are_denied(assumed: &Assumptions, literals: &[Literal]) -> bool
+    ensures { result ≡ list_all (is_assumed assumed.now) (map negation_of literals.now) }
+{
+    for literal in literals {
+        if !assumed.contains(negate(*literal)) {
+            return false;
+        }
+    }
+    true
+}
+
 /// A leaf: its literals are all assumed, and a negative cycle.
 fn check_leaf(assumed: &Assumptions, cycle: &[Literal]) -> Result<(), FlawKind>
     ensures ok { OnOk result (opened_by_cycle assumed.now cycle.now ≡ Ok []) }
@@ -76,30 +91,64 @@ fn check_leaf(assumed: &Assumptions, cycle: &[Literal]) -> Result<(), FlawKind>
     Ok(())
 }
 
+/// The problem's clause with this number.
+fn clause_of(problem: &Problem, i: usize) -> Result<&[Literal], FlawKind>
+    ensures ok { IfOk result (λ clause. slice_get problem.now.clauses i ≡ Some clause.now) }
+    ensures flaw { IfErr result (λ kind. (slice_get problem.now.clauses i ≡ None) × (kind ≡ NoSuchClause)) }
+{
+    match problem.clauses.as_slice().get(i) {
+        Some(clause) => Ok(clause.as_slice()),
+        None => Err(FlawKind::NoSuchClause),
+    }
+}
+
+/// A clash: the clause is there, and each of its literals is denied.
+fn check_clash(problem: &Problem, assumed: &Assumptions, i: usize) -> Result<(), FlawKind>
+    ensures ok { OnOk result (opened_by_clash assumed.now (slice_get problem.now.clauses i) ≡ Ok []) }
+    ensures flaw { IfErr result
+        (λ kind. opened_by_clash assumed.now (slice_get problem.now.clauses i) ≡ Err kind) }
+{
+    let clause = clause_of(problem, i)?;
+    if !are_denied(assumed, clause) {
+        return Err(FlawKind::NotDenied);
+    }
+    Ok(())
+}
+
 /// The clause whose cases the step opens. A leaf stands for the clause without literals.
 pub fn cases_of_step<'a, E: Earlier>(
     problem: &'a Problem,
     earlier: &'a E,
     assumed: &Assumptions,
-    step: &Step,
+    step: StepView<'_>,
 ) -> Result<Cases<'a>, FlawKind>
-    ensures ok { IfOk result (λ cases. opened problem.now.points problem.now.clauses (E.clauses earlier.now) assumed.now step.now ≡ Ok (cases_of assumed.now (clause_in cases))) }
-    ensures flaw { IfErr result (λ kind. opened problem.now.points problem.now.clauses (E.clauses earlier.now) assumed.now step.now ≡ Err kind) }
+    ensures ok { IfOk result
+        (OpensCases problem.now (E.clauses earlier.now) assumed.now (step_seen step.entry)) }
+    ensures flaw { IfErr result
+        (IsFlawedBy problem.now (E.clauses earlier.now) assumed.now (step_seen step.entry)) }
 {
     match step {
-        Step::Cycle(cycle) => {
-            check_leaf(assumed, cycle.as_slice())?;
+        StepView::Cycle(cycle) => {
+            check_leaf(assumed, cycle)?;
             Ok(Cases::Clause(&[]))
         }
-        Step::Input(i) => match problem.clauses.as_slice().get(*i) {
-            Some(clause) => Ok(Cases::Clause(clause.as_slice())),
-            None => Err(FlawKind::NoSuchClause),
-        },
-        Step::Lemma(j) if *j < earlier.count() => Ok(Cases::Clause(earlier.clause(*j))),
-        Step::Lemma(_) => Err(FlawKind::NoSuchClause),
-        Step::Either(literal) if is_on_points(problem.points, *literal) => {
-            Ok(Cases::Either(*literal))
+        StepView::Pair(literal) => {
+            check_leaf(assumed, [literal, negate(literal)].as_slice())?;
+            Ok(Cases::Clause(&[]))
         }
-        Step::Either(_) => Err(FlawKind::NoSuchPoint),
+        StepView::Clash(i) => {
+            check_clash(problem, assumed, i)?;
+            Ok(Cases::Clause(&[]))
+        }
+        StepView::Input(i) => {
+            let clause = clause_of(problem, i)?;
+            Ok(Cases::Clause(clause))
+        }
+        StepView::Lemma(j) if j < earlier.count() => Ok(Cases::Clause(earlier.clause(j))),
+        StepView::Lemma(_) => Err(FlawKind::NoSuchClause),
+        StepView::Either(literal) if is_on_points(problem.points, literal) => {
+            Ok(Cases::Either(literal))
+        }
+        StepView::Either(_) => Err(FlawKind::NoSuchPoint),
     }
 }

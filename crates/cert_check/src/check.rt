@@ -1,6 +1,7 @@
 ghost use Rattle.std.specs.Prelude.{◌≡◌, map, OnOk, Some};
 ghost use Rattle.refute_tree.specs.Trees.{IsRefuted, IsRefutation, stated};
-ghost use Rattle.cert_check.specs.Flaws.{tree_flaw, lemma_flaw, ends_empty, refutation_flaw, TellsFlaw};
+ghost use Rattle.cert_check.specs.Flaws.{ends_empty, refutation_flaw, TellsFlaw};
+ghost use Rattle.cert_check.specs.Walks.{flaw_of_tree, flaw_of};
 
 use crate::cases::are_on_points;
 use crate::flaw::{CheckError, Flaw, FlawKind};
@@ -23,14 +24,17 @@ fn check_steps<E: Earlier>(
     earlier: &E,
     lemma: &Lemma,
 ) -> Result<(), CheckError>
-    ensures { TellsFlaw (tree_flaw problem.now.points problem.now.clauses (E.clauses earlier.now) lemma.now) result }
+    ensures { TellsFlaw (flaw_of_tree problem.now (E.clauses earlier.now) lemma.now) result }
 {
     let number = earlier.count();
     let Ok(mut walk) = Walk::new(alloc, lemma.clause.as_slice()) else {
         return Err(CheckError::OutOfMemory);
     };
     let mut open = true;
-    for (at, step) in lemma.steps.as_slice().iter().enumerate() {
+    let count = lemma.steps.len();
+    let mut at = 0;
+    let mut reader = lemma.steps.reader();
+    'steps: while let Some(step) = reader.next() {
         if !open {
             return flawed(number, at, FlawKind::StepsLeftOver);
         }
@@ -39,9 +43,10 @@ fn check_steps<E: Earlier>(
             Err(WalkError::Refused(kind)) => return flawed(number, at, kind),
             Err(WalkError::OutOfMemory) => return Err(CheckError::OutOfMemory),
         };
+        at += 1;
     }
     if open {
-        return flawed(number, lemma.steps.as_slice().len(), FlawKind::StepsMissing);
+        return flawed(number, count, FlawKind::StepsMissing);
     }
     Ok(())
 }
@@ -58,8 +63,9 @@ pub fn check_lemma<E: Earlier>(
     earlier: &E,
     lemma: &Lemma,
 ) -> Result<(), CheckError>
-    ensures flaw { TellsFlaw (lemma_flaw problem.now.points problem.now.clauses (E.clauses earlier.now) lemma.now) result }
-    ensures refuted { OnOk result (IsRefuted problem.now.points problem.now.clauses (E.clauses earlier.now) lemma.now) }
+    ensures flaw { TellsFlaw (flaw_of problem.now (E.clauses earlier.now) lemma.now) result }
+    ensures refuted { OnOk result
+        (IsRefuted problem.now.points problem.now.clauses (E.clauses earlier.now) lemma.now) }
 {
     lemma_law();
     if !are_on_points(problem.points, lemma.clause.as_slice()) {
@@ -88,7 +94,8 @@ pub fn check_refutation(
     problem: &Problem,
     refutation: &Refutation,
 ) -> Result<(), CheckError>
-    ensures flaw { TellsFlaw (refutation_flaw problem.now.points problem.now.clauses refutation.now) result }
+    ensures flaw { TellsFlaw
+        (refutation_flaw problem.now.points problem.now.clauses refutation.now) result }
     ensures refutes { OnOk result (IsRefutation problem.now.points problem.now.clauses refutation.now) }
 {
     flaw_law();

@@ -5,12 +5,14 @@ use std::alloc::{AllocError, AllocFailed};
 pub enum FlawKind {
     /// A literal of a lemma's clause or of an `Either` step names a time point that the problem hasn't.
     NoSuchPoint,
-    /// An `Input` step whose number is no clause's, or a `Lemma` step whose number is no earlier lemma's.
+    /// An `Input` or `Clash` step whose number is no clause's, or a `Lemma` step whose number is no earlier lemma's.
     NoSuchClause,
     /// A literal of a `Cycle` step isn't assumed.
     NotAssumed,
     /// A `Cycle` step whose literals are all assumed, and no negative cycle.
     NotACycle,
+    /// A `Clash` step with a clause that has a literal whose negation isn't assumed.
+    NotDenied,
     /// The steps end before the tree does.
     StepsMissing,
     /// The tree ends before the steps do.

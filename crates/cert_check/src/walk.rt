@@ -1,13 +1,14 @@
 ghost use Rattle.std.specs.Prelude.{◌≡◌, ◌<◌, [], ◌∷◌, true, ◌++◌, length, map, drop, OnOk, IfOk, IfErr, IsOkUnless};
 ghost use Rattle.stn_core.specs.Literal.{negation_of};
-ghost use Rattle.cert_check.specs.Flaws.{cases_of, opened};
+ghost use Rattle.cert_check.specs.Flaws.{cases_of};
 ghost use Rattle.cert_check.specs.declared.walk.WalkError.TheVariants.{OutOfMemory};
-ghost use Rattle.cert_check.specs.Walks.{clause_in, waiting, open_cases, AreAlike, IsStack, LeavesOpen, IsFaultOf};
+ghost use Rattle.cert_check.specs.Walks.{clause_in, cases_waiting, cases_open, AreAlike, IsWalk, HasRead, HasFailed};
+ghost use Rattle.refute_tree.specs.Views.{step_seen};
 
 use crate::assumptions::Assumptions;
 use crate::cases::{Cases, cases_of_step};
 use crate::flaw::FlawKind;
-use refute_tree::{Earlier, Step};
+use refute_tree::{Earlier, StepView};
 use std::alloc::{AllocFailed, Global};
 use stn_core::{Literal, Problem, negate};
 
@@ -60,8 +61,9 @@ pub struct Walk<'a> {
 impl<'a> Walk<'a> {
     /// At the root of a lemma's tree, where its literals are denied.
     pub fn new(alloc: Global, clause: &[Literal]) -> Result<Self, WalkError>
-        ensures stack { IfOk result (λ walk. IsStack 0 walk.frames.items (length walk.assumed)) }
-        ensures cases { IfOk result (λ walk. AreAlike (open_cases true walk.frames.items walk.assumed) (map negation_of clause.now ∷ [])) }
+        ensures stack { IfOk result IsWalk }
+        ensures cases { IfOk result
+            (λ walk. AreAlike (cases_open true walk) (map negation_of clause.now ∷ [])) }
         ensures error { IsOkUnless result OutOfMemory }
     {
         let mut assumed = Assumptions::new(alloc);
@@ -74,10 +76,11 @@ impl<'a> Walk<'a> {
 
     /// Goes into the case of the literal at `place`, and leaves those of the later literals waiting.
     fn enter(&mut self, cases: Cases<'a>, place: usize) -> Result<(), WalkError>
-        requires stack { IsStack 0 self.old.frames.items (length self.old.assumed) }
+        requires stack { IsWalk self.old }
         requires place { place < length (clause_in cases) }
-        ensures stack { OnOk result (IsStack 0 self.new.frames.items (length self.new.assumed)) }
-        ensures cases { OnOk result (AreAlike (open_cases true self.new.frames.items self.new.assumed) (cases_of self.old.assumed (drop place (clause_in cases.entry)) ++ waiting self.old.frames.items self.old.assumed)) }
+        ensures stack { OnOk result (IsWalk self.new) }
+        ensures cases { OnOk result (AreAlike (cases_open true self.new)
+            (cases_of self.old.assumed (drop place (clause_in cases.entry)) ++ cases_waiting self.old)) }
         ensures error { IsOkUnless result OutOfMemory }
     {
         let base = self.assumed.len();
@@ -88,9 +91,9 @@ impl<'a> Walk<'a> {
 
     /// Goes to the first case that waits, and tells whether there is one.
     fn advance(&mut self) -> Result<bool, WalkError>
-        requires { IsStack 0 self.old.frames.items (length self.old.assumed) }
-        ensures stack { OnOk result (IsStack 0 self.new.frames.items (length self.new.assumed)) }
-        ensures cases { IfOk result (λ open_. AreAlike (open_cases open_ self.new.frames.items self.new.assumed) (waiting self.old.frames.items self.old.assumed)) }
+        requires { IsWalk self.old }
+        ensures stack { OnOk result (IsWalk self.new) }
+        ensures cases { IfOk result (λ open_. AreAlike (cases_open open_ self.new) (cases_waiting self.old)) }
         ensures error { IsOkUnless result OutOfMemory }
     {
         while let Some(frame) = self.frames.pop() {
@@ -111,12 +114,14 @@ impl<'a> Walk<'a> {
         &mut self,
         problem: &'a Problem,
         earlier: &'a E,
-        step: &Step,
+        step: StepView<'_>,
     ) -> Result<bool, WalkError>
-        requires { IsStack 0 self.old.frames.items (length self.old.assumed) }
-        ensures stack { OnOk result (IsStack 0 self.new.frames.items (length self.new.assumed)) }
-        ensures cases { IfOk result (λ open_. LeavesOpen problem.now.points problem.now.clauses (E.clauses earlier.now) self.old.assumed (waiting self.old.frames.items self.old.assumed) step.now (open_cases open_ self.new.frames.items self.new.assumed)) }
-        ensures fault { IfErr result (IsFaultOf (opened problem.now.points problem.now.clauses (E.clauses earlier.now) self.old.assumed step.now)) }
+        requires { IsWalk self.old }
+        ensures stack { OnOk result (IsWalk self.new) }
+        ensures cases { IfOk result
+            (HasRead problem.now (E.clauses earlier.now) self.old (step_seen step.entry) self.new) }
+        ensures fault { IfErr result
+            (HasFailed problem.now (E.clauses earlier.now) self.old (step_seen step.entry)) }
     {
         let cases = cases_of_step(problem, earlier, &self.assumed, step)?;
         if cases.len() == 0 {

@@ -1,13 +1,17 @@
-use Rattle.std.proofs.Common.{◌≡◌, ◌∷◌, [], map, drop, length}
+use Rattle.std.proofs.Common.{◌≡◌, ◌+◌, ◌∷◌, [], map, length}
 use Rattle.stn_core.specs.Literal.{negation_of}
 use Rattle.cert_check.specs.Flaws.{steps_flaw}
-use Rattle.cert_check.specs.Walks.{open_cases, IsStack}
+use Rattle.cert_check.specs.Walks.{cases_open, IsWalk}
 use Rattle.cert_check.proofs.check.check_steps.Given as goal
 
-abbrev pub invariant-loop-at : goal.invariant-loop-at
-invariant-loop-at g l = record {
-  stack : IsStack 0 l.walk.frames.items (length l.walk.assumed);
+abbrev pub invariant-steps : goal.invariant-steps
+invariant-steps g l = record {
+  stack : IsWalk l.walk;
+  counted : l.at + length l.reader ≡ l.count;
   same :
-      steps_flaw l.problem.points l.problem.clauses (g.E.Earlier.clauses l.earlier) (open_cases l.open l.walk.frames.items l.walk.assumed) l.at (drop l.at l.lemma.steps)
+      steps_flaw l.problem.points l.problem.clauses (g.E.Earlier.clauses l.earlier) (cases_open l.open l.walk) l.at l.reader
       ≡ steps_flaw l.problem.points l.problem.clauses (g.E.Earlier.clauses l.earlier) (map negation_of l.lemma.clause ∷ []) 0 l.lemma.steps;
 }
+
+abbrev pub decreases-steps : goal.decreases-steps
+decreases-steps g l = length l.reader
