@@ -1,7 +1,7 @@
 -- Worked flaws of the refutation of x < y with y < x.
 use Rattle.std.specs.Prelude.{ℕ, pos, List, [], ◌∷◌, Option, Some}
 use Rattle.stn_core.specs.declared.literal.Literal.{Literal}
-use Rattle.refute_tree.specs.declared.step.Step.TheVariants.{Cycle, Input}
+use Rattle.refute_tree.specs.declared.step.Step.TheVariants.{Cycle, Input, Clash}
 use Rattle.refute_tree.specs.declared.lemma.Lemma.{Lemma}
 use Rattle.refute_tree.specs.Examples.{literal, less}
 use Rattle.cert_check.specs.declared.flaw.FlawKind.{FlawKind}
@@ -32,6 +32,14 @@ with_zero_leaf = record {
   clause = [];
   steps = Input 0 ∷ Input 1 ∷ Cycle (literal 1 2 (pos 0) ∷ literal 2 1 (pos 0) ∷ []) ∷ [];
 } ∷ []
+
+-- a clash in place of the second input step and its leaf
+abbrev pub with_clash : List Lemma
+with_clash = record { clause = []; steps = Input 0 ∷ Clash 1 ∷ [] } ∷ []
+
+-- p and not p, where p is point 1, true where it is at most zero
+abbrev pub both_truths : List (List Literal)
+both_truths = (literal 1 0 (pos 0) ∷ []) ∷ (literal 0 1 less ∷ []) ∷ []
 
 -- at a step of the first lemma
 abbrev pub at_step : ℕ → FlawKind → Option Flaw

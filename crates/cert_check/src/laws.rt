@@ -1,7 +1,9 @@
 ghost use Rattle.std.specs.Prelude.{◌≡◌, [], None};
 ghost use Rattle.refute_tree.specs.Examples.{two_orders, two_orders_refutation, two_ways, two_ways_refutation};
-ghost use Rattle.cert_check.specs.declared.flaw.FlawKind.TheVariants.{NoSuchClause, NotAssumed, NotACycle, StepsMissing, LastLemmaNotEmpty};
-ghost use Rattle.cert_check.specs.FlawExamples.{one_order, two_weak_orders, without_leaf, with_weaker_leaf, with_zero_leaf, at_step};
+ghost use Rattle.cert_check.specs.declared.flaw.FlawKind.TheVariants.{NoSuchClause, NotAssumed, NotACycle, NotDenied};
+ghost use Rattle.cert_check.specs.declared.flaw.FlawKind.TheVariants.{StepsMissing, LastLemmaNotEmpty};
+ghost use Rattle.cert_check.specs.FlawExamples.{one_order, two_weak_orders, without_leaf, with_weaker_leaf, with_zero_leaf};
+ghost use Rattle.cert_check.specs.FlawExamples.{with_clash, both_truths, at_step};
 ghost use Rattle.cert_check.specs.Flaws.{refutation_flaw};
 ghost use Rattle.cert_check.specs.Laws.{TestsLaw, LemmaLaw, FlawLaw, FirstFlawLaw, AcceptedLaw};
 
@@ -34,7 +36,7 @@ pub fn accepted_law()
     refute_tree::refutation_law();
 }
 
-/// The worked examples: two refutations without a flaw, and the first flaws of some that aren't refutations.
+/// The worked examples: three refutations without a flaw, and the first flaws of some that aren't refutations.
 pub fn examples_law()
     ensures two_orders { refutation_flaw 3 two_orders two_orders_refutation ≡ None }
     ensures two_ways { refutation_flaw 5 two_ways two_ways_refutation ≡ None }
@@ -42,5 +44,8 @@ pub fn examples_law()
     ensures missing { refutation_flaw 3 two_orders without_leaf ≡ at_step 2 StepsMissing }
     ensures not_assumed { refutation_flaw 3 two_orders with_weaker_leaf ≡ at_step 2 NotAssumed }
     ensures not_a_cycle { refutation_flaw 3 two_weak_orders with_zero_leaf ≡ at_step 2 NotACycle }
+    ensures clash { refutation_flaw 2 both_truths with_clash ≡ None }
+    ensures no_clash { refutation_flaw 3 one_order with_clash ≡ at_step 1 NoSuchClause }
+    ensures not_denied { refutation_flaw 3 two_orders with_clash ≡ at_step 1 NotDenied }
     ensures no_lemma { refutation_flaw 3 two_orders [] ≡ at_step 0 LastLemmaNotEmpty }
 {}

@@ -12,3 +12,4 @@ pub mod Shortened
 pub mod Renamed
 pub mod Moved
 pub mod References
+pub mod Changed

@@ -82,3 +82,7 @@ ClosedCases clause steps (Some count) = (closes clause steps ≡ true) × (count
 abbrev pub IsShorter : List (List Literal) → Step → List Step → List Step → List Step → ℕ → Type 0
 IsShorter clauses step left before after skip =
     after ++ shortened_behind clauses skip left ≡ before ++ shortened_behind clauses 0 (step ∷ left)
+
+abbrev pub IsNoClash : Step → Type 0
+IsNoClash (Clash i) = ⊥
+IsNoClash step = Unit {0}

@@ -19,7 +19,7 @@ mod tree;
 pub use batch::Batch;
 pub use batch_laws::{joined_law, moved_batch_law, references_law};
 pub use earlier::Earlier;
-pub use laws::{examples_law, refutation_law};
+pub use laws::{examples_law, lengths_law, refutation_law};
 pub use lemma::{Lemma, Refutation};
 pub use lengths::{lengthen, shorten};
 pub use reader::{Reader, StepView};
