@@ -12,3 +12,5 @@ mod cycles;
 mod lemmas;
 #[cfg(test)]
 mod nets;
+#[cfg(test)]
+mod wide;
