@@ -1,19 +1,28 @@
 -- The digits of a numeral, and the minus form of a number.
-use Rattle.std.proofs.Common.{◌≡◌, ℕ, ◌<◌, ◌^◌, false, ℤ, pos, negsuc, [], ◌∷◌, ◌++◌, refl, sym, ◌∙◌, arith, int_le, unsigned_abs, true≢false, decimal, eq-zero-or-pos, inl, inr}
+use Rattle.std.proofs.Common.{◌≡◌, ℕ, ◌<◌, ◌^◌, ◌+◌, ◌/◌, ◌%◌, map, ap, false, ℤ, pos, negsuc, [], ◌∷◌, ◌++◌, refl, sym, ◌∙◌, arith, int_le, unsigned_abs, true≢false, decimal, eq-zero-or-pos, inl, inr}
 use Rattle.std.proofs.lemmas.Bool.{ne_eqb}
-use Rattle.std.proofs.lemmas.Fmt.{decimal_digit, decimal-digits_of}
+use Rattle.std.proofs.lemmas.Fmt.{decimal_digit, decimal_by_steps_wide}
+use Rattle.std.proofs.lemmas.Int.Digits.{digits_of_step}
+use Rattle.std.proofs.lemmas.List.{map_push}
+use Rattle.std.specs.Int.Digits.{digits_of}
 use lib.Dec.{leb-zero}
 use Rattle.smt_lex.specs.Bytes.{is_symbol_byte}
 use Rattle.smt_sexpr.specs.Printing.{text_of}
 use Rattle.cert_text.specs.Form.{numeral_text, number_of_value}
 
 -- what the formatter writes
-pub numeral_from_decimal : (n : ℕ) → n < 2 ^ 64 → decimal n ≡ numeral_text n
+digits_wide : (n : ℕ) → 0 < n → n < 10 ^ 64 → decimal n ≡ map (λ d. 48 + d) (digits_of 10 n)
+digits_wide n some small = decimal_by_steps_wide (λ m ds. 0 < m → ds ≡ map (λ d. 48 + d) (digits_of 10 m))
+    (λ m l a. let z : m / 10 ≡ 0 = omega arith in let e : m % 10 ≡ m = omega arith in sym (ap (map (λ d. 48 + d)) (digits_of_step 10 m (omega arith) a ∙ (λ i. digits_of 10 (z i) ++ (e i ∷ [])))))
+    (λ m ds l h a. ap (λ x. x ++ ((48 + m % 10) ∷ [])) (h (omega arith)) ∙ sym (map_push (λ d. 48 + d) (digits_of 10 (m / 10)) (m % 10)) ∙ ap (map (λ d. 48 + d)) (sym (digits_of_step 10 m (omega arith) a)))
+    n small some
+
+pub numeral_from_decimal : (n : ℕ) → n < 2 ^ 128 → decimal n ≡ numeral_text n
 unfolding numeral_text
 numeral_from_decimal n small =
     elim (eq-zero-or-pos n) [
       | inl none ↦ rw none (decimal_digit 0 (omega arith))
-      | inr some ↦ rw (ne_eqb n 0 (λ h. absurd (omega arith))) (decimal-digits_of n some small)
+      | inr some ↦ rw (ne_eqb n 0 (λ h. absurd (omega arith))) (digits_wide n some (omega arith))
     ]
 
 pub minus_text : (n : ℤ) → int_le (pos 0) n ≡ false → text_of (number_of_value n) ≡ 40 ∷ 45 ∷ 32 ∷ (numeral_text (unsigned_abs n) ++ 41 ∷ [])

@@ -12,7 +12,7 @@ use Rattle.stn_core.specs.declared.literal.Literal.{Literal}
 use Rattle.stn_core.specs.declared.named.NamedValue.{NamedValue}
 use Rattle.stn_core.specs.declared.named.NamedValue.TheVariants.{Int, Truth}
 use Rattle.refute_tree.specs.declared.step.Step.{Step}
-use Rattle.refute_tree.specs.declared.step.Step.TheVariants.{Cycle, Input, Lemma as Earlier, Either}
+use Rattle.refute_tree.specs.declared.step.Step.TheVariants.{Cycle, Input, Lemma as Earlier, Clash, Either}
 use Rattle.refute_tree.specs.declared.lemma.Lemma.{Lemma}
 use Rattle.cert_text.specs.declared.entry.Entry.TheVariants.{Sat, Unsat}
 use Rattle.cert_text.specs.Form.{numeral_text, numeral, bound_sexprs, number_of_value, literal_sexpr, step_sexpr, lemma_sexpr, value_sexpr, entry_sexpr, line_of}
@@ -60,6 +60,9 @@ others (more x xs) = xs
 abbrev first_byte : Sexpr → ℕ
 first_byte x = get_or (leaf_bytes (first (parts x))) 0 0
 
+abbrev second_byte : Sexpr → ℕ
+second_byte x = get_or (leaf_bytes (first (parts x))) 1 0
+
 numeral_one : (m n : ℕ) → numeral m ≡ numeral n → m ≡ n
 numeral_one m n e = sym (numeral_value m) ∙ ap (λ x. value_of (leaf_bytes x)) e ∙ numeral_value n
 
@@ -98,6 +101,9 @@ step_one : (s t : Step) → step_sexpr s ≡ step_sexpr t → s ≡ t
 step_one (Cycle ls) (Cycle ks) e = ap Cycle (literals_one ls ks (ap (λ x. others (parts x)) e))
 step_one (Input i) (Input j) e = ap Input (numeral_one i j (ap (λ x. first (others (parts x))) e))
 step_one (Earlier i) (Earlier j) e = ap Earlier (numeral_one i j (ap (λ x. first (others (parts x))) e))
+step_one (Clash i) (Clash j) e = ap Clash (numeral_one i j (ap (λ x. first (others (parts x))) e))
+step_one (Cycle ls) (Clash i) e = absurd (omega (arith, ap second_byte e))
+step_one (Clash i) (Cycle ls) e = absurd (omega (arith, ap second_byte e))
 step_one (Either l) (Either k) e = ap Either (bound_one l k (ap (λ x. others (parts x)) e))
 step_one s t e = absurd (omega (arith, ap first_byte e))
 

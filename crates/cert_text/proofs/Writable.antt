@@ -16,7 +16,7 @@ use Rattle.stn_core.specs.declared.literal.Literal.{Literal}
 use Rattle.stn_core.specs.declared.named.NamedValue.{NamedValue}
 use Rattle.stn_core.specs.declared.named.NamedValue.TheVariants.{Int, Truth}
 use Rattle.refute_tree.specs.declared.step.Step.{Step}
-use Rattle.refute_tree.specs.declared.step.Step.TheVariants.{Cycle, Input, Lemma as Earlier, Either}
+use Rattle.refute_tree.specs.declared.step.Step.TheVariants.{Cycle, Input, Lemma as Earlier, Clash, Either}
 use Rattle.refute_tree.specs.declared.lemma.Lemma.{Lemma}
 use Rattle.cert_text.specs.declared.entry.Entry.TheVariants.{Sat, Unsat}
 use Rattle.smt_sexpr.specs.Laws.{SexprReadsBack}
@@ -65,6 +65,7 @@ unfolding is_quoted_byte
 step_writable (Cycle literals) = (refl, each_writable literal_sexpr literal_writable literals)
 step_writable (Input i) = (refl, (numeral_writable i, tt))
 step_writable (Earlier j) = (refl, (numeral_writable j, tt))
+step_writable (Clash i) = (refl, (numeral_writable i, tt))
 step_writable (Either l) = (refl, literal_writable l)
 
 lemma_writable : (lemma : Lemma) → IsWritable (lemma_sexpr lemma)

@@ -11,6 +11,7 @@
 --     literal  (x y c)                        x - y <= c
 --     v        a number, true or false
 --
+-- A step (clash i) is no part of a certificate of this version: a lemma is lengthened before it is written.
 -- A number is a numeral, or (- n) where it is below 0. Each line holds one s-expression.
 use Rattle.std.specs.Prelude.{ℕ, suc, ◌+◌, ◌==◌, ℤ, pos, negsuc, true, false, if◌then◌else◌, List, [], ◌∷◌, ◌++◌, map, codes}
 use Rattle.std.specs.Int.Digits.{digits_of}
@@ -22,7 +23,7 @@ use Rattle.stn_core.specs.declared.literal.Literal.{Literal}
 use Rattle.stn_core.specs.declared.named.NamedValue.{NamedValue}
 use Rattle.stn_core.specs.declared.named.NamedValue.TheVariants.{Int, Truth}
 use Rattle.refute_tree.specs.declared.step.Step.{Step}
-use Rattle.refute_tree.specs.declared.step.Step.TheVariants.{Cycle, Input, Lemma as Earlier, Either}
+use Rattle.refute_tree.specs.declared.step.Step.TheVariants.{Cycle, Input, Lemma as Earlier, Clash, Either}
 use Rattle.refute_tree.specs.declared.lemma.Lemma.{Lemma}
 use Rattle.cert_text.specs.declared.entry.Entry.{Entry}
 use Rattle.cert_text.specs.declared.entry.Entry.TheVariants.{Sat, Unsat}
@@ -56,6 +57,7 @@ abbrev pub step_sexpr : Step → Sexpr
 step_sexpr (Cycle literals) = form (codes "cycle") (map literal_sexpr literals)
 step_sexpr (Input i) = form (codes "input") (numeral i ∷ [])
 step_sexpr (Earlier j) = form (codes "lemma") (numeral j ∷ [])
+step_sexpr (Clash i) = form (codes "clash") (numeral i ∷ [])
 step_sexpr (Either l) = form (codes "either") (bound_sexprs l)
 
 abbrev pub lemma_sexpr : Lemma → Sexpr

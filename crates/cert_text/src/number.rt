@@ -9,11 +9,12 @@ use itoa::Buffer;
 use std::alloc::AllocError;
 use stn_core::Value;
 
-/// No number of a certificate is greater, and none is below its negative.
+/// No bound, index or point of a certificate is greater, and no bound is below its negative. The values of names have a
+/// limit of their own, `stn_core::NAMED_VALUE_LIMIT`.
 pub const NUMBER_LIMIT: u64 = 1 << 61;
 
 /// Appends a numeral.
-pub(crate) fn write_numeral(n: u64, out: &mut Vec<u8>) -> Result<(), AllocError>
+pub(crate) fn write_numeral(n: u128, out: &mut Vec<u8>) -> Result<(), AllocError>
     ensures ok { OnOk result (out.new.items ≡ out.old.items ++ numeral_text n) }
     ensures front { take (vec_len out.old) out.new.items ≡ out.old.items }
 {

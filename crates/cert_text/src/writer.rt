@@ -5,14 +5,16 @@ ghost use Rattle.std.specs.Prelude.{◌≡◌, ◌++◌, ◌∷◌, [], map, tak
 ghost use Rattle.std.specs.Vec.{vec_len};
 ghost use Rattle.smt_sexpr.specs.Tree.{Sexpr};
 ghost use Rattle.smt_sexpr.specs.Printing.{text_of, text_behind};
-ghost use Rattle.cert_text.specs.Form.{numeral, number_of_value, clause_sexpr};
+ghost use Rattle.cert_text.specs.Form.{numeral, number_of_value, clause_sexpr, step_sexpr};
+ghost use Rattle.refute_tree.specs.declared.step.Step.TheVariants.{Cycle};
+ghost use Rattle.refute_tree.specs.Views.{step_seen};
 ghost use Rattle.smt_sexpr.specs.Shapes.{items_of};
 
 use crate::number::{write_number, write_numeral};
 use bstr::ByteVec;
-use refute_tree::{Lemma, Step};
+use refute_tree::{Lemma, Reader, StepView};
 use std::alloc::AllocError;
-use stn_core::{Literal, NamedValue};
+use stn_core::{Literal, NamedValue, Value, negate};
 
 /// What is written as an s-expression.
 pub(crate) trait Part {
@@ -44,11 +46,11 @@ fn write_bound(literal: Literal, out: &mut Vec<u8>) -> Result<(), AllocError>
         ++ text_of (numeral literal.x) ++ text_behind (items_of (numeral literal.y ∷ number_of_value literal.c ∷ []))) }
     ensures front { take (vec_len out.old) out.new.items ≡ out.old.items }
 {
-    write_numeral(u64::from(literal.x), out)?;
+    write_numeral(u128::from(literal.x), out)?;
     out.push_str(b" ")?;
-    write_numeral(u64::from(literal.y), out)?;
+    write_numeral(u128::from(literal.y), out)?;
     out.push_str(b" ")?;
-    write_number(literal.c, out)?;
+    write_number(Value::from(literal.c), out)?;
     out.push_str(b")")
 }
 
@@ -78,33 +80,56 @@ fn write_clause(literals: &[Literal], out: &mut Vec<u8>) -> Result<(), AllocErro
     }
 }
 
-impl Part for Step {
-    ghost use Rattle.cert_text.specs.Form.{step_sexpr};
-
-    ghost sexpr = { step_sexpr };
-
-    fn write(&self, out: &mut Vec<u8>) -> Result<(), AllocError> {
-        match self {
-            Step::Cycle(literals) => {
-                out.push_str(b"(cycle")?;
-                write_behind(literals.as_slice(), out)
-            }
-            Step::Input(i) => {
-                out.push_str(b"(input ")?;
-                write_numeral(*i as u64, out)?;
-                out.push_str(b")")
-            }
-            Step::Lemma(j) => {
-                out.push_str(b"(lemma ")?;
-                write_numeral(*j as u64, out)?;
-                out.push_str(b")")
-            }
-            Step::Either(literal) => {
-                out.push_str(b"(either ")?;
-                write_bound(*literal, out)
-            }
+/// Appends a step.
+fn write_step(step: StepView<'_>, out: &mut Vec<u8>) -> Result<(), AllocError>
+    ensures ok { OnOk result (out.new.items ≡ out.old.items ++ text_of (step_sexpr (step_seen step.entry))) }
+    ensures front { take (vec_len out.old) out.new.items ≡ out.old.items }
+{
+    match step {
+        StepView::Cycle(literals) => write_cycle(literals, out),
+        StepView::Pair(literal) => write_cycle([literal, negate(literal)].as_slice(), out),
+        StepView::Input(i) => {
+            out.push_str(b"(input ")?;
+            write_numeral(i as u128, out)?;
+            out.push_str(b")")
+        }
+        StepView::Lemma(j) => {
+            out.push_str(b"(lemma ")?;
+            write_numeral(j as u128, out)?;
+            out.push_str(b")")
+        }
+        StepView::Clash(i) => {
+            out.push_str(b"(clash ")?;
+            write_numeral(i as u128, out)?;
+            out.push_str(b")")
+        }
+        StepView::Either(literal) => {
+            out.push_str(b"(either ")?;
+            write_bound(literal, out)
         }
     }
+}
+
+/// Appends a leaf.
+fn write_cycle(literals: &[Literal], out: &mut Vec<u8>) -> Result<(), AllocError>
+    ensures ok { OnOk result (out.new.items ≡ out.old.items ++ text_of (step_sexpr (Cycle literals.now))) }
+    ensures front { take (vec_len out.old) out.new.items ≡ out.old.items }
+{
+    out.push_str(b"(cycle")?;
+    write_behind(literals, out)
+}
+
+/// Appends the steps, each behind a space, and the closing parenthesis.
+fn write_steps(mut reader: Reader<'_>, out: &mut Vec<u8>) -> Result<(), AllocError>
+    ensures ok { OnOk result (out.new.items
+        ≡ out.old.items ++ text_behind (items_of (map step_sexpr reader.entry))) }
+    ensures front { take (vec_len out.old) out.new.items ≡ out.old.items }
+{
+    while let Some(step) = reader.next() {
+        out.push_str(b" ")?;
+        write_step(step, out)?;
+    }
+    out.push_str(b")")
 }
 
 impl Part for Lemma {
@@ -115,7 +140,7 @@ impl Part for Lemma {
     fn write(&self, out: &mut Vec<u8>) -> Result<(), AllocError> {
         out.push_str(b"(lemma ")?;
         write_clause(self.clause.as_slice(), out)?;
-        write_behind(self.steps.as_slice(), out)
+        write_steps(self.steps.reader(), out)
     }
 }
 

@@ -8,4 +8,4 @@ returns-clause-front c =
     let start : vec_len c.args.out.now ≡ length c.args.out.now.items = omega arith in
     let opened : vec_len c.push_str.new.self ≡ length c.push_str.new.self.items = omega arith in
     let clause : vec_len c.write_clause.new.out ≡ length c.write_clause.new.out.items = omega arith in
-    front_behind _ _ _ _ _ _ start opened c.in_ok-push_str.ensures.ok (front_behind _ _ _ _ _ _ opened clause c.in_ok-write_clause.ensures.ok c.write_behind.ensures.front)
+    front_behind _ _ _ _ _ _ start opened c.in_ok-push_str.ensures.ok (front_behind _ _ _ _ _ _ opened clause c.in_ok-write_clause.ensures.ok c.write_steps.ensures.front)
