@@ -18,7 +18,7 @@ use Rattle.cover_tree.specs.Branches.{AreBranches}
 use Rattle.cover_tree.proofs.Parts.{as_long, all_but_last}
 use Rattle.cover_tree.proofs.Branching.{branches, cube_kept, length_divided}
 use Rattle.book_core.specs.Facts.{AreShut}
-use Rattle.book_core.specs.Closing.{AreOver, two_cycle, leaf_steps, SplitWritten, LeafWritten, Written}
+use Rattle.book_core.specs.Closing.{AreOver, two_cycle, leaf_steps, SplitWritten, LeafWritten, Written, writing}
 use Rattle.book_core.proofs.Sound.{negation_twice}
 
 -- the root has no literals
@@ -131,7 +131,7 @@ module _ (points : ℕ) (c : Cubes) (clauses : List (List Literal)) (cover : IsC
   abbrev Within : ℕ → Type 0
   Within k = k < length c.nodes
 
-  pub written_split : (waiting waiting_new : List ℕ) (k : ℕ) (steps steps_new : List Step) → IsPending points c clauses (waiting ++ k ∷ []) steps → SplitWritten c k steps waiting steps_new waiting_new
+  pub written_split : (waiting waiting_new : List ℕ) (k : ℕ) (steps steps_new : List Step) → IsPending points c clauses (waiting ++ k ∷ []) steps → SplitWritten c k (writing steps waiting) (writing steps_new waiting_new)
       → IsPending points c clauses waiting_new steps_new × (weight_of (length c.nodes) waiting_new < weight_of (length c.nodes) (waiting ++ k ∷ []))
   written_split waiting waiting_new k steps steps_new old s =
       let l = s.literal in
@@ -155,7 +155,7 @@ module _ (points : ℕ) (c : Cubes) (clauses : List (List Literal)) (cover : IsC
         omega arith,
       )
 
-  pub written_leaf : (waiting waiting_new : List ℕ) (k : ℕ) (steps steps_new : List Step) → IsPending points c clauses (waiting ++ k ∷ []) steps → LeafWritten c clauses k steps waiting steps_new waiting_new
+  pub written_leaf : (waiting waiting_new : List ℕ) (k : ℕ) (steps steps_new : List Step) → IsPending points c clauses (waiting ++ k ∷ []) steps → LeafWritten c clauses k (writing steps waiting) (writing steps_new waiting_new)
       → IsPending points c clauses waiting_new steps_new × (weight_of (length c.nodes) waiting_new < weight_of (length c.nodes) (waiting ++ k ∷ []))
   written_leaf waiting waiting_new k steps steps_new old s =
       let rest = all_but_last Within waiting k old.there in
@@ -176,7 +176,7 @@ module _ (points : ℕ) (c : Cubes) (clauses : List (List Literal)) (cover : IsC
       some_same : {x y : List Literal} → Some x ≡ Some y → x ≡ y
       some_same e = cc
 
-  pub written : (ks waiting waiting_new : List ℕ) (k : ℕ) (steps steps_new : List Step) → ks ≡ waiting ++ k ∷ [] → IsPending points c clauses ks steps → Written c clauses k steps waiting steps_new waiting_new
+  pub written : (ks waiting waiting_new : List ℕ) (k : ℕ) (steps steps_new : List Step) → ks ≡ waiting ++ k ∷ [] → IsPending points c clauses ks steps → Written c clauses k (writing steps waiting) (writing steps_new waiting_new)
       → IsPending points c clauses waiting_new steps_new × (weight_of (length c.nodes) waiting_new < weight_of (length c.nodes) ks)
   written ks waiting waiting_new k steps steps_new e h t =
       let old : IsPending points c clauses (waiting ++ k ∷ []) steps = subst (λ (js : List ℕ). IsPending points c clauses js steps) e h in

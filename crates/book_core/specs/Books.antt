@@ -1,7 +1,6 @@
 -- A book's state, when an event may come, and what it makes of the state.
 --
--- The cubes, and how a search in parallel divides and gives back its work, are this project's own; see cover_tree for the
--- source of the division.
+-- How seats take cubes and give them back is this project's own; cover_tree names the source of the division.
 use Rattle.std.specs.Prelude.{◌≡◌, ◌⊎◌, ℕ, ◌+◌, ◌≤◌, List, [], ◌++◌, length, map, take, All, Contains, Option, Some, None, IsSome, slice_get, ℤ}
 use Rattle.stn_core.specs.declared.literal.Literal.{Literal}
 use Rattle.stn_core.specs.declared.problem.Problem.{Problem}
@@ -28,9 +27,12 @@ pub record State : Type 0 where
   pub lemmas : List Lemma
   pub found : Option (List ℤ)
 
+abbrev pub state_with : Cubes → List Lemma → Option (List ℤ) → State
+state_with cover lemmas found = record { cover = cover; lemmas = lemmas; found = found }
+
 -- one Free leaf, no lemma
 abbrev pub opening : State
-opening = record { cover = whole; lemmas = []; found = None }
+opening = state_with whole [] None
 
 -- a schedule is found, or every leaf is Shut
 abbrev pub IsDone : State → Type 0
@@ -64,29 +66,36 @@ Fits problem lemmas cube (Found values) = IsSolution problem values
 Fits problem lemmas cube (ShutBy j) = IsShutBy (map stated lemmas) cube j
 Fits problem lemmas cube (SplitBy l) = IsDecidable problem l × IsUndecided cube l
 
--- A delivery is justified over the lemmas that are known: the batch was made over the first of these, each of its lemmas
--- is refuted over them and those before it, its literals are within the limits, and the outcome holds of the cube.
-pub record IsJustified (problem : Problem) (lemmas : List Lemma) (cube : List Literal) (batch : LemmaBatch) (outcome : Outcome) : Type 0 where
+-- A delivery is justified over the lemmas that are known: the batch was made over the first of these, each of its
+-- lemmas is refuted over them and those before it, its literals are within the limits, and the outcome holds of the
+-- cube. (The literals of a cycle are among those assumed, so that their limits follow.)
+pub record IsJustified (problem : Problem) (lemmas : List Lemma) (cube : List Literal) (batch : LemmaBatch)
+    (outcome : Outcome) : Type 0 where
   pub seen : batch.seen ≤ length lemmas
   pub refuted : AreRefuted problem.points problem.clauses (map stated (take batch.seen lemmas)) batch.lemmas
   pub over : All (LemmaIsOver problem.points) batch.lemmas
   pub fits : Fits problem (take batch.seen lemmas ++ batch.lemmas) cube outcome
 
--- what a `take` may be answered: Done where a schedule is found or all leaves are Shut; else some Free leaf; else Idle
-abbrev pub MayAnswer : State → Taken → Type 0
-MayAnswer s Done = IsDone s
-MayAnswer s Idle = (s.found ≡ None) × NoneFree s.cover × ((id : ℕ) × (seat : ℕ) × (node_at s.cover id ≡ Some (Held seat)))
-MayAnswer s (Cube id) = (s.found ≡ None) × (node_at s.cover id ≡ Some Free)
-
 -- the seat holds the leaf with this number
 abbrev pub IsHeldBy : State → ℕ → ℕ → Type 0
 IsHeldBy s id seat = node_at s.cover id ≡ Some (Held seat)
+
+-- the delivery is justified in the state, of the leaf with this number
+abbrev pub IsJustifiedIn : Problem → State → ℕ → LemmaBatch → Outcome → Type 0
+IsJustifiedIn problem s id batch outcome = IsJustified problem s.lemmas (cube_at s.cover id) batch outcome
+
+-- what a `take` may be answered: Done where a schedule is found or all leaves are Shut; else some Free leaf; else
+-- Idle, where some leaf is Held
+abbrev pub MayAnswer : State → Taken → Type 0
+MayAnswer s Done = IsDone s
+MayAnswer s Idle = (s.found ≡ None) × NoneFree s.cover × ((id : ℕ) × (seat : ℕ) × IsHeldBy s id seat)
+MayAnswer s (Cube id) = (s.found ≡ None) × (node_at s.cover id ≡ Some Free)
 
 -- when the event may come
 abbrev pub IsAllowed : Problem → State → Event → Type 0
 IsAllowed problem s (Take seat taken) = MayAnswer s taken
 IsAllowed problem s (Deliver seat id batch outcome) =
-    IsHeldBy s id seat × IsJustified problem s.lemmas (cube_at s.cover id) batch outcome
+    IsHeldBy s id seat × IsJustifiedIn problem s id batch outcome
 IsAllowed problem s (Release seat id) = IsHeldBy s id seat
 
 -- the cover after a `take`
@@ -95,8 +104,8 @@ cover_taken c seat Done = c
 cover_taken c seat Idle = c
 cover_taken c seat (Cube id) = with_node c id (Held seat)
 
--- the cover after a delivery whose batch, made over `seen` lemmas, comes behind `count` ones: a found schedule frees the
--- leaf, a lemma shuts it, and a literal divides it
+-- the cover after a delivery whose batch, made over `seen` lemmas, comes behind `count` ones: a found schedule frees
+-- the leaf, a lemma shuts it, and a literal divides it
 abbrev pub cover_delivered : Cubes → ℕ → ℕ → ℕ → Outcome → Cubes
 cover_delivered c id seen count (Found values) = with_node c id Free
 cover_delivered c id seen count (ShutBy j) = with_node c id (Shut (moved_number seen count j))
@@ -117,10 +126,10 @@ lemmas_delivered lemmas batch = lemmas ++ (moved (length lemmas) batch).lemmas
 
 -- the state after the event
 abbrev pub after : State → Event → State
-after s (Take seat taken) = record { cover = cover_taken s.cover seat taken; lemmas = s.lemmas; found = s.found }
+after s (Take seat taken) = state_with (cover_taken s.cover seat taken) s.lemmas s.found
 after s (Deliver seat id batch outcome) = record {
   cover = cover_delivered s.cover id batch.seen (length s.lemmas) outcome;
   lemmas = lemmas_delivered s.lemmas batch;
   found = found_delivered s.found outcome;
 }
-after s (Release seat id) = record { cover = with_node s.cover id Free; lemmas = s.lemmas; found = s.found }
+after s (Release seat id) = state_with (with_node s.cover id Free) s.lemmas s.found

@@ -4,6 +4,7 @@ use Rattle.stn_core.specs.declared.literal.Literal.{Literal}
 use Rattle.stn_core.specs.Literal.{IsOver}
 use Rattle.refute_tree.specs.declared.step.Step.{Step}
 use Rattle.refute_tree.specs.declared.step.Step.TheVariants.{Cycle, Lemma as Earlier, Either}
+use Rattle.refute_tree.specs.Trees.{Tree}
 use Rattle.refute_tree.specs.Store.{pair_of}
 use Rattle.cover_tree.specs.declared.node.Node.TheVariants.{Shut, Split}
 use Rattle.cover_tree.specs.Covers.{Cubes, node_at, cube_at}
@@ -20,24 +21,35 @@ two_cycle l = Cycle (pair_of l)
 abbrev pub leaf_steps : ℕ → List Literal → List Step
 leaf_steps j clause = Earlier j ∷ map two_cycle clause
 
+-- the steps that are written, and the nodes that wait
+pub record Writing : Type 0 where
+  pub steps : List Step
+  pub waiting : List ℕ
+
+abbrev pub writing : List Step → List ℕ → Writing
+writing steps waiting = record { steps = steps; waiting = waiting }
+
 -- a node's literal was written, and its branches wait, the one for the literal on top
-pub record SplitWritten (c : Cubes) (k : ℕ) (steps : List Step) (waiting : List ℕ) (steps_new : List Step) (waiting_new : List ℕ) : Type 0 where
+pub record SplitWritten (c : Cubes) (k : ℕ) (old new : Writing) : Type 0 where
   pub literal : Literal
   pub first : ℕ
   pub at : node_at c k ≡ Some (Split literal first)
-  pub written : steps_new ≡ steps ++ Either literal ∷ []
-  pub waits : waiting_new ≡ (waiting ++ (first + 1) ∷ []) ++ first ∷ []
+  pub written : new.steps ≡ old.steps ++ Either literal ∷ []
+  pub waits : new.waiting ≡ (old.waiting ++ (first + 1) ∷ []) ++ first ∷ []
 
 -- a leaf's steps were written
-pub record LeafWritten (c : Cubes) (clauses : List (List Literal)) (k : ℕ) (steps : List Step) (waiting : List ℕ) (steps_new : List Step) (waiting_new : List ℕ) : Type 0 where
+pub record LeafWritten (c : Cubes) (clauses : List (List Literal)) (k : ℕ) (old new : Writing) : Type 0 where
   pub lemma : ℕ
   pub clause : List Literal
   pub at : node_at c k ≡ Some (Shut lemma)
   pub stated : slice_get clauses lemma ≡ Some clause
-  pub written : steps_new ≡ steps ++ leaf_steps lemma clause
-  pub waits : waiting_new ≡ waiting
+  pub written : new.steps ≡ old.steps ++ leaf_steps lemma clause
+  pub waits : new.waiting ≡ old.waiting
 
 -- one node was written
-abbrev pub Written : Cubes → List (List Literal) → ℕ → List Step → List ℕ → List Step → List ℕ → Type 0
-Written c clauses k steps waiting steps_new waiting_new =
-    SplitWritten c k steps waiting steps_new waiting_new ⊎ LeafWritten c clauses k steps waiting steps_new waiting_new
+abbrev pub Written : Cubes → List (List Literal) → ℕ → Writing → Writing → Type 0
+Written c clauses k old new = SplitWritten c k old new ⊎ LeafWritten c clauses k old new
+
+-- the steps refute every problem, over lemmas that state these clauses
+abbrev pub AreClosing : List (List Literal) → List Step → Type 0
+AreClosing clauses steps = (inputs : List (List Literal)) → Tree inputs clauses [] steps []

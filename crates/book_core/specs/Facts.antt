@@ -31,7 +31,8 @@ pub record IsSound (problem : Problem) (s : State) : Type 0 where
 
 -- what always holds, holds after every run
 abbrev pub SoundLaw : Type 0
-SoundLaw = (problem : Problem) (events : List Event) → IsRun problem events → IsSound problem (replayed events)
+SoundLaw =
+    (problem : Problem) (events : List Event) → IsRun problem events → IsSound problem (replayed events)
 
 -- and every list of point values satisfies exactly one leaf's cube
 abbrev pub DividedLaw : Type 0
@@ -41,4 +42,5 @@ DividedLaw =
 
 -- Done is kept by every later event
 abbrev pub DoneKeptLaw : Type 0
-DoneKeptLaw = (problem : Problem) (s : State) (e : Event) → IsDone s → IsAllowed problem s e → IsDone (after s e)
+DoneKeptLaw =
+    (problem : Problem) (s : State) (e : Event) → IsDone s → IsAllowed problem s e → IsDone (after s e)

@@ -2,6 +2,7 @@ pub mod Books
 pub mod Runs
 pub mod Facts
 pub mod Verdicts
+pub mod Shared
 pub mod Prepared
 pub mod Closing
 pub use Rattle.refute_tree.specs.Trees

@@ -12,7 +12,8 @@ use Rattle.book_core.specs.Books.{State, IsDone, IsSolution}
 -- a solution, or a refutation whose literals are within the limits
 abbrev pub IsRight : Problem → Verdict → Type 0
 IsRight problem (Sat values) = IsSolution problem values
-IsRight problem (Unsat lemmas) = IsRefutation problem.points problem.clauses lemmas × All (LemmaIsOver problem.points) lemmas
+IsRight problem (Unsat lemmas) =
+    IsRefutation problem.points problem.clauses lemmas × All (LemmaIsOver problem.points) lemmas
 
 -- a right verdict exactly where nothing is left to do
 abbrev pub Concludes : Problem → State → Option Verdict → Type 0

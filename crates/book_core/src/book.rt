@@ -1,12 +1,11 @@
 //! The book itself.
 ghost use Rattle.std.specs.Prelude.{◌≡◌, ◌+◌, ◌<◌, ◌++◌, ◌∷◌, [], ℕ, length, map, IfOk, OnOk, OnErr, IfErr, IfSome, IfNone, Some, slice_get};
-ghost use Rattle.std.specs.Arc.{arc_value};
-ghost use Rattle.refute_tree.specs.declared.lemma.Lemma.{Lemma as Stated};
 ghost use Rattle.cover_tree.specs.declared.node.Node.TheVariants.{Held, Free};
-ghost use Rattle.cover_tree.specs.Covers.{cube_at, node_at, holder_of, NoneHeld};
+ghost use Rattle.cover_tree.specs.Covers.{node_at, holder_of, NoneHeld};
 ghost use Rattle.book_core.specs.declared.event.Event.TheVariants.{Take, Deliver, Release};
 ghost use Rattle.book_core.specs.declared.event.Taken.TheVariants.{Cube};
-ghost use Rattle.book_core.specs.Books.{IsJustified, IsHeldBy, IsAllowed, MayAnswer, cover_taken};
+ghost use Rattle.book_core.specs.Books.{IsJustifiedIn, IsHeldBy, IsAllowed, MayAnswer, cover_taken};
+ghost use Rattle.book_core.specs.Shared.{lemmas_of};
 ghost use Rattle.book_core.specs.Facts.{IsSound};
 ghost use Rattle.book_core.specs.Runs.{ledger, state_of, with_event, Answers, IsRun};
 ghost use Rattle.book_core.specs.Verdicts.{Concludes};
@@ -41,16 +40,17 @@ pub struct Book {
 }
 
 impl Model for Book {
-    ghost use Rattle.std.specs.Prelude.{map, vec_capacity};
-    ghost use Rattle.std.specs.Arc.{arc_value};
-    ghost use Rattle.refute_tree.specs.declared.lemma.Lemma.{Lemma as Stated};
+    ghost use Rattle.std.specs.Prelude.{vec_capacity};
+    ghost use Rattle.book_core.specs.Books.{state_with};
+    ghost use Rattle.book_core.specs.Shared.{lemmas_of};
     ghost use Rattle.book_core.specs.Runs.{Ledger, ledger, IsKept};
 
     ghost Value = { Ledger };
 
     ghost view = { λ b. ledger b.problem b.journal.items };
 
-    ghost invariant = { λ b. IsKept b.problem b.journal.items (record { cover = b.cover; lemmas = map (λ a. arc_value {X = Stated} a) b.lemmas.items; found = b.found }) (vec_capacity b.journal) };
+    ghost invariant = { λ b. IsKept b.problem b.journal.items
+        (state_with b.cover (lemmas_of b.lemmas.items) b.found) (vec_capacity b.journal) };
 }
 
 impl Book {
@@ -110,7 +110,7 @@ impl Book {
 
     /// All lemmas, shared.
     pub fn lemmas(&self) -> &[Arc<Lemma>]
-        ensures { map (λ a. arc_value {X = Stated} a) result.now ≡ (state_of self.now).lemmas }
+        ensures { lemmas_of result.now ≡ (state_of self.now).lemmas }
     {
         self.lemmas.as_slice()
     }
@@ -189,7 +189,7 @@ impl Book {
         Ok(())
     }
 
-    /// What the seat found of its cube. A schedule that comes after another is not kept. At `Err` nothing changed.
+    /// What the seat found of its cube. A schedule that comes after another isn't kept. At `Err` nothing changed.
     pub fn deliver(
         &mut self,
         seat: u32,
@@ -198,7 +198,7 @@ impl Book {
         outcome: Outcome,
     ) -> Result<(), Refused>
         requires held { IsHeldBy (state_of self.old) id seat }
-        requires justified { IsJustified self.old.problem (state_of self.old).lemmas (cube_at (state_of self.old).cover id) batch outcome }
+        requires justified { IsJustifiedIn self.old.problem (state_of self.old) id batch outcome }
         ensures ok { OnOk result (self.new ≡ with_event self.old (Deliver seat id batch outcome)) }
         ensures err { OnErr result (self.new ≡ self.old) }
         ensures refused { IfErr result (λ refused. (refused.batch ≡ batch) × (refused.outcome ≡ outcome)) }
@@ -266,8 +266,8 @@ impl Book {
         }
     }
 
-    /// The verdict, where nothing is left to do: the schedule that was found first, or a refutation by the lemmas. It takes
-    /// time and memory in the sum of the lemmas and of the leaves' lemmas.
+    /// The verdict, where nothing is left to do: the schedule that was found first, or a refutation by the lemmas. It
+    /// takes time and memory in the sum of the lemmas and of the leaves' lemmas.
     pub fn conclude(&self) -> Result<Option<Verdict>, AllocError>
         ensures { IfOk result (Concludes self.now.problem (state_of self.now)) }
     {

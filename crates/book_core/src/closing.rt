@@ -1,13 +1,10 @@
 //! The refutation of a whole cover whose leaves are all shut.
-ghost use Rattle.std.specs.Prelude.{◌≡◌, ◌<◌, ◌++◌, [], ◌∷◌, ℕ, List, length, map, IfOk, OnOk, All};
-ghost use Rattle.std.specs.Arc.{arc_value};
-ghost use Rattle.stn_core.specs.declared.literal.Literal.{Literal as Bound};
-ghost use Rattle.refute_tree.specs.declared.lemma.Lemma.{Lemma as Stated};
-ghost use Rattle.refute_tree.specs.Trees.{Tree, stated};
+ghost use Rattle.std.specs.Prelude.{◌≡◌, ◌<◌, ◌++◌, length, IfOk, OnOk, All};
 ghost use Rattle.refute_tree.specs.Batches.{NamesOver};
 ghost use Rattle.cover_tree.specs.Covers.{IsCover, NoneFree, NoneHeld};
 ghost use Rattle.book_core.specs.Facts.{AreShut};
-ghost use Rattle.book_core.specs.Closing.{AreOver, leaf_steps, Written};
+ghost use Rattle.book_core.specs.Closing.{AreOver, AreClosing, leaf_steps, Written, writing};
+ghost use Rattle.book_core.specs.Shared.{clauses_of};
 
 use cover_tree::{Cover, Node};
 use refute_tree::{Earlier, Lemma, Steps};
@@ -15,8 +12,8 @@ use std::alloc::{AllocError, Global};
 use std::sync::Arc;
 use stn_core::Literal;
 
-/// A tree of the cover's form: at each inner node its literal's two cases, at each leaf the cases of its lemma, which the
-/// cube denies.
+/// A tree of the cover's form: at each inner node its literal's two cases, at each leaf the cases of its lemma, which
+/// the cube denies.
 pub(crate) fn closing_steps(
     alloc: Global,
     points: u32,
@@ -26,9 +23,9 @@ pub(crate) fn closing_steps(
     requires cover { IsCover cover.now }
     requires free { NoneFree cover.now }
     requires held { NoneHeld cover.now }
-    requires shut { AreShut cover.now (map (λ a. stated (arc_value {X = Stated} a)) lemmas.now) }
+    requires shut { AreShut cover.now (clauses_of lemmas.now) }
     requires over { AreOver points cover.now }
-    ensures tree { IfOk result (λ steps. (inputs : List (List Bound)) → Tree inputs (map (λ a. stated (arc_value {X = Stated} a)) lemmas.now) [] steps []) }
+    ensures tree { IfOk result (AreClosing (clauses_of lemmas.now)) }
     ensures over { IfOk result (λ steps. All (NamesOver points) steps) }
 {
     let mut steps = Steps::new(alloc);
@@ -50,8 +47,9 @@ fn write_node(
     requires cover { IsCover cover.now }
     requires free { NoneFree cover.now }
     requires held { NoneHeld cover.now }
-    requires shut { AreShut cover.now (map (λ a. stated (arc_value {X = Stated} a)) lemmas.now) }
-    ensures { OnOk result (Written cover.now (map (λ a. stated (arc_value {X = Stated} a)) lemmas.now) k steps.old waiting.old.items steps.new waiting.new.items) }
+    requires shut { AreShut cover.now (clauses_of lemmas.now) }
+    ensures { OnOk result (Written cover.now (clauses_of lemmas.now) k
+        (writing steps.old waiting.old.items) (writing steps.new waiting.new.items)) }
 {
     match cover.node(k) {
         Node::Split(literal, first) => {

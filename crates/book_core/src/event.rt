@@ -17,7 +17,7 @@ pub enum Taken {
 pub enum Outcome {
     /// The problem holds on this schedule.
     Found(Schedule),
-    /// The clause of the lemma with this number excludes the cube. Its number is as the batch's references are.
+    /// The clause of the lemma with this number, which is like a reference of the batch, excludes the cube.
     Shut(usize),
     /// The cube is to be divided by this literal.
     Split(Literal),
@@ -36,8 +36,8 @@ impl Outcome {
     }
 }
 
-/// One call on a book: who made it, what was handed in, and what was answered. A batch stands here as it was before its
-/// move.
+/// One call on a book: who made it, what was handed in, and what was answered. A batch stands here as it was before
+/// its move.
 #[derive(Drop)]
 pub enum Event {
     Take(u32, Taken),

@@ -1,9 +1,9 @@
 //! Laws of runs, of their definitions alone.
 ghost use Rattle.book_core.specs.Facts.{SoundLaw, DividedLaw, DoneKeptLaw};
 
-/// What always holds, holds after every run: the leaves are a cover, each literal of a cube is decided once, each lemma is
-/// refuted over the problem and those before it and within the limits, the lemma of each shut leaf excludes its cube, and
-/// the problem holds on the schedule that was found.
+/// What always holds, holds after every run: the leaves are a cover, each literal of a cube is decided once, each lemma
+/// is refuted over the problem and those before it and within the limits, the lemma of each shut leaf excludes its
+/// cube, and the problem holds on the schedule that was found.
 pub fn sound_law()
     ensures { SoundLaw }
 {

@@ -1,13 +1,12 @@
 //! The parts of a delivery: what takes memory comes first, and what changes the book takes none.
-ghost use Rattle.std.specs.Prelude.{◌≡◌, ◌+◌, ◌<◌, ◌≤◌, ◌^◌, ◌++◌, ℕ, length, map, vec_len, vec_capacity, IfOk, OnOk, OnErr, All, Some};
-ghost use Rattle.std.specs.Arc.{arc_value};
-ghost use Rattle.refute_tree.specs.declared.lemma.Lemma.{Lemma as Stated};
+ghost use Rattle.std.specs.Prelude.{◌≡◌, ◌+◌, ◌<◌, ◌≤◌, ◌^◌, ◌++◌, ℕ, length, vec_len, vec_capacity, IfOk, OnOk, OnErr, All, Some};
 ghost use Rattle.refute_tree.specs.Moves.{moved_number};
 ghost use Rattle.refute_tree.specs.Batches.{moved, LemmaRefersBelow};
 ghost use Rattle.cover_tree.specs.declared.node.Node.TheVariants.{Held};
 ghost use Rattle.cover_tree.specs.Covers.{node_at};
 ghost use Rattle.book_core.specs.declared.event.Outcome.TheVariants.{Shut};
 ghost use Rattle.book_core.specs.Books.{cover_delivered, found_delivered};
+ghost use Rattle.book_core.specs.Shared.{lemmas_of};
 ghost use Rattle.book_core.specs.Prepared.{given_schedule};
 
 use crate::event::Outcome;
@@ -32,7 +31,7 @@ pub(crate) fn prepare(
     outcome: &Outcome,
 ) -> Result<Prepared, AllocError>
     requires { All (LemmaRefersBelow (batch.now.seen + length batch.now.lemmas)) batch.now.lemmas }
-    ensures lemmas { IfOk result (λ p. map (λ a. arc_value {X = Stated} a) p.shared.items ≡ (moved base batch.now).lemmas) }
+    ensures lemmas { IfOk result (λ p. lemmas_of p.shared.items ≡ (moved base batch.now).lemmas) }
     ensures fits { IfOk result (λ p. base + length batch.now.lemmas < 2 ^ 64) }
     ensures schedule { IfOk result (λ p. p.schedule ≡ given_schedule outcome.now) }
 {
@@ -50,7 +49,7 @@ pub(crate) fn prepare(
 }
 
 fn share(alloc: Global, lemmas: Vec<Lemma>) -> Result<Vec<Arc<Lemma>>, AllocError>
-    ensures { IfOk result (λ shared. map (λ a. arc_value {X = Stated} a) shared.items ≡ lemmas.items) }
+    ensures { IfOk result (λ shared. lemmas_of shared.items ≡ lemmas.items) }
 {
     let mut shared = Vec::with_capacity(alloc, lemmas.len())?;
     for lemma in lemmas {

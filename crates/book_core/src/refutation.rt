@@ -1,11 +1,11 @@
 //! The refutation that a book comes to.
-ghost use Rattle.std.specs.Prelude.{◌≡◌, ◌<◌, ◌≤◌, ◌+◌, ◌++◌, [], ◌∷◌, ℕ, length, map, take, IfOk, IfSome, None, Some, slice_get};
-ghost use Rattle.std.specs.Arc.{arc_value};
-ghost use Rattle.refute_tree.specs.declared.lemma.Lemma.{Lemma as Stated};
+ghost use Rattle.std.specs.Prelude.{◌≡◌, ◌≤◌, length, take, IfOk, IfSome, None};
 ghost use Rattle.cover_tree.specs.Covers.{NoneFree, NoneHeld};
 ghost use Rattle.book_core.specs.declared.verdict.Verdict.TheVariants.{Unsat};
 ghost use Rattle.book_core.specs.Facts.{IsSound};
-ghost use Rattle.book_core.specs.Verdicts.{IsRight, last_lemma, EndsEmpty};
+ghost use Rattle.book_core.specs.Verdicts.{IsRight, EndsEmpty};
+ghost use Rattle.book_core.specs.Books.{state_with};
+ghost use Rattle.book_core.specs.Shared.{lemmas_of};
 
 use crate::closing::closing_steps;
 use cover_tree::Cover;
@@ -14,14 +14,15 @@ use std::alloc::{AllocError, Global};
 use std::sync::Arc;
 use stn_core::{Clause, Problem};
 
-/// The lemmas up to the first one without literals; where there is none all of them, and one more that closes the cover.
+/// The lemmas up to the first one without literals; where there is none all of them, and one more that closes the
+/// cover.
 pub(crate) fn refutation_of(
     alloc: Global,
     problem: &Problem,
     cover: &Cover,
     lemmas: &[Arc<Lemma>],
 ) -> Result<Refutation, AllocError>
-    requires sound { IsSound problem.now (record { cover = cover.now; lemmas = map (λ a. arc_value {X = Stated} a) lemmas.now; found = None }) }
+    requires sound { IsSound problem.now (state_with cover.now (lemmas_of lemmas.now) None) }
     requires free { NoneFree cover.now }
     requires held { NoneHeld cover.now }
     ensures { IfOk result (λ r. IsRight problem.now (Unsat r)) }
@@ -41,7 +42,7 @@ pub(crate) fn refutation_of(
 
 /// The number of the first lemma without literals.
 fn first_empty(lemmas: &[Arc<Lemma>]) -> Option<usize>
-    ensures { IfSome result (EndsEmpty (map (λ a. arc_value {X = Stated} a) lemmas.now)) }
+    ensures { IfSome result (EndsEmpty (lemmas_of lemmas.now)) }
 {
     for (j, lemma) in lemmas.iter().enumerate() {
         if lemma.clause.as_slice().is_empty() {
@@ -54,7 +55,7 @@ fn first_empty(lemmas: &[Arc<Lemma>]) -> Option<usize>
 /// The first so many lemmas, in memory of their own.
 fn copies(alloc: Global, lemmas: &[Arc<Lemma>], count: usize) -> Result<Vec<Lemma>, AllocError>
     requires { count ≤ length lemmas.now }
-    ensures { IfOk result (λ all. all.items ≡ take count (map (λ a. arc_value {X = Stated} a) lemmas.now)) }
+    ensures { IfOk result (λ all. all.items ≡ take count (lemmas_of lemmas.now)) }
 {
     let mut all = Vec::with_capacity(alloc, count)?;
     for lemma in &lemmas[..count] {

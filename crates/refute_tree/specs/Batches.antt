@@ -53,13 +53,15 @@ abbrev pub MovedBatchLaw : Type 0
 MovedBatchLaw =
     (points : ℕ) (clauses first later : List (List Literal)) (lemmas : List Lemma)
     → AreRefuted points clauses first lemmas
-    → AreRefuted points clauses (first ++ later) (map (moved_lemma (length first) (length first + length later)) lemmas)
+    → AreRefuted points clauses (first ++ later)
+        (map (moved_lemma (length first) (length first + length later)) lemmas)
 
 -- refuted lemmas, and others that are refuted over them
 abbrev pub JoinedLaw : Type 0
 JoinedLaw =
     (points : ℕ) (clauses earlier : List (List Literal)) (lemmas others : List Lemma)
-    → AreRefuted points clauses earlier lemmas → AreRefuted points clauses (earlier ++ map stated lemmas) others
+    → AreRefuted points clauses earlier lemmas
+    → AreRefuted points clauses (earlier ++ map stated lemmas) others
     → AreRefuted points clauses earlier (lemmas ++ others)
 
 -- refuted lemmas refer to those before them alone

@@ -7,8 +7,8 @@ use crate::lemma::Lemma;
 use std::alloc::AllocError;
 use std::marker::Model;
 
-/// Lemmas that were made over the first `seen` lemmas of a list: a reference below `seen` is to that list, and `seen + i` is
-/// to the batch's own lemma with the number i, from 0.
+/// Lemmas that were made over the first `seen` lemmas of a list: a reference below `seen` is to that list, and
+/// `seen + i` is to the batch's own lemma with the number i, from 0.
 #[derive(Drop)]
 pub struct Batch {
     seen: usize,
@@ -50,8 +50,8 @@ impl Batch {
         self.lemmas
     }
 
-    /// The batch as it stands behind the first `base` lemmas of a longer list. It takes no memory, and time in the count
-    /// of the batch's steps.
+    /// The batch as it stands behind the first `base` lemmas of a longer list. It takes no memory, and time in the
+    /// count of the batch's steps.
     pub fn move_to(&mut self, base: usize)
         requires below { All (LemmaRefersBelow (self.old.seen + length self.old.lemmas)) self.old.lemmas }
         requires fits { base + length self.old.lemmas < 2 ^ 64 }

@@ -7,7 +7,8 @@ use Rattle.refute_tree.specs.Moves.{moved_number}
 use Rattle.cover_tree.specs.Covers.{cube_at}
 use Rattle.book_core.specs.declared.event.Event.TheVariants.{Deliver}
 use Rattle.book_core.specs.declared.event.Outcome.TheVariants.{Shut}
-use Rattle.book_core.specs.Books.{State, IsJustified, cover_delivered}
+use Rattle.book_core.specs.Shared.{lemmas_of}
+use Rattle.book_core.specs.Books.{State, state_with, IsJustified, cover_delivered}
 use Rattle.book_core.specs.Runs.{state_of}
 use Rattle.book_core.proofs.Runs.{at_inside, inside, some_held, refers_below, number_of, published, state_is, count_delivered, kept_more}
 use Rattle.book_core.proofs.book.Book.deliver.Goals as goal
@@ -20,7 +21,7 @@ settle-requires-clause-held c = (c.args.seat, at_inside _ _ _ _ c.args.id _ c.se
 
 pub settle-requires-clause-number : goal.settle-requires-clause-number
 settle-requires-clause-number c =
-    let s : State = record { cover = c.self.inside.cover; lemmas = map (λ a. arc_value {X = Stated} a) c.self.inside.lemmas.items; found = c.self.inside.found } in
+    let s : State = state_with c.self.inside.cover (lemmas_of c.self.inside.lemmas.items) c.self.inside.found in
     let base : c.len-base.result ≡ length s.lemmas = omega (arith, c.len-base.ensures, length-map c.self.inside.lemmas.items (λ a. arc_value {X = Stated} a)) in
     let justified = inside (λ (p : Problem) (t : State). IsJustified p t.lemmas (cube_at t.cover c.args.id) c.args.batch c.args.outcome) c.self.inside.problem _ s _ c.self.view_is c.self.invariant.same c.requires.justified in
     subst (λ (n : ℕ). (j : ℕ) → c.args.outcome ≡ Shut j → moved_number c.args.batch.seen n j < 2 ^ 64) (sym base)
@@ -34,7 +35,7 @@ push_reserved-requires c =
 pub invariant_of-self-2 : goal.invariant_of-self-2
 invariant_of-self-2 c =
     let here = at_inside _ _ _ _ c.args.id _ c.self.view_is c.self.invariant.same c.requires.held in
-    let s : State = record { cover = c.self.inside.cover; lemmas = map (λ a. arc_value {X = Stated} a) c.self.inside.lemmas.items; found = c.self.inside.found } in
+    let s : State = state_with c.self.inside.cover (lemmas_of c.self.inside.lemmas.items) c.self.inside.found in
     let base : c.len-base.result ≡ length s.lemmas = omega (arith, c.len-base.ensures, length-map c.self.inside.lemmas.items (λ a. arc_value {X = Stated} a)) in
     let justified = inside (λ (p : Problem) (t : State). IsJustified p t.lemmas (cube_at t.cover c.args.id) c.args.batch c.args.outcome) c.self.inside.problem _ s _ c.self.view_is c.self.invariant.same c.requires.justified in
     kept_more _ _ _ s _ (Deliver c.args.seat c.args.id c.args.batch c.args.outcome) _ _ c.self.invariant (here, justified) c.push_reserved.ensures.items

@@ -4,13 +4,14 @@ use Rattle.stn_core.specs.declared.problem.Problem.{Problem}
 use Rattle.refute_tree.specs.declared.lemma.Lemma.{Lemma as Stated}
 use Rattle.book_core.specs.declared.event.Event.{Event}
 use Rattle.book_core.specs.declared.event.Event.TheVariants.{Take}
-use Rattle.book_core.specs.Books.{State, MayAnswer}
+use Rattle.book_core.specs.Shared.{lemmas_of}
+use Rattle.book_core.specs.Books.{State, state_with, MayAnswer}
 use Rattle.book_core.proofs.Runs.{inside, count_held, kept_more, with_cover}
 use Rattle.book_core.proofs.book.Book.record_take.Goals as goal
 
 pub invariant_of-self-2 : goal.invariant_of-self-2
 invariant_of-self-2 c =
-    let s : State = record { cover = c.self.inside.cover; lemmas = map (λ a. arc_value {X = Stated} a) c.self.inside.lemmas.items; found = c.self.inside.found } in
+    let s : State = state_with c.self.inside.cover (lemmas_of c.self.inside.lemmas.items) c.self.inside.found in
     let e : Event = Take c.args.seat c.args.taken in
     let may = inside (λ (p : Problem) (t : State). MayAnswer t c.args.taken) c.self.inside.problem _ s _ c.self.view_is c.self.invariant.same c.requires in
     let count = count_held s _ c.args.seat c.args.taken may c.hold.ensures in

@@ -2,7 +2,8 @@ use Rattle.std.proofs.Common.{arith, ap, map}
 use Rattle.std.specs.Arc.{arc_value}
 use Rattle.refute_tree.specs.declared.lemma.Lemma.{Lemma as Stated}
 use Rattle.book_core.specs.declared.event.Event.TheVariants.{Release}
-use Rattle.book_core.specs.Books.{State}
+use Rattle.book_core.specs.Shared.{lemmas_of}
+use Rattle.book_core.specs.Books.{State, state_with}
 use Rattle.book_core.proofs.Runs.{at_inside, some_held, count_freed, kept_more, with_cover}
 use Rattle.book_core.proofs.book.Book.release.Goals as goal
 
@@ -19,5 +20,5 @@ invariant_of-self c =
     let here = at_inside _ _ _ _ c.args.id _ c.self.view_is c.self.invariant.same c.requires in
     let count = count_freed _ _ c.args.id _ here c.release.ensures in
     let room = c.self.invariant.reserved in
-    let s : State = record { cover = c.self.inside.cover; lemmas = map (λ a. arc_value {X = Stated} a) c.self.inside.lemmas.items; found = c.self.inside.found } in
+    let s : State = state_with c.self.inside.cover (lemmas_of c.self.inside.lemmas.items) c.self.inside.found in
     kept_more _ _ _ s _ (Release c.args.seat c.args.id) _ _ c.self.invariant here c.push_reserved.ensures.items (ap (with_cover s) c.release.ensures) (omega (arith, c.push_reserved.ensures.capacity))
