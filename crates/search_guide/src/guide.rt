@@ -167,6 +167,14 @@ impl Guide {
         }
     }
 
+    /// The level at which the literal stands on the trail.
+    pub fn level(&self, number: LiteralNumber) -> Option<usize> {
+        match self.assignment.truth(number) {
+            Truth::True => Some(self.assignment.level(number)),
+            Truth::False | Truth::Open => None,
+        }
+    }
+
     /// From here on `next` answers what follows from this literal of the trail.
     pub fn begin(&mut self, number: LiteralNumber) {
         let weaker = self.ladders.weaker(number);
