@@ -22,7 +22,7 @@ use Rattle.dtp_entry.specs.declared.report.Report.{Report}
 use Rattle.dtp_entry.specs.declared.report.Report.TheVariants.{Verdicts, Certificate}
 use Rattle.dtp_entry.specs.Entries.{verdict_of}
 use Rattle.dtp_entry.specs.Laws.{OneVerdict, OneTranscript}
-use Rattle.dtp_entry.specs.Transcripts.{IsVerdict, Held, told, decision_line, opening, closing, checked, Reply, answered, last, error, Answers, Output, done, refused, behind, Closes, GoesOn, Follows, IsOutput}
+use Rattle.dtp_entry.specs.Transcripts.{IsVerdict, Held, told, decision_line, opening, closing, checked, Reply, answered, last, error, Answers, RepliesBy, Output, done, refused, behind, Closes, GoesOn, Follows, IsOutput}
 
 same_refusal : (e f : SexprRefusal) → unreadable e ≡ unreadable f → e ≡ f
 same_refusal e f h = cc
@@ -123,12 +123,6 @@ answers_alike r q held other s CheckSat m n (e, d, is) (f, g, same) =
     (decision_one r q e f v, ap (λ (w : Satisfiability). w ∷ []) v, ap (λ (w : Satisfiability). settled w s) v)
 answers_alike r q held other s (Tell notice) m n is same = alike_by r q m n _ _ is same (told_one r q held other s notice, refl, refl)
 answers_alike r q held other s Exit m n is same = alike_by r q m n (last (closing r)) (last (closing q)) is same (closing_one r q)
-
-abbrev RepliesBy : Report → Held → Result Step Why → Reply → Type 0
-RepliesBy report held found reply = elim found [
-  | Ok step ↦ Answers report held step.state step.effect reply
-  | Err why ↦ reply ≡ error (kind_of why)
-]
 
 replies_alike : (r q : Report) (held other : Held) (found : Result Step Why) (m n : Reply) → RepliesBy r held found m → RepliesBy q other found n → Alike r q m n
 replies_alike r q held other (Ok step) m n h k = answers_alike r q held other step.state step.effect m n h k

@@ -7,12 +7,12 @@ use Rattle.refute_tree.specs.Laws.{RefutationLaw}
 use Rattle.refute_tree.specs.Trees.{IsRefutation}
 use Rattle.clause_form.specs.ClauseForm as clause_form
 use Rattle.clause_form.specs.Laws.{ProblemFollows, PointsAreFew}
-use Rattle.clause_form.proofs.Points.{weaker_table}
 use Rattle.idl_node.specs.declared.sort.Sort.{Sort}
 use Rattle.idl_node.specs.Limits.{nodes_limit}
 use Rattle.idl_node.specs.Nodes.{NodeValue}
 use Rattle.idl_node.specs.Sorts.{IsAtomFor}
 use Rattle.idl_node.specs.Tables.{IsTableOf, IsTableOver}
+use Rattle.idl_node.proofs.Keeping.{table_of-better}
 use Rattle.idl_term.specs.Contexts.{Context, IsContext, IsSatisfiable}
 use Rattle.idl_term.specs.Laws.{ContextsHaveScopes, RootsAreNodes, RootsAreExact}
 use Rattle.idl_term.specs.Limits.{names_limit}
@@ -23,7 +23,7 @@ use Rattle.dtp_entry.proofs.Roots.{roots_true}
 -- the table that a state lends is over the zero point and the names' points
 pub table_over : (points : ℕ) (lent nodes : List NodeValue) (sorts : List Sort) → points ≡ length sorts + 1 → lent ≡ nodes → IsTableOf (IsAtomFor sorts) nodes → IsTableOver points lent
 table_over points lent nodes sorts e f table =
-    let over : IsTableOver (length sorts + 1) nodes = weaker_table (IsAtomFor sorts) (IsOver (length sorts + 1)) nodes (λ l is. is.over) table in
+    let over : IsTableOver (length sorts + 1) nodes = table_of-better (IsAtomFor sorts) (IsOver (length sorts + 1)) (λ l is. is.over) nodes table in
     subst (λ (n : ℕ). IsTableOver n lent) (sym e) (subst (λ (ns : List NodeValue). IsTableOver (length sorts + 1) ns) (sym f) over)
 
 -- as many sorts as names

@@ -12,4 +12,5 @@ OneVerdict = (script : List ℕ) (r q : Report) (a b : Output) → IsOutput r sc
 
 -- A script has one transcript at most: its bytes alone decide what is written, and the status.
 abbrev pub OneTranscript : Type 0
-OneTranscript = (script a b : List ℕ) (s t : ℕ) → IsTranscript script a s → IsTranscript script b t → (a ≡ b) × (s ≡ t)
+OneTranscript =
+    (script a b : List ℕ) (s t : ℕ) → IsTranscript script a s → IsTranscript script b t → (a ≡ b) × (s ≡ t)

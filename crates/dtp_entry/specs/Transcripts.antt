@@ -1,7 +1,7 @@
 -- What is written of a script: a relation of its bytes, the bytes of the output and the status.
 -- Source: SMT-LIB 2.6, section 4.1 (responses, and the error behavior `immediate-exit`), section 4.2.1 (`exit`) and section
 -- 4.2.5 (`check-sat`).
-use Rattle.std.specs.Prelude.{◌≡◌, ℕ, ◌+◌, List, [], ◌∷◌, ◌++◌, ◌⊎◌, true, false, if◌then◌else◌, Option, Some, None, Ok, Err}
+use Rattle.std.specs.Prelude.{◌≡◌, ℕ, ◌+◌, List, [], ◌∷◌, ◌++◌, ◌⊎◌, true, false, if◌then◌else◌, Option, Some, None, Result, Ok, Err}
 use Rattle.smt_sexpr.specs.Tree.{Sexpr}
 use Rattle.smt_sexpr.specs.Commands.{Commands, Ending, ended, stopped, unread, EndsAs}
 use Rattle.smt_script.specs.declared.state.Effect.{Effect}
@@ -10,7 +10,8 @@ use Rattle.smt_script.specs.declared.state.Notice.{Notice}
 use Rattle.smt_script.specs.declared.state.Notice.TheVariants.{Success, Unsupported}
 use Rattle.smt_script.specs.declared.state.Satisfiability.{Satisfiability}
 use Rattle.smt_script.specs.declared.state.Satisfiability.TheVariants as verdict
-use Rattle.smt_script.specs.States.{State, start_state, after, settled}
+use Rattle.smt_script.specs.declared.error.Refusal.{Refusal}
+use Rattle.smt_script.specs.States.{State, Step, start_state, after, settled}
 use Rattle.smt_answer.specs.Kinds.{kind_of, kind_of_unreadable}
 use Rattle.smt_answer.specs.Texts.{verdict_line, success_line, unsupported_line, error_line}
 use Rattle.smt_answer.specs.declared.kind.Kind.{Kind}
@@ -91,12 +92,14 @@ Answers report held s (Tell notice) reply =
     reply ≡ answered (record { text = told report held s notice; found = []; held = held; state = s })
 Answers report held s Exit reply = reply ≡ last (closing report)
 
+-- the answer by what a command leads to
+abbrev pub RepliesBy : Report → Held → Result Step Refusal → Reply → Type 0
+RepliesBy report held (Ok step) reply = Answers report held step.state step.effect reply
+RepliesBy report held (Err why) reply = reply ≡ error (kind_of why)
+
 -- the answer to a command in a state
 abbrev pub Replies : Report → Held → State → Sexpr → Reply → Type 0
-Replies report held s x reply = elim (after s x) [
-  | Ok step ↦ Answers report held step.state step.effect reply
-  | Err why ↦ reply ≡ error (kind_of why)
-]
+Replies report held s x reply = RepliesBy report held (after s x) reply
 
 -- ---- a script
 
@@ -115,7 +118,11 @@ refused k kind = record { text = error_line k kind; found = []; status = 1 }
 
 -- with a piece before it
 abbrev pub behind : List ℕ → List Entry → Output → Output
-behind text found rest = record { text = text ++ rest.text; found = found ++ rest.found; status = rest.status }
+behind text found rest = record {
+  text = text ++ rest.text;
+  found = found ++ rest.found;
+  status = rest.status;
+}
 
 -- behind the last command: the closing line at the end of the text, the error line where an s-expression can't be read
 abbrev pub Closes : Report → ℕ → Ending → Output → Type 0
@@ -142,7 +149,8 @@ Follows report held s k (x ∷ xs) ending out =
     × GoesOn k reply xs ending out (λ kept next rest. Follows report kept next (k + 1) xs ending rest)
 
 -- the text from the place on, read in this state as command k and those behind it
-pub record TranscribesFrom (report : Report) (bytes : List ℕ) (place : ℕ) (held : Held) (s : State) (k : ℕ) (out : Output) : Type 0 where
+pub record TranscribesFrom (report : Report) (bytes : List ℕ) (place : ℕ) (held : Held) (s : State) (k : ℕ)
+    (out : Output) : Type 0 where
   pub commands : List Sexpr
   pub here : ℕ
   pub ending : Ending
@@ -153,7 +161,8 @@ pub record TranscribesFrom (report : Report) (bytes : List ℕ) (place : ℕ) (h
 -- what is written of a script, with the entries that decided its check-sats
 abbrev pub IsOutput : Report → List ℕ → Output → Type 0
 IsOutput report script out =
-    (rest : Output) × TranscribesFrom report script 0 None start_state 1 rest × (out ≡ behind (opening report) [] rest)
+    (rest : Output) × TranscribesFrom report script 0 None start_state 1 rest
+    × (out ≡ behind (opening report) [] rest)
 
 -- what is written of a script, and the status
 abbrev pub IsReport : Report → List ℕ → List ℕ → ℕ → Type 0
@@ -171,11 +180,13 @@ IsCertificate script text status = IsReport Certificate script text status
 -- ---- what a run that is cut short has written
 
 abbrev pub ClosesPart : Report → ℕ → Ending → List ℕ → Type 0
-ClosesPart report k ending text = (text ≡ []) ⊎ ((out : Output) × Closes report k ending out × IsFront text out.text)
+ClosesPart report k ending text =
+    (text ≡ []) ⊎ ((out : Output) × Closes report k ending out × IsFront text out.text)
 
 abbrev pub GoesOnPart : ℕ → Reply → List Sexpr → Ending → List ℕ → (Held → State → List ℕ → Type 0) → Type 0
 GoesOnPart k (answered a) xs ending text Rest =
-    (Stops xs ending × IsFront text a.text) ⊎ ((rest : List ℕ) × Rest a.held a.state rest × (text ≡ a.text ++ rest))
+    (Stops xs ending × IsFront text a.text)
+    ⊎ ((rest : List ℕ) × Rest a.held a.state rest × (text ≡ a.text ++ rest))
 GoesOnPart k (last whole) xs ending text Rest = Stops xs ending × IsFront text whole
 GoesOnPart k (error kind) xs ending text Rest = Stops xs ending × IsFront text (error_line k kind)
 
@@ -184,9 +195,11 @@ unfoldable pub FollowsPart : Report → Held → State → ℕ → List Sexpr �
 FollowsPart report held s k [] ending text = ClosesPart report k ending text
 FollowsPart report held s k (x ∷ xs) ending text =
     (reply : Reply) × Replies report held s x reply
-    × GoesOnPart k reply xs ending text (λ kept next rest. FollowsPart report kept next (k + 1) xs ending rest)
+    × GoesOnPart k reply xs ending text
+    (λ kept next rest. FollowsPart report kept next (k + 1) xs ending rest)
 
-pub record TranscribesPartFrom (report : Report) (bytes : List ℕ) (place : ℕ) (held : Held) (s : State) (k : ℕ) (text : List ℕ) : Type 0 where
+pub record TranscribesPartFrom (report : Report) (bytes : List ℕ) (place : ℕ) (held : Held) (s : State)
+    (k : ℕ) (text : List ℕ) : Type 0 where
   pub commands : List Sexpr
   pub here : ℕ
   pub ending : Ending
@@ -198,4 +211,5 @@ pub record TranscribesPartFrom (report : Report) (bytes : List ℕ) (place : ℕ
 abbrev pub IsReportPart : Report → List ℕ → List ℕ → Type 0
 IsReportPart report script text =
     IsFront text (opening report)
-    ⊎ ((rest : List ℕ) × TranscribesPartFrom report script 0 None start_state 1 rest × (text ≡ opening report ++ rest))
+    ⊎ ((rest : List ℕ) × TranscribesPartFrom report script 0 None start_state 1 rest
+    × (text ≡ opening report ++ rest))

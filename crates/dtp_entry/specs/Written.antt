@@ -26,7 +26,8 @@ pub record HasFault {A : Type 0} (before now : ℕ) (result : Result A SessionEr
   pub later : before ≤ now
 
 -- A legal text was written whole, or, where the call says that it wasn't, nothing or a front of one.
-pub record WritesOne (IsLegal : List ℕ → Type 0) (before now : Option (List ℕ)) (faults_before faults_now : ℕ) (result : Result (Unit {0}) SessionError) : Type 0 where
+pub record WritesOne (IsLegal : List ℕ → Type 0) (before now : Option (List ℕ))
+    (faults_before faults_now : ℕ) (result : Result (Unit {0}) SessionError) : Type 0 where
   pub whole : OnOk result (Writes before now IsLegal)
   pub part : OnErr result (Writes before now (IsPartOf IsLegal))
   pub fault : HasFault faults_before faults_now result

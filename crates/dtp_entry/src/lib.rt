@@ -1,5 +1,5 @@
 //! What the calls that write and that check a script's answers both stand on: the problem of a state's assertions, the
-//! definitions of entries and of what is written of a script, and the texts that go to a sink.
+//! definitions of entries and of what is written of a script, the kinds of refusals and the texts that go to a sink.
 //!
 //! Nothing here searches, so a checker that stands on this crate doesn't stand on a search.
 #![tactic(auto)]
@@ -7,6 +7,7 @@
 mod assertions;
 mod entry;
 mod error;
+mod kind;
 mod laws;
 mod report;
 mod write;
@@ -14,6 +15,7 @@ mod write;
 pub use assertions::problem;
 pub use entry::verdict_of;
 pub use error::SessionError;
+pub use kind::kind_of;
 pub use laws::one_transcript;
 pub use report::Report;
 pub use write::write_text;

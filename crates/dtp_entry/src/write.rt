@@ -10,7 +10,8 @@ use dtp_io::{Sink, write_all_of};
 /// Writes a text. Where the sink fails, a front of the text is written.
 pub fn write_text<K: Sink>(sink: &mut K, text: &[u8]) -> Result<(), SessionError>
     ensures ok { OnOk result (Appends (K.holds sink.old) (K.holds sink.new) text.now) }
-    ensures err { OnErr result (Writes (K.holds sink.old) (K.holds sink.new) (λ added. IsFront added text.now)) }
+    ensures err { OnErr result (Writes (K.holds sink.old) (K.holds sink.new)
+        (λ added. IsFront added text.now)) }
     ensures cause { IfErr result (λ why. why ≡ SessionError.WriteFault) }
     ensures fault { OnErr result (Rose (K.faults sink.old) (K.faults sink.new)) }
     ensures quiet { OnOk result (K.faults sink.new ≡ K.faults sink.old) }
