@@ -11,11 +11,11 @@ use Rattle.smt_script.specs.declared.state.Effect.TheVariants.{CheckSat, Tell}
 use Rattle.smt_script.specs.declared.state.Notice.{Notice as Told}
 use Rattle.smt_script.specs.declared.state.Notice.TheVariants.{Success, Unsupported}
 use Rattle.smt_script.specs.Kept.{Kept, Steps}
-use Rattle.smt_script.specs.States.{State, start_state, after}
+use Rattle.smt_script.specs.States.{State, Step, start_state, after}
 use Rattle.dtp_entry.specs.declared.report.Report.{Report}
 use Rattle.dtp_entry.specs.declared.report.Report.TheVariants.{Verdicts, Certificate}
 use Rattle.dtp_entry.specs.Standing.{Stands}
-use Rattle.dtp_entry.specs.Transcripts.{Held, closing, told, decision_line, checked, Answered, Reply, answered, last, error, Answers, Replies}
+use Rattle.dtp_entry.specs.Transcripts.{Held, closing, told, decision_line, checked, Answered, Reply, answered, last, error, Answers, RepliesBy, Replies}
 use Rattle.dtp_session.specs.declared.piece.Piece.{Piece}
 use Rattle.dtp_session.specs.declared.piece.Piece.TheVariants.{Opening, Decision, Notice, Closing, Error}
 use Rattle.dtp_session.specs.declared.session.Session.{Session}
@@ -48,7 +48,7 @@ gives_map report q A B f Decision (a, h, by) = (a, f (answered a) h, by)
 gives_map report q A B f (Notice notice) (a, h, by) = (a, f (answered a) h, by)
 
 replies_by : (report : Report) (held : Held) (s : State) (x : Sexpr) (effect : Effect) (kept : Kept) (h : Steps s x effect kept) (reply : Reply) → Answers report held h.state effect reply → Replies report held s x reply
-replies_by report held s x effect kept h reply a = rw (h.leads, Replies) a
+replies_by report held s x effect kept h reply a = subst (λ (found : Result Step Why). RepliesBy report held found reply) (sym h.leads) a
 
 pub carried_gives : (report : Report) (held : Held) (q : Session) (s : State) (x : Sexpr) (effect : Effect) (kept : Kept) (h : Steps s x effect kept) (piece : Piece)
     → Gives report q (Answers report held h.state effect) piece → Gives report q (Replies report held s x) piece
@@ -56,7 +56,7 @@ carried_gives report held q s x effect kept h piece g =
     gives_map report q (Answers report held h.state effect) (Replies report held s x) (λ reply a. replies_by report held s x effect kept h reply a) piece g
 
 pub refusal_gives : (report : Report) (held : Held) (s : State) (x : Sexpr) (why : Why) (kind : Kind) → after s x ≡ Err why → kind ≡ kind_of why → Replies report held s x (error kind)
-refusal_gives report held s x why kind leads e = rw (leads, Replies) (ap error e)
+refusal_gives report held s x why kind leads e = subst (λ (found : Result Step Why). RepliesBy report held found (error kind)) (sym leads) (ap error e)
 
 -- ---- the text of a notice
 

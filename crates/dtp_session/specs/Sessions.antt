@@ -17,7 +17,8 @@ use Rattle.dtp_session.specs.declared.session.Session.{Session}
 abbrev pub IsText : Session → Piece → List ℕ → Type 0
 IsText p Opening text = text ≡ opening p.report
 IsText p Decision text = (entry : Entry) → p.held ≡ Some entry → text ≡ decision_line p.report entry
-IsText p (Notice notice) text = (s : State) → p.state.print_success ≡ s.print_success → text ≡ told p.report p.held s notice
+IsText p (Notice notice) text =
+    (s : State) → p.state.print_success ≡ s.print_success → text ≡ told p.report p.held s notice
 IsText p Closing text = text ≡ closing p.report
 IsText p (Error kind) text = text ≡ error_line p.command kind
 
@@ -89,15 +90,19 @@ IsGoing _ = Unit {0}
 
 -- the script ends with the piece
 abbrev pub Ends : Session → Session → State → Piece → ℕ → Type 0
-Ends p q s piece status = (text : List ℕ) → IsText q piece text → From p s p.command (record { text = text; found = []; status = status })
+Ends p q s piece status =
+    (text : List ℕ) → IsText q piece text
+    → From p s p.command (record { text = text; found = []; status = status })
 
 -- the script goes on behind the piece
 pub record GoesOn (p q : Session) (s : State) (piece : Piece) : Type 0 where
   pub next : State
   pub found : List Entry
   pub stands : Stands q.state next
-  pub whole : (text : List ℕ) → IsText q piece text → (rest : Output) → From q next (p.command + 1) rest → From p s p.command (behind text found rest)
-  pub part : (text rest : List ℕ) → IsText q piece text → PartFrom q next (p.command + 1) rest → PartFrom p s p.command (text ++ rest)
+  pub whole : (text : List ℕ) → IsText q piece text
+      → (rest : Output) → From q next (p.command + 1) rest → From p s p.command (behind text found rest)
+  pub part : (text rest : List ℕ) → IsText q piece text
+      → PartFrom q next (p.command + 1) rest → PartFrom p s p.command (text ++ rest)
 
 abbrev pub Leads : Session → Session → State → Piece → Type 0
 Leads p q s Closing = Ends p q s Closing 0

@@ -10,7 +10,8 @@ use Rattle.dtp_session.specs.declared.session.Solved.{Solved}
 use Rattle.dtp_session.specs.Ends.{status_of}
 
 -- by what the sink holds and its count of faults, before and now
-pub record IsSolved (report : Report) (script : List ℕ) (before now : Option (List ℕ)) (faults_before faults_now : ℕ) (result : Result Solved SessionError) : Type 0 where
+pub record IsSolved (report : Report) (script : List ℕ) (before now : Option (List ℕ))
+    (faults_before faults_now : ℕ) (result : Result Solved SessionError) : Type 0 where
   -- the whole is written, and its status is the result's
   pub whole : IfOk result (λ end. Writes before now (λ added. IsReport report script added (status_of end)))
   -- a legal front of it is written

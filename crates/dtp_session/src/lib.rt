@@ -11,11 +11,13 @@
 
 mod decision;
 mod gate;
+mod options;
 mod piece;
 mod session;
 mod solve;
 
 pub use dtp_entry::{Report, SessionError};
 pub use gate::{Gate, NoGate};
+pub use options::SearchOptions;
 pub use session::Solved;
 pub use solve::{certify_script, solve_script};

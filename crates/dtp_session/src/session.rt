@@ -3,7 +3,6 @@ ghost use Rattle.std.specs.Prelude.{◌≡◌, ◌≢◌, ◌≤◌, ◌<◌, If
 ghost use Rattle.dtp_io.specs.Faults.{Rose};
 ghost use Rattle.smt_sexpr.specs.Tree.{Sexpr};
 ghost use Rattle.smt_sexpr.specs.Table.{Means, HasMeaning};
-ghost use Rattle.smt_answer.specs.Kinds.{kind_of};
 ghost use Rattle.smt_script.specs.States.{State as Meaning};
 ghost use Rattle.dtp_entry.specs.Standing.{Stands};
 ghost use Rattle.dtp_entry.specs.Transcripts.{Answers, Replies, IsReport, IsReportPart};
@@ -14,11 +13,11 @@ ghost use Rattle.dtp_session.specs.Ends.{status_of};
 use crate::decision::decide;
 use crate::piece::Piece;
 use cert_text::Entry;
-use dtp_entry::{Report, SessionError, verdict_of};
+use dtp_entry::{Report, SessionError, kind_of, verdict_of};
 use dtp_io::Sink;
-use smt_answer::{Kind, kind_of_unreadable};
+use smt_answer::kind_of_unreadable;
 use smt_lex::Lexer;
-use smt_script::{Effect, Refusal, ScriptError, State};
+use smt_script::{Effect, ScriptError, State};
 use smt_sexpr::{SexprError, SexprId, Sexprs};
 use std::alloc::{AllocError, Global};
 
@@ -96,7 +95,8 @@ impl<'a> Session<'a> {
     /// Reads the next command, and carries it out: the piece that answers it, or the last one.
     fn next_piece(&mut self) -> Result<Piece, AllocError>
         requires { IsReady self.old }
-        ensures next { IfOk result (λ piece. (s : Meaning) → Stands self.old.state s → IsNext self.old self.new s piece) }
+        ensures next { IfOk result (λ piece. (s : Meaning) → Stands self.old.state s
+            → IsNext self.old self.new s piece) }
         ensures fresh { IfOk result (λ piece. IsGoing piece → self.new.lexer.failed ≡ None) }
         ensures forward { IfOk result (λ piece. IsGoing piece → self.old.lexer.place < self.new.lexer.place) }
         ensures within { self.new.lexer.place ≤ length self.new.lexer.bytes }
@@ -118,7 +118,8 @@ impl<'a> Session<'a> {
     fn carry_out(&mut self, id: SexprId) -> Result<Piece, AllocError>
         requires meaning { HasMeaning self.old.sexprs id }
         requires stands { (s : Meaning) × Stands self.old.state s }
-        ensures gives { IfOk result (λ piece. (s : Meaning) (x : Sexpr) → Stands self.old.state s → Means self.old.sexprs id x
+        ensures gives { IfOk result (λ piece. (s : Meaning) (x : Sexpr)
+            → Stands self.old.state s → Means self.old.sexprs id x
             → Gives self.old.report self.new (Replies self.old.report self.old.held s x) piece) }
         ensures keeps { KeepsReading self.old self.new }
     {
@@ -128,7 +129,7 @@ impl<'a> Session<'a> {
                 let piece = self.answer_effect(effect)?;
                 Ok(piece)
             }
-            Err(ScriptError::Refused(why)) => Ok(Piece::Error(kind(why))),
+            Err(ScriptError::Refused(why)) => Ok(Piece::Error(kind_of(why))),
             Err(ScriptError::OutOfMemory) => Err(AllocError),
         }
     }
@@ -163,11 +164,4 @@ impl<'a> Session<'a> {
         self.held = Some(entry);
         Ok(())
     }
-}
-
-/// Why a command was refused, of all that may refuse it.
-fn kind(why: Refusal) -> Kind
-    ensures { result ≡ kind_of why }
-{
-    Kind::from(why)
 }

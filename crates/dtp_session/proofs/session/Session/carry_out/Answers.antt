@@ -19,5 +19,5 @@ returns-in_ok-piece-in-Ok-clause-gives c = λ s x stands means.
 
 pub returns-in-Err-Refused-clause-gives : goal.returns-in-Err-Refused-clause-gives
 returns-in-Err-Refused-clause-gives c = λ s x stands means.
-    refusal_gives c.args.self.now.report c.args.self.now.held s x c.in-Err-Refused.why c.kind.result (c.in-Err-Refused.ensures.refused c.in-Err-Refused.why (ap Err c.in-Err-Refused.field-0-is) s x stands.stands means)
-    (c.kind.ensures ∙ ap kind_of c.in-Err-Refused.why-is)
+    refusal_gives c.args.self.now.report c.args.self.now.held s x c.in-Err-Refused.why c.kind_of.result (c.in-Err-Refused.ensures.refused c.in-Err-Refused.why (ap Err c.in-Err-Refused.field-0-is) s x stands.stands means)
+    (c.kind_of.ensures ∙ ap kind_of c.in-Err-Refused.why-is)
