@@ -1,22 +1,22 @@
--- The numbers of an entry are within the limits of the format.
-use Rattle.std.proofs.Common.{sym, subst, arith, ◌≡◌, ◌≤◌, ◌^◌, ℕ, List, [], ◌∷◌, length, map, take, Some, ℤ, pos, negsuc, neg_ℤ, ◌-ℤ◌, ◌≤ℤ◌, get_or}
+-- The numbers of a refutation that is shown are within the limits of the format.
+use Rattle.std.proofs.Common.{sym, subst, arith, ◌≡◌, ◌≤◌, ◌^◌, ℕ, List, [], ◌∷◌, length, map, take, Option, Some, None, ℤ, pos, negsuc, neg_ℤ, ◌≤ℤ◌, get_or, length-take}
 use Rattle.std.specs.Prelude.{All, Contains, slice_get}
 use Rattle.std.specs.List.{AllByRecursion}
 use Rattle.std.proofs.lemmas.Int.{ints}
-use Rattle.std.proofs.lemmas.List.Elements.{All-contains, All-get_or, All-from_get_or, All-push, All-nil, recursion_from_All, All-from_recursion}
+use Rattle.std.proofs.lemmas.List.{length-map}
+use Rattle.std.proofs.lemmas.List.Elements.{All-contains, All-get_or, All-from_get_or, All-map, All-take, All-push, All-nil, All-cons, All-head, All-tail, All-append, recursion_from_All, All-from_recursion}
 use Rattle.std.proofs.lemmas.Option.{slice_get_within, get_or_from_slice_get, slice_get-get_or}
 use Rattle.stn_core.specs.declared.literal.Literal.{Literal}
 use Rattle.stn_core.specs.Laws.{NegationKept}
 use Rattle.stn_core.specs.Literal.{negation_of, IsOver}
-use Rattle.stn_core.specs.Schedule.{IsInRange}
 use Rattle.refute_tree.specs.declared.step.Step.{Step}
-use Rattle.refute_tree.specs.declared.step.Step.TheVariants.{Cycle, Input, Lemma as Earlier, Either}
+use Rattle.refute_tree.specs.declared.step.Step.TheVariants.{Cycle, Input, Lemma as Earlier, Clash, Either}
 use Rattle.refute_tree.specs.declared.lemma.Lemma.{Lemma}
-use Rattle.refute_tree.specs.Trees.{Tree, Forest, leaf, cases, none, more, stated, IsRefutation}
-use Rattle.cert_text.specs.Limits.{limit, NumberFits, LiteralWithin, StepWithin, LemmaWithin, ValueFits}
-use Rattle.clause_form.specs.Restricting.{named_value, restricted_by, restricted}
-use Rattle.idl_node.specs.declared.sort.Sort.{Sort}
-use Rattle.idl_node.specs.declared.sort.Sort.TheVariants as sorts
+use Rattle.refute_tree.specs.Batches.{NamesOver, LemmaIsOver}
+use Rattle.refute_tree.specs.Laws.{LengthenedPlain}
+use Rattle.refute_tree.specs.Lengths.{pair_step, written_out, lengthened_step, lengthened, lengthened_lemma, IsNoClash}
+use Rattle.refute_tree.specs.Trees.{Tree, Forest, leaf, clash, cases, none, more, stated, IsRefutation}
+use Rattle.cert_text.specs.Limits.{limit, NumberFits, LiteralWithin, StepWithin, LemmaWithin}
 use Rattle.plain_search.specs.Base.{IsPlain}
 use Rattle.plain_search.specs.Verdicts.{IsOfInputs}
 
@@ -26,14 +26,6 @@ number_within : (n : ℤ) → neg_ℤ (pos limit) ≤ℤ n → n ≤ℤ pos limi
 number_within (pos k) low high = omega (arith, ints)
 number_within (negsuc k) low high = omega (arith, ints)
 
-difference_within : (a b : ℤ) → IsInRange a → IsInRange b → NumberFits (a -ℤ b)
-difference_within a b p q =
-    let la = p.low in
-    let ha = p.high in
-    let lb = q.low in
-    let hb = q.high in
-    number_within (a -ℤ b) (omega (arith, ints)) (omega (arith, ints))
-
 literal_within : (points : ℕ) (l : Literal) → points ≤ 2 ^ 32 → IsOver points l → LiteralWithin (2 ^ 32) l
 literal_within points l few h =
     let x = h.x_in in
@@ -42,86 +34,173 @@ literal_within points l few h =
     let high = h.high in
     record { x = omega arith; y = omega arith; c = number_within l.c (omega (arith, ints)) (omega (arith, ints)) }
 
--- ---- values
-
-named_within : (sort : Sort) (n : ℤ) → NumberFits n → ValueFits (named_value sort n)
-named_within sorts.Int n h = h
-named_within sorts.Bool n h = tt
-
-restricted_within : (zero_value : ℤ) (names : List Sort) (values : List ℤ) → IsInRange zero_value → AllByRecursion IsInRange values → AllByRecursion ValueFits (restricted_by zero_value names values)
-restricted_within zero_value [] [] h all = tt
-restricted_within zero_value [] (v ∷ vs) h all = tt
-restricted_within zero_value (s ∷ names) [] h all = tt
-restricted_within zero_value (s ∷ names) (v ∷ vs) h all = (named_within s (v -ℤ zero_value) (difference_within v zero_value all.0 h), restricted_within zero_value names vs h all.1)
-
-by_recursion : (names : List Sort) (values : List ℤ) → AllByRecursion IsInRange values → AllByRecursion ValueFits (restricted names values)
-by_recursion names [] all = tt
-by_recursion names (v ∷ vs) all = restricted_within v names vs all.0 all.1
-
-pub values_within : (names : List Sort) (values : List ℤ) → All IsInRange values → All ValueFits (restricted names values)
-values_within names values all = All-from_recursion ValueFits (restricted names values) (by_recursion names values (recursion_from_All IsInRange values all))
-
 -- ---- refutations
 
 abbrev Within : Step → Type 0
 Within s = StepWithin (2 ^ 32) s
 
--- the steps of a tree are within the limits where those behind it are, and those behind it are plain
-abbrev Continues : List Step → List Step → Type 0
-Continues steps rest = (AllByRecursion Within rest → AllByRecursion Within steps) × AllByRecursion IsPlain rest
+-- the steps of a lemma have no clash
+abbrev pub HasNoClash : Lemma → Type 0
+HasNoClash lemma = All IsNoClash lemma.steps
 
-module _ (kept : NegationKept) (points : ℕ) (few_points : points ≤ 2 ^ 32) (clauses : List (List Literal)) (few : length clauses ≤ limit) (over : All (λ (clause : List Literal). All (IsOver points) clause) clauses) where
-  abbrev AreOver : List Literal → Type 0
-  AreOver literals = All (IsOver points) literals
+module _ (points : ℕ) where
+  -- what a step names is within the problem's limits, and it is no clash
+  abbrev IsShown : Step → Type 0
+  IsShown s = NamesOver points s × IsNoClash s
 
-  cycle_by : (cycle : List Literal) → AllByRecursion (IsOver points) cycle → AllByRecursion (LiteralWithin (2 ^ 32)) cycle
-  cycle_by [] h = tt
-  cycle_by (l ∷ ls) h = (literal_within points l few_points h.0, cycle_by ls h.1)
+  are_shown : (steps : List Step) → AllByRecursion (NamesOver points) steps → AllByRecursion IsNoClash steps → AllByRecursion IsShown steps
+  are_shown [] over plain = tt
+  are_shown (s ∷ steps) over plain = ((over.0, plain.0), are_shown steps over.1 plain.1)
 
-  given_over : (assumed cycle : List Literal) → AreOver assumed → AllByRecursion (Contains assumed) cycle → AllByRecursion (IsOver points) cycle
-  given_over assumed [] all given = tt
-  given_over assumed (l ∷ ls) all given = (All-contains (IsOver points) assumed l all given.0, given_over assumed ls all given.1)
+  -- the steps of a tree are within the limits where those behind it are, and those behind it are shown
+  abbrev Continues : List Step → List Step → Type 0
+  Continues steps rest = (AllByRecursion Within rest → AllByRecursion Within steps) × AllByRecursion IsShown rest
 
-  cycle_within : (assumed cycle : List Literal) → AreOver assumed → All (Contains assumed) cycle → All (LiteralWithin (2 ^ 32)) cycle
-  cycle_within assumed cycle all given =
-      All-from_recursion (LiteralWithin (2 ^ 32)) cycle (cycle_by cycle (given_over assumed cycle all (recursion_from_All (Contains assumed) cycle given)))
+  module _ (kept : NegationKept) (few_points : points ≤ 2 ^ 32) (clauses : List (List Literal)) (few : length clauses ≤ limit) (over : All (λ (clause : List Literal). All (IsOver points) clause) clauses) where
+    abbrev AreOver : List Literal → Type 0
+    AreOver literals = All (IsOver points) literals
 
-  input_over : (i : ℕ) (clause : List Literal) → slice_get clauses i ≡ Some clause → AllByRecursion (IsOver points) clause
-  input_over i clause e =
-      recursion_from_All (IsOver points) clause (subst AreOver (get_or_from_slice_get clauses i clause [] e) (All-get_or AreOver clauses i [] (slice_get_within clauses i clause e) over))
+    literals_within : (literals : List Literal) → AllByRecursion (IsOver points) literals → AllByRecursion (LiteralWithin (2 ^ 32)) literals
+    literals_within [] h = tt
+    literals_within (l ∷ ls) h = (literal_within points l few_points h.0, literals_within ls h.1)
 
-  mutual
-    tree_within : {earlier : List (List Literal)} {assumed : List Literal} {steps rest : List Step} → Tree clauses earlier assumed steps rest → AreOver assumed → AllByRecursion IsPlain steps → Continues steps rest
-    tree_within {assumed = assumed} (leaf {cycle = cycle} among) all plain = (λ h. (cycle_within assumed cycle all among.given, h), plain.1)
-    tree_within (cases {clause = clause} {step = Input i} e forest) all plain =
-        let r = forest_within forest all (input_over i clause e) plain.1 in
-        (λ h. (omega (arith, slice_get_within clauses i clause e, few), r.0 h), r.1)
-    tree_within (cases {step = Cycle cycle} e forest) all plain = absurd cc
-    tree_within (cases {step = Earlier j} e forest) all plain = absurd (let p = plain.0 in cc)
-    tree_within (cases {step = Either l} e forest) all plain = absurd (let p = plain.0 in cc)
+    negations_over : (literals : List Literal) → AllByRecursion (IsOver points) literals → AllByRecursion (IsOver points) (map negation_of literals)
+    negations_over [] h = tt
+    negations_over (l ∷ ls) h = (kept points l h.0, negations_over ls h.1)
 
-    forest_within : {earlier : List (List Literal)} {assumed clause : List Literal} {steps rest : List Step} → Forest clauses earlier assumed clause steps rest → AreOver assumed → AllByRecursion (IsOver points) clause → AllByRecursion IsPlain steps
-        → Continues steps rest
-    forest_within none all given plain = (λ h. h, plain)
-    forest_within {assumed = assumed} (more {l = l} tree forest) all given plain =
-        let first = tree_within tree (All-push (IsOver points) assumed l all given.0) plain in
-        let others = forest_within forest (All-push (IsOver points) assumed (negation_of l) all (kept points l given.0)) given.1 first.1 in
-        (λ h. first.0 (others.0 h), others.1)
+    given_over : (assumed cycle : List Literal) → AreOver assumed → AllByRecursion (Contains assumed) cycle → AllByRecursion (IsOver points) cycle
+    given_over assumed [] all given = tt
+    given_over assumed (l ∷ ls) all given = (All-contains (IsOver points) assumed l all given.0, given_over assumed ls all given.1)
 
-  lemma_within : (earlier : List (List Literal)) (lemma : Lemma) → lemma.clause ≡ [] → All IsPlain lemma.steps → Tree clauses earlier (map negation_of lemma.clause) lemma.steps [] → LemmaWithin (2 ^ 32) lemma
-  lemma_within earlier lemma empty plain tree =
-      let start : Tree clauses earlier [] lemma.steps [] = subst (λ (c : List Literal). Tree clauses earlier (map negation_of c) lemma.steps []) empty tree in
-      let r = tree_within start (All-nil (IsOver points)) (recursion_from_All IsPlain lemma.steps plain) in
-      record {
-        clause = subst (λ (c : List Literal). All (LiteralWithin (2 ^ 32)) c) (sym empty) (All-nil (LiteralWithin (2 ^ 32)));
-        steps = All-from_recursion Within lemma.steps (r.0 tt);
-      }
+    cycle_within : (assumed cycle : List Literal) → AreOver assumed → All (Contains assumed) cycle → All (LiteralWithin (2 ^ 32)) cycle
+    cycle_within assumed cycle all given =
+        All-from_recursion (LiteralWithin (2 ^ 32)) cycle (literals_within cycle (given_over assumed cycle all (recursion_from_All (Contains assumed) cycle given)))
 
-  pub refutation_within : (lemmas : List Lemma) → IsRefutation points clauses lemmas → IsOfInputs lemmas → All (LemmaWithin (2 ^ 32)) lemmas
-  refutation_within lemmas h plain =
+    found_over : (cs : List (List Literal)) (i : ℕ) (clause : List Literal) → All AreOver cs → slice_get cs i ≡ Some clause → AllByRecursion (IsOver points) clause
+    found_over cs i clause all e =
+        recursion_from_All (IsOver points) clause (subst AreOver (get_or_from_slice_get cs i clause [] e) (All-get_or AreOver cs i [] (slice_get_within cs i clause e) all))
+
+    either_over : (l : Literal) (clause : List Literal) → Some (l ∷ negation_of l ∷ []) ≡ Some clause → IsOver points l → AllByRecursion (IsOver points) clause
+    either_over l clause e h =
+        let same : l ∷ negation_of l ∷ [] ≡ clause = cc in
+        subst (AllByRecursion (IsOver points)) same (h, (kept points l h, tt))
+
+    module _ (earlier : List (List Literal)) (count : length earlier ≤ limit) (earlier_over : All AreOver earlier) where
+      mutual
+        tree_within : {assumed : List Literal} {steps rest : List Step} → Tree clauses earlier assumed steps rest → AreOver assumed → AllByRecursion IsShown steps → Continues steps rest
+        tree_within {assumed = assumed} (leaf {cycle = cycle} among) all shown = (λ h. (cycle_within assumed cycle all among.given, h), shown.1)
+        tree_within (clash {i = i} e denied) all shown = absurd shown.0.1
+        tree_within (cases {step = Cycle cycle} e forest) all shown = absurd cc
+        tree_within (cases {clause = clause} {step = Input i} e forest) all shown =
+            let r = forest_within forest all (found_over clauses i clause over e) shown.1 in
+            (λ h. (omega (arith, slice_get_within clauses i clause e, few), r.0 h), r.1)
+        tree_within (cases {clause = clause} {step = Earlier j} e forest) all shown =
+            let r = forest_within forest all (found_over earlier j clause earlier_over e) shown.1 in
+            (λ h. (omega (arith, slice_get_within earlier j clause e, count), r.0 h), r.1)
+        tree_within (cases {step = Clash i} e forest) all shown = absurd cc
+        tree_within (cases {clause = clause} {step = Either l} e forest) all shown =
+            let named : IsOver points l = All-head (IsOver points) l [] shown.0.0 in
+            let r = forest_within forest all (either_over l clause e named) shown.1 in
+            (λ h. (literal_within points l few_points named, r.0 h), r.1)
+
+        forest_within : {assumed clause : List Literal} {steps rest : List Step} → Forest clauses earlier assumed clause steps rest → AreOver assumed → AllByRecursion (IsOver points) clause → AllByRecursion IsShown steps → Continues steps rest
+        forest_within none all given shown = (λ h. h, shown)
+        forest_within {assumed = assumed} (more {l = l} tree forest) all given shown =
+            let first = tree_within tree (All-push (IsOver points) assumed l all given.0) shown in
+            let others = forest_within forest (All-push (IsOver points) assumed (negation_of l) all (kept points l given.0)) given.1 first.1 in
+            (λ h. first.0 (others.0 h), others.1)
+
+      lemma_within : (lemma : Lemma) → LemmaIsOver points lemma → HasNoClash lemma → Tree clauses earlier (map negation_of lemma.clause) lemma.steps [] → LemmaWithin (2 ^ 32) lemma
+      lemma_within lemma h plain tree =
+          let clause = recursion_from_All (IsOver points) lemma.clause h.clause in
+          let assumed = All-from_recursion (IsOver points) (map negation_of lemma.clause) (negations_over lemma.clause clause) in
+          let shown = are_shown lemma.steps (recursion_from_All (NamesOver points) lemma.steps h.steps) (recursion_from_All IsNoClash lemma.steps plain) in
+          let r = tree_within tree assumed shown in
+          record {
+            clause = All-from_recursion (LiteralWithin (2 ^ 32)) lemma.clause (literals_within lemma.clause clause);
+            steps = All-from_recursion Within lemma.steps (r.0 tt);
+          }
+
+    stated_over : (lemmas : List Lemma) → AllByRecursion (LemmaIsOver points) lemmas → AllByRecursion AreOver (map stated lemmas)
+    stated_over [] h = tt
+    stated_over (lemma ∷ lemmas) h = (h.0.clause, stated_over lemmas h.1)
+
+    pub refutation_within : (lemmas : List Lemma) → length lemmas ≤ limit → IsRefutation points clauses lemmas → All (LemmaIsOver points) lemmas → All HasNoClash lemmas → All (LemmaWithin (2 ^ 32)) lemmas
+    refutation_within lemmas count h all plain =
+        let nothing : Lemma = record { clause = []; steps = [] } in
+        All-from_get_or (LemmaWithin (2 ^ 32)) lemmas nothing (λ j lt.
+        let lemma = get_or lemmas j nothing in
+        let before = take j lemmas in
+        let refuted = h.each j lemma (slice_get-get_or lemmas j nothing lt) in
+        let few_before : length (map stated before) ≤ limit = omega (arith, length-map before stated, length-take j lemmas, count) in
+        let before_over = All-from_recursion AreOver (map stated before) (stated_over before (recursion_from_All (LemmaIsOver points) before (All-take (LemmaIsOver points) j lemmas all))) in
+        lemma_within (map stated before) few_before before_over lemma (All-get_or (LemmaIsOver points) lemmas j nothing lt all) (All-get_or HasNoClash lemmas j nothing lt plain) refuted.tree)
+
+-- ---- lemmas that are written out
+
+module _ (points : ℕ) (clauses : List (List Literal)) where
+  pairs_over : (clause : List Literal) → All (NamesOver points) (map pair_step clause)
+  pairs_over [] = All-nil (NamesOver points)
+  pairs_over (l ∷ clause) = All-cons (NamesOver points) (pair_step l) (map pair_step clause) (All-nil (IsOver points)) (pairs_over clause)
+
+  written_over : (i : ℕ) (found : Option (List Literal)) → All (NamesOver points) (written_out i found)
+  written_over i None = All-cons (NamesOver points) (Clash i) [] (All-nil (IsOver points)) (All-nil (NamesOver points))
+  written_over i (Some clause) = All-cons (NamesOver points) (Input i) (map pair_step clause) (All-nil (IsOver points)) (pairs_over clause)
+
+  step_over : (step : Step) → NamesOver points step → All (NamesOver points) (lengthened_step clauses step)
+  step_over (Cycle cycle) h = All-cons (NamesOver points) (Cycle cycle) [] h (All-nil (NamesOver points))
+  step_over (Input i) h = All-cons (NamesOver points) (Input i) [] h (All-nil (NamesOver points))
+  step_over (Earlier j) h = All-cons (NamesOver points) (Earlier j) [] h (All-nil (NamesOver points))
+  step_over (Clash i) h = written_over i (slice_get clauses i)
+  step_over (Either l) h = All-cons (NamesOver points) (Either l) [] h (All-nil (NamesOver points))
+
+  steps_over : (steps : List Step) → All (NamesOver points) steps → All (NamesOver points) (lengthened clauses steps)
+  steps_over [] h = All-nil (NamesOver points)
+  steps_over (step ∷ steps) h =
+      All-append (NamesOver points) (lengthened_step clauses step) (lengthened clauses steps)
+      (step_over step (All-head (NamesOver points) step steps h)) (steps_over steps (All-tail (NamesOver points) step steps h))
+
+  lemmas_over : (lemmas : List Lemma) → AllByRecursion (LemmaIsOver points) lemmas → AllByRecursion (LemmaIsOver points) (map (lengthened_lemma clauses) lemmas)
+  lemmas_over [] h = tt
+  lemmas_over (lemma ∷ lemmas) h = (record { clause = h.0.clause; steps = steps_over lemma.steps h.0.steps }, lemmas_over lemmas h.1)
+
+  pub written_lemmas_over : (lemmas : List Lemma) → All (LemmaIsOver points) lemmas → All (LemmaIsOver points) (map (lengthened_lemma clauses) lemmas)
+  written_lemmas_over lemmas h =
+      All-from_recursion (LemmaIsOver points) (map (lengthened_lemma clauses) lemmas) (lemmas_over lemmas (recursion_from_All (LemmaIsOver points) lemmas h))
+
+  pub written_without_clash : LengthenedPlain → (lemmas : List Lemma) → IsRefutation points clauses lemmas → All HasNoClash (map (lengthened_lemma clauses) lemmas)
+  written_without_clash law lemmas h =
       let nothing : Lemma = record { clause = []; steps = [] } in
-      All-from_get_or (LemmaWithin (2 ^ 32)) lemmas nothing (λ j lt.
+      All-map HasNoClash (lengthened_lemma clauses) lemmas (All-from_get_or (λ (lemma : Lemma). HasNoClash (lengthened_lemma clauses lemma)) lemmas nothing (λ j lt.
       let lemma = get_or lemmas j nothing in
-      let of_inputs = All-get_or (λ (l : Lemma). (l.clause ≡ []) × All IsPlain l.steps) lemmas j nothing lt plain in
-      let refuted = h.each j lemma (slice_get-get_or lemmas j nothing lt) in
-      lemma_within (map stated (take j lemmas)) lemma of_inputs.0 of_inputs.1 refuted.tree)
+      law points clauses (map stated (take j lemmas)) lemma (h.each j lemma (slice_get-get_or lemmas j nothing lt))))
+
+  -- ---- what the search finds
+
+  plain_over : (step : Step) → IsPlain step → NamesOver points step
+  plain_over (Cycle cycle) h = All-nil (IsOver points)
+  plain_over (Input i) h = All-nil (IsOver points)
+  plain_over (Earlier j) h = All-nil (IsOver points)
+  plain_over (Clash i) h = All-nil (IsOver points)
+  plain_over (Either l) h = absurd cc
+
+  plain_steps_over : (steps : List Step) → AllByRecursion IsPlain steps → AllByRecursion (NamesOver points) steps
+  plain_steps_over [] h = tt
+  plain_steps_over (step ∷ steps) h = (plain_over step h.0, plain_steps_over steps h.1)
+
+  abbrev IsOfInputsAlone : Lemma → Type 0
+  IsOfInputsAlone lemma = (lemma.clause ≡ []) × All IsPlain lemma.steps
+
+  found_lemma_over : (lemma : Lemma) → IsOfInputsAlone lemma → LemmaIsOver points lemma
+  found_lemma_over lemma h = record {
+    clause = subst (All (IsOver points)) (sym h.0) (All-nil (IsOver points));
+    steps = All-from_recursion (NamesOver points) lemma.steps (plain_steps_over lemma.steps (recursion_from_All IsPlain lemma.steps h.1));
+  }
+
+  found_over_each : (lemmas : List Lemma) → AllByRecursion IsOfInputsAlone lemmas → AllByRecursion (LemmaIsOver points) lemmas
+  found_over_each [] h = tt
+  found_over_each (lemma ∷ lemmas) h = (found_lemma_over lemma h.0, found_over_each lemmas h.1)
+
+  pub found_lemmas_over : (lemmas : List Lemma) → IsOfInputs lemmas → All (LemmaIsOver points) lemmas
+  found_lemmas_over lemmas h =
+      All-from_recursion (LemmaIsOver points) lemmas (found_over_each lemmas (recursion_from_All IsOfInputsAlone lemmas h))

@@ -1,17 +1,20 @@
 -- The two verdicts.
-use Rattle.std.proofs.Common.{sym, ap, subst, ◌∙◌, ◌≡◌, ◌+◌, ◌≤◌, ℕ, List, length, ℤ}
+use Rattle.std.proofs.Common.{arith, sym, ap, subst, ◌∙◌, ◌≡◌, ◌+◌, ◌≤◌, ◌^◌, ℕ, List, length, map, ℤ}
 use Rattle.std.specs.Prelude.{All}
 use Rattle.std.specs.List.{AllByRecursion}
+use Rattle.std.proofs.lemmas.List.{length-map}
 use Rattle.stn_core.specs.declared.literal.Literal.{Literal}
 use Rattle.stn_core.specs.declared.named.NamedValue.{NamedValue}
 use Rattle.stn_core.specs.Laws.{NegationKept}
 use Rattle.stn_core.specs.Literal.{IsOver}
+use Rattle.stn_core.specs.Named.{AreWithinLimit}
 use Rattle.stn_core.specs.Problem.{ProblemHolds}
 use Rattle.refute_tree.specs.declared.lemma.Lemma.{Lemma}
-use Rattle.refute_tree.specs.Laws.{RefutationLaw}
+use Rattle.refute_tree.specs.Laws.{RefutationLaw, LengthenedPlain, RefutationStays}
+use Rattle.refute_tree.specs.Lengths.{lengthened_lemma}
 use Rattle.refute_tree.specs.Trees.{IsRefutation}
 use Rattle.cert_text.specs.declared.entry.Entry.TheVariants.{Sat, Unsat}
-use Rattle.cert_text.specs.Limits.{limit}
+use Rattle.cert_text.specs.Limits.{limit, LemmaWithin}
 use Rattle.clause_form.specs.ClauseForm as clause_form
 use Rattle.clause_form.specs.Laws.{ProblemFollows, ScheduleFollows, LiteralsAreOver, PointsAreFew}
 use Rattle.clause_form.specs.Restricting.{restricted}
@@ -22,7 +25,7 @@ use Rattle.plain_search.specs.declared.verdict.Verdict.{Verdict}
 use Rattle.plain_search.specs.Verdicts.{IsSolution, IsOfInputs, IsVerdict}
 use Rattle.dtp_entry.specs.Entries.{points_of, problem_of}
 use Rattle.dtp_entry.specs.Transcripts.{Decides}
-use Rattle.dtp_session.proofs.Fitting.{values_within, refutation_within}
+use Rattle.dtp_session.proofs.Fitting.{refutation_within, written_lemmas_over, written_without_clash, found_lemmas_over}
 use Rattle.dtp_entry.proofs.Roots.{assertions_true}
 use Rattle.dtp_entry.proofs.Verdicts.{sorts_count, few_points, refuted_unsatisfiable}
 
@@ -42,20 +45,37 @@ module _ (c : Context) (context : IsContext c) where
       (subst (λ (n : ℕ). ProblemHolds values (clause_form.clauses_of (n + 1) c.nodes c.roots)) (sym count) h.holds) in
       (w.0, assertions_true c (restricted sorts values) c.assertions c.roots (exact c (restricted sorts values) context w.0) w.1)
 
-  pub sat_decides : ContextsHaveScopes → RootsAreNodes → RootsAreExact → ScheduleFollows → (values : List ℤ) (named : List NamedValue) → IsSolution (points_of c) (problem_of c) values → named ≡ restricted (sorts_of c.declared) values → Decides c (Sat named)
-  sat_decides scope roots exact law values named h e =
-      let shown = restricted (sorts_of c.declared) values in
+  pub sat_decides : ContextsHaveScopes → RootsAreNodes → RootsAreExact → ScheduleFollows → (values : List ℤ) (named : List NamedValue) → IsSolution (points_of c) (problem_of c) values → named ≡ restricted (sorts_of c.declared) values → AreWithinLimit named
+      → Decides c (Sat named)
+  sat_decides scope roots exact law values named h e within =
       let w = solution_schedule scope roots exact law values h in
-      let within = values_within (sorts_of c.declared) values h.range in
-      subst (λ (found : List NamedValue). Decides c (Sat found)) (sym e) (record { right = ((w.0, w.1), within); so = (shown, w.0, w.1) })
+      let fits = subst (λ (found : List NamedValue). IsScheduleFor c found) (sym e) w.0 in
+      let trues = subst (λ (found : List NamedValue). AllByRecursion (IsTrueOn c found) c.assertions) (sym e) w.1 in
+      record { right = ((fits, trues), within); so = (named, fits, trues) }
 
-  pub unsat_decides : ContextsHaveScopes → RootsAreNodes → RootsAreExact → ProblemFollows → RefutationLaw → LiteralsAreOver → PointsAreFew → NegationKept → length (problem_of c) ≤ limit → (lemmas : List Lemma) → IsRefutation (points_of c) (problem_of c) lemmas → IsOfInputs lemmas
-      → Decides c (Unsat lemmas)
-  unsat_decides scope roots exact holds refutes law few kept few_clauses lemmas h inputs =
+  abbrev AreOverPoints : List (List Literal) → Type 0
+  AreOverPoints clauses = All (λ (clause : List Literal). All (IsOver (points_of c)) clause) clauses
+
+  problem_over : ContextsHaveScopes → RootsAreNodes → LiteralsAreOver → AreOverPoints (problem_of c)
+  problem_over scope roots law =
       let over = law (sorts_of c.declared) c.nodes c.roots (scope c context).table (roots c context) in
-      let named : All (λ (clause : List Literal). All (IsOver (points_of c)) clause) (problem_of c) =
-      subst (λ (n : ℕ). All (λ (clause : List Literal). All (IsOver (clause_form.points_of (n + 1) c.nodes c.roots)) clause) (clause_form.clauses_of (n + 1) c.nodes c.roots)) (sorts_count c.declared) over in
-      record {
-        right = (h, refutation_within kept (points_of c) (few_points c context scope few) (problem_of c) few_clauses named lemmas h inputs);
-        so = refuted_unsatisfiable c context scope roots exact holds refutes lemmas h;
-      }
+      subst (λ (n : ℕ). All (λ (clause : List Literal). All (IsOver (clause_form.points_of (n + 1) c.nodes c.roots)) clause) (clause_form.clauses_of (n + 1) c.nodes c.roots)) (sorts_count c.declared) over
+
+  -- what is shown is the refutation that was found, with each clash written out
+  module _ (found : List Lemma) (h : IsRefutation (points_of c) (problem_of c) found) (inputs : IsOfInputs found) where
+    abbrev pub shown : List Lemma
+    shown = map (lengthened_lemma (problem_of c)) found
+
+    pub shown_within : ContextsHaveScopes → RootsAreNodes → LiteralsAreOver → PointsAreFew → NegationKept → LengthenedPlain → RefutationStays lengthened_lemma
+        → length (problem_of c) ≤ limit → length found ≤ limit → All (LemmaWithin (2 ^ 32)) shown
+    shown_within scope roots law few kept plain stays few_clauses few_lemmas =
+        let points = points_of c in
+        let clauses = problem_of c in
+        let count : length shown ≤ limit = omega (arith, length-map found (lengthened_lemma clauses), few_lemmas) in
+        refutation_within points kept (few_points c context scope few) clauses few_clauses (problem_over scope roots law) shown count (stays points clauses found h)
+        (written_lemmas_over points clauses found (found_lemmas_over points clauses found inputs)) (written_without_clash points clauses plain found h)
+
+    pub unsat_decides : ContextsHaveScopes → RootsAreNodes → RootsAreExact → ProblemFollows → RefutationLaw → RefutationStays lengthened_lemma → All (LemmaWithin (2 ^ 32)) shown → Decides c (Unsat shown)
+    unsat_decides scope roots exact holds refutes stays within =
+        let refuted = stays (points_of c) (problem_of c) found h in
+        record { right = (refuted, within); so = refuted_unsatisfiable c context scope roots exact holds refutes shown refuted }

@@ -1,6 +1,7 @@
 //! What decides a check-sat.
-ghost use Rattle.std.specs.Prelude.{◌≡◌, IfOk};
+ghost use Rattle.std.specs.Prelude.{◌≡◌, map, IfOk};
 ghost use Rattle.plain_search.specs.Verdicts.{IsVerdict as IsSolved};
+ghost use Rattle.refute_tree.specs.Lengths.{lengthened_lemma};
 ghost use Rattle.smt_script.specs.States.{State as Meaning};
 ghost use Rattle.dtp_entry.specs.Standing.{Stands};
 ghost use Rattle.dtp_entry.specs.Transcripts.{Decides};
@@ -10,6 +11,7 @@ use clause_form::restrict;
 use dtp_entry::problem;
 use inc_paths::Network;
 use plain_search::Verdict;
+use refute_tree::{Refutation, lengthen};
 use smt_script::State;
 use std::alloc::{AllocError, Global};
 use stn_core::Problem;
@@ -23,6 +25,22 @@ fn solution(alloc: Global, problem: &Problem) -> Result<Verdict, AllocError>
     plain_search::decide(alloc, problem, &mut net)
 }
 
+/// The refutation with each clash written out, which is how a certificate shows it.
+fn written_out(
+    alloc: Global,
+    problem: &Problem,
+    refutation: &Refutation,
+) -> Result<Refutation, AllocError>
+    ensures { IfOk result (λ shown. shown ≡ map (lengthened_lemma problem.now.clauses) refutation.now) }
+{
+    let lemmas = refutation.as_slice();
+    let mut shown = Vec::with_capacity(alloc, lemmas.len())?;
+    for lemma in lemmas {
+        shown.push(lengthen(alloc, problem, lemma)?)?;
+    }
+    Ok(Refutation::new(shown))
+}
+
 /// Decides the assertions: a schedule that satisfies them, or a refutation of their problem.
 pub fn decide(alloc: Global, state: &State) -> Result<Entry, AllocError>
     requires { (s : Meaning) × Stands state.now s }
@@ -31,17 +49,22 @@ pub fn decide(alloc: Global, state: &State) -> Result<Entry, AllocError>
     idl_term::context_law();
     clause_form::clause_form_law();
     refute_tree::refutation_law();
+    refute_tree::lengths_law();
     stn_core::negation_kept();
     let problem = problem(alloc, state)?;
-    // an entry can't name so many clauses, which are in no memory
-    if problem.clauses.as_slice().len() as u64 > NUMBER_LIMIT {
-        return Err(AllocError);
-    }
     match solution(alloc, &problem)? {
         Verdict::Sat(schedule) => {
             let values = restrict(alloc, schedule.as_slice(), state.names().sorts())?;
             Ok(Entry::Sat(values))
         }
-        Verdict::Unsat(refutation) => Ok(Entry::Unsat(refutation)),
+        Verdict::Unsat(refutation) => {
+            let count = problem.clauses.as_slice().len().max(refutation.as_slice().len());
+            // an entry can't name so many clauses or lemmas, which are in no memory
+            if count as u64 > NUMBER_LIMIT {
+                return Err(AllocError);
+            }
+            let shown = written_out(alloc, &problem, &refutation)?;
+            Ok(Entry::Unsat(shown))
+        }
     }
 }
