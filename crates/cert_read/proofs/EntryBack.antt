@@ -1,7 +1,10 @@
 -- The s-expression of an entry within the limits stands for this entry.
-use Rattle.std.proofs.Common.{◌≡◌, ◌∙◌, refl, ap, arith, ℕ, suc, ◌<◌, ◌≤◌, ◌^◌, ℤ, pos, negsuc, true, false, List, [], ◌∷◌, map, Option, Some}
-use Rattle.std.specs.Prelude.{All, min}
-use Rattle.std.proofs.lemmas.Bool.{le-leb}
+use Rattle.std.proofs.Common.{◌≡◌, ◌∙◌, refl, ap, arith, ℕ, suc, ◌<◌, ◌≤◌, ◌^◌, ℤ, pos, negsuc, true, false, List, [], ◌∷◌, map, Option, Some, None}
+use Rattle.std.specs.Prelude.{All, min, nat_le, unsigned_abs}
+use Rattle.std.proofs.lemmas.Int.{ints}
+use Rattle.stn_core.specs.Limits.{named_value_limit}
+use Rattle.cert_read.specs.Shapes.{IsBetween}
+use Rattle.std.proofs.lemmas.Bool.{le-leb, leb-true, false_from_ne_true}
 use Rattle.std.proofs.lemmas.List.Elements.{recursion_from_All}
 use Rattle.std.specs.List.{AllByRecursion}
 use Rattle.smt_sexpr.specs.Tree.{Sexpr}
@@ -9,23 +12,31 @@ use Rattle.stn_core.specs.declared.literal.Literal.{Literal}
 use Rattle.stn_core.specs.declared.named.NamedValue.{NamedValue}
 use Rattle.stn_core.specs.declared.named.NamedValue.TheVariants.{Int, Truth}
 use Rattle.refute_tree.specs.declared.step.Step.{Step}
-use Rattle.refute_tree.specs.declared.step.Step.TheVariants.{Cycle, Input, Lemma as Earlier, Either}
+use Rattle.refute_tree.specs.declared.step.Step.TheVariants.{Cycle, Input, Lemma as Earlier, Clash, Either}
 use Rattle.refute_tree.specs.declared.lemma.Lemma.{Lemma}
 use Rattle.cert_text.specs.declared.entry.Entry.TheVariants.{Sat, Unsat}
 use Rattle.cert_text.specs.Form.{numeral, bound_sexprs, number_of_value, literal_sexpr, step_sexpr, lemma_sexpr, value_sexpr}
 use Rattle.smt_sexpr.specs.Shapes.{items_of}
 use Rattle.cert_text.proofs.OneEntry.{numeral_value}
 use Rattle.cert_read.specs.Laws.{EntryIsItsForm}
-use Rattle.cert_read.specs.Parts.{limit, limited, index_of, point_of, number_of, each_of, bound_of, literal_of, step_of, lemma_of, named_value_of}
+use Rattle.cert_read.specs.Parts.{limit, limited, numeral_within, index_of, point_of, number_within, number_of, each_of, bound_of, literal_of, step_of, lemma_of, named_value_of}
 use Rattle.cert_read.specs.Written.{NumberFits, LiteralWithin, StepWithin, LemmaWithin, ValueFits}
 
 -- ---- numbers
 
-limited_is : (n : ℕ) → n ≤ limit → limited n ≡ Some n
-limited_is n h = rw (le-leb n limit h) refl
+pub limited_is : (most n : ℕ) → n ≤ most → limited most n ≡ Some n
+limited_is most n h = rw (le-leb n most h) refl
+
+pub limited_past : (most n : ℕ) → most < n → limited most n ≡ None
+limited_past most n h =
+    let above : nat_le n most ≡ false = false_from_ne_true (nat_le n most) (λ e. absurd (let low : n ≤ most = leb-true n most e in omega (arith, h, low))) in
+    rw above refl
+
+numeral_back : (most n : ℕ) → n ≤ most → numeral_within most (numeral n) ≡ Some n
+numeral_back most n h = ap (limited most) (numeral_value n) ∙ limited_is most n h
 
 index_back : (n : ℕ) → n ≤ limit → index_of (numeral n) ≡ Some n
-index_back n h = ap limited (numeral_value n) ∙ limited_is n h
+index_back n h = numeral_back limit n h
 
 least_is : (n : ℕ) → n < 2 ^ 32 → min n 4294967295 ≡ n
 least_is n h = omega arith
@@ -33,9 +44,16 @@ least_is n h = omega arith
 point_back : (n : ℕ) → n < 2 ^ 32 → point_of (numeral n) ≡ Some n
 point_back n h = rw (index_back n (omega arith)) (ap Some (least_is n h))
 
+within_back : (most : ℕ) (n : ℤ) → unsigned_abs n ≤ most → number_within most (number_of_value n) ≡ Some n
+within_back most (pos n) h = rw (numeral_back most n h) refl
+within_back most (negsuc n) h = rw (numeral_back most (suc n) h) refl
+
 number_back : (n : ℤ) → NumberFits n → number_of (number_of_value n) ≡ Some n
-number_back (pos n) h = rw (index_back n h) refl
-number_back (negsuc n) h = rw (index_back (suc n) h) refl
+number_back n h = within_back limit n h
+
+least_size : (most : ℕ) (n : ℤ) → IsBetween most n → unsigned_abs n ≤ most
+least_size most (pos n) h = omega (arith, ints, h.0, h.1)
+least_size most (negsuc n) h = omega (arith, ints, h.0, h.1)
 
 -- ---- parts
 
@@ -65,13 +83,14 @@ step_back : (s : Step) → StepFits s → step_of (step_sexpr s) ≡ Some s
 step_back (Cycle ls) h = rw (literals_back ls h) refl
 step_back (Input i) h = rw (index_back i h) refl
 step_back (Earlier j) h = rw (index_back j h) refl
+step_back (Clash i) h = absurd h
 step_back (Either l) h = rw (bound_back l h) refl
 
 lemma_back : (l : Lemma) → LemmaFits l → lemma_of (lemma_sexpr l) ≡ Some l
 lemma_back l h = rw (literals_back l.clause h.clause, each_back step_of step_sexpr StepFits step_back l.steps h.steps) refl
 
 value_back : (v : NamedValue) → ValueFits v → named_value_of (value_sexpr v) ≡ Some v
-value_back (Int n) h = rw (number_back n h) refl
+value_back (Int n) h = rw (within_back named_value_limit n (least_size named_value_limit n h)) refl
 value_back (Truth true) h = refl
 value_back (Truth false) h = refl
 

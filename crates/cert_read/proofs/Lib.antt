@@ -7,3 +7,4 @@ pub mod EntryBack
 pub mod WrittenBack
 pub mod NumeralTexts
 pub mod OnlyForms
+pub mod LemmaForms

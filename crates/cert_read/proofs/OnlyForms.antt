@@ -1,6 +1,9 @@
 -- What is read as a part of an entry has the part's own form.
 use Rattle.std.proofs.Common.{◌≡◌, ◌⊎◌, inl, inr, ◌∙◌, refl, sym, ap, subst, arith, ℕ, zero, suc, ◌-◌, ◌<◌, ◌≤◌, ◌^◌, ℤ, pos, negsuc, Bool, true, false, List, [], ◌∷◌, map, Option, Some, None}
-use Rattle.std.specs.Prelude.{All, min, codes, option_map, option_and_then, if◌then◌else◌, nat_le}
+use Rattle.std.proofs.lemmas.Int.{ints}
+use Rattle.stn_core.specs.Limits.{named_value_limit}
+use Rattle.cert_read.specs.Shapes.{IsBetween}
+use Rattle.std.specs.Prelude.{All, min, unsigned_abs, codes, option_map, option_and_then, if◌then◌else◌, nat_le}
 use Rattle.std.specs.Option.{option_or}
 use Rattle.std.specs.Str.{bytes_eq}
 use Rattle.std.specs.List.{AllByRecursion}
@@ -21,7 +24,7 @@ use Rattle.cert_text.specs.declared.entry.Entry.{Entry}
 use Rattle.cert_text.specs.declared.entry.Entry.TheVariants.{Sat, Unsat}
 use Rattle.cert_text.specs.Form.{numeral_text, numeral, bound_sexprs, number_of_value, literal_sexpr, clause_sexpr, step_sexpr, lemma_sexpr, value_sexpr, entry_sexpr}
 use Rattle.smt_sexpr.specs.Shapes.{symbol, items_of, is_symbol, headed_of}
-use Rattle.cert_read.specs.Parts.{limit, index_of, point_of, negative, negative_of, number_of, put, each_of, literal_with, bound_of, literal_of, clause_of, single_of, step_named, step_of, lemma_with, lemma_named, lemma_of, truth_named, named_value_of, entry_named, entry_of}
+use Rattle.cert_read.specs.Parts.{limit, numeral_within, index_of, point_of, negative, negative_within, number_within, number_of, whole_of, put, each_of, literal_with, bound_of, literal_of, clause_of, single_of, step_named, step_of, lemma_with, lemma_named, lemma_of, truth_named, named_value_of, entry_named, entry_of}
 use Rattle.cert_read.specs.Written.{NumberFits, LiteralWithin, StepWithin, LemmaWithin, ValueFits, EntryFits, IsPlain}
 use Rattle.cert_read.proofs.HeaderAndEnd.{symbol_is}
 use Rattle.cert_read.proofs.NumeralTexts.{text_of_value}
@@ -53,14 +56,17 @@ tested false o y e = absurd (none_some y e)
 
 -- ---- numbers
 
-index_only : (x : Sexpr) (n : ℕ) → IsWritable x → index_of x ≡ Some n → (n ≤ limit) × (x ≡ numeral n)
-index_only (leaf Numeral text) n w e =
-    let t = tested (nat_le (value_of text) limit) (Some (value_of text)) n e in
+numeral_only : (most : ℕ) (x : Sexpr) (n : ℕ) → IsWritable x → numeral_within most x ≡ Some n → (n ≤ most) × (x ≡ numeral n)
+numeral_only most (leaf Numeral text) n w e =
+    let t = tested (nat_le (value_of text) most) (Some (value_of text)) n e in
     let value = some_same (value_of text) n t.1 in
-    let low : value_of text ≤ limit = leb-true (value_of text) limit t.0 in
+    let low : value_of text ≤ most = leb-true (value_of text) most t.0 in
     (omega (arith, low, value), ap (leaf Numeral) (sym (text_of_value text w) ∙ ap numeral_text value))
-index_only (leaf other text) n w e = absurd (none_some n e)
-index_only (list xs) n w e = absurd (none_some n e)
+numeral_only most (leaf other text) n w e = absurd (none_some n e)
+numeral_only most (list xs) n w e = absurd (none_some n e)
+
+index_only : (x : Sexpr) (n : ℕ) → IsWritable x → index_of x ≡ Some n → (n ≤ limit) × (x ≡ numeral n)
+index_only x n w e = numeral_only limit x n w e
 
 point_only : (x : Sexpr) (n : ℕ) → IsWritable x → point_of x ≡ Some n → (n < 2 ^ 32) × (n < 2 ^ 32 - 1 → x ≡ numeral n)
 point_only x n w e =
@@ -78,28 +84,39 @@ number_from : (o : Option ℕ) (p : Option ℤ) (z : ℤ) → option_or (option_
 number_from None p z e = inr e
 number_from (Some n) p z e = inl (n, refl, some_same (pos n) z e)
 
-minus_only : (head x : Sexpr) (z : ℤ) → IsWritable x → negative_of (list (more head (more x none))) ≡ Some z → NumberFits z × (list (more head (more x none)) ≡ number_of_value z)
-minus_only head x z w e =
-    let t = tested (is_symbol (codes "-") head) (option_and_then negative (index_of x)) z e in
-    let c = chained negative (index_of x) z t.1 in
-    let n = negative_only c.0 z c.2 in
-    let index = index_only x c.0 w c.1 in
-    let same : list (more head (more x none)) ≡ number_of_value (negsuc n.0) = λ i. list (more (symbol_is (codes "-") head t.0 i) (more ((index.1 ∙ ap numeral n.1) i) none)) in
-    let fits : NumberFits (negsuc n.0) = omega (arith, index.0, n.1) in
-    (subst NumberFits n.2 fits, same ∙ ap number_of_value n.2)
+-- the number's absolute value is at most so much
+abbrev SizeFits : ℕ → ℤ → Type 0
+SizeFits most z = unsigned_abs z ≤ most
 
-negative_form : (x : Sexpr) (z : ℤ) → IsWritable x → negative_of x ≡ Some z → NumberFits z × (x ≡ number_of_value z)
-negative_form (leaf kind text) z w e = absurd (none_some z e)
-negative_form (list none) z w e = absurd (none_some z e)
-negative_form (list (more head none)) z w e = absurd (none_some z e)
-negative_form (list (more head (more x none))) z w e = minus_only head x z w.1.0 e
-negative_form (list (more head (more x (more y ys)))) z w e = absurd (none_some z e)
+minus_only : (most : ℕ) (head x : Sexpr) (z : ℤ) → IsWritable x → negative_within most (list (more head (more x none))) ≡ Some z → SizeFits most z × (list (more head (more x none)) ≡ number_of_value z)
+minus_only most head x z w e =
+    let t = tested (is_symbol (codes "-") head) (option_and_then negative (numeral_within most x)) z e in
+    let c = chained negative (numeral_within most x) z t.1 in
+    let n = negative_only c.0 z c.2 in
+    let index = numeral_only most x c.0 w c.1 in
+    let same : list (more head (more x none)) ≡ number_of_value (negsuc n.0) = λ i. list (more (symbol_is (codes "-") head t.0 i) (more ((index.1 ∙ ap numeral n.1) i) none)) in
+    let fits : SizeFits most (negsuc n.0) = omega (arith, index.0, n.1) in
+    (subst (SizeFits most) n.2 fits, same ∙ ap number_of_value n.2)
+
+negative_form : (most : ℕ) (x : Sexpr) (z : ℤ) → IsWritable x → negative_within most x ≡ Some z → SizeFits most z × (x ≡ number_of_value z)
+negative_form most (leaf kind text) z w e = absurd (none_some z e)
+negative_form most (list none) z w e = absurd (none_some z e)
+negative_form most (list (more head none)) z w e = absurd (none_some z e)
+negative_form most (list (more head (more x none))) z w e = minus_only most head x z w.1.0 e
+negative_form most (list (more head (more x (more y ys)))) z w e = absurd (none_some z e)
+
+within_only : (most : ℕ) (x : Sexpr) (z : ℤ) → IsWritable x → number_within most x ≡ Some z → SizeFits most z × (x ≡ number_of_value z)
+within_only most x z w e = elim (number_from (numeral_within most x) (negative_within most x) z e) [
+  | inl h ↦ (let index = numeral_only most x h.0 w h.1 in (subst (SizeFits most) h.2 index.0, index.1 ∙ ap number_of_value h.2))
+  | inr h ↦ negative_form most x z w h
+]
 
 number_only : (x : Sexpr) (z : ℤ) → IsWritable x → number_of x ≡ Some z → NumberFits z × (x ≡ number_of_value z)
-number_only x z w e = elim (number_from (index_of x) (negative_of x) z e) [
-  | inl h ↦ (let index = index_only x h.0 w h.1 in (subst NumberFits h.2 index.0, index.1 ∙ ap number_of_value h.2))
-  | inr h ↦ negative_form x z w h
-]
+number_only x z w e = within_only limit x z w e
+
+between : (most : ℕ) (z : ℤ) → SizeFits most z → IsBetween most z
+between most (pos n) h = (omega (arith, ints, h), omega (arith, ints, h))
+between most (negsuc n) h = (omega (arith, ints, h), omega (arith, ints, h))
 
 -- ---- lists
 
@@ -295,8 +312,8 @@ value_from None p v e = inr e
 value_from (Some n) p v e = inl (n, refl, some_same (Int n) v e)
 
 value_only : Only named_value_of value_sexpr ValueFits ValueFits
-value_only x v w e = elim (value_from (number_of x) (option_and_then truth_named (symbol_of x)) v e) [
-  | inl h ↦ (let n = number_only x h.0 w h.1 in subst (ValueOnly x) h.2 (n.0, λ fits. n.1))
+value_only x v w e = elim (value_from (whole_of x) (option_and_then truth_named (symbol_of x)) v e) [
+  | inl h ↦ (let n = within_only named_value_limit x h.0 w h.1 in subst (ValueOnly x) h.2 (between named_value_limit h.0 n.0, λ fits. n.1))
   | inr e2 ↦ (let c = chained truth_named (symbol_of x) v e2 in truth_cases x c.0 v (symbol_only x c.0 c.1) c.2)
 ]
 

@@ -7,7 +7,8 @@
 --     v        a number, true or false
 --
 -- A number is a numeral, or (- n) with n at least 1. The indices i and j and the points x and y are numerals. No number
--- and no numeral goes beyond the limit. What has none of these forms stands for nothing.
+-- and no numeral goes beyond the limit, which is another one for the values v. What has none of these forms stands for
+-- nothing; so does a step (clash i), which is of a later version.
 use Rattle.std.specs.Prelude.{ℕ, zero, suc, min, nat_le, ℤ, pos, negsuc, true, false, if◌then◌else◌, List, [], ◌∷◌, codes, Option, Some, None, option_map, option_and_then}
 use Rattle.std.specs.Option.{option_or}
 use Rattle.std.specs.Str.{bytes_eq}
@@ -22,16 +23,21 @@ use Rattle.refute_tree.specs.declared.step.Step.TheVariants.{Cycle, Input, Lemma
 use Rattle.refute_tree.specs.declared.lemma.Lemma.{Lemma}
 use Rattle.cert_text.specs.declared.entry.Entry.{Entry}
 pub use Rattle.cert_text.specs.Limits.{limit}
+use Rattle.stn_core.specs.Limits.{named_value_limit}
 use Rattle.cert_text.specs.declared.entry.Entry.TheVariants.{Sat, Unsat}
 
 -- ---- numbers
 
-abbrev pub limited : ℕ → Option ℕ
-limited n = if nat_le n limit then Some n else None
+abbrev pub limited : ℕ → ℕ → Option ℕ
+limited most n = if nat_le n most then Some n else None
+
+-- the value of a numeral, where it is at most so much
+abbrev pub numeral_within : ℕ → Sexpr → Option ℕ
+numeral_within most x = option_and_then (limited most) (option_map value_of (numeral_of x))
 
 -- the value of a numeral within the limit
 abbrev pub index_of : Sexpr → Option ℕ
-index_of x = option_and_then limited (option_map value_of (numeral_of x))
+index_of x = numeral_within limit x
 
 -- A time point. No problem has the greatest one, 2^32 - 1, so it can stand for all that are greater.
 abbrev pub point_of : Sexpr → Option ℕ
@@ -41,12 +47,21 @@ abbrev pub negative : ℕ → Option ℤ
 negative zero = None
 negative (suc n) = Some (negsuc n)
 
-abbrev pub negative_of : Sexpr → Option ℤ
-negative_of (list (more head (more digits none))) = if is_symbol (codes "-") head then option_and_then negative (index_of digits) else None
-negative_of _ = None
+abbrev pub negative_within : ℕ → Sexpr → Option ℤ
+negative_within most (list (more head (more digits none))) = if is_symbol (codes "-") head then option_and_then negative (numeral_within most digits) else None
+negative_within most _ = None
 
+-- a number that is at most so much, and its negative too
+abbrev pub number_within : ℕ → Sexpr → Option ℤ
+number_within most x = option_or (option_map pos (numeral_within most x)) (negative_within most x)
+
+-- a literal's bound
 abbrev pub number_of : Sexpr → Option ℤ
-number_of x = option_or (option_map pos (index_of x)) (negative_of x)
+number_of x = number_within limit x
+
+-- the value of a name of sort Int
+abbrev pub whole_of : Sexpr → Option ℤ
+whole_of x = number_within named_value_limit x
 
 -- ---- lists
 
@@ -112,7 +127,7 @@ truth_named name =
     else None)
 
 abbrev pub named_value_of : Sexpr → Option NamedValue
-named_value_of x = option_or (option_map Int (number_of x)) (option_and_then truth_named (symbol_of x))
+named_value_of x = option_or (option_map Int (whole_of x)) (option_and_then truth_named (symbol_of x))
 
 abbrev pub entry_named : List ℕ → Items → Option Entry
 entry_named name xs =

@@ -1,6 +1,6 @@
 -- How the code sees the parts of an entry in the table, by the ids of a list's items.
 -- These are words of the code's inner contracts, and no part of the meaning.
-use Rattle.std.specs.Prelude.{◌≡◌, ℕ, Bool, false, List, Option, Some, None}
+use Rattle.std.specs.Prelude.{◌≡◌, ℕ, ℤ, pos, neg_ℤ, ◌≤ℤ◌, Bool, false, List, Option, Some, None}
 use Rattle.std.specs.Option.{option_map_or}
 use Rattle.std.specs.Str.{bytes_eq}
 use Rattle.smt_sexpr.specs.declared.error.SexprError.{SexprError}
@@ -20,6 +20,10 @@ use Rattle.cert_read.specs.declared.error.PartError.TheVariants.{OutOfMemory, Il
 -- whether the s-expression is this numeral
 abbrev pub is_numeral : List ℕ → Sexpr → Bool
 is_numeral digits x = option_map_or (λ text. bytes_eq text digits) (numeral_of x) false
+
+-- the number's absolute value is at most so much
+abbrev pub IsBetween : ℕ → ℤ → Type 0
+IsBetween most n = (neg_ℤ (pos most) ≤ℤ n) × (n ≤ℤ pos most)
 
 -- an ill-formed part stands for nothing; want of memory says nothing
 abbrev pub Lacks : {A : Type 0} → Option A → PartError → Type 0

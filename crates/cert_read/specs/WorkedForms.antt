@@ -38,6 +38,18 @@ beyond_points = leaf Numeral (codes "4294967296")
 abbrev pub beyond_limit : Sexpr
 beyond_limit = leaf Numeral (codes "2305843009213693953")
 
+-- 2^90 as a numeral
+abbrev pub greatest_value : Sexpr
+greatest_value = leaf Numeral (codes "1237940039285380274899124224")
+
+-- 2^90 + 1
+abbrev pub beyond_values : Sexpr
+beyond_values = leaf Numeral (codes "1237940039285380274899124225")
+
+-- (clash 0)
+abbrev pub clash_sexpr : Sexpr
+clash_sexpr = form (codes "clash") (zero ∷ [])
+
 -- (end 1)
 abbrev pub end_with_more : Sexpr
 end_with_more = form (codes "end") (one ∷ [])

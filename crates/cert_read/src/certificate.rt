@@ -1,11 +1,13 @@
 //! A certificate from its text.
-ghost use Rattle.std.specs.Prelude.{◌≡◌, ◌-◌, ◌^◌, ◌<◌, ◌≤◌, length, None, Some, Ok, Err, IfOk, OnOk, IfErr, OnErr, IsTrue, ◌↔◌};
+ghost use Rattle.std.specs.Prelude.{◌≡◌, ◌-◌, ◌^◌, ◌<◌, ◌≤◌, length, None, Some, Ok, Err};
+ghost use Rattle.std.specs.Prelude.{IfOk, OnOk, IfErr, OnErr, IsTrue, ◌↔◌};
 ghost use Rattle.smt_lex.specs.declared.token.LexError.{LexError};
 ghost use Rattle.smt_lex.specs.Grammar.{Reads};
 ghost use Rattle.smt_sexpr.specs.Tree.{Sexpr};
 ghost use Rattle.smt_sexpr.specs.Table.{Means, HasMeaning};
 ghost use Rattle.cert_text.specs.Form.{header_sexpr, end_sexpr};
-ghost use Rattle.cert_read.specs.Certificates.{certificate, no_certificate, ErrorSays, RefusesBehind, HasMore, ReadsEntries, ReadsCertificate};
+ghost use Rattle.cert_read.specs.Certificates.{certificate, no_certificate, ErrorSays, RefusesBehind, HasMore};
+ghost use Rattle.cert_read.specs.Certificates.{ReadsEntries, ReadsCertificate};
 ghost use Rattle.cert_read.specs.Shapes.{LineIs, told_as};
 
 use crate::error::{CertReadError, CertificateRefusal, PartError};
@@ -109,8 +111,10 @@ fn read_rest(lexer: &mut Lexer) -> Result<(), CertReadError>
 /// Reads the entries, the end and the rest of the text; the lexer stays where memory ended.
 fn read_lines(alloc: Global, lexer: &mut Lexer) -> Result<Vec<Entry>, CertReadError>
     requires fresh { lexer.old.failed ≡ None }
-    ensures entries { IfOk result (λ entries. ReadsEntries lexer.old.bytes lexer.old.place (certificate entries.items)) }
-    ensures refused { IfErr result (ErrorSays (λ why. ReadsEntries lexer.old.bytes lexer.old.place (no_certificate why))) }
+    ensures entries { IfOk result
+        (λ entries. ReadsEntries lexer.old.bytes lexer.old.place (certificate entries.items)) }
+    ensures refused { IfErr result
+        (ErrorSays (λ why. ReadsEntries lexer.old.bytes lexer.old.place (no_certificate why))) }
     ensures end { OnOk result (lexer.new.place ≡ length lexer.new.bytes) }
     ensures bytes { lexer.new.bytes ≡ lexer.old.bytes }
 {
@@ -134,8 +138,8 @@ fn read_lines(alloc: Global, lexer: &mut Lexer) -> Result<Vec<Entry>, CertReadEr
 pub fn read_entries(alloc: Global, lexer: &mut Lexer) -> Result<Vec<Entry>, CertReadError>
     ensures entries { lexer.old.failed ≡ None
         → IfOk result (λ entries. ReadsEntries lexer.old.bytes lexer.old.place (certificate entries.items)) }
-    ensures refused { lexer.old.failed ≡ None
-        → IfErr result (ErrorSays (λ why. ReadsEntries lexer.old.bytes lexer.old.place (no_certificate why))) }
+    ensures refused { lexer.old.failed ≡ None → IfErr result
+        (ErrorSays (λ why. ReadsEntries lexer.old.bytes lexer.old.place (no_certificate why))) }
     ensures again { (e : LexError) → lexer.old.failed ≡ Some e
         → (result ≡ Err (CertReadError.Refused (CertificateRefusal.IllFormed 1))) × (lexer.new ≡ lexer.old) }
     ensures end { OnOk result (lexer.new.place ≡ length lexer.new.bytes) }
@@ -155,10 +159,10 @@ pub fn read_entries(alloc: Global, lexer: &mut Lexer) -> Result<Vec<Entry>, Cert
 
 /// Reads the header, and then the entries; the lexer stays where memory ended.
 fn read_whole(alloc: Global, lexer: &mut Lexer) -> Result<Vec<Entry>, CertReadError>
-    ensures entries { lexer.old.failed ≡ None
-        → IfOk result (λ entries. ReadsCertificate lexer.old.bytes lexer.old.place (certificate entries.items)) }
-    ensures refused { lexer.old.failed ≡ None
-        → IfErr result (ErrorSays (λ why. ReadsCertificate lexer.old.bytes lexer.old.place (no_certificate why))) }
+    ensures entries { lexer.old.failed ≡ None → IfOk result
+        (λ entries. ReadsCertificate lexer.old.bytes lexer.old.place (certificate entries.items)) }
+    ensures refused { lexer.old.failed ≡ None → IfErr result
+        (ErrorSays (λ why. ReadsCertificate lexer.old.bytes lexer.old.place (no_certificate why))) }
     ensures again { (e : LexError) → lexer.old.failed ≡ Some e
         → (result ≡ Err (CertReadError.Refused CertificateRefusal.NoHeader)) × (lexer.new ≡ lexer.old) }
     ensures end { OnOk result (lexer.new.place ≡ length lexer.new.bytes) }
@@ -182,10 +186,10 @@ fn read_whole(alloc: Global, lexer: &mut Lexer) -> Result<Vec<Entry>, CertReadEr
 /// A lexer that gave an error before reads no header. Want of memory leaves the lexer as it was. Time and memory are those
 /// of [`read_entries`].
 pub fn read_certificate(alloc: Global, lexer: &mut Lexer) -> Result<Vec<Entry>, CertReadError>
-    ensures entries { lexer.old.failed ≡ None
-        → IfOk result (λ entries. ReadsCertificate lexer.old.bytes lexer.old.place (certificate entries.items)) }
-    ensures refused { lexer.old.failed ≡ None
-        → IfErr result (ErrorSays (λ why. ReadsCertificate lexer.old.bytes lexer.old.place (no_certificate why))) }
+    ensures entries { lexer.old.failed ≡ None → IfOk result
+        (λ entries. ReadsCertificate lexer.old.bytes lexer.old.place (certificate entries.items)) }
+    ensures refused { lexer.old.failed ≡ None → IfErr result
+        (ErrorSays (λ why. ReadsCertificate lexer.old.bytes lexer.old.place (no_certificate why))) }
     ensures again { (e : LexError) → lexer.old.failed ≡ Some e
         → (result ≡ Err (CertReadError.Refused CertificateRefusal.NoHeader)) × (lexer.new ≡ lexer.old) }
     ensures end { OnOk result (lexer.new.place ≡ length lexer.new.bytes) }

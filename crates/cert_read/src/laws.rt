@@ -1,10 +1,11 @@
 //! Laws of the text: functions that do nothing, and tell their callers' proofs a fact.
-ghost use Rattle.std.specs.Prelude.{◌≡◌, Some, None};
+ghost use Rattle.std.specs.Prelude.{◌≡◌, ◌^◌, pos, Some, None};
 ghost use Rattle.refute_tree.specs.Examples.{two_orders_refutation};
 ghost use Rattle.cert_text.specs.declared.entry.Entry.TheVariants.{Unsat};
 ghost use Rattle.cert_text.specs.Form.{end_sexpr};
-ghost use Rattle.cert_read.specs.Parts.{index_of, point_of, number_of, entry_of};
-ghost use Rattle.cert_read.specs.WorkedForms.{two_orders_sexpr, minus_zero, beyond_points, beyond_limit, end_with_more};
+ghost use Rattle.cert_read.specs.Parts.{index_of, point_of, number_of, whole_of, step_of, entry_of};
+ghost use Rattle.cert_read.specs.WorkedForms.{two_orders_sexpr, minus_zero, clash_sexpr, end_with_more};
+ghost use Rattle.cert_read.specs.WorkedForms.{beyond_points, beyond_limit, greatest_value, beyond_values};
 ghost use Rattle.cert_read.specs.Laws.{OneCertificate, OneRest, CertificateReadsBack, EntryIsItsForm};
 ghost use Rattle.cert_read.specs.Laws.{ReadEntryFits, ReadEntryIsForm, TextOfValue, ValueOfText};
 
@@ -34,6 +35,9 @@ pub fn examples_law()
     ensures minus_zero { number_of minus_zero ≡ None }
     ensures beyond_points { point_of beyond_points ≡ Some 4294967295 }
     ensures beyond_limit { index_of beyond_limit ≡ None }
+    ensures greatest_value { whole_of greatest_value ≡ Some (pos (2 ^ 90)) }
+    ensures beyond_values { whole_of beyond_values ≡ None }
+    ensures clash { step_of clash_sexpr ≡ None }
     ensures end { entry_of end_sexpr ≡ None }
     ensures end_with_more { entry_of end_with_more ≡ None }
 {}

@@ -1,17 +1,19 @@
 //! The parts of an entry.
-ghost use Rattle.std.specs.Prelude.{◌≡◌, Option, Some, option_map, IfOk, IfErr};
+ghost use Rattle.std.specs.Prelude.{◌≡◌, ◌++◌, ◌∷◌, [], Option, Some, option_map, IfOk, OnOk, IfErr};
 ghost use Rattle.smt_sexpr.specs.Tree.{Sexpr, Items};
 ghost use Rattle.smt_sexpr.specs.Table.{Means, MeansEach, HasMeaning};
-ghost use Rattle.cert_read.specs.Parts.{each_of, bound_of, literal_of, clause_of, single_of, step_named, truth_named, entry_of};
+ghost use Rattle.cert_read.specs.Parts.{each_of, bound_of, literal_of, clause_of, single_of, step_named};
+ghost use Rattle.cert_read.specs.Parts.{step_of, truth_named, entry_of};
+ghost use Rattle.refute_tree.specs.Views.{step_seen};
 ghost use Rattle.smt_sexpr.specs.Shapes.{headed_of, HaveMeaning, HeadIs};
 ghost use Rattle.cert_read.specs.Shapes.{Lacks};
 
 use crate::error::PartError;
-use crate::number::{index, number, point};
+use crate::number::{index, number, point, whole};
 use cert_text::Entry;
-use refute_tree::{Lemma, Refutation, Step, Steps};
+use refute_tree::{Lemma, Refutation, Step, StepView, Steps};
 use smt_sexpr::{SexprId, Sexprs};
-use std::alloc::Global;
+use std::alloc::{AllocError, Global};
 use stn_core::{Clause, Literal, Literals, NamedValue, NamedValues};
 
 /// What an s-expression can stand for.
@@ -129,6 +131,41 @@ impl Part for Step {
     }
 }
 
+/// The step as it is read from a list.
+fn view_of(step: &Step) -> StepView<'_>
+    ensures { step_seen result ≡ step.now }
+{
+    match step {
+        Step::Cycle(literals) => StepView::Cycle(literals.as_slice()),
+        Step::Input(i) => StepView::Input(*i),
+        Step::Lemma(j) => StepView::Lemma(*j),
+        Step::Clash(i) => StepView::Clash(*i),
+        Step::Either(literal) => StepView::Either(*literal),
+    }
+}
+
+fn push_step(step: Step, steps: &mut Steps) -> Result<(), AllocError>
+    ensures { OnOk result (steps.new ≡ steps.old ++ step ∷ []) }
+{
+    steps.push(view_of(&step))?;
+    Ok(())
+}
+
+/// The steps that the items of a list stand for.
+fn read_steps(alloc: Global, table: &Sexprs, ids: &[SexprId]) -> Result<Steps, PartError>
+    requires { HaveMeaning table.now ids.now }
+    ensures ok { IfOk result (λ steps. (xs : Items) → MeansEach table.now ids.now xs
+        → each_of step_of xs ≡ Some steps) }
+    ensures err { IfErr result (λ e. (xs : Items) → MeansEach table.now ids.now xs
+        → Lacks (each_of step_of xs) e) }
+{
+    let mut steps = Steps::new(alloc);
+    for id in ids {
+        push_step(Step::read(alloc, table, *id)?, &mut steps)?;
+    }
+    Ok(steps)
+}
+
 impl Part for Lemma {
     ghost use Rattle.cert_read.specs.Parts.{lemma_of};
 
@@ -139,11 +176,8 @@ impl Part for Lemma {
         match ids {
             [first, rest @ ..] if name == b"lemma".as_slice() => {
                 let clause = clause(alloc, table, *first)?;
-                let steps = read_each(alloc, table, rest)?;
-                Ok(Lemma {
-                    clause,
-                    steps: Steps::new(steps),
-                })
+                let steps = read_steps(alloc, table, rest)?;
+                Ok(Lemma { clause, steps })
             }
             _ => Err(PartError::IllFormed),
         }
@@ -169,7 +203,7 @@ impl Part for NamedValue {
     ghost meant = { named_value_of };
 
     fn read(_alloc: Global, table: &Sexprs, id: SexprId) -> Result<NamedValue, PartError> {
-        if let Some(n) = number(table, id) {
+        if let Some(n) = whole(table, id) {
             return Ok(NamedValue::Int(n));
         }
         let name = table.symbol(id).ok_or(PartError::IllFormed)?;

@@ -42,8 +42,8 @@ pub(crate) fn write_behind<T: Part>(items: &[T], out: &mut Vec<u8>) -> Result<()
 
 /// Appends the points and the bound of a literal, and the closing parenthesis.
 fn write_bound(literal: Literal, out: &mut Vec<u8>) -> Result<(), AllocError>
-    ensures ok { OnOk result (out.new.items ≡ out.old.items
-        ++ text_of (numeral literal.x) ++ text_behind (items_of (numeral literal.y ∷ number_of_value literal.c ∷ []))) }
+    ensures ok { OnOk result (out.new.items ≡ out.old.items ++ text_of (numeral literal.x)
+        ++ text_behind (items_of (numeral literal.y ∷ number_of_value literal.c ∷ []))) }
     ensures front { take (vec_len out.old) out.new.items ≡ out.old.items }
 {
     write_numeral(u128::from(literal.x), out)?;

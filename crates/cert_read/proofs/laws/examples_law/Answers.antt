@@ -4,4 +4,4 @@ use Rattle.cert_read.proofs.laws.examples_law.Goals as goal
 
 pub returns : goal.returns
 unfolding value_from
-returns c = record { entry = refl; minus_zero = refl; beyond_points = refl; beyond_limit = refl; end = refl; end_with_more = refl }
+returns c = record { entry = refl; minus_zero = refl; beyond_points = refl; beyond_limit = refl; greatest_value = refl; beyond_values = refl; clash = refl; end = refl; end_with_more = refl }
