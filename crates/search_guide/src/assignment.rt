@@ -10,19 +10,26 @@ pub enum Truth {
     False,
 }
 
+/// Where an atom was set last.
+#[derive(Clone, Copy)]
+struct Spot {
+    place: u32,
+    level: u32,
+}
+
 #[derive(Drop)]
 pub struct Assignment {
+    /// for each literal
     truths: Vec<Truth>,
-    places: Vec<u32>,
-    levels: Vec<u32>,
+    /// for each atom
+    spots: Vec<Spot>,
 }
 
 impl Assignment {
     pub fn new(alloc: Global) -> Self {
         Assignment {
             truths: Vec::new(alloc),
-            places: Vec::new(alloc),
-            levels: Vec::new(alloc),
+            spots: Vec::new(alloc),
         }
     }
 
@@ -30,8 +37,7 @@ impl Assignment {
     pub fn push(&mut self) -> Result<(), AllocError> {
         self.truths.push(Truth::Open)?;
         self.truths.push(Truth::Open)?;
-        self.places.push(0)?;
-        self.levels.push(0)?;
+        self.spots.push(Spot { place: 0, level: 0 })?;
         Ok(())
     }
 
@@ -51,11 +57,11 @@ impl Assignment {
     pub fn set(&mut self, number: LiteralNumber, place: usize, level: usize) {
         self.put(number, Truth::True);
         self.put(negated(number), Truth::False);
-        if let Some(slot) = self.places.get_mut(atom_of(number)) {
-            *slot = narrow(place);
-        }
-        if let Some(slot) = self.levels.get_mut(atom_of(number)) {
-            *slot = narrow(level);
+        if let Some(spot) = self.spots.get_mut(atom_of(number)) {
+            *spot = Spot {
+                place: narrow(place),
+                level: narrow(level),
+            };
         }
     }
 
@@ -67,16 +73,16 @@ impl Assignment {
 
     /// Where the literal, or its negation, was set last.
     pub fn place(&self, number: LiteralNumber) -> usize {
-        match self.places.get(atom_of(number)) {
-            Some(place) => *place as usize,
+        match self.spots.get(atom_of(number)) {
+            Some(spot) => spot.place as usize,
             None => 0,
         }
     }
 
     /// The level at which the literal, or its negation, was set last.
     pub fn level(&self, number: LiteralNumber) -> usize {
-        match self.levels.get(atom_of(number)) {
-            Some(level) => *level as usize,
+        match self.spots.get(atom_of(number)) {
+            Some(spot) => spot.level as usize,
             None => 0,
         }
     }

@@ -136,6 +136,11 @@ impl Guide {
         self.numbers.len().saturating_mul(2)
     }
 
+    /// The numbers of the clause's literals, in their order. There are none for a lemma that was forgotten.
+    pub fn numbers_of(&self, source: Source) -> &[LiteralNumber] {
+        self.clauses.literals_of(source)
+    }
+
     /// The number of the clause's literal at a place. There is none beyond the clause, and none for a lemma that was
     /// forgotten.
     pub fn number_at(&self, source: Source, place: usize) -> Option<LiteralNumber> {

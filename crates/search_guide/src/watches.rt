@@ -55,20 +55,27 @@ struct Move {
     other: LiteralNumber,
 }
 
+/// The clauses that are looked at when a literal holds.
+#[derive(Drop)]
+struct Lists {
+    /// the clauses of two literals with its negation
+    pairs: Vec<Watch>,
+    /// the longer clauses that watch its negation
+    longer: Vec<Watch>,
+}
+
 #[derive(Drop)]
 pub struct Watches {
     alloc: Global,
-    /// for each literal the clauses of two literals with its negation
-    pairs: Vec<Vec<Watch>>,
-    /// for each literal the longer clauses that watch its negation
-    lists: Vec<Vec<Watch>>,
+    /// for each literal
+    lists: Vec<Lists>,
     /// the literal from which consequences are drawn
     literal: Option<LiteralNumber>,
     /// the next step of its ladder
     weaker: Option<LiteralNumber>,
     /// how many of its pairs were looked at
     pair: usize,
-    /// its list, taken out of the lists, how much of it was looked at, and how much of that stays
+    /// its longer clauses, taken out of the lists, how many were looked at, and how many of these stay
     list: Vec<Watch>,
     seen: usize,
     kept: usize,
@@ -78,7 +85,6 @@ impl Watches {
     pub fn new(alloc: Global) -> Self {
         Watches {
             alloc,
-            pairs: Vec::new(alloc),
             lists: Vec::new(alloc),
             literal: None,
             weaker: None,
@@ -92,8 +98,10 @@ impl Watches {
     /// Room for one more atom.
     pub fn push(&mut self) -> Result<(), AllocError> {
         for _side in 0..2 {
-            self.pairs.push(Vec::new(self.alloc))?;
-            self.lists.push(Vec::new(self.alloc))?;
+            self.lists.push(Lists {
+                pairs: Vec::new(self.alloc),
+                longer: Vec::new(self.alloc),
+            })?;
         }
         Ok(())
     }
@@ -117,27 +125,34 @@ impl Watches {
             return Ok(());
         };
         clauses.watch(clause, first, second);
-        let lists = if is_pair {
-            &mut self.pairs
-        } else {
-            &mut self.lists
+        let watch_one = Watch {
+            clause,
+            blocker: two,
         };
-        append(
-            lists,
-            negated(one),
-            Watch {
-                clause,
-                blocker: two,
-            },
-        )?;
-        append(
-            lists,
-            negated(two),
-            Watch {
-                clause,
-                blocker: one,
-            },
-        )
+        let watch_two = Watch {
+            clause,
+            blocker: one,
+        };
+        self.append(negated(one), watch_one, is_pair)?;
+        self.append(negated(two), watch_two, is_pair)
+    }
+
+    /// The literal's list gets a watch at its end.
+    fn append(
+        &mut self,
+        number: LiteralNumber,
+        watch: Watch,
+        is_pair: bool,
+    ) -> Result<(), AllocError> {
+        let Some(lists) = self.lists.get_mut(number as usize) else {
+            return Ok(());
+        };
+        if is_pair {
+            lists.pairs.push(watch)?;
+        } else {
+            lists.longer.push(watch)?;
+        }
+        Ok(())
     }
 
     fn keep(&mut self, watch: Watch) {
@@ -161,16 +176,16 @@ impl Watches {
             }
             self.list.truncate(self.kept);
         }
-        if let Some(list) = self.lists.get_mut(literal as usize) {
-            mem::swap(list, &mut self.list);
+        if let Some(lists) = self.lists.get_mut(literal as usize) {
+            mem::swap(&mut lists.longer, &mut self.list);
         }
     }
 
     /// From here on `next` answers what follows from the literal.
     pub fn begin(&mut self, literal: LiteralNumber, weaker: Option<LiteralNumber>) {
         self.end();
-        if let Some(list) = self.lists.get_mut(literal as usize) {
-            mem::swap(list, &mut self.list);
+        if let Some(lists) = self.lists.get_mut(literal as usize) {
+            mem::swap(&mut lists.longer, &mut self.list);
             self.literal = Some(literal);
         }
         self.weaker = weaker;
@@ -208,7 +223,7 @@ impl Watches {
         clauses: &Clauses,
         assignment: &Assignment,
     ) -> Option<Proposal> {
-        let list = self.pairs.get(literal as usize)?;
+        let list = &self.lists.get(literal as usize)?.pairs;
         for place in self.pair..list.len() {
             let watch = *list.get(place)?;
             let truth = assignment.truth(watch.blocker);
@@ -273,7 +288,7 @@ impl Watches {
             clause: watch.clause,
             blocker: step.other,
         };
-        if let Err(error) = append(&mut self.lists, negated(step.literal), moved) {
+        if let Err(error) = self.append(negated(step.literal), moved, false) {
             self.keep(watch);
             return Err(error);
         }
@@ -284,22 +299,12 @@ impl Watches {
     /// The lists lose the clauses that have no literals any more.
     pub fn drop_forgotten(&mut self, clauses: &Clauses) {
         self.end();
-        for list in self.lists.iter_mut() {
-            list.retain(|watch| !clauses.literals(watch.clause).is_empty());
+        for lists in self.lists.iter_mut() {
+            lists
+                .longer
+                .retain(|watch| !clauses.literals(watch.clause).is_empty());
         }
     }
-}
-
-/// The list of this number gets a watch at its end.
-fn append(
-    lists: &mut Vec<Vec<Watch>>,
-    number: LiteralNumber,
-    watch: Watch,
-) -> Result<(), AllocError> {
-    if let Some(list) = lists.get_mut(number as usize) {
-        list.push(watch)?;
-    }
-    Ok(())
 }
 
 /// Reads the clause, one of whose watched literals is `denied`.
