@@ -1,0 +1,95 @@
+-- What is learned from a conflict, over plain lists.
+use Rattle.std.proofs.Common.{arith, ◌≡◌, ◌≢◌, ℕ, zero, suc, ◌<◌, ◌≤◌, ◌+◌, List, [], ◌∷◌, ◌++◌, length, take, get_or, All, Contains, Bool, true, Option, Some, None, subst, sym, ap, ◌∙◌, refl}
+use Rattle.std.specs.Prelude.{slice_get}
+use Rattle.std.proofs.lemmas.List.{length_push, length-take-le}
+use Rattle.stn_core.specs.declared.literal.Literal.{Literal}
+use Rattle.stn_core.specs.Literal.{negation_of}
+use Rattle.refute_tree.specs.declared.lemma.Lemma.{Lemma}
+use Rattle.branch_search.specs.declared.entry.Reason.{Reason}
+use Rattle.branch_search.specs.declared.entry.Reason.TheVariants.{Given, Decision, Clause as ByClause, Pair as ByPair, Cycle as ByCycle}
+use Rattle.branch_search.specs.declared.entry.Entry.{Entry}
+use Rattle.branch_search.specs.declared.entry.Level.{Level}
+use Rattle.branch_search.specs.declared.entry.Conflict.{Conflict}
+use Rattle.branch_search.specs.declared.propagate.Taken.{Taken}
+use Rattle.branch_search.specs.declared.propagate.Taken.TheVariants.{Pushed, Nothing, Stuck}
+use Rattle.branch_search.specs.Trails.{IsReason, IsTrail, IsFirst, IsDenial, entry_at, on_trail}
+use Rattle.branch_search.specs.Proved.{IsClauseOver, IsProved}
+use Rattle.branch_search.specs.Search.{Question, all_lemmas, AreProved, start_of, in_net_of, IsSearch, IsStuckSearch, IsSearchLearned, AreExcluding, IsSearchTaken, IsSearchAfter}
+use Rattle.branch_search.proofs.States.{lemma_last, state_learned, state_cut}
+
+-- a literal without a reason before it is one of the cube's, where nothing was decided
+first_given : (inputs lemmas : List (List Literal)) (cube : List Literal) (es : List Entry) (k : ℕ) (l : Literal) (r : Reason) → (r ≡ Decision → ⊥) → IsFirst r → IsReason inputs lemmas cube es k l r → Contains cube l
+first_given inputs lemmas cube es k l Given not first h = h
+first_given inputs lemmas cube es k l Decision not first h = absurd (not refl)
+first_given inputs lemmas cube es k l (ByClause source place) not first h = absurd first
+first_given inputs lemmas cube es k l (ByPair tighter) not first h = absurd first
+first_given inputs lemmas cube es k l (ByCycle cycle) not first h = absurd first
+
+pub trail_seen : (q : Question) (own lent : List Lemma) (es seen : List Entry) → lent ≡ own → seen ≡ es → IsTrail q.inputs (all_lemmas q.handed own) q.cube es → IsTrail q.inputs (all_lemmas q.handed lent) q.cube seen
+trail_seen q own lent es seen a b h =
+    subst (λ (ls : List Lemma). IsTrail q.inputs (all_lemmas q.handed ls) q.cube seen) (sym a) (subst (IsTrail q.inputs (all_lemmas q.handed own) q.cube) (sym b) h)
+
+pub lemmas_seen : (q : Question) (own lent : List Lemma) → lent ≡ own → All (IsClauseOver q.points) (all_lemmas q.handed own) → All (IsClauseOver q.points) (all_lemmas q.handed lent)
+lemmas_seen q own lent a h = subst (λ (ls : List Lemma). All (IsClauseOver q.points) (all_lemmas q.handed ls)) (sym a) h
+
+pub learned_search : (q : Question) (own new lent : List Lemma) (lemma : Lemma) (es seen : List Entry) (levels : List Level) (literals : List Literal) (whole : Bool) → IsSearch q own es levels literals → lent ≡ own → IsProved q.points q.inputs (all_lemmas q.handed lent) lemma → seen ≡ es → All (IsDenial seen whole) lemma.clause → (length levels ≡ 0 → whole ≡ true) → new ≡ own ++ lemma ∷ [] → IsSearchLearned q new es levels (length own) literals
+learned_search q own new lent lemma es seen levels literals whole s is r same denials root grown =
+    let proved = subst (λ (ls : List Lemma). IsProved q.points q.inputs (all_lemmas q.handed ls) lemma) is r in
+    let denied : All (IsDenial es whole) lemma.clause = subst (λ (fs : List Entry). All (IsDenial fs whole) lemma.clause) same denials in
+    subst (λ (ls : List Lemma). IsSearchLearned q ls es levels (length own) literals) (sym grown) (record {
+      state = state_learned q own lemma es levels literals s proved;
+      count = length_push own lemma;
+      excludes = λ none. (
+        lemma,
+        lemma_last own lemma,
+        λ k d lt. (let h = denied k d lt in
+            (on_trail es h.0, first_given q.inputs (all_lemmas q.handed own) q.cube es h.0 (on_trail es h.0) (entry_at es h.0).reason (λ chosen. let some = (s.rooted h.0 chosen).0 in absurd (omega arith)) (h.3 (root none)) (s.trail h.0 h.1), h.2)),
+      );
+    })
+
+-- where nothing was decided it excludes the cube
+pub excluding : (q : Question) (own : List Lemma) (es : List Entry) (levels : List Level) (j : ℕ) (literals : List Literal) → length levels ≡ 0 → IsSearchLearned q own es levels j literals → AreExcluding q own j
+excluding q own es levels j literals none learned =
+    let count = learned.count in
+    (omega arith, learned.excludes none, learned.state.proved)
+
+pub cut_back : (q : Question) (own kept mid : List Lemma) (es there now : List Entry) (levels these fewer : List Level) (j : ℕ) (literals left : List Literal) (level : ℕ) → level < length these → IsSearchLearned q own es levels j literals → there ≡ es → these ≡ levels → mid ≡ own → now ≡ take (start_of these level) there → fewer ≡ take level these → left ≡ take (in_net_of these level) literals → kept ≡ mid → IsSearch q kept now fewer left
+cut_back q own kept mid es there now levels these fewer j literals left level lt learned a b c is_now is_fewer is_left same =
+    let state : IsSearch q own there these literals = subst (λ (fs : List Entry). IsSearch q own fs these literals) (sym a) (subst (λ (vs : List Level). IsSearch q own es vs literals) (sym b) learned.state) in
+    subst (λ (ls : List Lemma). IsSearch q ls now fewer left) (sym (same ∙ c)) (state_cut q own there now these fewer literals left level lt state is_now is_fewer is_left)
+
+-- the level's literals are in the net
+pub cut_within : (q : Question) (own : List Lemma) (es : List Entry) (levels these : List Level) (j : ℕ) (literals : List Literal) (level : ℕ) → level < length these → IsSearchLearned q own es levels j literals → these ≡ levels → in_net_of these level ≤ length literals
+cut_within q own es levels these j literals level lt learned same =
+    let state : IsSearch q own es these literals = subst (λ (vs : List Level). IsSearch q own es vs literals) (sym same) learned.state in
+    (state.each level lt).in_net
+
+pub fewer_levels : (levels fewer : List Level) (level : ℕ) → level < length levels → fewer ≡ take level levels → length fewer < length levels
+fewer_levels levels fewer level lt is =
+    let count : length (take level levels) ≡ level = length-take-le level levels (omega arith) in
+    let same : length fewer ≡ length (take level levels) = ap (length {A = Level}) is in
+    omega arith
+
+-- whatever became of a proposal, the search stands
+pub taken_search : (q : Question) (own : List Lemma) (es : List Entry) (levels : List Level) (literals : List Literal) (taken : Taken) → IsSearchTaken q own es levels literals taken → IsSearch q own es levels literals
+taken_search q own es levels literals Pushed h = h
+taken_search q own es levels literals Nothing h = h
+taken_search q own es levels literals (Stuck conflict) h = h.state
+
+pub taken_stuck : (q : Question) (own : List Lemma) (es : List Entry) (levels : List Level) (literals : List Literal) (taken : Taken) (conflict : Conflict) → taken ≡ Stuck conflict → IsSearchTaken q own es levels literals taken → IsStuckSearch q own es levels literals conflict
+taken_stuck q own es levels literals taken conflict e h = subst (IsSearchTaken q own es levels literals) e h
+
+pub after_search : (q : Question) (own : List Lemma) (es : List Entry) (levels : List Level) (literals : List Literal) (found : Option Conflict) → IsSearchAfter q own es levels literals found → IsSearch q own es levels literals
+after_search q own es levels literals None h = h
+after_search q own es levels literals (Some conflict) h = h.state
+
+pub after_stuck : (q : Question) (own : List Lemma) (es : List Entry) (levels : List Level) (literals : List Literal) (found : Option Conflict) (conflict : Conflict) → found ≡ Some conflict → IsSearchAfter q own es levels literals found → IsStuckSearch q own es levels literals conflict
+after_stuck q own es levels literals found conflict e h = subst (IsSearchAfter q own es levels literals) e h
+
+-- after the jump there are fewer levels
+pub settled : (q : Question) (own : List Lemma) (es : List Entry) (levels these fewer last : List Level) (literals : List Literal) (level : ℕ) (taken : Taken) → level < length these → these ≡ levels → fewer ≡ take level these → last ≡ fewer → IsSearchTaken q own es last literals taken → (length last < length levels) × IsSearch q own es last literals
+settled q own es levels these fewer last literals level taken lt same is again h =
+    let short : length fewer < length these = fewer_levels these fewer level lt is in
+    let a : length last ≡ length fewer = ap (length {A = Level}) again in
+    let b : length these ≡ length levels = ap (length {A = Level}) same in
+    (omega arith, taken_search q own es last literals taken h)

@@ -1,0 +1,10 @@
+pub mod Links
+pub mod Spines
+pub mod Marks
+pub mod Analyzed
+pub mod Holding
+pub mod States
+pub mod Learned
+pub mod Proposals
+pub mod Splits
+pub mod Answered

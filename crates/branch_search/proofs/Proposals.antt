@@ -1,0 +1,115 @@
+-- Literals that are pushed on the trail, each with its reason, over plain lists.
+use Rattle.std.proofs.Common.{arith, ◌≡◌, ◌≢◌, ℕ, zero, suc, ◌<◌, ◌≤◌, ◌+◌, inl, inr, ◌⊎◌, List, [], ◌∷◌, ◌++◌, length, take, get_or, All, Contains, Option, Some, None, ℤ, pos, subst, sym, ap, ◌∙◌, refl}
+use Rattle.std.proofs.lemmas.Int.{ints}
+use Rattle.std.proofs.lemmas.Bool.{cases_eq}
+use Rattle.std.proofs.lemmas.List.{length_push, take_more}
+use Rattle.stn_core.specs.declared.literal.Literal.{Literal}
+use Rattle.stn_core.specs.Literal.{negation_of, IsOver}
+use Rattle.stn_core.specs.Cycle.{IsNegativeCycle}
+use Rattle.refute_tree.specs.declared.lemma.Lemma.{Lemma}
+use Rattle.branch_search.specs.declared.entry.Source.{Source}
+use Rattle.branch_search.specs.declared.entry.Reason.TheVariants.{Given, Decision, Clause as ByClause, Pair as ByPair, Cycle as ByCycle}
+use Rattle.branch_search.specs.declared.entry.Entry.{Entry}
+use Rattle.branch_search.specs.declared.entry.Level.{Level}
+use Rattle.branch_search.specs.declared.entry.Conflict.TheVariants.{Clause as OfClause, Cycle as OfCycle}
+use Rattle.branch_search.specs.Trails.{no_literal, literal_at, source_clause, IsKnown, entry_at, on_trail, pair_cycle, IsByClause, IsByCycle, IsConflict, Stands}
+use Rattle.branch_search.specs.Denials.{AreDenied}
+use Rattle.branch_search.specs.Search.{Question, all_lemmas, start_of, IsSearch, IsStuckSearch, IsWeaker}
+use Rattle.branch_search.proofs.States.{state_pushed, state_begun, entry_last}
+
+-- a clause's last literal
+pub unit_pushed : (q : Question) (own lent : List Lemma) (es seen now : List Entry) (levels : List Level) (literals : List Literal) (l : Literal) (number : ℕ) (source : Source) (place : ℕ) → IsSearch q own es levels literals → lent ≡ own → seen ≡ es → IsOver q.points l → IsByClause q.inputs (all_lemmas q.handed lent) (Stands seen (length seen)) l source place → now ≡ es ++ record { literal = l; number = number; reason = ByClause source place } ∷ [] → IsSearch q own now levels literals
+unit_pushed q own lent es seen now levels literals l number source place s a b over h grown =
+    let P : List Lemma → Type 0 = λ ls. IsByClause q.inputs (all_lemmas q.handed ls) (Stands es (length es)) l source place in
+    let Q : List Entry → Type 0 = λ fs. IsByClause q.inputs (all_lemmas q.handed lent) (Stands fs (length fs)) l source place in
+    state_pushed q own es now levels literals (record { literal = l; number = number; reason = ByClause source place }) grown s over (subst P a (subst Q b h)) (λ chosen. absurd cc)
+
+pub clause_stuck : (q : Question) (own lent : List Lemma) (es seen : List Entry) (levels : List Level) (literals : List Literal) (source : Source) → IsSearch q own es levels literals → lent ≡ own → seen ≡ es → IsConflict q.inputs (all_lemmas q.handed lent) (Stands seen (length seen)) (OfClause source) → IsStuckSearch q own es levels literals (OfClause source)
+clause_stuck q own lent es seen levels literals source s a b h =
+    let P : List Lemma → Type 0 = λ ls. IsConflict q.inputs (all_lemmas q.handed ls) (Stands es (length es)) (OfClause source) in
+    let Q : List Entry → Type 0 = λ fs. IsConflict q.inputs (all_lemmas q.handed lent) (Stands fs (length fs)) (OfClause source) in
+    record { state = s; clash = subst P a (subst Q b h) }
+
+-- a clause all of whose literals are denied
+pub denied_all : (es : List Entry) (clause named : List Literal) → AreDenied es clause (length clause) → clause ≡ named → (p : ℕ) → p < length named → Stands es (length es) (negation_of (literal_at named p))
+denied_all es clause named denied same =
+    let P : List Literal → Type 0 = λ ls. (p : ℕ) → p < length ls → Stands es (length es) (negation_of (literal_at ls p)) in
+    let all : P clause = λ p lt. denied p lt (λ is. absurd (omega arith)) in
+    subst P same all
+
+-- a tighter bound, and the negation of a weaker one
+pair_negative : (tighter weaker : Literal) → IsWeaker tighter weaker → IsNegativeCycle (pair_cycle tighter weaker)
+pair_negative tighter weaker w =
+    let low = w.c in
+    record { some = omega arith; closed = (tighter.x, (refl, (sym w.y, sym w.x))); negative = omega (arith, ints) }
+
+pub pair_pushed : (q : Question) (own : List Lemma) (es now : List Entry) (levels : List Level) (literals : List Literal) (tighter weaker : Literal) (number : ℕ) → IsSearch q own es levels literals → Stands es (length es) tighter → IsOver q.points weaker → IsWeaker tighter weaker → now ≡ es ++ record { literal = weaker; number = number; reason = ByPair tighter } ∷ [] → IsSearch q own now levels literals
+pair_pushed q own es now levels literals tighter weaker number s there over w grown =
+    let Good : Literal → Type 0 = Stands es (length es) in
+    let each : (p : ℕ) → p < 2 → (literal_at (pair_cycle tighter weaker) p ≡ negation_of weaker) ⊎ Good (literal_at (pair_cycle tighter weaker) p) = by in
+    state_pushed q own es now levels literals (record { literal = weaker; number = number; reason = ByPair tighter }) grown s over (record { negative = pair_negative tighter weaker w; others = each }) (λ chosen. absurd cc)
+  where
+    by : (p : ℕ) → p < 2 → (literal_at (pair_cycle tighter weaker) p ≡ negation_of weaker) ⊎ Stands es (length es) (literal_at (pair_cycle tighter weaker) p)
+    by zero lt = inr there
+    by (suc zero) lt = inl refl
+    by (suc (suc p)) lt = absurd (omega arith)
+
+pub pair_stuck : (q : Question) (own : List Lemma) (es : List Entry) (levels : List Level) (literals cycle : List Literal) (tighter weaker : Literal) → IsSearch q own es levels literals → Stands es (length es) tighter → Stands es (length es) (negation_of weaker) → IsWeaker tighter weaker → cycle ≡ pair_cycle tighter weaker → IsStuckSearch q own es levels literals (OfCycle cycle)
+pair_stuck q own es levels literals cycle tighter weaker s there denied w is =
+    subst (λ (ls : List Literal). IsStuckSearch q own es levels literals (OfCycle ls)) (sym is) (record { state = s; clash = (pair_negative tighter weaker w, by) })
+  where
+    by : (p : ℕ) → p < 2 → Stands es (length es) (literal_at (pair_cycle tighter weaker) p)
+    by zero lt = there
+    by (suc zero) lt = denied
+    by (suc (suc p)) lt = absurd (omega arith)
+
+pub stands_at : (es seen : List Entry) (k : ℕ) (l : Literal) → seen ≡ es → k < length es → l ≡ on_trail seen k → Stands es (length es) l
+stands_at es seen k l same lt is = (k, lt, sym (is ∙ ap (λ (fs : List Entry). on_trail fs k) same))
+
+-- one of the cube's
+pub given_pushed : (q : Question) (own : List Lemma) (es now : List Entry) (levels : List Level) (literals : List Literal) (l : Literal) (number : ℕ) → IsSearch q own es levels literals → Contains q.cube l → IsOver q.points l → now ≡ es ++ record { literal = l; number = number; reason = Given } ∷ [] → IsSearch q own now levels literals
+given_pushed q own es now levels literals l number s there over grown =
+    state_pushed q own es now levels literals (record { literal = l; number = number; reason = Given }) grown s over there (λ chosen. absurd cc)
+
+pub decision_pushed : (q : Question) (own these : List Lemma) (es there now : List Entry) (levels more last : List Level) (literals : List Literal) (l : Literal) (number : ℕ) → IsSearch q own es levels literals → these ≡ own → there ≡ es → more ≡ levels ++ record { start = length es; in_net = length literals } ∷ [] → last ≡ more → IsOver q.points l → now ≡ there ++ record { literal = l; number = number; reason = Decision } ∷ [] → (length last ≤ length levels + 1) × IsSearch q these now last literals
+decision_pushed q own these es there now levels more last literals l number s a same is again over grown =
+    let begun = state_begun q own es levels more literals s is in
+    let grew : now ≡ es ++ record { literal = l; number = number; reason = Decision } ∷ [] = subst (λ (fs : List Entry). now ≡ fs ++ record { literal = l; number = number; reason = Decision } ∷ []) same grown in
+    let search : IsSearch q own now more literals = state_pushed q own es now more literals (record { literal = l; number = number; reason = Decision }) grew begun.0 over tt (λ chosen. (begun.1, begun.2)) in
+    let count = length_push levels (record { start = length es; in_net = length literals }) in
+    let longer : length last ≡ length (levels ++ record { start = length es; in_net = length literals } ∷ []) = ap (length {A = Level}) (again ∙ is) in
+    (omega arith, subst (λ (ls : List Lemma). IsSearch q ls now last literals) (sym a) (subst (λ (vs : List Level). IsSearch q own now vs literals) (sym again) search))
+
+-- the last literal of the trail
+pub last_literal : (es now : List Entry) (e : Entry) → now ≡ es ++ e ∷ [] → on_trail now (length es) ≡ e.literal
+last_literal es now e grown = ap (λ (fs : List Entry). on_trail fs (length es)) grown ∙ ap (λ (f : Entry). f.literal) (entry_last es e (length es) refl)
+
+pub one_taken : (cube old new : List Literal) (i : ℕ) (l m d : Literal) → i < length cube → old ≡ take i cube → new ≡ old ++ m ∷ [] → m ≡ l → l ≡ get_or cube i d → new ≡ take (i + 1) cube
+one_taken cube old new i l m d within before grown same is =
+    grown ∙ ap (λ (ls : List Literal). ls ++ m ∷ []) before ∙ ap (λ (n : Literal). take i cube ++ n ∷ []) (same ∙ is) ∙ sym (take_more cube i d within)
+
+-- a clause's literals, one after the other
+pub denied_next : (es : List Entry) (clause : List Literal) (place p : ℕ) → Stands es (length es) (negation_of (literal_at clause p)) → ((i : ℕ) → i < p → i ≢ place → Stands es (length es) (negation_of (literal_at clause i))) → (i : ℕ) → i < p + 1 → i ≢ place → Stands es (length es) (negation_of (literal_at clause i))
+denied_next es clause place p here before i lt ne = elim (cases_eq i p) [
+  | inl same ↦ subst (λ (k : ℕ). Stands es (length es) (negation_of (literal_at clause k))) (sym same) here
+  | inr other ↦ before i (omega arith) ne
+]
+
+pub denied_past : (es : List Entry) (clause : List Literal) (place p : ℕ) → p ≡ place → ((i : ℕ) → i < p → i ≢ place → Stands es (length es) (negation_of (literal_at clause i))) → (i : ℕ) → i < p + 1 → i ≢ place → Stands es (length es) (negation_of (literal_at clause i))
+denied_past es clause place p e before i lt ne = elim (cases_eq i p) [
+  | inl same ↦ absurd (ne (same ∙ e))
+  | inr other ↦ before i (omega arith) ne
+]
+
+pub unit_follows : (inputs lemmas : List (List Literal)) (es : List Entry) (source : Source) (place : ℕ) (clause : List Literal) → IsKnown inputs lemmas source → clause ≡ source_clause inputs lemmas source → place < length clause → AreDenied es clause place → IsByClause inputs lemmas (Stands es (length es)) (literal_at clause place) source place
+unit_follows inputs lemmas es source place clause known same within denied =
+    let P : List Literal → Type 0 = λ ls. place < length ls in
+    let R : List Literal → Type 0 = λ ls. (p : ℕ) → p < length ls → p ≢ place → Stands es (length es) (negation_of (literal_at ls p)) in
+    record { known = known; within = subst P same within; at = ap (λ (ls : List Literal). literal_at ls place) (sym same); others = subst R same denied }
+
+-- the same search, seen by other names
+pub same_parts : (q : Question) (own these : List Lemma) (es : List Entry) (levels more : List Level) (literals : List Literal) → these ≡ own → more ≡ levels → IsSearch q own es levels literals → IsSearch q these es more literals
+same_parts q own these es levels more literals a b s = subst (λ (ls : List Lemma). IsSearch q ls es more literals) (sym a) (subst (λ (vs : List Level). IsSearch q own es vs literals) (sym b) s)
+
+pub same_net : (q : Question) (own : List Lemma) (es : List Entry) (levels : List Level) (old new : List Literal) → new ≡ old → IsSearch q own es levels old → IsSearch q own es levels new
+same_net q own es levels old new e s = subst (IsSearch q own es levels) (sym e) s

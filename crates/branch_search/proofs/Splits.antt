@@ -1,0 +1,167 @@
+-- What the cube alone comes to, over plain lists.
+use Rattle.std.proofs.Common.{arith, ◌≡◌, ℕ, zero, suc, ◌<◌, ◌≤◌, ◌+◌, inl, inr, List, [], ◌∷◌, ◌++◌, length, map, take, get_or, All, Contains, Option, Some, None, ℤ, min, subst, sym, ap, ◌∙◌, refl}
+use Rattle.std.specs.Prelude.{MatchOption, IfSome}
+use Rattle.std.proofs.lemmas.Bool.{cases_eq}
+use Rattle.std.proofs.lemmas.List.Elements.{All-push, All-append, All-map, Contains-get_or, Contains-push_cases}
+use Rattle.stn_core.specs.declared.literal.Literal.{Literal}
+use Rattle.stn_core.specs.declared.net.Added.{Added}
+use Rattle.stn_core.specs.declared.net.Added.TheVariants.{Cycle as Refused}
+use Rattle.stn_core.specs.Literal.{Holds, negation_of, IsOver}
+use Rattle.stn_core.specs.Answer.{IsBest, IsCycleAmong}
+use Rattle.stn_core.specs.Net.{IsConsistent, IsAdded}
+use Rattle.stn_core.specs.Problem.{ProblemHolds}
+use Rattle.stn_core.proofs.Consequences.{denied, IsOver-negation_of}
+use Rattle.refute_tree.specs.declared.lemma.Lemma.{Lemma}
+use Rattle.refute_tree.specs.Trees.{stated}
+use Rattle.refute_tree.specs.Batches.{LemmaIsOver}
+use Rattle.branch_search.specs.declared.entry.Entry.{Entry}
+use Rattle.branch_search.specs.declared.entry.Level.{Level}
+use Rattle.branch_search.specs.declared.entry.Reason.TheVariants.{Cycle as ByCycle}
+use Rattle.branch_search.specs.declared.entry.Source.TheVariants.{Input as OfInput}
+use Rattle.branch_search.specs.declared.entry.Conflict.TheVariants.{Clause as OfClause}
+use Rattle.branch_search.specs.declared.divide.Live.{Live}
+use Rattle.branch_search.specs.declared.divide.Live.TheVariants.{At}
+use Rattle.branch_search.specs.Trails.{no_literal, literal_at, IsByCycle, Stands}
+use Rattle.branch_search.specs.Denials.{AreDenied}
+use Rattle.branch_search.specs.Clauses.{IsFalseAt}
+use Rattle.branch_search.specs.Proved.{IsClauseOver}
+use Rattle.branch_search.specs.Search.{Question, all_lemmas, AreProved, AllStand, start_of, in_net_of, IsSearch, IsStuckSearch, IsSearchSettled}
+use Rattle.branch_search.specs.Slices.{IsModel}
+use Rattle.branch_search.specs.Divisions.{IsLive, IsLiveAt, IsSearchLiveness, HasLive, AreSearchLive, IsSplit}
+use Rattle.branch_search.proofs.Spines.{negation_twice}
+use Rattle.branch_search.proofs.States.{state_pushed, state_cut, stands_grown, stands_last}
+use Rattle.branch_search.proofs.Proposals.{denied_all}
+
+-- the net's schedule, where no clause fails on it
+pub modelled : (points others : ℕ) (inputs given : List (List Literal)) (literals : List Literal) (values schedule : List ℤ) (found : Option ℕ) → others ≡ points → given ≡ inputs → schedule ≡ values → IsBest others literals values → MatchOption found (ProblemHolds values given) (IsFalseAt values given) → found ≡ None → IsModel points inputs schedule
+modelled points others inputs given literals values schedule found on same is best h none =
+    let holds : MatchOption None (ProblemHolds values given) (IsFalseAt values given) = subst (λ (o : Option ℕ). MatchOption o (ProblemHolds values given) (IsFalseAt values given)) none h in
+    subst (IsModel points inputs) (sym is) (record { count = best.greatest.schedule.count ∙ on; range = best.range; holds = subst (ProblemHolds values) same holds })
+
+pub is_none : {A : Type 0} (found : Option A) → ((x : A) → found ≡ Some x → ⊥) → found ≡ None
+is_none (Some x) none = absurd (none x refl)
+is_none None none = refl
+
+-- a literal that closes a cycle with the net's is denied on the trail
+pub denied_state : (q : Question) (own : List Lemma) (es now : List Entry) (levels : List Level) (literals : List Literal) (l : Literal) (cycle : List Literal) → IsSearch q own es levels literals → IsOver q.points l → IsCycleAmong (literals ++ l ∷ []) cycle → now ≡ es ++ record { literal = negation_of l; number = 0; reason = ByCycle cycle } ∷ [] → IsSearch q own now levels literals × Stands now (length now) (negation_of l)
+denied_state q own es now levels literals l cycle s over among grown =
+    let e : Entry = record { literal = negation_of l; number = 0; reason = ByCycle cycle } in
+    let reason : IsByCycle (Stands es (length es)) (negation_of l) cycle = record {
+      negative = among.negative;
+      others = λ p lt. elim (Contains-push_cases literals l (literal_at cycle p) (among.given p no_literal lt)) [
+        | inl there ↦ inr (subst (Stands es (length es)) there.2 (s.net there.0 (literal_at cycle p) there.1))
+        | inr same ↦ inl (sym same ∙ sym (negation_twice l))
+      ];
+    } in
+    (state_pushed q own es now levels literals e grown s (IsOver-negation_of q.points l over) reason (λ chosen. absurd cc), subst (λ (fs : List Entry). Stands fs (length fs) (negation_of l)) (sym grown) (stands_last es e))
+
+-- what stood on the trail stands on a longer one
+stands_longer : (es now : List Entry) (e : Entry) (m : Literal) → now ≡ es ++ e ∷ [] → Stands es (length es) m → Stands now (length now) m
+stands_longer es now e m grown s = subst (λ (fs : List Entry). Stands fs (length fs) m) (sym grown) (stands_grown es e m s)
+
+abbrev pub DeniedTo : List Entry → List Literal → ℕ → Type 0
+DeniedTo es clause p = (i : ℕ) → i < p → Stands es (length es) (negation_of (literal_at clause i))
+
+pub same_literals : (others : ℕ) (literals new : List Literal) (l : Literal) (added : Added) (cycle : List Literal) → IsAdded others literals l new added → added ≡ Refused cycle → (new ≡ literals) × IsCycleAmong (literals ++ l ∷ []) cycle
+same_literals others literals new l added cycle adds is = subst (IsAdded others literals l new) is adds
+
+pub live_turn : (q : Question) (others : ℕ) (own these : List Lemma) (es now : List Entry) (levels more : List Level) (literals new : List Literal) (l : Literal) (added : Added) (cycle clause : List Literal) (p : ℕ) → IsSearch q own es levels literals → IsAdded others literals l new added → added ≡ Refused cycle → IsOver q.points l → now ≡ es ++ record { literal = negation_of l; number = 0; reason = ByCycle cycle } ∷ [] → these ≡ own → more ≡ levels → l ≡ literal_at clause p → DeniedTo es clause p → IsSearch q these now more new × DeniedTo now clause (p + 1)
+live_turn q others own these es now levels more literals new l added cycle clause p s adds is over grown a b at before =
+    let no = same_literals others literals new l added cycle adds is in
+    let both = denied_state q own es now levels literals l cycle s over no.1 grown in
+    let state : IsSearch q these now more new = subst (λ (ls : List Lemma). IsSearch q ls now more new) (sym a) (subst (λ (vs : List Level). IsSearch q own now vs new) (sym b) (subst (IsSearch q own now levels) (sym no.0) both.0)) in
+    let e : Entry = record { literal = negation_of l; number = 0; reason = ByCycle cycle } in
+    let denied_now : DeniedTo now clause (p + 1) = λ i lt. elim (cases_eq i p) [
+      | inl same ↦ subst (λ (m : Literal). Stands now (length now) (negation_of m)) (at ∙ ap (λ (k : ℕ). literal_at clause k) (sym same)) both.1
+      | inr other ↦ stands_longer es now e (negation_of (literal_at clause i)) grown (before i (omega arith))
+    ] in
+    (state, denied_now)
+
+pub nowhere_stuck : (q : Question) (others : ℕ) (own : List Lemma) (es : List Entry) (levels : List Level) (literals before : List Literal) (i : ℕ) (clause : List Literal) (found : Option ℕ) → IsSearch q own es levels literals → i < length q.inputs → clause ≡ get_or q.inputs i [] → found ≡ None → IsLiveAt others before es clause found → IsStuckSearch q own es levels literals (OfClause (OfInput i))
+nowhere_stuck q others own es levels literals before i clause found s within at e live =
+    let denied : AreDenied es clause (length clause) = subst (IsLiveAt others before es clause) e live in
+    record { state = s; clash = (within, denied_all es clause (get_or q.inputs i []) denied at) }
+
+pub live_more : (q : Question) (own : List Lemma) (es : List Entry) (levels : List Level) (literals first : List Literal) (i : ℕ) (live : Live) (place : ℕ) → IsSearchLiveness q own es levels literals i live → live ≡ At place → literals ≡ first → ((k : ℕ) → k < i → HasLive q.points first (get_or q.inputs k [])) → IsSearch q own es levels literals × ((k : ℕ) → k < i + 1 → HasLive q.points first (get_or q.inputs k []))
+live_more q own es levels literals first i live place h e same before =
+    let there : IsSearchLiveness q own es levels literals i (At place) = subst (IsSearchLiveness q own es levels literals i) e h in (
+      there.0,
+      λ k lt. elim (cases_eq k i) [
+        | inl here ↦ subst (λ (n : ℕ). HasLive q.points first (get_or q.inputs n [])) (sym here) (place, subst (λ (ls : List Literal). IsLive q.points ls (get_or q.inputs i []) place) same there.1)
+        | inr other ↦ before k (omega arith)
+      ],
+    )
+
+live_literal : (points : ℕ) (literals clause : List Literal) → HasLive points literals clause → (l : Literal) × Contains clause l × IsConsistent points (literals ++ l ∷ [])
+live_literal points literals clause h = (literal_at clause h.0, Contains-get_or clause h.0 no_literal h.1.within, h.1.consistent)
+
+pub split_of : (q : Question) (others : ℕ) (given : List (List Literal)) (literals after : List Literal) (values : List ℤ) (i place : ℕ) (l : Literal) → others ≡ q.points → given ≡ q.inputs → literals ≡ q.cube → after ≡ literals → IsBest others literals values → IsFalseAt values given i → IsLive q.points after (get_or q.inputs i []) place → ((k : ℕ) → k < length q.inputs → HasLive q.points literals (get_or q.inputs k [])) → l ≡ literal_at (get_or q.inputs i []) place → IsSplit q l
+split_of q others given literals after values i place l on same is kept best fails live all at =
+    let clause = get_or q.inputs i [] in
+    let m = literal_at clause place in
+    let f : IsFalseAt values q.inputs i = subst (λ (cs : List (List Literal)). IsFalseAt values cs i) same fails in
+    let false_there : Holds values m → ⊥ = f.fails place no_literal live.within in
+    let b : IsBest q.points q.cube values = subst (λ (ls : List Literal). IsBest q.points ls values) is (subst (λ (n : ℕ). IsBest n literals values) on best) in
+    let s = b.greatest.schedule in
+    let here : IsLive q.points q.cube clause place = subst (λ (ls : List Literal). IsLive q.points ls clause place) (kept ∙ is) live in
+    let split : IsSplit q m = record {
+      stated = (clause, Contains-get_or q.inputs i [] f.within, Contains-get_or clause place no_literal live.within);
+      with_it = here.consistent;
+      against = (values, record { count = s.count; at_most_0 = s.at_most_0; holds = All-push (Holds values) q.cube (negation_of m) s.holds (denied values m false_there) });
+      live = λ c c_in. (let k = c_in.0 in
+          let k_in : k < length q.inputs = c_in.1 in
+          let same_c : get_or q.inputs k [] ≡ c = get_or_is q.inputs k c k_in c_in.2 in
+          let h : HasLive q.points q.cube (get_or q.inputs k []) = subst (λ (ls : List Literal). HasLive q.points ls (get_or q.inputs k [])) is (all k k_in) in
+          live_literal q.points q.cube c (subst (HasLive q.points q.cube) same_c h));
+    } in
+    subst (IsSplit q) (sym at) split
+  where
+    get_or_is : (cs : List (List Literal)) (k : ℕ) (c : List Literal) → k < length cs → get_or cs k c ≡ c → get_or cs k [] ≡ c
+    get_or_is [] k c lt e = absurd (omega arith)
+    get_or_is (d ∷ cs) zero c lt e = e
+    get_or_is (d ∷ cs) (suc k) c lt e = get_or_is cs k c (omega arith) e
+
+pub are_live : (q : Question) (own : List Lemma) (es : List Entry) (levels : List Level) (literals : List Literal) (found : Option ℕ) → AreSearchLive q own es levels literals found → ((j : ℕ) → found ≡ Some j → ⊥) → IsSearch q own es levels literals × ((i : ℕ) → i < length q.inputs → HasLive q.points literals (get_or q.inputs i []))
+are_live q own es levels literals (Some j) h none = absurd (none j refl)
+are_live q own es levels literals None h none = h
+
+pub live_at : (q : Question) (own : List Lemma) (es : List Entry) (levels : List Level) (literals : List Literal) (i : ℕ) (live : Live) (place : ℕ) → IsSearchLiveness q own es levels literals i live → live ≡ At place → IsSearch q own es levels literals × IsLive q.points literals (get_or q.inputs i []) place
+live_at q own es levels literals i live place h e = subst (IsSearchLiveness q own es levels literals i) e h
+
+-- a search that hasn't begun
+pub empty_search : (q : Question) (own : List Lemma) (es : List Entry) (levels : List Level) (literals : List Literal) → es ≡ [] → levels ≡ [] → literals ≡ [] → All (IsClauseOver q.points) (all_lemmas q.handed own) → AreProved q own → IsSearch q own es levels literals
+empty_search q own es levels literals a b c lemmas proved =
+    let search : IsSearch q own [] [] [] = record {
+      trail = λ k lt. absurd (omega arith);
+      over = λ k lt. absurd (omega arith);
+      lemmas = lemmas;
+      net = λ k d lt. absurd (omega arith);
+      each = λ i lt. absurd (omega arith);
+      starts = λ i j le lt. absurd (omega arith);
+      in_nets = λ i j le lt. absurd (omega arith);
+      rooted = λ j is. absurd cc;
+      proved = proved;
+    } in
+    subst (λ (fs : List Entry). IsSearch q own fs levels literals) (sym a) (subst (λ (vs : List Level). IsSearch q own [] vs literals) (sym b) (subst (IsSearch q own [] []) (sym c) search))
+
+pub none_proved : (q : Question) (own : List Lemma) → own ≡ [] → AreProved q own
+none_proved q own e = subst (AreProved q) (sym e) (tt, λ k d lt. absurd (omega arith))
+
+-- all clauses of lemmas are within the limits
+pub lemmas_over : (points : ℕ) (handed : List (List Literal)) (own these : List Lemma) → these ≡ own → All (IsClauseOver points) handed → All (LemmaIsOver points) own → All (IsClauseOver points) (all_lemmas handed these)
+lemmas_over points handed own these e over all = subst (λ (ls : List Lemma). All (IsClauseOver points) (all_lemmas handed ls)) (sym e) (All-append (IsClauseOver points) handed (map stated own) over (All-map (IsClauseOver points) stated own (λ k d lt. (all k d lt).clause)))
+
+-- back to the root
+pub root_again : (q : Question) (count : ℕ) (own kept : List Lemma) (es now : List Entry) (levels fewer : List Level) (literals left : List Literal) → (length levels < count) × IsSearch q own es levels literals → now ≡ take (start_of levels 0) es → fewer ≡ take 0 levels → left ≡ take (in_net_of levels 0) literals → kept ≡ own → (length fewer < count) × IsSearch q kept now fewer left
+root_again q count own kept es now levels fewer literals left h is_now is_fewer is_left same =
+    let few = h.0 in
+    let none : length fewer ≡ 0 = ap (length {A = Level}) is_fewer in
+    (omega arith, subst (λ (ls : List Lemma). IsSearch q ls now fewer left) (sym same) (by levels h.1 is_now is_fewer is_left))
+  where
+    by : (vs : List Level) → IsSearch q own es vs literals → now ≡ take (start_of vs 0) es → fewer ≡ take 0 vs → left ≡ take (in_net_of vs 0) literals → IsSearch q own now fewer left
+    by [] s a b c = empty_search q own now fewer left a b c s.lemmas s.proved
+    by (v ∷ vs) s a b c = state_cut q own es now (v ∷ vs) fewer literals left 0 (omega arith) s a b c
+
+pub settled_goes : (q : Question) (count : ℕ) (own : List Lemma) (es : List Entry) (levels : List Level) (literals : List Literal) (found : Option ℕ) → IsSearchSettled q count own es levels literals found → ((j : ℕ) → found ≡ Some j → ⊥) → (length levels < count) × IsSearch q own es levels literals
+settled_goes q count own es levels literals (Some j) h none = absurd (none j refl)
+settled_goes q count own es levels literals None h none = h

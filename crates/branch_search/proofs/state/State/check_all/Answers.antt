@@ -1,0 +1,31 @@
+use Rattle.std.proofs.Common.{arith, ◌∙◌, ap, sym, subst, length, List, get_or, []}
+use Rattle.stn_core.specs.declared.literal.Literal.{Literal}
+use Rattle.branch_search.specs.Divisions.{HasLive}
+use Rattle.branch_search.specs.Search.{question_of}
+use Rattle.branch_search.proofs.Splits.{live_more}
+use Rattle.branch_search.proofs.state.State.check_all.Goals as goal
+
+pub loop-i-preserved : goal.loop-i-preserved
+loop-i-preserved g c =
+    let net = g.N.Net in
+    let turn = live_more (question_of c.args.problem.now (g.E.Earlier.clauses c.args.handed.now) c.args.cube.now)
+    c.check_live.new.self.own.items c.check_live.new.self.entries.items c.check_live.new.self.levels.items
+    (net.literals_of c.check_live.new.net) (net.literals_of c.args.net.now) c.loop-i.i c.in_ok-check_live.field-0
+    c.in-At.field-0 c.in_ok-check_live.ensures.live c.in-At.is
+    (c.in_ok-check_live.ensures.literals ∙ c.loop-i.invariant.literals) c.loop-i.invariant.live in
+    record {
+      points = c.in_ok-check_live.ensures.points ∙ c.loop-i.invariant.points;
+      literals = c.in_ok-check_live.ensures.literals ∙ c.loop-i.invariant.literals;
+      levels = c.in_ok-check_live.ensures.levels ∙ c.loop-i.invariant.levels;
+      state = turn.0;
+      live = turn.1;
+      counts = omega (arith, c.in_ok-check_live.ensures.counts, c.loop-i.invariant.counts);
+    }
+
+pub returns-clause-live : goal.returns-clause-live
+returns-clause-live g c = (
+  c.loop-i.invariant.state,
+  λ i lt. subst (λ (ls : List Literal). HasLive c.args.problem.now.points ls (get_or c.args.problem.now.clauses i []))
+      (sym c.loop-i.invariant.literals)
+      (c.loop-i.invariant.live i (omega (arith, lt, c.loop-i-test.false, ap (length {A = List Literal}) c.as_slice-count.ensures))),
+)

@@ -1,0 +1,38 @@
+use Rattle.std.proofs.Common.{◌∙◌, ap, List}
+use Rattle.stn_core.specs.declared.literal.Literal.{Literal}
+use Rattle.branch_search.specs.Trails.{literal_at}
+use Rattle.branch_search.specs.Search.{question_of}
+use Rattle.branch_search.proofs.Splits.{modelled, is_none, are_live, live_at, split_of}
+use Rattle.branch_search.proofs.state.State.divide.Goals as goal
+
+pub returns-in_default-false_clause-clause-division : goal.returns-in_default-false_clause-clause-division
+returns-in_default-false_clause-clause-division g c =
+    let net = g.N.Net in
+    let q = question_of c.args.problem.now (g.E.Earlier.clauses c.args.handed.now) c.args.cube.now in
+    let all = are_live q c.check_all.new.self.own.items c.check_all.new.self.entries.items
+    c.check_all.new.self.levels.items (net.literals_of c.check_all.new.net) c.in_ok-j.field-0 c.in_ok-j.ensures.live
+    c.in_default.not-Some in (
+      modelled c.args.problem.now.points (net.points_of c.check_all.new.net) c.args.problem.now.clauses _
+          (net.literals_of c.check_all.new.net) _ _ c.false_clause.result (c.in_ok-j.ensures.points ∙ c.requires.points)
+          c.as_slice.ensures (c.new-schedule.ensures ∙ c.in_ok-from_slice.ensures.items) c.schedule-values.ensures
+          c.false_clause.ensures.found (is_none c.false_clause.result c.in_default-false_clause.not-Some),
+      all.0.proved,
+    )
+
+pub returns-in-At-clause-division : goal.returns-in-At-clause-division
+returns-in-At-clause-division g c =
+    let net = g.N.Net in
+    let q = question_of c.args.problem.now (g.E.Earlier.clauses c.args.handed.now) c.args.cube.now in
+    let all = are_live q c.check_all.new.self.own.items c.check_all.new.self.entries.items
+    c.check_all.new.self.levels.items (net.literals_of c.check_all.new.net) c.in_ok-j.field-0 c.in_ok-j.ensures.live
+    c.in_default.not-Some in
+    let here = live_at q c.check_live.new.self.own.items c.check_live.new.self.entries.items
+    c.check_live.new.self.levels.items (net.literals_of c.check_live.new.net) c.in-Some-false_clause.i
+    c.in_ok-place.field-0 c.in-At.place c.in_ok-place.ensures.live c.in-At.is in (
+      split_of q (net.points_of c.check_all.new.net) _ (net.literals_of c.check_all.new.net)
+          (net.literals_of c.check_live.new.net) c.schedule-values.result.now c.in-Some-false_clause.i c.in-At.place _
+          (c.in_ok-j.ensures.points ∙ c.requires.points) c.as_slice.ensures (c.in_ok-j.ensures.literals ∙ c.requires.cube)
+          c.in_ok-place.ensures.literals c.schedule-values.ensures c.in-Some-false_clause.ensures.found here.1 all.1
+          (ap (λ (ls : List Literal). literal_at ls c.in-At.place) c.clause_of.ensures),
+      here.0.proved,
+    )

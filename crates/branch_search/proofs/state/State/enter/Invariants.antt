@@ -1,0 +1,15 @@
+use Rattle.std.proofs.Common.{◌≡◌, ◌≤◌, min, length, take, []}
+use Rattle.branch_search.specs.Search.{question_of, IsSearch, adds_limit}
+use Rattle.branch_search.proofs.state.State.enter.Given as goal
+
+abbrev pub invariant-cube : goal.invariant-cube
+invariant-cube g l =
+    let net = g.N.Net in
+    let q = question_of l.problem (g.E.Earlier.clauses l.handed) l.fn.cube in
+    record {
+      points : net.points_of l.net ≡ net.points_of l.fn.net;
+      levels : l.self.levels.items ≡ [];
+      state : IsSearch q l.self.own.items l.self.entries.items l.self.levels.items (net.literals_of l.net);
+      literals : net.literals_of l.net ≡ take l.l-index l.cube;
+      counts : min (net.adds_of l.fn.net) adds_limit ≤ net.adds_of l.net;
+    }

@@ -1,0 +1,33 @@
+use Rattle.std.proofs.Common.{arith, refl, ◌∙◌, subst, ℕ}
+use Rattle.stn_core.specs.Literal.{IsOver}
+use Rattle.branch_search.specs.Trails.{no_literal, literal_at}
+use Rattle.branch_search.specs.Search.{question_of}
+use Rattle.branch_search.proofs.Splits.{live_turn, same_literals}
+use Rattle.branch_search.proofs.state.State.live_place.Goals as goal
+
+pub loop-q-preserved : goal.loop-q-preserved
+loop-q-preserved g c =
+    let net = g.N.Net in
+    let q = question_of c.args.problem.now (g.E.Earlier.clauses c.args.handed.now) c.args.cube.now in
+    let others = net.points_of c.loop-q.net in
+    let before = net.literals_of c.loop-q.net in
+    let after = net.literals_of c.add.new.self in
+    let l = literal_at c.args.clause.now c.loop-q.q in
+    let turn = live_turn q others c.loop-q.self.own.items c.deny.new.self.own.items c.loop-q.self.entries.items
+    c.deny.new.self.entries.items c.loop-q.self.levels.items c.deny.new.self.levels.items before after l
+    c.in_ok-add.field-0 c.in-Cycle.cycle c.args.clause.now c.loop-q.q c.loop-q.invariant.state
+    c.in_ok-add.ensures.ok c.in-Cycle.is
+    (subst (λ (n : ℕ). IsOver n l) c.requires.points
+    (c.requires.over c.loop-q.q no_literal (omega (arith, c.loop-q-test.true))))
+    c.in_ok-deny-in-Cycle.ensures.entries c.in_ok-deny-in-Cycle.ensures.own c.in_ok-deny-in-Cycle.ensures.levels refl
+    c.loop-q.invariant.denied in
+    let same = same_literals others before after l c.in_ok-add.field-0 c.in-Cycle.cycle c.in_ok-add.ensures.ok c.in-Cycle.is in
+    record {
+      points = c.in_ok-add.ensures.points ∙ c.loop-q.invariant.points;
+      literals = same.0 ∙ c.loop-q.invariant.literals;
+      levels = c.in_ok-deny-in-Cycle.ensures.levels ∙ c.loop-q.invariant.levels;
+      own = c.in_ok-deny-in-Cycle.ensures.own ∙ c.loop-q.invariant.own;
+      state = turn.0;
+      denied = turn.1;
+      counts = omega (arith, c.in_ok-add.ensures.counts, c.loop-q.invariant.counts);
+    }

@@ -1,0 +1,14 @@
+use Rattle.std.proofs.Common.{◌≡◌, ◌≤◌, min, length}
+use Rattle.branch_search.specs.Search.{question_of, IsSearch, adds_limit}
+use Rattle.branch_search.proofs.state.State.propagate.Given as goal
+
+abbrev pub invariant-literals : goal.invariant-literals
+invariant-literals g l =
+    let net = g.N.Net in
+    let q = question_of l.problem (g.E.Earlier.clauses l.handed) l.cube in
+    record {
+      points : net.points_of l.net ≡ net.points_of l.fn.net;
+      levels : l.self.levels.items ≡ l.fn.self.levels.items;
+      state : IsSearch q l.self.own.items l.self.entries.items l.self.levels.items (net.literals_of l.net);
+      counts : min (net.adds_of l.fn.net) adds_limit ≤ net.adds_of l.net;
+    }

@@ -1,0 +1,26 @@
+use Rattle.std.proofs.Common.{◌∙◌, sym, subst, ◌<◌, length, List}
+use Rattle.branch_search.specs.declared.entry.Level.{Level}
+use Rattle.branch_search.specs.Search.{question_of}
+use Rattle.branch_search.proofs.Learned.{cut_back, settled}
+use Rattle.branch_search.proofs.state.State.react.Goals as goal
+
+pub take_unit-requires-clause-state : goal.take_unit-requires-clause-state
+take_unit-requires-clause-state g c =
+    cut_back (question_of c.args.problem.now (g.E.Earlier.clauses c.args.handed.now) c.args.cube.now)
+    c.learn.new.self.own.items _ _ c.learn.new.self.entries.items _ _ c.learn.new.self.levels.items _ _ _
+    (g.N.Net.literals_of c.args.net.now) _ c.in_ok-level.level
+    (subst (λ (vs : List Level). c.in_ok-level.level < length vs) (sym c.in_ok-level.ensures.levels)
+    c.in_ok-level.ensures.within)
+    c.in_ok-learn.ensures.learned c.in_ok-level.ensures.entries c.in_ok-level.ensures.levels c.in_ok-level.ensures.own
+    c.cut.ensures.entries c.cut.ensures.levels c.cut.ensures.literals c.cut.ensures.own
+
+pub returns-clause-settled : goal.returns-clause-settled
+returns-clause-settled g c =
+    settled (question_of c.args.problem.now (g.E.Earlier.clauses c.args.handed.now) c.args.cube.now)
+    c.take_unit.new.self.own.items c.take_unit.new.self.entries.items c.args.self.now.levels.items _
+    c.cut.new.self.levels.items c.take_unit.new.self.levels.items (g.N.Net.literals_of c.cut.new.net) c.in_ok-level.level
+    c.in_ok-take_unit.field-0
+    (subst (λ (vs : List Level). c.in_ok-level.level < length vs) (sym c.in_ok-level.ensures.levels)
+    c.in_ok-level.ensures.within)
+    (c.in_ok-level.ensures.levels ∙ c.in_ok-learn.ensures.levels) c.cut.ensures.levels c.in_ok-take_unit.ensures.levels
+    c.in_ok-take_unit.ensures.taken

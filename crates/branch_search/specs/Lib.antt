@@ -1,0 +1,13 @@
+pub mod Trails
+pub mod Spines
+pub mod Proved
+pub mod Search
+pub mod Denials
+pub mod Slices
+pub mod Divisions
+pub mod Clauses
+pub use Rattle.stn_core.specs.Limits
+pub use Rattle.stn_core.specs.Literal
+pub use Rattle.stn_core.specs.Problem
+pub use Rattle.stn_core.specs.Schedule
+pub use Rattle.refute_tree.specs.Trees

@@ -1,0 +1,86 @@
+//! From a conflict to a learned clause with its tree.
+ghost use Rattle.std.specs.Prelude.{◌≡◌, List, length, All, IfOk};
+ghost use Rattle.stn_core.specs.declared.literal.Literal.{Literal as Bound};
+ghost use Rattle.branch_search.specs.Trails.{IsTrail, IsConflict, Stands, IsDenial, AreOver, KeepsAll, DeniesKept};
+ghost use Rattle.branch_search.specs.Proved.{IsProved};
+
+use crate::entry::{Conflict, Entry, Level, Role};
+use crate::marking::{Marks, mark_back, need_conflict};
+use crate::spine::steps_for;
+use refute_tree::{Earlier, Lemma};
+use search_guide::Guide;
+use std::alloc::{AllocError, Global};
+use stn_core::{Clause, Literal, Problem, negate};
+
+// The negations of the literals that are kept.
+fn kept_clause(alloc: Global, trail: &[Entry], roles: &[Role]) -> Result<Vec<Literal>, AllocError>
+    requires { length roles.now ≡ length trail.now }
+    ensures kept { IfOk result (λ clause. KeepsAll trail.now roles.now (length trail.now) clause.items) }
+    ensures denied { IfOk result (λ clause. All (DeniesKept trail.now roles.now) clause.items) }
+{
+    let mut clause = Vec::new(alloc);
+    for k in 0..trail.len() {
+        if let Role::Kept = roles[k] {
+            clause.push(negate(trail[k].literal))?;
+        }
+    }
+    Ok(clause)
+}
+
+// Below which place the root's literals stand.
+fn root_end(trail: &[Entry], levels: &[Level]) -> usize {
+    match levels.first() {
+        Some(level) => level.start,
+        None => trail.len(),
+    }
+}
+
+// The literals on which the conflict rests are more active than they were.
+fn bump_used(trail: &[Entry], marks: &Marks, guide: &mut Guide) {
+    for k in 0..trail.len() {
+        if marks.root <= k && k < marks.roles.len() && marks.roles[k] != Role::Unused {
+            guide.bump(trail[k].number);
+        }
+    }
+    guide.decay();
+}
+
+/// The clause that a conflict teaches, with its tree: the negations of some of the trail's literals. The one error is want
+/// of memory.
+///
+/// With `whole` the literals are negations of decided ones and of the cube's. Else it is the clause of the first unique
+/// implication point of the last level on which the conflict rests.
+pub fn analyze<E: Earlier>(
+    alloc: Global,
+    problem: &Problem,
+    earlier: &E,
+    trail: &[Entry],
+    levels: &[Level],
+    guide: &mut Guide,
+    whole: bool,
+    conflict: &Conflict,
+) -> Result<Lemma, AllocError>
+    requires trail { (cube : List Bound) × IsTrail problem.now.clauses (E.clauses earlier.now) cube trail.now }
+    requires over { AreOver problem.now.points trail.now }
+    requires conflict { IsConflict problem.now.clauses (E.clauses earlier.now)
+        (Stands trail.now (length trail.now)) conflict.now }
+    ensures proved { IfOk result (IsProved problem.now.points problem.now.clauses (E.clauses earlier.now)) }
+    ensures denials { IfOk result (λ lemma. All (IsDenial trail.now whole) lemma.clause) }
+{
+    let count = trail.len();
+    let mut marks = Marks {
+        roles: vec![in alloc; Role::Unused; count]?,
+        start: count,
+        open: 0,
+        root: root_end(trail, levels),
+    };
+    need_conflict(problem, earlier, trail, &mut marks, guide, conflict);
+    mark_back(problem, earlier, trail, levels, &mut marks, guide, whole);
+    bump_used(trail, &marks, guide);
+    let clause = kept_clause(alloc, trail, &marks.roles)?;
+    let steps = steps_for(alloc, problem, earlier, trail, &marks.roles, conflict)?;
+    Ok(Lemma {
+        clause: Clause::new(clause),
+        steps,
+    })
+}

@@ -1,0 +1,159 @@
+//! What a conflict leads to.
+ghost use Rattle.std.specs.Prelude.{◌≡◌, ◌<◌, ◌≤◌, ◌+◌, ◌^◌, [], length, map, true, min, Some, slice_get, IfOk, OnOk};
+ghost use Rattle.refute_tree.specs.Trees.{stated};
+ghost use Rattle.branch_search.specs.Search.{question_of, IsState, IsStuck, IsLearned, IsSettled, IsExcluded};
+
+use crate::analysis::analyze;
+use crate::both::Both;
+use crate::denial::open_place;
+use crate::entry::{Conflict, Level, Source};
+use crate::reading::number_of;
+use crate::state::State;
+use refute_tree::{Earlier, Lemma};
+use search_guide::{Guide, LiteralNumber};
+use std::alloc::{AllocError, Global};
+use stn_core::{Literal, Net, Problem};
+
+// Whether nothing was decided.
+fn is_root(levels: &[Level]) -> bool
+    ensures { length levels.now ≡ 0 → result ≡ true }
+{
+    levels.is_empty()
+}
+
+// The numbers of the clause's literals.
+fn numbers_of(
+    alloc: Global,
+    guide: &Guide,
+    source: Source,
+    count: usize,
+) -> Result<Vec<LiteralNumber>, AllocError> {
+    let mut numbers = Vec::new(alloc);
+    for q in 0..count {
+        numbers.push(number_of(guide, source, q))?;
+    }
+    Ok(numbers)
+}
+
+// The clause of the last lemma.
+fn last_clause(own: &[Lemma]) -> &[Literal] {
+    match own.last() {
+        Some(lemma) => lemma.clause.as_slice(),
+        None => &[],
+    }
+}
+
+impl State {
+    // Learns from a conflict.
+    fn learn<E: Earlier, N: Net>(
+        &mut self,
+        alloc: Global,
+        problem: &Problem,
+        handed: &E,
+        cube: &[Literal],
+        net: &N,
+        conflict: &Conflict,
+    ) -> Result<(), AllocError>
+        requires few { length (E.clauses handed.now) < 2 ^ 63 }
+        requires stuck { IsStuck (question_of problem.now (E.clauses handed.now) cube.now) self.old
+            (N.literals_of net.now) conflict.now }
+        ensures levels { self.new.levels.items ≡ self.old.levels.items }
+        ensures learned { OnOk result (IsLearned (question_of problem.now (E.clauses handed.now) cube.now)
+            self.new (length self.old.own.items) (N.literals_of net.now)) }
+    {
+        let whole = is_root(&self.levels);
+        let both = Both {
+            handed,
+            own: self.own.as_slice(),
+        };
+        let lemma = analyze(
+            alloc,
+            problem,
+            &both,
+            self.entries.as_slice(),
+            self.levels.as_slice(),
+            &mut self.guide,
+            whole,
+            conflict,
+        )?;
+        self.guide.add_lemma(lemma.clause.as_slice())?;
+        self.own.push(lemma)?;
+        Ok(())
+    }
+
+    // To which level to jump back from the last lemma's clause. Any level is right.
+    fn jump_level(&mut self, alloc: Global, source: Source) -> Result<usize, AllocError>
+        requires { 0 < length self.old.levels.items }
+        ensures entries { self.new.entries.items ≡ self.old.entries.items }
+        ensures levels { self.new.levels.items ≡ self.old.levels.items }
+        ensures own { self.new.own.items ≡ self.old.own.items }
+        ensures within { IfOk result (λ level. level < length self.old.levels.items) }
+    {
+        let count = last_clause(&self.own).len();
+        let numbers = numbers_of(alloc, &self.guide, source, count)?;
+        let level = self.guide.after_conflict(&numbers);
+        self.met_conflict = true;
+        if level < self.levels.len() {
+            Ok(level)
+        } else {
+            Ok(0)
+        }
+    }
+
+    /// Learns from a conflict, jumps back and takes what the lemma gives there. With a number: that lemma excludes the
+    /// cube.
+    pub fn react<E: Earlier, N: Net>(
+        &mut self,
+        alloc: Global,
+        problem: &Problem,
+        handed: &E,
+        cube: &[Literal],
+        net: &mut N,
+        conflict: &Conflict,
+    ) -> Result<Option<usize>, AllocError>
+        requires few { length (E.clauses handed.now) < 2 ^ 63 }
+        requires points { N.points_of net.old ≡ problem.now.points }
+        requires stuck { IsStuck (question_of problem.now (E.clauses handed.now) cube.now) self.old
+            (N.literals_of net.old) conflict.now }
+        ensures points { N.points_of net.new ≡ N.points_of net.old }
+        ensures settled { IfOk result (IsSettled (question_of problem.now (E.clauses handed.now) cube.now)
+            (length self.old.levels.items) self.new (N.literals_of net.new)) }
+        ensures adds { N.adds_of net.new ≡ N.adds_of net.old }
+    {
+        let j = self.own.len();
+        self.learn(alloc, problem, handed, cube, net, conflict)?;
+        if self.levels.is_empty() {
+            return Ok(Some(j));
+        }
+        let source = Source::Lemma(handed.count() + j);
+        let level = self.jump_level(alloc, source)?;
+        self.cut(net, level);
+        let clause = last_clause(&self.own);
+        let place = open_place(&self.guide, &self.entries, source, clause);
+        self.take_unit(problem, handed, cube, net, source, place)?;
+        Ok(None)
+    }
+
+    /// Where nothing was decided, the lemma that a conflict teaches excludes the cube.
+    pub fn exclude<E: Earlier, N: Net>(
+        &mut self,
+        alloc: Global,
+        problem: &Problem,
+        handed: &E,
+        cube: &[Literal],
+        net: &N,
+        conflict: &Conflict,
+    ) -> Result<usize, AllocError>
+        requires few { length (E.clauses handed.now) < 2 ^ 63 }
+        requires stuck { IsStuck (question_of problem.now (E.clauses handed.now) cube.now) self.old
+            (N.literals_of net.now) conflict.now }
+        requires root { self.old.levels.items ≡ [] }
+        ensures levels { self.new.levels.items ≡ self.old.levels.items }
+        ensures excluded { IfOk result (IsExcluded (question_of problem.now (E.clauses handed.now) cube.now)
+            self.new) }
+    {
+        let j = self.own.len();
+        self.learn(alloc, problem, handed, cube, net, conflict)?;
+        Ok(j)
+    }
+}

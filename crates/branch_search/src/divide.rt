@@ -1,0 +1,182 @@
+//! The end of a slice: with the cube alone, whether a clause has no literal that is consistent with it, and what to split
+//! on.
+ghost use Rattle.std.specs.Prelude.{◌≡◌, ◌<◌, ◌≤◌, ◌+◌, ◌^◌, ◌++◌, ◌∷◌, [], All, length, min, IfOk, OnOk};
+ghost use Rattle.stn_core.specs.Literal.{IsOver, negation_of};
+ghost use Rattle.branch_search.specs.declared.entry.Reason.TheVariants.{Cycle as ByCycle};
+ghost use Rattle.branch_search.specs.Search.{question_of, IsState, adds_limit};
+ghost use Rattle.branch_search.specs.Divisions.{IsLiveAt, IsLiveness, AreLive, IsDivision};
+
+use crate::clauses::false_clause;
+use crate::entry::{Conflict, Reason, Source};
+use crate::reading::clause_of;
+use crate::state::State;
+use refute_tree::Earlier;
+use std::alloc::{AllocError, Global};
+use stn_core::{Added, Literal, Literals, Net, Problem, Schedule, negate};
+
+/// What the cube alone comes to.
+#[derive(Drop)]
+pub enum Division {
+    Model(Schedule),
+    Excluded(usize),
+    Split(Literal),
+}
+
+/// Whether a clause has a literal that is consistent with the cube.
+#[derive(Clone, Copy)]
+pub enum Live {
+    /// The one at this place.
+    At(usize),
+    /// None, and so the lemma with this number excludes the cube.
+    Nowhere(usize),
+}
+
+impl State {
+    // The negation of a literal that closes a cycle with the net's.
+    fn deny(&mut self, literal: Literal, cycle: Literals) -> Result<(), AllocError>
+        ensures levels { self.new.levels.items ≡ self.old.levels.items }
+        ensures own { self.new.own.items ≡ self.old.own.items }
+        ensures entries { OnOk result (self.new.entries.items ≡ self.old.entries.items
+            ++ record { literal = negation_of literal; number = 0; reason = ByCycle cycle } ∷ []) }
+    {
+        self.push(negate(literal), 0, Reason::Cycle(cycle))
+    }
+
+    // The first literal of the clause that is consistent with the net; those before it are denied on the trail.
+    fn live_place<E: Earlier, N: Net>(
+        &mut self,
+        problem: &Problem,
+        handed: &E,
+        cube: &[Literal],
+        net: &mut N,
+        clause: &[Literal],
+    ) -> Result<Option<usize>, AllocError>
+        requires over { All (IsOver (N.points_of net.old)) clause.now }
+        requires points { N.points_of net.old ≡ problem.now.points }
+        requires state { IsState (question_of problem.now (E.clauses handed.now) cube.now) self.old
+            (N.literals_of net.old) }
+        ensures points { N.points_of net.new ≡ N.points_of net.old }
+        ensures literals { N.literals_of net.new ≡ N.literals_of net.old }
+        ensures levels { self.new.levels.items ≡ self.old.levels.items }
+        ensures own { self.new.own.items ≡ self.old.own.items }
+        ensures state { IfOk result (λ _. IsState (question_of problem.now (E.clauses handed.now) cube.now) self.new
+            (N.literals_of net.new)) }
+        ensures live { IfOk result (IsLiveAt (N.points_of net.old) (N.literals_of net.old)
+            self.new.entries.items clause.now) }
+        ensures counts { OnOk result (min (N.adds_of net.old) adds_limit ≤ N.adds_of net.new) }
+    {
+        let mark = net.mark();
+        for q in 0..clause.len() {
+            match net.add(clause[q])? {
+                Added::Yes => {
+                    net.retract(mark);
+                    return Ok(Some(q));
+                }
+                Added::Cycle(cycle) => self.deny(clause[q], cycle)?,
+            }
+        }
+        Ok(None)
+    }
+
+    // Whether a clause has no literal that is consistent with the cube: then a lemma excludes the cube.
+    fn check_live<E: Earlier, N: Net>(
+        &mut self,
+        alloc: Global,
+        problem: &Problem,
+        handed: &E,
+        cube: &[Literal],
+        net: &mut N,
+        i: usize,
+    ) -> Result<Live, AllocError>
+        requires few { length (E.clauses handed.now) < 2 ^ 63 }
+        requires points { N.points_of net.old ≡ problem.now.points }
+        requires state { IsState (question_of problem.now (E.clauses handed.now) cube.now) self.old
+            (N.literals_of net.old) }
+        requires root { self.old.levels.items ≡ [] }
+        requires within { i < length problem.now.clauses }
+        ensures points { N.points_of net.new ≡ N.points_of net.old }
+        ensures literals { N.literals_of net.new ≡ N.literals_of net.old }
+        ensures levels { self.new.levels.items ≡ self.old.levels.items }
+        ensures live { IfOk result (IsLiveness (question_of problem.now (E.clauses handed.now) cube.now) self.new
+            (N.literals_of net.new) i) }
+        ensures counts { OnOk result (min (N.adds_of net.old) adds_limit ≤ N.adds_of net.new) }
+    {
+        let clause = clause_of(problem, handed, Source::Input(i));
+        match self.live_place(problem, handed, cube, net, clause)? {
+            Some(place) => Ok(Live::At(place)),
+            None => {
+                let conflict = Conflict::Clause(Source::Input(i));
+                let j = self.exclude(alloc, problem, handed, cube, net, &conflict)?;
+                Ok(Live::Nowhere(j))
+            }
+        }
+    }
+
+    // All clauses so.
+    fn check_all<E: Earlier, N: Net>(
+        &mut self,
+        alloc: Global,
+        problem: &Problem,
+        handed: &E,
+        cube: &[Literal],
+        net: &mut N,
+    ) -> Result<Option<usize>, AllocError>
+        requires few { length (E.clauses handed.now) < 2 ^ 63 }
+        requires points { N.points_of net.old ≡ problem.now.points }
+        requires state { IsState (question_of problem.now (E.clauses handed.now) cube.now) self.old
+            (N.literals_of net.old) }
+        requires root { self.old.levels.items ≡ [] }
+        ensures points { N.points_of net.new ≡ N.points_of net.old }
+        ensures literals { N.literals_of net.new ≡ N.literals_of net.old }
+        ensures levels { self.new.levels.items ≡ self.old.levels.items }
+        ensures live { IfOk result (AreLive (question_of problem.now (E.clauses handed.now) cube.now) self.new
+            (N.literals_of net.new)) }
+        ensures counts { OnOk result (min (N.adds_of net.old) adds_limit ≤ N.adds_of net.new) }
+    {
+        let count = problem.clauses.as_slice().len();
+        for i in 0..count {
+            match self.check_live(alloc, problem, handed, cube, net, i)? {
+                Live::At(_) => {}
+                Live::Nowhere(j) => return Ok(Some(j)),
+            }
+        }
+        Ok(None)
+    }
+
+    /// The cube alone, of which the net has the literals.
+    pub fn divide<E: Earlier, N: Net>(
+        &mut self,
+        alloc: Global,
+        problem: &Problem,
+        handed: &E,
+        cube: &[Literal],
+        net: &mut N,
+    ) -> Result<Division, AllocError>
+        requires few { length (E.clauses handed.now) < 2 ^ 63 }
+        requires points { N.points_of net.old ≡ problem.now.points }
+        requires state { IsState (question_of problem.now (E.clauses handed.now) cube.now) self.old
+            (N.literals_of net.old) }
+        requires root { self.old.levels.items ≡ [] }
+        requires cube { N.literals_of net.old ≡ cube.now }
+        ensures points { N.points_of net.new ≡ N.points_of net.old }
+        ensures division { IfOk result (IsDivision (question_of problem.now (E.clauses handed.now) cube.now)
+            self.new.own.items) }
+        ensures counts { OnOk result (min (N.adds_of net.old) adds_limit ≤ N.adds_of net.new) }
+    {
+        if let Some(j) = self.check_all(alloc, problem, handed, cube, net)? {
+            return Ok(Division::Excluded(j));
+        }
+        let values = net.schedule();
+        let Some(i) = false_clause(problem.clauses.as_slice(), values, 0) else {
+            let schedule = Schedule::new(Vec::from_slice(alloc, values)?);
+            return Ok(Division::Model(schedule));
+        };
+        match self.check_live(alloc, problem, handed, cube, net, i)? {
+            Live::At(place) => {
+                let literal = clause_of(problem, handed, Source::Input(i))[place];
+                Ok(Division::Split(literal))
+            }
+            Live::Nowhere(j) => Ok(Division::Excluded(j)),
+        }
+    }
+}

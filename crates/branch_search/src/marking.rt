@@ -1,0 +1,301 @@
+//! Which literals of the trail a conflict rests on.
+ghost use Rattle.std.specs.Prelude.{◌≡◌, ◌≢◌, ◌<◌, ◌≤◌, ◌⊎◌, ℕ, List, length};
+ghost use Rattle.stn_core.specs.declared.literal.Literal.{Literal as Bound};
+ghost use Rattle.stn_core.specs.Literal.{negation_of};
+ghost use Rattle.branch_search.specs.Trails.{literal_at, Stands, StandsUsed, IsMarkedMore, IsTrail, IsClosed};
+ghost use Rattle.branch_search.specs.Trails.{IsConflict, IsTurned, IsMarked};
+ghost use Rattle.branch_search.specs.Spines.{IsNamed, AreNamed};
+
+use crate::entry::{Conflict, Entry, Level, Reason, Role, Source};
+use crate::reading::{clause_of, denial_place, is_same, literal_place, place_of};
+use refute_tree::Earlier;
+use search_guide::Guide;
+use stn_core::{Literal, Problem, negate};
+
+/// The roles of the trail's literals, and what the way back over them keeps in mind.
+#[derive(Drop)]
+pub struct Marks {
+    pub roles: Vec<Role>,
+    /// from which place on all kept literals but one are resolved
+    pub start: usize,
+    /// how many are kept from there on and weren't passed
+    pub open: usize,
+    /// below which place the root's literals stand, which are all resolved
+    pub root: usize,
+}
+
+// The conflict rests on a literal that stands below the place.
+fn need(trail: &[Entry], marks: &mut Marks, literal: Literal, below: usize, guess: Option<usize>)
+    requires count { length marks.old.roles.items ≡ length trail.now }
+    requires within { below ≤ length trail.now }
+    requires stands { Stands trail.now below literal }
+    ensures more { IsMarkedMore below marks.old.roles.items marks.new.roles.items }
+    ensures used { StandsUsed trail.now marks.new.roles.items below literal }
+{
+    let k = place_of(trail, literal, below, guess);
+    if marks.start <= k && marks.roles[k] == Role::Unused {
+        marks.open = marks.open.saturating_add(1);
+    }
+    marks.roles[k] = Role::Kept;
+}
+
+// It rests on the negations of the clause's literals but the one at the place.
+fn need_denials(
+    trail: &[Entry],
+    marks: &mut Marks,
+    guide: &Guide,
+    source: Source,
+    clause: &[Literal],
+    place: usize,
+    below: usize,
+)
+    requires count { length marks.old.roles.items ≡ length trail.now }
+    requires within { below ≤ length trail.now }
+    requires stand { (q : ℕ) → q < length clause.now → q ≢ place
+        → Stands trail.now below (negation_of (literal_at clause.now q)) }
+    ensures more { IsMarkedMore below marks.old.roles.items marks.new.roles.items }
+    ensures used { (q : ℕ) → q < length clause.now → q ≢ place
+        → StandsUsed trail.now marks.new.roles.items below (negation_of (literal_at clause.now q)) }
+{
+    for q in 0..clause.len() {
+        if q != place {
+            let guess = denial_place(guide, source, q);
+            need(trail, marks, negate(clause[q]), below, guess);
+        }
+    }
+}
+
+// It rests on the cycle's literals but the negation of this one.
+fn need_cycle(
+    trail: &[Entry],
+    marks: &mut Marks,
+    guide: &Guide,
+    cycle: &[Literal],
+    literal: Literal,
+    below: usize,
+)
+    requires count { length marks.old.roles.items ≡ length trail.now }
+    requires within { below ≤ length trail.now }
+    requires stand { (q : ℕ) → q < length cycle.now
+        → (literal_at cycle.now q ≡ negation_of literal) ⊎ Stands trail.now below (literal_at cycle.now q) }
+    ensures more { IsMarkedMore below marks.old.roles.items marks.new.roles.items }
+    ensures used { (q : ℕ) → q < length cycle.now → (literal_at cycle.now q ≡ negation_of literal)
+        ⊎ StandsUsed trail.now marks.new.roles.items below (literal_at cycle.now q) }
+{
+    let denied = negate(literal);
+    for q in 0..cycle.len() {
+        if !is_same(cycle[q], denied) {
+            let guess = literal_place(guide, cycle[q]);
+            need(trail, marks, cycle[q], below, guess);
+        }
+    }
+}
+
+// It rests on all of the cycle's literals.
+fn need_all(trail: &[Entry], marks: &mut Marks, guide: &Guide, cycle: &[Literal], below: usize)
+    requires count { length marks.old.roles.items ≡ length trail.now }
+    requires within { below ≤ length trail.now }
+    requires stand { (q : ℕ) → q < length cycle.now → Stands trail.now below (literal_at cycle.now q) }
+    ensures more { IsMarkedMore below marks.old.roles.items marks.new.roles.items }
+    ensures used { (q : ℕ) → q < length cycle.now
+        → StandsUsed trail.now marks.new.roles.items below (literal_at cycle.now q) }
+{
+    for q in 0..cycle.len() {
+        let guess = literal_place(guide, cycle[q]);
+        need(trail, marks, cycle[q], below, guess);
+    }
+}
+
+/// The literals on which a conflict rests at once.
+pub fn need_conflict<E: Earlier>(
+    problem: &Problem,
+    earlier: &E,
+    trail: &[Entry],
+    marks: &mut Marks,
+    guide: &Guide,
+    conflict: &Conflict,
+)
+    requires count { length marks.old.roles.items ≡ length trail.now }
+    requires conflict { IsConflict problem.now.clauses (E.clauses earlier.now)
+        (Stands trail.now (length trail.now)) conflict.now }
+    ensures more { IsMarkedMore (length trail.now) marks.old.roles.items marks.new.roles.items }
+    ensures used { IsConflict problem.now.clauses (E.clauses earlier.now)
+        (StandsUsed trail.now marks.new.roles.items (length trail.now)) conflict.now }
+{
+    let below = trail.len();
+    match conflict {
+        Conflict::Clause(source) => {
+            let clause = clause_of(problem, earlier, *source);
+            need_denials(trail, marks, guide, *source, clause, clause.len(), below);
+        }
+        Conflict::Cycle(cycle) => need_all(trail, marks, guide, cycle.as_slice(), below),
+    }
+}
+
+// Instead of the literal at the place the conflict rests on what that follows from, if it does.
+fn resolve<E: Earlier>(
+    problem: &Problem,
+    earlier: &E,
+    trail: &[Entry],
+    marks: &mut Marks,
+    guide: &Guide,
+    k: usize,
+    whole: bool,
+)
+    requires count { length marks.old.roles.items ≡ length trail.now }
+    requires within { k < length trail.now }
+    requires trail { (cube : List Bound) × IsTrail problem.now.clauses (E.clauses earlier.now) cube trail.now }
+    requires closed { IsClosed problem.now.clauses (E.clauses earlier.now) trail.now marks.old.roles.items }
+    ensures { IsTurned problem.now.clauses (E.clauses earlier.now) trail.now whole k
+        marks.old.roles.items marks.new.roles.items }
+{
+    match &trail[k].reason {
+        Reason::Given => {}
+        Reason::Decision => {}
+        Reason::Clause(source, place) => {
+            let clause = clause_of(problem, earlier, *source);
+            need_denials(trail, marks, guide, *source, clause, *place, k);
+            marks.roles[k] = Role::Resolved;
+        }
+        Reason::Pair(tighter) => {
+            let literal = trail[k].literal;
+            let cycle = [*tighter, negate(literal)];
+            need_cycle(trail, marks, guide, cycle.as_slice(), literal, k);
+            marks.roles[k] = Role::Resolved;
+        }
+        Reason::Cycle(cycle) => {
+            need_cycle(trail, marks, guide, cycle.as_slice(), trail[k].literal, k);
+            marks.roles[k] = Role::Resolved;
+        }
+    }
+}
+
+// The way back starts with the literal at the place, the last that the conflict rests on: what stands on its level.
+fn begin_at(marks: &mut Marks, levels: &[Level], k: usize)
+    ensures { marks.new.roles.items ≡ marks.old.roles.items }
+{
+    let mut start = 0;
+    for level in levels {
+        if level.start <= k && start < level.start {
+            start = level.start;
+        }
+    }
+    let mut open = 0usize;
+    for role in &marks.roles[start.min(marks.roles.len())..] {
+        if let Role::Kept = role {
+            open = open.saturating_add(1);
+        }
+    }
+    marks.start = start;
+    marks.open = open;
+}
+
+// Whether to resolve a literal that the conflict rests on. Any body is right.
+//
+// The first unique implication point: of the literals on the last level all but one are resolved. So are the root's, which
+// need no place in the clause.
+fn is_to_resolve(marks: &mut Marks, levels: &[Level], k: usize) -> bool
+    ensures { marks.new.roles.items ≡ marks.old.roles.items }
+{
+    if marks.start >= marks.roles.len() {
+        begin_at(marks, levels, k);
+    }
+    if marks.start <= k {
+        let others = marks.open > 1;
+        marks.open = marks.open.saturating_sub(1);
+        return others;
+    }
+    k < marks.root
+}
+
+// Whether the conflict rests on the literal at the place, if there is one.
+fn is_used(marks: &Marks, place: Option<usize>) -> bool {
+    match place {
+        Some(k) => k < marks.roles.len() && marks.roles[k] != Role::Unused,
+        None => false,
+    }
+}
+
+// Whether it rests on the negations of the clause's literals but the one at the place.
+fn are_used(marks: &Marks, guide: &Guide, source: Source, count: usize, place: usize) -> bool {
+    for q in 0..count {
+        if q != place && !is_used(marks, denial_place(guide, source, q)) {
+            return false;
+        }
+    }
+    true
+}
+
+// Whether the literal can be resolved without a literal more in the learned clause (minimization by marking). Any body is
+// right.
+fn is_redundant<E: Earlier>(
+    problem: &Problem,
+    earlier: &E,
+    entry: &Entry,
+    marks: &Marks,
+    guide: &Guide,
+) -> bool
+    requires { IsNamed problem.now.clauses (E.clauses earlier.now) entry.now.reason }
+{
+    match &entry.reason {
+        Reason::Given => false,
+        Reason::Decision => false,
+        Reason::Clause(source, place) => {
+            let count = clause_of(problem, earlier, *source).len();
+            are_used(marks, guide, *source, count, *place)
+        }
+        Reason::Pair(tighter) => is_used(marks, literal_place(guide, *tighter)),
+        Reason::Cycle(_) => false,
+    }
+}
+
+// A turn of the way back over the trail.
+fn turn<E: Earlier>(
+    problem: &Problem,
+    earlier: &E,
+    trail: &[Entry],
+    levels: &[Level],
+    marks: &mut Marks,
+    guide: &Guide,
+    k: usize,
+    whole: bool,
+)
+    requires count { length marks.old.roles.items ≡ length trail.now }
+    requires within { k < length trail.now }
+    requires trail { (cube : List Bound) × IsTrail problem.now.clauses (E.clauses earlier.now) cube trail.now }
+    requires named { AreNamed problem.now.clauses (E.clauses earlier.now) trail.now }
+    requires closed { IsClosed problem.now.clauses (E.clauses earlier.now) trail.now marks.old.roles.items }
+    ensures { IsTurned problem.now.clauses (E.clauses earlier.now) trail.now whole k
+        marks.old.roles.items marks.new.roles.items }
+{
+    if let Role::Kept = marks.roles[k] {
+        let resolves = is_to_resolve(marks, levels, k);
+        if whole || resolves || is_redundant(problem, earlier, &trail[k], marks, guide) {
+            resolve(problem, earlier, trail, marks, guide, k, whole);
+        }
+    }
+}
+
+/// Goes back over the trail.
+pub fn mark_back<E: Earlier>(
+    problem: &Problem,
+    earlier: &E,
+    trail: &[Entry],
+    levels: &[Level],
+    marks: &mut Marks,
+    guide: &Guide,
+    whole: bool,
+)
+    requires count { length marks.old.roles.items ≡ length trail.now }
+    requires trail { (cube : List Bound) × IsTrail problem.now.clauses (E.clauses earlier.now) cube trail.now }
+    requires named { AreNamed problem.now.clauses (E.clauses earlier.now) trail.now }
+    requires closed { IsClosed problem.now.clauses (E.clauses earlier.now) trail.now marks.old.roles.items }
+    ensures { IsMarked problem.now.clauses (E.clauses earlier.now) trail.now whole 0
+        marks.old.roles.items marks.new.roles.items }
+{
+    let mut k = trail.len();
+    'back: while 0 < k {
+        k -= 1;
+        turn(problem, earlier, trail, levels, marks, guide, k, whole);
+    }
+}

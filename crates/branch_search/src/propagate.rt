@@ -1,0 +1,291 @@
+//! What follows from the trail's literals, by ladders, clauses and the net.
+ghost use Rattle.std.specs.Prelude.{◌≡◌, ◌<◌, ◌≤◌, ◌+◌, ◌^◌, length, true, min, IfOk, OnOk};
+ghost use Rattle.branch_search.specs.Search.{question_of, IsState, IsAfter, IsTaken, IsWeaker, adds_limit};
+
+use crate::both::Both;
+use crate::denial::{is_conflict, unit_of};
+use crate::entry::{Conflict, Reason, Source};
+use crate::reading::{is_over, literal_on, number_of, source_of};
+use crate::state::State;
+use refute_tree::Earlier;
+use search_guide::{Guide, LiteralNumber, Proposal};
+use std::alloc::{AllocError, Global};
+use stn_core::{Literal, Literals, Net, Problem, negate};
+
+/// What became of a proposal.
+#[derive(Drop)]
+pub enum Taken {
+    /// The literal stands on the trail.
+    Pushed,
+    /// There was none, or it failed its test.
+    Nothing,
+    /// The trail's literals can't all hold.
+    Stuck(Conflict),
+}
+
+// Whether the second bounds the same two points at most as tightly.
+fn is_weaker(tighter: Literal, weaker: Literal) -> bool
+    ensures { result ≡ true → IsWeaker tighter weaker }
+{
+    tighter.x == weaker.x && tighter.y == weaker.y && tighter.c <= weaker.c
+}
+
+impl State {
+    // The literal at a place of a clause, whose others are denied.
+    pub fn take_unit<E: Earlier, N: Net>(
+        &mut self,
+        problem: &Problem,
+        handed: &E,
+        cube: &[Literal],
+        net: &N,
+        source: Source,
+        place: usize,
+    ) -> Result<Taken, AllocError>
+        requires few { length (E.clauses handed.now) < 2 ^ 63 }
+        requires state { IsState (question_of problem.now (E.clauses handed.now) cube.now) self.old
+            (N.literals_of net.now) }
+        ensures levels { self.new.levels.items ≡ self.old.levels.items }
+        ensures taken { IfOk result (IsTaken (question_of problem.now (E.clauses handed.now) cube.now) self.new
+            (N.literals_of net.now)) }
+        ensures longer { OnOk result (length self.old.entries.items ≤ length self.new.entries.items) }
+    {
+        let both = Both {
+            handed,
+            own: self.own.as_slice(),
+        };
+        let Some(literal) = unit_of(problem, &both, &self.guide, &self.entries, source, place)
+        else {
+            return Ok(Taken::Nothing);
+        };
+        let number = number_of(&self.guide, source, place);
+        self.push(literal, number, Reason::Clause(source, place))?;
+        Ok(Taken::Pushed)
+    }
+
+    // A clause whose literals are all denied.
+    pub fn take_conflict<E: Earlier, N: Net>(
+        &mut self,
+        problem: &Problem,
+        handed: &E,
+        cube: &[Literal],
+        net: &N,
+        source: Source,
+    ) -> Taken
+        requires few { length (E.clauses handed.now) < 2 ^ 63 }
+        requires state { IsState (question_of problem.now (E.clauses handed.now) cube.now) self.old
+            (N.literals_of net.now) }
+        ensures levels { self.new.levels.items ≡ self.old.levels.items }
+        ensures taken { IsTaken (question_of problem.now (E.clauses handed.now) cube.now) self.new
+            (N.literals_of net.now) result }
+        ensures longer { length self.old.entries.items ≤ length self.new.entries.items }
+    {
+        let both = Both {
+            handed,
+            own: self.own.as_slice(),
+        };
+        if is_conflict(problem, &both, &self.guide, &self.entries, source) {
+            return Taken::Stuck(Conflict::Clause(source));
+        }
+        Taken::Nothing
+    }
+
+    // A literal on the same two points as the one at the place of the trail, which is at most as tight.
+    fn take_weaker<E: Earlier, N: Net>(
+        &mut self,
+        alloc: Global,
+        problem: &Problem,
+        handed: &E,
+        cube: &[Literal],
+        net: &N,
+        k: usize,
+        number: LiteralNumber,
+    ) -> Result<Taken, AllocError>
+        requires within { k < length self.old.entries.items }
+        requires state { IsState (question_of problem.now (E.clauses handed.now) cube.now) self.old
+            (N.literals_of net.now) }
+        ensures levels { self.new.levels.items ≡ self.old.levels.items }
+        ensures taken { IfOk result (IsTaken (question_of problem.now (E.clauses handed.now) cube.now) self.new
+            (N.literals_of net.now)) }
+        ensures longer { OnOk result (length self.old.entries.items ≤ length self.new.entries.items) }
+    {
+        let tighter = literal_on(&self.entries, k);
+        let Some(weaker) = self.guide.literal(number) else {
+            return Ok(Taken::Nothing);
+        };
+        if !is_over(weaker, problem.points) || !is_weaker(tighter, weaker) {
+            return Ok(Taken::Nothing);
+        }
+        if self.is_on_trail(Guide::negated(number), negate(weaker)) {
+            let cycle = vec![in alloc; tighter, negate(weaker)]?;
+            return Ok(Taken::Stuck(Conflict::Cycle(Literals::new(cycle))));
+        }
+        self.push(weaker, number, Reason::Pair(tighter))?;
+        Ok(Taken::Pushed)
+    }
+
+    // What the guide proposes next, of what follows from the literal at the place of the trail.
+    fn take_next<E: Earlier, N: Net>(
+        &mut self,
+        alloc: Global,
+        problem: &Problem,
+        handed: &E,
+        cube: &[Literal],
+        net: &N,
+        k: usize,
+    ) -> Result<Taken, AllocError>
+        requires few { length (E.clauses handed.now) < 2 ^ 63 }
+        requires within { k < length self.old.entries.items }
+        requires state { IsState (question_of problem.now (E.clauses handed.now) cube.now) self.old
+            (N.literals_of net.now) }
+        ensures levels { self.new.levels.items ≡ self.old.levels.items }
+        ensures taken { IfOk result (IsTaken (question_of problem.now (E.clauses handed.now) cube.now) self.new
+            (N.literals_of net.now)) }
+        ensures longer { OnOk result (length self.old.entries.items ≤ length self.new.entries.items) }
+    {
+        match self.guide.next()? {
+            Proposal::Nothing => Ok(Taken::Nothing),
+            Proposal::Weaker(number) => {
+                self.take_weaker(alloc, problem, handed, cube, net, k, number)
+            }
+            Proposal::Unit(source, place) => {
+                self.take_unit(problem, handed, cube, net, source_of(source), place)
+            }
+            Proposal::Conflict(source) => {
+                Ok(self.take_conflict(problem, handed, cube, net, source_of(source)))
+            }
+        }
+    }
+
+    // What follows from the literal at the place of the trail, by ladders and clauses.
+    fn follow<E: Earlier, N: Net>(
+        &mut self,
+        alloc: Global,
+        problem: &Problem,
+        handed: &E,
+        cube: &[Literal],
+        net: &N,
+        k: usize,
+    ) -> Result<Option<Conflict>, AllocError>
+        requires few { length (E.clauses handed.now) < 2 ^ 63 }
+        requires within { k < length self.old.entries.items }
+        requires state { IsState (question_of problem.now (E.clauses handed.now) cube.now) self.old
+            (N.literals_of net.now) }
+        ensures levels { self.new.levels.items ≡ self.old.levels.items }
+        ensures after { IfOk result (IsAfter (question_of problem.now (E.clauses handed.now) cube.now) self.new
+            (N.literals_of net.now)) }
+    {
+        let limit = self.guide.literals();
+        self.guide.begin(self.entries[k].number);
+        'proposals: for _turn in 0..limit {
+            match self.take_next(alloc, problem, handed, cube, net, k)? {
+                Taken::Pushed => {}
+                Taken::Nothing => return Ok(None),
+                Taken::Stuck(conflict) => return Ok(Some(conflict)),
+            }
+        }
+        Ok(None)
+    }
+
+    // The same for all literals from `followed` on, and for those that come.
+    fn follow_all<E: Earlier, N: Net>(
+        &mut self,
+        alloc: Global,
+        problem: &Problem,
+        handed: &E,
+        cube: &[Literal],
+        net: &N,
+    ) -> Result<Option<Conflict>, AllocError>
+        requires few { length (E.clauses handed.now) < 2 ^ 63 }
+        requires state { IsState (question_of problem.now (E.clauses handed.now) cube.now) self.old
+            (N.literals_of net.now) }
+        ensures levels { self.new.levels.items ≡ self.old.levels.items }
+        ensures after { IfOk result (IsAfter (question_of problem.now (E.clauses handed.now) cube.now) self.new
+            (N.literals_of net.now)) }
+    {
+        let limit = self.guide.literals();
+        'literals: for _turn in 0..limit {
+            let k = self.followed;
+            if k >= self.entries.len() {
+                return Ok(None);
+            }
+            self.followed = k + 1;
+            if let Some(conflict) = self.follow(alloc, problem, handed, cube, net, k)? {
+                return Ok(Some(conflict));
+            }
+        }
+        Ok(None)
+    }
+
+    // Whether the net is to have the literal at the place. Pure ones and those that another one implies add nothing to it.
+    fn is_for_net(&self, k: usize) -> bool
+        requires { k < length self.now.entries.items }
+    {
+        match &self.entries[k].reason {
+            Reason::Pair(_) => false,
+            _ => !self.guide.is_pure(self.entries[k].number),
+        }
+    }
+
+    // The next literal into the net, if there is one that isn't in it yet.
+    fn net_next<E: Earlier, N: Net>(
+        &mut self,
+        problem: &Problem,
+        handed: &E,
+        cube: &[Literal],
+        net: &mut N,
+    ) -> Result<Option<Conflict>, AllocError>
+        requires points { N.points_of net.old ≡ problem.now.points }
+        requires state { IsState (question_of problem.now (E.clauses handed.now) cube.now) self.old
+            (N.literals_of net.old) }
+        ensures points { N.points_of net.new ≡ N.points_of net.old }
+        ensures levels { self.new.levels.items ≡ self.old.levels.items }
+        ensures after { IfOk result (IsAfter (question_of problem.now (E.clauses handed.now) cube.now) self.new
+            (N.literals_of net.new)) }
+        ensures counts { OnOk result (min (N.adds_of net.old) adds_limit ≤ N.adds_of net.new) }
+    {
+        let k = self.netted;
+        if k >= self.entries.len() {
+            return Ok(None);
+        }
+        self.netted = k + 1;
+        if !self.is_for_net(k) {
+            return Ok(None);
+        }
+        let found = self.add_to_net(problem, handed, cube, net, k)?;
+        Ok(found)
+    }
+
+    /// All that follows from the trail's literals, by ladders, clauses and the net, or a conflict.
+    pub fn propagate<E: Earlier, N: Net>(
+        &mut self,
+        alloc: Global,
+        problem: &Problem,
+        handed: &E,
+        cube: &[Literal],
+        net: &mut N,
+    ) -> Result<Option<Conflict>, AllocError>
+        requires few { length (E.clauses handed.now) < 2 ^ 63 }
+        requires points { N.points_of net.old ≡ problem.now.points }
+        requires state { IsState (question_of problem.now (E.clauses handed.now) cube.now) self.old
+            (N.literals_of net.old) }
+        ensures points { N.points_of net.new ≡ N.points_of net.old }
+        ensures levels { self.new.levels.items ≡ self.old.levels.items }
+        ensures after { IfOk result (IsAfter (question_of problem.now (E.clauses handed.now) cube.now) self.new
+            (N.literals_of net.new)) }
+        ensures counts { OnOk result (min (N.adds_of net.old) adds_limit ≤ N.adds_of net.new) }
+    {
+        let limit = self.guide.literals();
+        'literals: for _turn in 0..limit {
+            if let Some(conflict) = self.follow_all(alloc, problem, handed, cube, net)? {
+                return Ok(Some(conflict));
+            }
+            if self.netted >= self.entries.len() {
+                return Ok(None);
+            }
+            if let Some(conflict) = self.net_next(problem, handed, cube, net)? {
+                return Ok(Some(conflict));
+            }
+        }
+        Ok(None)
+    }
+}

@@ -1,0 +1,221 @@
+//! The turns of a search.
+ghost use Rattle.std.specs.Prelude.{◌≡◌, ◌<◌, ◌≤◌, ◌+◌, ◌^◌, [], length, min, IfOk, IfSome, OnOk};
+ghost use Rattle.branch_search.specs.Search.{question_of, IsState, IsStuck, IsSettled, adds_limit};
+ghost use Rattle.branch_search.specs.Slices.{IsModel, IsTurn, IsFound};
+
+use crate::entry::{Conflict, Reason};
+use crate::model::try_model;
+use crate::reading::is_over;
+use crate::state::State;
+use refute_tree::Earlier;
+use search_guide::LiteralNumber;
+use std::alloc::{AllocError, Global};
+use stn_core::{Literal, Net, Problem, Schedule};
+
+/// How a search ends.
+#[derive(Drop)]
+pub enum Found {
+    /// All clauses hold on the schedule.
+    Model(Schedule),
+    /// The lemma with this number excludes the cube.
+    Excluded(usize),
+    /// The budget is spent, or nothing is open.
+    Spent,
+}
+
+/// What a turn comes to.
+#[derive(Drop)]
+pub enum Turn {
+    /// There is one level more.
+    Decided,
+    /// There are fewer levels.
+    Jumped,
+    /// The search ends.
+    Ended(Found),
+}
+
+/// How much a search may still do.
+#[derive(Clone, Copy)]
+pub struct Rest {
+    /// how many decisions are left
+    pub decisions: u64,
+    /// the count of adds at which the budget is spent
+    pub target: u64,
+}
+
+impl State {
+    // Reacts to a conflict, and looks at restart and budget.
+    fn settle<E: Earlier, N: Net>(
+        &mut self,
+        alloc: Global,
+        problem: &Problem,
+        handed: &E,
+        cube: &[Literal],
+        net: &mut N,
+        rest: Rest,
+        conflict: &Conflict,
+    ) -> Result<Turn, AllocError>
+        requires few { length (E.clauses handed.now) < 2 ^ 63 }
+        requires points { N.points_of net.old ≡ problem.now.points }
+        requires stuck { IsStuck (question_of problem.now (E.clauses handed.now) cube.now) self.old
+            (N.literals_of net.old) conflict.now }
+        ensures points { N.points_of net.new ≡ N.points_of net.old }
+        ensures turn { IfOk result (IsTurn (question_of problem.now (E.clauses handed.now) cube.now)
+            rest.decisions (length self.old.levels.items) self.new (N.literals_of net.new)) }
+        ensures counts { OnOk result (min (N.adds_of net.old) adds_limit ≤ N.adds_of net.new) }
+    {
+        if let Some(j) = self.react(alloc, problem, handed, cube, net, conflict)? {
+            return Ok(Turn::Ended(Found::Excluded(j)));
+        }
+        self.guide.forget()?;
+        if !self.guide.wants_restart() {
+            return Ok(Turn::Jumped);
+        }
+        if rest.target <= net.adds() {
+            return Ok(Turn::Ended(Found::Spent));
+        }
+        if !self.levels.is_empty() {
+            self.cut(net, 0);
+        }
+        Ok(Turn::Jumped)
+    }
+
+    // Decides the literal with the number.
+    fn decide<E: Earlier, N: Net>(
+        &mut self,
+        problem: &Problem,
+        handed: &E,
+        cube: &[Literal],
+        net: &N,
+        rest: Rest,
+        number: LiteralNumber,
+    ) -> Result<Turn, AllocError>
+        requires points { N.points_of net.now ≡ problem.now.points }
+        requires state { IsState (question_of problem.now (E.clauses handed.now) cube.now) self.old
+            (N.literals_of net.now) }
+        ensures turn { IfOk result (IsTurn (question_of problem.now (E.clauses handed.now) cube.now)
+            rest.decisions (length self.old.levels.items) self.new (N.literals_of net.now)) }
+    {
+        let Some(literal) = self.guide.literal(number) else {
+            return Ok(Turn::Ended(Found::Spent));
+        };
+        if !is_over(literal, problem.points) || rest.decisions < 1 {
+            return Ok(Turn::Ended(Found::Spent));
+        }
+        self.begin_level(net)?;
+        self.push(literal, number, Reason::Decision)?;
+        Ok(Turn::Decided)
+    }
+
+    // Whether the budget is spent, as it is looked at before a decision.
+    fn is_spent<N: Net>(&self, net: &N, rest: Rest) -> bool {
+        rest.decisions == 0 || (!self.met_conflict && rest.target <= net.adds())
+    }
+
+    // A model, where one is likely or nothing is open.
+    fn find_model<N: Net>(
+        &mut self,
+        alloc: Global,
+        problem: &Problem,
+        net: &mut N,
+        is_decided: bool,
+    ) -> Result<Option<Schedule>, AllocError>
+        requires points { N.points_of net.old ≡ problem.now.points }
+        ensures points { N.points_of net.new ≡ N.points_of net.old }
+        ensures literals { OnOk result (N.literals_of net.new ≡ N.literals_of net.old) }
+        ensures entries { self.new.entries.items ≡ self.old.entries.items }
+        ensures levels { self.new.levels.items ≡ self.old.levels.items }
+        ensures own { self.new.own.items ≡ self.old.own.items }
+        ensures model { IfOk result (λ found. IfSome found (IsModel problem.now.points problem.now.clauses)) }
+        ensures counts { OnOk result (min (N.adds_of net.old) adds_limit ≤ N.adds_of net.new) }
+    {
+        if !is_decided && !self.guide.seems_model(net.schedule()) {
+            return Ok(None);
+        }
+        try_model(alloc, problem, &self.guide, net)
+    }
+
+    // Without a conflict: a model, or the next decision.
+    fn go_on<E: Earlier, N: Net>(
+        &mut self,
+        alloc: Global,
+        problem: &Problem,
+        handed: &E,
+        cube: &[Literal],
+        net: &mut N,
+        rest: Rest,
+    ) -> Result<Turn, AllocError>
+        requires points { N.points_of net.old ≡ problem.now.points }
+        requires state { IsState (question_of problem.now (E.clauses handed.now) cube.now) self.old
+            (N.literals_of net.old) }
+        ensures points { N.points_of net.new ≡ N.points_of net.old }
+        ensures turn { IfOk result (IsTurn (question_of problem.now (E.clauses handed.now) cube.now)
+            rest.decisions (length self.old.levels.items) self.new (N.literals_of net.new)) }
+        ensures counts { OnOk result (min (N.adds_of net.old) adds_limit ≤ N.adds_of net.new) }
+    {
+        let chosen = self.guide.choose(net.schedule());
+        if let Some(schedule) = self.find_model(alloc, problem, net, chosen.is_none())? {
+            return Ok(Turn::Ended(Found::Model(schedule)));
+        }
+        if self.is_spent(net, rest) {
+            return Ok(Turn::Ended(Found::Spent));
+        }
+        match chosen {
+            Some(number) => self.decide(problem, handed, cube, net, rest, number),
+            None => Ok(Turn::Ended(Found::Spent)),
+        }
+    }
+
+    // Propagates, and then reacts to a conflict or decides.
+    fn turn<E: Earlier, N: Net>(
+        &mut self,
+        alloc: Global,
+        problem: &Problem,
+        handed: &E,
+        cube: &[Literal],
+        net: &mut N,
+        rest: Rest,
+    ) -> Result<Turn, AllocError>
+        requires few { length (E.clauses handed.now) < 2 ^ 63 }
+        requires points { N.points_of net.old ≡ problem.now.points }
+        requires state { IsState (question_of problem.now (E.clauses handed.now) cube.now) self.old
+            (N.literals_of net.old) }
+        ensures points { N.points_of net.new ≡ N.points_of net.old }
+        ensures turn { IfOk result (IsTurn (question_of problem.now (E.clauses handed.now) cube.now)
+            rest.decisions (length self.old.levels.items) self.new (N.literals_of net.new)) }
+        ensures counts { OnOk result (min (N.adds_of net.old) adds_limit ≤ N.adds_of net.new) }
+    {
+        match self.propagate(alloc, problem, handed, cube, net)? {
+            Some(conflict) => self.settle(alloc, problem, handed, cube, net, rest, &conflict),
+            None => self.go_on(alloc, problem, handed, cube, net, rest),
+        }
+    }
+
+    /// Turn after turn, up to a model, a lemma that excludes the cube, or the budget's end.
+    pub fn search<E: Earlier, N: Net>(
+        &mut self,
+        alloc: Global,
+        problem: &Problem,
+        handed: &E,
+        cube: &[Literal],
+        net: &mut N,
+        rest: Rest,
+    ) -> Result<Found, AllocError>
+        requires few { length (E.clauses handed.now) < 2 ^ 63 }
+        requires points { N.points_of net.old ≡ problem.now.points }
+        requires state { IsState (question_of problem.now (E.clauses handed.now) cube.now) self.old
+            (N.literals_of net.old) }
+        ensures points { N.points_of net.new ≡ N.points_of net.old }
+        ensures found { IfOk result (IsFound (question_of problem.now (E.clauses handed.now) cube.now) self.new) }
+        ensures counts { OnOk result (min (N.adds_of net.old) adds_limit ≤ N.adds_of net.new) }
+    {
+        let mut left = rest;
+        'turns: loop {
+            match self.turn(alloc, problem, handed, cube, net, left)? {
+                Turn::Decided => left.decisions -= 1,
+                Turn::Jumped => {}
+                Turn::Ended(found) => return Ok(found),
+            }
+        }
+    }
+}

@@ -1,0 +1,197 @@
+//! A slice.
+ghost use Rattle.std.specs.Prelude.{◌≡◌, ◌<◌, ◌≤◌, ◌+◌, ◌^◌, [], All, length, min, IfOk, OnOk};
+ghost use Rattle.stn_core.specs.Literal.{IsOver};
+ghost use Rattle.branch_search.specs.Proved.{IsClauseOver};
+ghost use Rattle.branch_search.specs.Search.{Question, question_of, IsState, AreProved, adds_limit};
+ghost use Rattle.branch_search.specs.Slices.{IsFound};
+ghost use Rattle.branch_search.specs.Divisions.{IsDivision, IsSlice, HasSpent};
+
+use crate::answer::Slice;
+use crate::divide::Division;
+use crate::search::{Found, Rest};
+use crate::state::State;
+use refute_tree::{Batch, Earlier, Lemma};
+use search_guide::Guide;
+use std::alloc::{AllocError, Global};
+use stn_core::{Literal, Mark, Net, Problem};
+
+impl State {
+    // The cube, the clauses of one literal, and then the search.
+    fn begin<E: Earlier, N: Net>(
+        &mut self,
+        alloc: Global,
+        problem: &Problem,
+        handed: &E,
+        cube: &[Literal],
+        net: &mut N,
+        rest: Rest,
+    ) -> Result<Found, AllocError>
+        requires few { length (E.clauses handed.now) < 2 ^ 63 }
+        requires points { N.points_of net.old ≡ problem.now.points }
+        requires state { IsState (question_of problem.now (E.clauses handed.now) cube.now) self.old
+            (N.literals_of net.old) }
+        requires root { self.old.levels.items ≡ [] }
+        requires empty { N.literals_of net.old ≡ [] }
+        requires over { All (IsOver problem.now.points) cube.now }
+        ensures points { N.points_of net.new ≡ N.points_of net.old }
+        ensures found { IfOk result (IsFound (question_of problem.now (E.clauses handed.now) cube.now) self.new) }
+        ensures counts { OnOk result (min (N.adds_of net.old) adds_limit ≤ N.adds_of net.new) }
+    {
+        if let Some(j) = self.enter(alloc, problem, handed, cube, net)? {
+            return Ok(Found::Excluded(j));
+        }
+        if let Some(conflict) = self.take_units(problem, handed, cube, net)? {
+            let j = self.exclude(alloc, problem, handed, cube, net, &conflict)?;
+            return Ok(Found::Excluded(j));
+        }
+        let found = self.search(alloc, problem, handed, cube, net, rest)?;
+        Ok(found)
+    }
+
+    // The cube, and then what it alone comes to.
+    fn finish<E: Earlier, N: Net>(
+        &mut self,
+        alloc: Global,
+        problem: &Problem,
+        handed: &E,
+        cube: &[Literal],
+        net: &mut N,
+    ) -> Result<Division, AllocError>
+        requires few { length (E.clauses handed.now) < 2 ^ 63 }
+        requires points { N.points_of net.old ≡ problem.now.points }
+        requires state { IsState (question_of problem.now (E.clauses handed.now) cube.now) self.old
+            (N.literals_of net.old) }
+        requires root { self.old.levels.items ≡ [] }
+        requires empty { N.literals_of net.old ≡ [] }
+        requires over { All (IsOver problem.now.points) cube.now }
+        ensures points { N.points_of net.new ≡ N.points_of net.old }
+        ensures division { IfOk result (IsDivision (question_of problem.now (E.clauses handed.now) cube.now)
+            self.new.own.items) }
+        ensures counts { OnOk result (min (N.adds_of net.old) adds_limit ≤ N.adds_of net.new) }
+    {
+        if let Some(j) = self.enter(alloc, problem, handed, cube, net)? {
+            return Ok(Division::Excluded(j));
+        }
+        let division = self.divide(alloc, problem, handed, cube, net)?;
+        Ok(division)
+    }
+}
+
+// Adds that change nothing, until the count of adds has reached the target.
+fn spend<N: Net>(net: &mut N, problem: &Problem, target: u64) -> Result<(), AllocError>
+    requires points { N.points_of net.old ≡ problem.now.points }
+    ensures points { N.points_of net.new ≡ N.points_of net.old }
+    ensures spent { OnOk result (target ≤ N.adds_of net.new) }
+{
+    let literal = Literal { x: 0, y: 0, c: 0 };
+    let mark = net.mark();
+    'adds: while net.adds() < target {
+        net.add(literal)?;
+        net.retract(mark);
+    }
+    Ok(())
+}
+
+// The answer with its lemmas.
+fn answer_of(division: Division, seen: usize, lemmas: Vec<Lemma>) -> Slice
+    ensures { (q : Question) → seen ≡ length q.handed → IsDivision q lemmas.items division → IsSlice q result }
+{
+    let batch = Batch::new(seen, lemmas);
+    match division {
+        Division::Model(schedule) => Slice::Model(schedule, batch),
+        Division::Excluded(j) => Slice::Refuted(batch, j),
+        Division::Split(literal) => Slice::Split(literal, batch),
+    }
+}
+
+// Where the search found nothing within its budget: the net is emptied, and the cube entered alone.
+fn divide_cube<E: Earlier, N: Net>(
+    alloc: Global,
+    searched: State,
+    problem: &Problem,
+    handed: &E,
+    cube: &[Literal],
+    net: &mut N,
+    target: u64,
+) -> Result<Slice, AllocError>
+    requires few { length (E.clauses handed.now) < 2 ^ 63 }
+    requires points { N.points_of net.old ≡ problem.now.points }
+    requires lemmas { All (IsClauseOver problem.now.points) (E.clauses handed.now) }
+    requires proved { AreProved (question_of problem.now (E.clauses handed.now) cube.now) searched.own.items }
+    requires over { All (IsOver problem.now.points) cube.now }
+    ensures points { N.points_of net.new ≡ N.points_of net.old }
+    ensures answer { IfOk result (IsSlice (question_of problem.now (E.clauses handed.now) cube.now)) }
+    ensures spent { OnOk result (target ≤ N.adds_of net.new) }
+{
+    net.retract(Mark { length: 0 });
+    spend(net, problem, target)?;
+    net.retract(Mark { length: 0 });
+    let mut state = searched;
+    state.clear();
+    let division = state.finish(alloc, problem, handed, cube, net)?;
+    Ok(answer_of(division, handed.count(), state.own))
+}
+
+fn run<E: Earlier, N: Net>(
+    alloc: Global,
+    problem: &Problem,
+    handed: &E,
+    cube: &[Literal],
+    budget: u64,
+    net: &mut N,
+) -> Result<Slice, AllocError>
+    requires few { length (E.clauses handed.now) < 2 ^ 63 }
+    requires points { N.points_of net.old ≡ problem.now.points }
+    requires empty { N.literals_of net.old ≡ [] }
+    requires lemmas { All (IsClauseOver problem.now.points) (E.clauses handed.now) }
+    requires over { All (IsOver problem.now.points) cube.now }
+    ensures points { N.points_of net.new ≡ N.points_of net.old }
+    ensures answer { IfOk result (IsSlice (question_of problem.now (E.clauses handed.now) cube.now)) }
+    ensures spent { IfOk result (HasSpent (N.adds_of net.old) budget (N.adds_of net.new)) }
+{
+    let target = net.adds().saturating_add(budget);
+    let rest = Rest {
+        decisions: budget,
+        target,
+    };
+    let guide = Guide::new(alloc, problem)?;
+    let mut state = State::new(alloc, guide);
+    match state.begin(alloc, problem, handed, cube, net, rest)? {
+        Found::Model(schedule) => {
+            let batch = Batch::new(handed.count(), state.own);
+            Ok(Slice::Model(schedule, batch))
+        }
+        Found::Excluded(j) => {
+            let batch = Batch::new(handed.count(), state.own);
+            Ok(Slice::Refuted(batch, j))
+        }
+        Found::Spent => divide_cube(alloc, state, problem, handed, cube, net, target),
+    }
+}
+
+/// A slice of search for a schedule of a problem under a cube: up to so many adds to the net, which has the problem's
+/// points and no literal, and has none afterwards. A `Split` comes only where the count of adds has risen by the budget.
+/// The lemmas are each refuted over the problem, the handed lemmas and those before it, whatever the search's choices are.
+/// The one error is want of memory.
+pub fn slice<E: Earlier, N: Net>(
+    alloc: Global,
+    problem: &Problem,
+    handed: &E,
+    cube: &[Literal],
+    budget: u64,
+    net: &mut N,
+) -> Result<Slice, AllocError>
+    requires few { length (E.clauses handed.now) < 2 ^ 63 }
+    requires points { N.points_of net.old ≡ problem.now.points }
+    requires empty { N.literals_of net.old ≡ [] }
+    requires lemmas { All (IsClauseOver problem.now.points) (E.clauses handed.now) }
+    requires over { All (IsOver problem.now.points) cube.now }
+    ensures points { N.points_of net.new ≡ N.points_of net.old }
+    ensures literals { N.literals_of net.new ≡ [] }
+    ensures answer { IfOk result (IsSlice (question_of problem.now (E.clauses handed.now) cube.now)) }
+    ensures spent { IfOk result (HasSpent (N.adds_of net.old) budget (N.adds_of net.new)) }
+{
+    let result = run(alloc, problem, handed, cube, budget, net);
+    net.retract(Mark { length: 0 });
+    result
+}

@@ -1,0 +1,163 @@
+//! The trail of a search, beside a net that has some of its literals, and the lemmas learned so far.
+ghost use Rattle.std.specs.Prelude.{◌≡◌, ◌<◌, ◌≤◌, ◌+◌, ◌++◌, ◌∷◌, [], List, length, take, min, true, OnOk, IfOk};
+ghost use Rattle.branch_search.specs.Trails.{on_trail, Stands};
+ghost use Rattle.branch_search.specs.Search.{question_of, level_at, start_of, in_net_of, IsState, IsAfter, IsNetAfter};
+ghost use Rattle.branch_search.specs.Search.{adds_limit};
+
+use crate::entry::{Conflict, Entry, Level, Reason};
+use crate::reading::{is_same, literal_on};
+use refute_tree::{Earlier, Lemma};
+use search_guide::{Guide, LiteralNumber};
+use std::alloc::{AllocError, Global};
+use stn_core::{Added, Literal, Mark, Net, Problem};
+
+#[derive(Drop)]
+pub struct State {
+    pub guide: Guide,
+    pub entries: Vec<Entry>,
+    pub levels: Vec<Level>,
+    pub own: Vec<Lemma>,
+    /// the first place of the trail from which the guide hasn't looked yet for what follows
+    pub followed: usize,
+    /// the first place whose literal hasn't been put into the net yet, or passed by
+    pub netted: usize,
+    /// whether there was a conflict
+    pub met_conflict: bool,
+}
+
+// The literals from a place on leave the trail.
+fn unset_from(entries: &[Entry], guide: &mut Guide, start: usize) {
+    let count = entries.len();
+    for back in 0..count {
+        let k = count - 1 - back;
+        if start <= k {
+            guide.unset(entries[k].number);
+        }
+    }
+}
+
+impl State {
+    pub fn new(alloc: Global, guide: Guide) -> Self
+        ensures entries { result.entries.items ≡ [] }
+        ensures levels { result.levels.items ≡ [] }
+        ensures own { result.own.items ≡ [] }
+    {
+        State {
+            guide,
+            entries: Vec::new(alloc),
+            levels: Vec::new(alloc),
+            own: Vec::new(alloc),
+            followed: 0,
+            netted: 0,
+            met_conflict: false,
+        }
+    }
+
+    /// One literal more.
+    pub fn push(
+        &mut self,
+        literal: Literal,
+        number: LiteralNumber,
+        reason: Reason,
+    ) -> Result<(), AllocError>
+        ensures levels { self.new.levels.items ≡ self.old.levels.items }
+        ensures own { self.new.own.items ≡ self.old.own.items }
+        ensures entries { OnOk result (self.new.entries.items
+            ≡ self.old.entries.items ++ record { literal = literal; number = number; reason = reason } ∷ []) }
+    {
+        let place = self.entries.len();
+        self.entries.push(Entry {
+            literal,
+            number,
+            reason,
+        })?;
+        self.guide.set(number, place, self.levels.len());
+        Ok(())
+    }
+
+    /// Whether the literal, which has this number, stands on the trail where the guide has it.
+    pub fn is_on_trail(&self, number: LiteralNumber, literal: Literal) -> bool
+        ensures { result ≡ true → Stands self.now.entries.items (length self.now.entries.items) literal }
+    {
+        match self.guide.place(number) {
+            Some(k) => k < self.entries.len() && is_same(self.entries[k].literal, literal),
+            None => false,
+        }
+    }
+
+    /// The literal at the place of the trail goes into the net. The conflict is with the net's literals.
+    pub fn add_to_net<E: Earlier, N: Net>(
+        &self,
+        problem: &Problem,
+        handed: &E,
+        cube: &[Literal],
+        net: &mut N,
+        k: usize,
+    ) -> Result<Option<Conflict>, AllocError>
+        requires within { k < length self.now.entries.items }
+        requires points { N.points_of net.old ≡ problem.now.points }
+        requires state { IsState (question_of problem.now (E.clauses handed.now) cube.now) self.now
+            (N.literals_of net.old) }
+        ensures points { N.points_of net.new ≡ N.points_of net.old }
+        ensures after { IfOk result (IsAfter (question_of problem.now (E.clauses handed.now) cube.now) self.now
+            (N.literals_of net.new)) }
+        ensures counts { OnOk result (N.adds_of net.new ≡ min (N.adds_of net.old + 1) adds_limit) }
+        ensures added { IfOk result (IsNetAfter (N.literals_of net.old) (on_trail self.now.entries.items k)
+            (N.literals_of net.new)) }
+    {
+        match net.add(literal_on(&self.entries, k))? {
+            Added::Yes => Ok(None),
+            Added::Cycle(cycle) => Ok(Some(Conflict::Cycle(cycle))),
+        }
+    }
+
+    /// Before the decision of a literal.
+    pub fn begin_level<N: Net>(&mut self, net: &N) -> Result<(), AllocError>
+        ensures entries { self.new.entries.items ≡ self.old.entries.items }
+        ensures own { self.new.own.items ≡ self.old.own.items }
+        ensures levels { OnOk result (self.new.levels.items ≡ self.old.levels.items
+            ++ record { start = length self.old.entries.items; in_net = length (N.literals_of net.now) } ∷ []) }
+    {
+        let level = Level {
+            start: self.entries.len(),
+            in_net: net.mark().length,
+        };
+        self.levels.push(level)?;
+        Ok(())
+    }
+
+    /// Back to before the decision with this number.
+    pub fn cut<N: Net>(&mut self, net: &mut N, level: usize)
+        requires level { level < length self.old.levels.items }
+        requires within { in_net_of self.old.levels.items level ≤ length (N.literals_of net.old) }
+        ensures points { N.points_of net.new ≡ N.points_of net.old }
+        ensures adds { N.adds_of net.new ≡ N.adds_of net.old }
+        ensures entries { self.new.entries.items
+            ≡ take (start_of self.old.levels.items level) self.old.entries.items }
+        ensures levels { self.new.levels.items ≡ take level self.old.levels.items }
+        ensures literals { N.literals_of net.new
+            ≡ take (in_net_of self.old.levels.items level) (N.literals_of net.old) }
+        ensures own { self.new.own.items ≡ self.old.own.items }
+    {
+        let Level { start, in_net } = self.levels[level];
+        unset_from(&self.entries, &mut self.guide, start);
+        self.levels.truncate(level);
+        self.entries.truncate(start);
+        self.followed = self.followed.min(start);
+        self.netted = self.netted.min(start);
+        net.retract(Mark { length: in_net });
+    }
+
+    /// No literal stands on the trail. The lemmas stay.
+    pub fn clear(&mut self)
+        ensures entries { self.new.entries.items ≡ [] }
+        ensures levels { self.new.levels.items ≡ [] }
+        ensures own { self.new.own.items ≡ self.old.own.items }
+    {
+        unset_from(&self.entries, &mut self.guide, 0);
+        self.levels.truncate(0);
+        self.entries.truncate(0);
+        self.followed = 0;
+        self.netted = 0;
+    }
+}
