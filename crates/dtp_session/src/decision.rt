@@ -58,7 +58,11 @@ pub fn decide(alloc: Global, state: &State) -> Result<Entry, AllocError>
             Ok(Entry::Sat(values))
         }
         Verdict::Unsat(refutation) => {
-            let count = problem.clauses.as_slice().len().max(refutation.as_slice().len());
+            let count = problem
+                .clauses
+                .as_slice()
+                .len()
+                .max(refutation.as_slice().len());
             // an entry can't name so many clauses or lemmas, which are in no memory
             if count as u64 > NUMBER_LIMIT {
                 return Err(AllocError);

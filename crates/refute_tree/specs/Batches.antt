@@ -54,7 +54,7 @@ MovedBatchLaw =
     (points : ℕ) (clauses first later : List (List Literal)) (lemmas : List Lemma)
     → AreRefuted points clauses first lemmas
     → AreRefuted points clauses (first ++ later)
-        (map (moved_lemma (length first) (length first + length later)) lemmas)
+    (map (moved_lemma (length first) (length first + length later)) lemmas)
 
 -- refuted lemmas, and others that are refuted over them
 abbrev pub JoinedLaw : Type 0
