@@ -6,3 +6,4 @@ pub mod Values
 pub mod Steps
 pub mod Examples
 pub mod Laws
+pub mod Held

@@ -4,6 +4,7 @@
 mod difference;
 mod error;
 mod examples;
+mod held;
 mod laws;
 mod limits;
 mod linear;

@@ -4,6 +4,7 @@ ghost use Rattle.idl_linear.specs.Limits.{points_limit, constant_limit};
 ghost use Rattle.idl_linear.specs.Linear.{number_alone, point_alone, is_within};
 ghost use Rattle.idl_linear.specs.Forms.{IsLinear};
 
+use crate::held::Held;
 use crate::summand::Summand;
 use std::alloc::{AllocError, Global};
 use std::marker::Model;
@@ -12,19 +13,20 @@ use std::marker::Model;
 #[derive(Drop)]
 pub struct Linear {
     /// By ascending time points, none with the coefficient 0.
-    summands: Vec<Summand>,
+    summands: Held,
     constant: i64,
 }
 
 impl Model for Linear {
     ghost use Rattle.idl_linear.specs.Linear.{LinearValue};
     ghost use Rattle.idl_linear.specs.Forms.{IsLinear};
+    ghost use Rattle.idl_linear.specs.Held.{held_summands};
 
     ghost Value = { LinearValue };
 
-    ghost view = { λ l. record { summands = l.summands.items; constant = l.constant } };
+    ghost view = { λ l. record { summands = held_summands l.summands; constant = l.constant } };
 
-    ghost invariant = { λ l. IsLinear (record { summands = l.summands.items; constant = l.constant }) };
+    ghost invariant = { λ l. IsLinear (record { summands = held_summands l.summands; constant = l.constant }) };
 }
 
 impl Linear {
@@ -34,33 +36,31 @@ impl Linear {
         ensures { result ≡ number_alone number }
     {
         Linear {
-            summands: Vec::new(alloc),
+            summands: Held::Many(Vec::new(alloc)),
             constant: number,
         }
     }
 
-    /// The value of a name's time point.
-    pub fn point(alloc: Global, point: u32) -> Result<Self, AllocError>
+    /// The value of a name's time point. It takes no memory.
+    pub fn point(point: u32) -> Self
         requires some { 0 < point }
         requires few { point < points_limit }
-        ensures { IfOk result (λ l. l ≡ point_alone point) }
+        ensures { result ≡ point_alone point }
     {
-        let mut summands = Vec::new(alloc);
-        summands.push(Summand {
-            point,
-            coefficient: 1,
-        })?;
-        Ok(Linear {
-            summands,
+        Linear {
+            summands: Held::One(Summand {
+                point,
+                coefficient: 1,
+            }),
             constant: 0,
-        })
+        }
     }
 
     /// An equal term in memory of its own.
     pub fn copy(&self) -> Result<Self, AllocError>
         ensures { IfOk result (λ l. l ≡ self.now) }
     {
-        let summands = self.summands.clone()?;
+        let summands = self.summands.copy()?;
         Ok(Linear {
             summands,
             constant: self.constant,
@@ -71,7 +71,10 @@ impl Linear {
         requires { IsLinear (record { summands = summands.items; constant = constant }) }
         ensures { result ≡ record { summands = summands.items; constant = constant } }
     {
-        Linear { summands, constant }
+        Linear {
+            summands: Held::Many(summands),
+            constant,
+        }
     }
 
     /// The names' time points with their coefficients, by ascending time points: above 0, the zero point, and below 65,537. No

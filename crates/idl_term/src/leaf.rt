@@ -35,7 +35,7 @@ fn lower_found(alloc: Global, meaning: FoundName, nodes: &mut Nodes) -> Result<L
         FoundName::Declared(place, sort) => {
             let point = place as u32 + 1;
             match sort {
-                Sort::Int => Ok(Lowered::number(alloc, Linear::point(alloc, point)?)),
+                Sort::Int => Ok(Lowered::number(alloc, Linear::point(point))),
                 Sort::Bool => as_formula(nodes.place(Node::Atom(Literal {
                     x: point,
                     y: 0,
