@@ -187,15 +187,3 @@ clauses_over points nodes roots some table =
     All-from_recursion (λ (clause : List Literal). All (IsOver many) clause) (clauses_of points nodes roots)
     (each (λ (clause : List Literal). AllByRecursion (IsOver many) clause) (λ (clause : List Literal). All (IsOver many) clause) (clauses_of points nodes roots)
     (λ clause over. All-from_recursion (IsOver many) clause over) (clauses_by_recursion points nodes roots some table))
-
--- ---- a table with better atoms
-
-weaker_node : (Good Fair : Literal → Type 0) (nodes : List NodeValue) (k : ℕ) (node : NodeValue) → ((l : Literal) → Good l → Fair l) → IsNodeOf Good nodes k node → IsNodeOf Fair nodes k node
-weaker_node Good Fair nodes k always f h = tt
-weaker_node Good Fair nodes k (atom l) f h = f l h
-weaker_node Good Fair nodes k (denial m) f h = h
-weaker_node Good Fair nodes k (conjunction ms) f h = h
-weaker_node Good Fair nodes k (disjunction ms) f h = h
-
-pub weaker_table : (Good Fair : Literal → Type 0) (nodes : List NodeValue) → ((l : Literal) → Good l → Fair l) → IsTableOf Good nodes → IsTableOf Fair nodes
-weaker_table Good Fair nodes f table = λ k lt. weaker_node Good Fair nodes k (node_at nodes k) f (table k lt)

@@ -29,7 +29,8 @@ use Rattle.idl_term.specs.declared.operator.Operator.{Operator}
 use Rattle.idl_term.specs.Applied.{Made, as_formula}
 use Rattle.idl_term.specs.Lowered.{lowered_found, lowered_leaf, Head, operator, binder, refused, other_head, no_operator, symbol_head, head_of}
 use Rattle.idl_term.specs.Meanings.{lowered_value, IsLinearFor, IsScopeOver, IsMadeIn, found_value, Agrees}
-use Rattle.idl_term.specs.Operators.{is_symbol, is_reserved, left_out_of, operator_of}
+use Rattle.smt_sexpr.specs.Shapes.{is_symbol}
+use Rattle.idl_term.specs.Operators.{is_reserved, left_out_of, operator_of}
 use Rattle.idl_scope.specs.Scopes.{linear_term, Declaration, Scope, Found, declared_at, stands_for, unknown, found, is_known, sorts_of}
 use Rattle.idl_term.specs.Values.{Value, whole, truth, Named, looked_up, leaf_value, operator_at}
 use Rattle.idl_term.proofs.MeaningAtoms.{points_below, atom_negates}

@@ -1,14 +1,12 @@
 -- The s-expressions, schedules and scopes of the worked examples.
 use Rattle.std.specs.Prelude.{ℕ, List, [], ◌∷◌, codes, ℤ, pos, true}
-use Rattle.smt_lex.specs.declared.token.TokenKind.TheVariants.{Numeral, Symbol}
-use Rattle.smt_sexpr.specs.Tree.{Sexpr, Items, leaf, list, none, more}
+use Rattle.smt_lex.specs.declared.token.TokenKind.TheVariants.{Numeral}
+use Rattle.smt_sexpr.specs.Shapes.{symbol, list_of, form}
+use Rattle.smt_sexpr.specs.Tree.{Sexpr, leaf}
 use Rattle.stn_core.specs.declared.literal.Literal.{Literal}
 use Rattle.idl_node.specs.declared.sort.Sort.TheVariants as sort
 use Rattle.idl_scope.specs.Scopes.{Scope}
 use Rattle.idl_term.specs.Values.{Named, whole, truth}
-
-abbrev pub symbol : List ℕ → Sexpr
-symbol text = leaf Symbol text
 
 abbrev pub numeral : List ℕ → Sexpr
 numeral digits = leaf Numeral digits
@@ -26,21 +24,13 @@ p = symbol (codes "p")
 abbrev pub z : Sexpr
 z = symbol (codes "z")
 
-abbrev pub items_of : List Sexpr → Items
-items_of [] = none
-items_of (t ∷ ts) = more t (items_of ts)
-
--- (head t ..)
-abbrev pub apply : List ℕ → List Sexpr → Sexpr
-apply head ts = list (items_of (symbol head ∷ ts))
-
 -- (v t)
 abbrev pub binding : Sexpr → Sexpr → Sexpr
-binding v t = list (items_of (v ∷ t ∷ []))
+binding v t = list_of (v ∷ t ∷ [])
 
 -- (let (b ..) body)
 abbrev pub let_of : List Sexpr → Sexpr → Sexpr
-let_of bindings body = list (items_of (symbol (codes "let") ∷ list (items_of bindings) ∷ body ∷ []))
+let_of bindings body = form (codes "let") (list_of bindings ∷ body ∷ [])
 
 -- x is 4, y is 7 and p is true
 abbrev pub names : List Named

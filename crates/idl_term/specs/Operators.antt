@@ -1,8 +1,7 @@
 -- The operators of terms, and the other symbols that stand in terms (SMT-LIB 2.6, theories Core and Ints, and section 3.1).
-use Rattle.std.specs.Prelude.{ℕ, List, [], ◌∷◌, Bool, false, ◌||◌, ◌==◌, nat_le, codes, if◌then◌else◌, Option, Some, None, option_map}
+use Rattle.std.specs.Prelude.{ℕ, List, [], ◌∷◌, Bool, ◌||◌, ◌==◌, nat_le, codes, if◌then◌else◌, Option, Some, None, option_map}
 use Rattle.std.specs.List.{list_any}
 use Rattle.std.specs.Str.{bytes_eq}
-use Rattle.smt_sexpr.specs.Tree.{Sexpr, symbol_of}
 use Rattle.idl_term.specs.declared.operator.Connective.{Connective}
 use Rattle.idl_term.specs.declared.operator.Connective.TheVariants as connective
 use Rattle.idl_term.specs.declared.operator.Order.{Order}
@@ -94,10 +93,3 @@ takes_count (op.Connective connective.Or) n = nat_le 1 n
 takes_count (op.Sum s) n = nat_le 1 n
 takes_count op.Ite n = n == 3
 takes_count _ n = nat_le 2 n
-
--- whether the s-expression is this symbol
-abbrev pub is_symbol : List ℕ → Sexpr → Bool
-is_symbol text t = elim (symbol_of t) [
-  | None ↦ false
-  | Some name ↦ bytes_eq name text
-]

@@ -17,7 +17,8 @@ use Rattle.idl_term.specs.declared.operator.Equality.{Equality}
 use Rattle.idl_term.specs.declared.operator.Equality.TheVariants as equality
 use Rattle.idl_term.specs.declared.operator.Operator.{Operator}
 use Rattle.idl_term.specs.declared.operator.Operator.TheVariants as op
-use Rattle.idl_term.specs.Operators.{is_symbol, operator_of}
+use Rattle.smt_sexpr.specs.Shapes.{is_symbol}
+use Rattle.idl_term.specs.Operators.{operator_of}
 
 -- what a term stands for: a whole number, a truth value, or nothing where there is no such value, as where the term is
 -- ill-sorted. A term that is refused may have one: `(and)` is true.

@@ -1,9 +1,10 @@
 //! What the definitions say of small inputs.
 ghost use Rattle.std.specs.Prelude.{◌≡◌, ◌∷◌, [], codes, true, false, Ok, Err, pos, negsuc};
+ghost use Rattle.smt_sexpr.specs.Shapes.{symbol, form};
 ghost use Rattle.idl_node.specs.Nodes.{always, atom, denial, conjunction, disjunction};
 ghost use Rattle.idl_term.specs.declared.error.LeftOutTerm.TheVariants.{Ite, Times, As};
 ghost use Rattle.idl_term.specs.declared.error.TermRefusal.TheVariants.{UnknownSymbol, IllFormedTerm, WrongCount, WrongSort, NotADifference, BoundTooLarge, LeftOut};
-ghost use Rattle.idl_term.specs.Examples.{symbol, numeral, x, y, p, z, apply, binding, let_of, names, scope, literal};
+ghost use Rattle.idl_term.specs.Examples.{numeral, x, y, p, z, binding, let_of, names, scope, literal};
 ghost use Rattle.idl_term.specs.Lowered.{lowered};
 ghost use Rattle.idl_scope.specs.Scopes.{formula};
 ghost use Rattle.idl_term.specs.Values.{whole, truth, nothing, value};
@@ -13,29 +14,29 @@ ghost use Rattle.idl_term.specs.Values.{whole, truth, nothing, value};
 pub fn worked_values()
     ensures name { value names x ≡ whole (pos 4) }
     ensures unknown { value names z ≡ nothing }
-    ensures chain { value names (apply (codes "<") (x ∷ y ∷ numeral (codes "9") ∷ [])) ≡ truth true }
-    ensures chain_fails { value names (apply (codes "<") (x ∷ y ∷ numeral (codes "5") ∷ [])) ≡ truth false }
-    ensures difference { value names (apply (codes "-") (x ∷ y ∷ [])) ≡ whole (negsuc 2) }
-    ensures three { value names (apply (codes "-") (y ∷ x ∷ numeral (codes "1") ∷ [])) ≡ whole (pos 2) }
-    ensures implication { value names (apply (codes "=>") (p ∷ symbol (codes "false") ∷ p ∷ []))
+    ensures chain { value names (form (codes "<") (x ∷ y ∷ numeral (codes "9") ∷ [])) ≡ truth true }
+    ensures chain_fails { value names (form (codes "<") (x ∷ y ∷ numeral (codes "5") ∷ [])) ≡ truth false }
+    ensures difference { value names (form (codes "-") (x ∷ y ∷ [])) ≡ whole (negsuc 2) }
+    ensures three { value names (form (codes "-") (y ∷ x ∷ numeral (codes "1") ∷ [])) ≡ whole (pos 2) }
+    ensures implication { value names (form (codes "=>") (p ∷ symbol (codes "false") ∷ p ∷ []))
         ≡ truth true }
-    ensures exclusive { value names (apply (codes "xor") (p ∷ p ∷ p ∷ [])) ≡ truth true }
-    ensures distinct { value names (apply (codes "distinct") (x ∷ y ∷ numeral (codes "4") ∷ []))
+    ensures exclusive { value names (form (codes "xor") (p ∷ p ∷ p ∷ [])) ≡ truth true }
+    ensures distinct { value names (form (codes "distinct") (x ∷ y ∷ numeral (codes "4") ∷ []))
         ≡ truth false }
-    ensures at_once { value names (apply (codes "<") (x ∷ y ∷ [])) ≡ truth true }
+    ensures at_once { value names (form (codes "<") (x ∷ y ∷ [])) ≡ truth true }
     ensures swapped { value names (let_of (binding x y ∷ binding y x ∷ [])
-        (apply (codes "<") (x ∷ y ∷ []))) ≡ truth false }
-    ensures ill_sorted { value names (apply (codes "<") (x ∷ p ∷ [])) ≡ nothing }
-    ensures branches { value names (apply (codes "ite")
-        (apply (codes "not") (p ∷ []) ∷ p ∷ symbol (codes "false") ∷ [])) ≡ truth false }
+        (form (codes "<") (x ∷ y ∷ []))) ≡ truth false }
+    ensures ill_sorted { value names (form (codes "<") (x ∷ p ∷ [])) ≡ nothing }
+    ensures branches { value names (form (codes "ite")
+        (form (codes "not") (p ∷ []) ∷ p ∷ symbol (codes "false") ∷ [])) ≡ truth false }
 {}
 
 /// What terms are made into, where the time points of x, y and p are 1, 2 and 3.
 #[tactic(auto, unfolding(crate::specs::Operators::operator_of, crate::specs::Operators::connective_of, crate::specs::Operators::order_of, crate::specs::Operators::sign_of, crate::specs::Operators::equality_of, crate::specs::Operators::left_out_of, crate::specs::Operators::theory_symbols, crate::specs::Operators::reserved_words, crate::specs::Lowered::lowered, crate::specs::Lowered::lowered_leaf, crate::specs::Lowered::head_of, crate::specs::Lowered::is_let, crate::specs::Applied::applied, idl_linear::specs::Differences::difference_of, idl_linear::specs::Linear::sum_of, smt_lex::specs::Numbers::value_from))]
 pub fn worked_terms()
-    ensures less { lowered scope [] (apply (codes "<") (x ∷ y ∷ []))
+    ensures less { lowered scope [] (form (codes "<") (x ∷ y ∷ []))
         ≡ Ok (record { nodes = atom (literal 1 2 (negsuc 0)) ∷ []; is = formula 0 }) }
-    ensures equal { lowered scope [] (apply (codes "=") (x ∷ numeral (codes "3") ∷ []))
+    ensures equal { lowered scope [] (form (codes "=") (x ∷ numeral (codes "3") ∷ []))
         ≡ Ok (record {
           nodes = atom (literal 1 0 (pos 3)) ∷ atom (literal 0 1 (negsuc 2))
               ∷ conjunction (0 ∷ 1 ∷ []) ∷ [];
@@ -45,28 +46,28 @@ pub fn worked_terms()
         ≡ Ok (record { nodes = always ∷ denial 0 ∷ []; is = formula 1 }) }
     ensures name { lowered scope [] p ≡ Ok
         (record { nodes = atom (literal 3 0 (pos 0)) ∷ []; is = formula 0 }) }
-    ensures denied { lowered scope [] (apply (codes "not") (p ∷ []))
+    ensures denied { lowered scope [] (form (codes "not") (p ∷ []))
         ≡ Ok (record {
           nodes = atom (literal 3 0 (pos 0)) ∷ atom (literal 0 3 (negsuc 0)) ∷ [];
           is = formula 1;
         }) }
     ensures swapped { lowered scope [] (let_of (binding x y ∷ binding y x ∷ [])
-        (apply (codes "<") (x ∷ y ∷ [])))
+        (form (codes "<") (x ∷ y ∷ [])))
         ≡ Ok (record { nodes = atom (literal 2 1 (negsuc 0)) ∷ []; is = formula 0 }) }
-    ensures cancels { lowered scope [] (apply (codes "<") (apply (codes "+") (x ∷ y ∷ []) ∷ y ∷ []))
+    ensures cancels { lowered scope [] (form (codes "<") (form (codes "+") (x ∷ y ∷ []) ∷ y ∷ []))
         ≡ Ok (record { nodes = atom (literal 1 0 (negsuc 0)) ∷ []; is = formula 0 }) }
-    ensures unknown { lowered scope [] (apply (codes "and") (numeral (codes "1") ∷ z ∷ []))
+    ensures unknown { lowered scope [] (form (codes "and") (numeral (codes "1") ∷ z ∷ []))
         ≡ Err UnknownSymbol }
-    ensures wrong_sort { lowered scope [] (apply (codes "and") (x ∷ [])) ≡ Err WrongSort }
+    ensures wrong_sort { lowered scope [] (form (codes "and") (x ∷ [])) ≡ Err WrongSort }
     ensures no_difference { lowered scope []
-        (apply (codes "<=") (apply (codes "+") (x ∷ y ∷ []) ∷ numeral (codes "3") ∷ []))
+        (form (codes "<=") (form (codes "+") (x ∷ y ∷ []) ∷ numeral (codes "3") ∷ []))
         ≡ Err NotADifference }
-    ensures count { lowered scope [] (apply (codes "not") (z ∷ z ∷ [])) ≡ Err WrongCount }
-    ensures too_large { lowered scope [] (apply (codes "=") (x ∷ numeral (codes "1099511627777") ∷ []))
+    ensures count { lowered scope [] (form (codes "not") (z ∷ z ∷ [])) ≡ Err WrongCount }
+    ensures too_large { lowered scope [] (form (codes "=") (x ∷ numeral (codes "1099511627777") ∷ []))
         ≡ Err BoundTooLarge }
-    ensures left_out { lowered scope [] (apply (codes "*") (z ∷ [])) ≡ Err (LeftOut Times) }
-    ensures branches { lowered scope [] (apply (codes "ite") (p ∷ x ∷ y ∷ [])) ≡ Err (LeftOut Ite) }
-    ensures applied_name { lowered scope [] (apply (codes "x") (y ∷ [])) ≡ Err IllFormedTerm }
-    ensures applied_unknown { lowered scope [] (apply (codes "f") (y ∷ [])) ≡ Err UnknownSymbol }
+    ensures left_out { lowered scope [] (form (codes "*") (z ∷ [])) ≡ Err (LeftOut Times) }
+    ensures branches { lowered scope [] (form (codes "ite") (p ∷ x ∷ y ∷ [])) ≡ Err (LeftOut Ite) }
+    ensures applied_name { lowered scope [] (form (codes "x") (y ∷ [])) ≡ Err IllFormedTerm }
+    ensures applied_unknown { lowered scope [] (form (codes "f") (y ∷ [])) ≡ Err UnknownSymbol }
     ensures twice_bound { lowered scope [] (let_of (binding x z ∷ binding x z ∷ []) x) ≡ Err IllFormedTerm }
 {}

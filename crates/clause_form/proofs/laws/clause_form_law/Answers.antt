@@ -2,7 +2,8 @@ use Rattle.std.proofs.Common.{arith, ◌+◌, length}
 use Rattle.stn_core.specs.Literal.{IsOver}
 use Rattle.idl_node.specs.Sorts.{IsAtomFor}
 use Rattle.clause_form.proofs.Means.{schedule_of_values, values_of_schedule}
-use Rattle.clause_form.proofs.Points.{points_few, points_some, clauses_over, weaker_table}
+use Rattle.clause_form.proofs.Points.{points_few, points_some, clauses_over}
+use Rattle.idl_node.proofs.Keeping.{table_of-better}
 use Rattle.clause_form.proofs.laws.clause_form_law.Goals as goal
 
 pub returns-clause-holds : goal.returns-clause-holds
@@ -13,7 +14,7 @@ returns-clause-schedule c sorts nodes roots values table in_range count holds = 
 
 pub returns-clause-over : goal.returns-clause-over
 returns-clause-over c sorts nodes roots table in_range =
-    clauses_over (length sorts + 1) nodes roots (omega arith) (weaker_table (IsAtomFor sorts) (IsOver (length sorts + 1)) nodes (λ l a. a.over) table)
+    clauses_over (length sorts + 1) nodes roots (omega arith) (table_of-better (IsAtomFor sorts) (IsOver (length sorts + 1)) (λ l a. a.over) nodes table)
 
 pub returns-clause-few : goal.returns-clause-few
 returns-clause-few c points nodes roots = points_few points nodes roots

@@ -1,8 +1,6 @@
-use Rattle.std.proofs.Common.{rules, arith, ap, ◌∙◌, ◌≡◌, ◌*ℤ◌, w64, FitsSigned, to_z, of_z}
-use Rattle.std.proofs.lemmas.Int.{ints, to_z-of_z}
+use Rattle.std.proofs.Common.{ap, ◌≡◌, ◌*ℤ◌, to_z, of_z}
+use Rattle.std.proofs.lemmas.Int.{to_z-of_z}
 use Rattle.std.specs.Int.{w128}
-use Rattle.stn_core.specs.Literal.{value_at}
-use Rattle.idl_node.specs.Truth.{point_values}
 use Rattle.idl_term.proofs.Evaluating.{IsSmall, small_point, product_fits, product_low, product_high, product_is}
 use Rattle.idl_term.proofs.evaluation.product.Goals as goal
 use Rattle.idl_term.proofs.evaluation.product.Goals.{After-point_value}
