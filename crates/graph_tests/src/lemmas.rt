@@ -1,11 +1,11 @@
 ghost use Rattle.std.specs.Prelude.{◌≡◌, IfOk};
 
 use cert_check::{CheckError, Flaw, FlawKind, check_lemma, check_refutation, check_schedule};
-use refute_tree::{Lemma, Refutation, Step, Steps, cases, leaf};
+use refute_tree::{Lemma, Refutation, StepView, Steps, cases, leaf};
 use std::alloc::{AllocError, Global};
 use std::sync::Arc;
 use std::test::Fail;
-use stn_core::{Clause, Clauses, Literal, Literals, Problem, Schedule};
+use stn_core::{Clause, Clauses, Literal, Problem, Schedule};
 
 const X_BEFORE_Y: Literal = Literal { x: 1, y: 2, c: -1 };
 
@@ -23,10 +23,9 @@ fn two_orders(alloc: Global) -> Result<Problem, AllocError>
 
 /// Both clauses' only cases, down to the cycle.
 fn tree(alloc: Global) -> Result<Steps, AllocError> {
-    let cycle = [X_BEFORE_Y, Y_BEFORE_X].to_vec(alloc)?;
-    let inner = leaf(alloc, Literals::new(cycle))?;
-    let outer = cases(alloc, Step::Input(1), vec![in alloc; inner]?)?;
-    cases(alloc, Step::Input(0), vec![in alloc; outer]?)
+    let inner = leaf(alloc, [X_BEFORE_Y, Y_BEFORE_X].as_slice())?;
+    let outer = cases(alloc, StepView::Input(1), [inner].as_slice())?;
+    cases(alloc, StepView::Input(0), [outer].as_slice())
 }
 
 fn lemma_of(alloc: Global, steps: Steps) -> Lemma {
@@ -38,7 +37,8 @@ fn lemma_of(alloc: Global, steps: Steps) -> Lemma {
 
 /// The refutation by one step, which cites the lemma with this number.
 fn citing(alloc: Global, number: usize) -> Result<Refutation, AllocError> {
-    let steps = Steps::new(vec![in alloc; Step::Lemma(number)]?);
+    let mut steps = Steps::new(alloc);
+    steps.push_lemma(number)?;
     Ok(Refutation::new(vec![in alloc; lemma_of(alloc, steps)]?))
 }
 
@@ -67,7 +67,8 @@ fn a_lemma_after_shared_ones(rt: HostRuntime) -> Result<(), Fail> {
     let alloc = rt.alloc();
     let first = Arc::new(alloc, lemma_of(alloc, tree(alloc)?))?;
     let shared = vec![in alloc; first]?;
-    let steps = Steps::new(vec![in alloc; Step::Lemma(0)]?);
+    let mut steps = Steps::new(alloc);
+    steps.push_lemma(0)?;
     let lemma = lemma_of(alloc, steps);
     let found = check_lemma(alloc, &two_orders(alloc)?, &shared.as_slice(), &lemma);
     assert_eq!(rt; found, Ok(()));

@@ -5,6 +5,8 @@
 #[cfg(test)]
 mod chains;
 #[cfg(test)]
+mod clashes;
+#[cfg(test)]
 mod covers;
 #[cfg(test)]
 mod cycles;
@@ -12,5 +14,7 @@ mod cycles;
 mod lemmas;
 #[cfg(test)]
 mod nets;
+#[cfg(test)]
+mod steps;
 #[cfg(test)]
 mod wide;
