@@ -28,7 +28,7 @@ use Rattle.smt_script.specs.States.{State, start_state, Step, after, settled}
 use Rattle.smt_answer.specs.Kinds.{kind_of}
 use Rattle.dtp_entry.specs.declared.report.Report.TheVariants.{Certificate}
 use Rattle.dtp_entry.specs.Entries.{verdict_of, IsRight, IsEntryOf}
-use Rattle.dtp_entry.specs.Transcripts.{Held, Answered, Reply, answered, last as finally, error, checked, Answers, Output, behind, GoesOn, Follows}
+use Rattle.dtp_entry.specs.Transcripts.{Held, Answered, Reply, answered, last as finally, error, checked, Answers, RepliesBy, Output, behind, GoesOn, Follows}
 use Rattle.dtp_entry.proofs.Verdicts.{sorts_count}
 use Rattle.dtp_check.specs.declared.judgement.EntryFlaw.{EntryFlaw}
 use Rattle.dtp_check.specs.declared.judgement.EntryFlaw.TheVariants.{Flawed}
@@ -38,6 +38,7 @@ use Rattle.dtp_check.specs.declared.script_part.PartEnd.TheVariants as part
 use Rattle.dtp_check.specs.Judged.{EndsPart, ExitEnds, FollowsExit, ScriptPart, is_true, first_false, entry_flaw, judged_entry, judged, IsJudged}
 use Rattle.dtp_check.specs.Laws.{CertifiedIsAccepted}
 use Rattle.dtp_check.specs.Whole.{IsWholeFrom}
+use Rattle.dtp_check.proofs.Reading.{same_sexpr, not_finished}
 use Rattle.dtp_check.proofs.Judging.{none_of_wrong_sort, of_sorts_count, values_flaw_is, judged_ok, judged_none, not_exit, told_apart, check_apart, step_of}
 
 -- ---- a right entry has no flaw
@@ -87,14 +88,8 @@ closed_ends script place le closed =
 
 -- ---- what was written of the commands
 
-abbrev RepliesBy : Held → Result Step Refusal → Reply → Type 0
-RepliesBy held r reply = elim r [
-  | Ok step ↦ Answers Certificate held step.state step.effect reply
-  | Err why ↦ reply ≡ error (kind_of why)
-]
-
 abbrev FollowsBy : Held → ℕ → List Sexpr → Ending → Output → Result Step Refusal → Type 0
-FollowsBy held k xs ending out r = (reply : Reply) × RepliesBy held r reply × GoesOn k reply xs ending out (λ kept next rest. Follows Certificate kept next (k + 1) xs ending rest)
+FollowsBy held k xs ending out r = (reply : Reply) × RepliesBy Certificate held r reply × GoesOn k reply xs ending out (λ kept next rest. Follows Certificate kept next (k + 1) xs ending rest)
 
 follows_is : (held : Held) (s : State) (k : ℕ) (x : Sexpr) (xs : List Sexpr) (ending : Ending) (out : Output) → Follows Certificate held s k (x ∷ xs) ending out → FollowsBy held k xs ending out (after s x)
 unfolding Follows
@@ -117,16 +112,6 @@ record IsSplit (script : List ℕ) (place : ℕ) (s : State) (k : ℕ) (xs : Lis
   reads : (added : List ℕ) (end : PartEnd) (behind : ℕ) → EndsIn exits (script ++ added) last end behind → ScriptPart (script ++ added) place xs end behind
 
 module _ (one : OneOutcome) (on : ListReadsOn) (within : ListIsWithin) (flaw : FlawLaw) (only : OnlyExitEnds) where
-  same_sexpr : (bytes : List ℕ) (place : ℕ) (x y : Sexpr) (m n : ℕ) → Spells bytes place x m → Spells bytes place y n → (x ≡ y) × (m ≡ n)
-  same_sexpr bytes place x y m n h k =
-      let w = one bytes place (expression x) (expression y) m n h k in
-      let first = w.0 in
-      let same : x ≡ y = cc in
-      (same, w.1)
-
-  not_finished : (bytes : List ℕ) (place : ℕ) (x : Sexpr) (m n : ℕ) → Spells bytes place x m → Outcomes bytes place finished n → ⊥
-  not_finished bytes place x m n h k = let e = (one bytes place (expression x) finished m n h k).0 in absurd cc
-
   -- no command follows: the end of the text is the end of the script
   split_end : (ys : List Sexpr) (script : List ℕ) (place here k : ℕ) (held : Held) (s : State) (ending : Ending) (out : Output) → out.status ≡ 0 → place ≤ length script → place ≡ here → EndsAs script here ending → Follows Certificate held s k [] ending out
       → IsWholeFrom script place ys → IsSplit script place s k [] out.text
@@ -144,7 +129,7 @@ module _ (one : OneOutcome) (on : ListReadsOn) (within : ListIsWithin) (flaw : F
     closed = is;
     reads = λ added end behind h. h;
   }
-  split_end (y ∷ ys) script place here k held s ended out status le e (n, finishes) follows (mid, spells, is) = absurd (not_finished script place y mid n spells (subst (λ (p : ℕ). Outcomes script p finished n) (sym e) finishes))
+  split_end (y ∷ ys) script place here k held s ended out status le e (n, finishes) follows (mid, spells, is) = absurd (not_finished one script place y mid n spells (subst (λ (p : ℕ). Outcomes script p finished n) (sym e) finishes))
 
   module _ (script : List ℕ) (place mid k : ℕ) (s : State) (x : Sexpr) (spells : Spells script place x mid) where
     on_command : (step : Step) → after s x ≡ Ok step → (added : List ℕ) → Spells (script ++ added) place x mid
@@ -265,9 +250,9 @@ module _ (one : OneOutcome) (on : ListReadsOn) (within : ListIsWithin) (flaw : F
   split : (xs ys : List Sexpr) (script : List ℕ) (place here k : ℕ) (held : Held) (s : State) (ending : Ending) (out : Output) → out.status ≡ 0 → place ≤ length script → Commands script place xs here → EndsAs script here ending → Follows Certificate held s k xs ending out
       → IsWholeFrom script place ys → IsSplit script place s k xs out.text
   split [] ys script place here k held s ending out status le e ends follows is = split_end ys script place here k held s ending out status le e ends follows is
-  split (x ∷ xs) [] script place here k held s ending out status le (mid, spells, rest) ends follows is = absurd (not_finished script place x mid (length script) spells (closed_ends script place le is))
+  split (x ∷ xs) [] script place here k held s ending out status le (mid, spells, rest) ends follows is = absurd (not_finished one script place x mid (length script) spells (closed_ends script place le is))
   split (x ∷ xs) (y ∷ ys) script place here k held s ending out status le (mid, spells, rest) ends follows (there, spells_y, is) =
-      let same = same_sexpr script place y x there mid spells_y spells in
+      let same = same_sexpr one script place y x there mid spells_y spells in
       let at_mid : FollowsExit (is_exit y) ((ys ≡ []) × IsClosedGap (drop mid script)) (IsWholeFrom script mid ys) = subst (λ (m : ℕ). FollowsExit (is_exit y) ((ys ≡ []) × IsClosedGap (drop m script)) (IsWholeFrom script m ys)) same.1 is in
       let of_x : FollowsExit (is_exit x) ((ys ≡ []) × IsClosedGap (drop mid script)) (IsWholeFrom script mid ys) = subst (λ (z : Sexpr). FollowsExit (is_exit z) ((ys ≡ []) × IsClosedGap (drop mid script)) (IsWholeFrom script mid ys)) same.0 at_mid in
       split_by script place mid k s x spells (after s x) refl held xs ys ending out status (follows_is held s k x xs ending out follows) of_x

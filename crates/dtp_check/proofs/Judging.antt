@@ -16,7 +16,6 @@ use Rattle.idl_node.specs.Nodes.{NodeValue}
 use Rattle.idl_node.specs.Sorts.{IsAtomFor, IsOfSort, AreOfSorts}
 use Rattle.idl_node.specs.Tables.{IsTableOver}
 use Rattle.idl_node.specs.Truth as node
-use Rattle.idl_node.proofs.Keeping.{table_of-better}
 use Rattle.idl_term.specs.Contexts.{Context, environment}
 use Rattle.idl_term.specs.Laws.{ContextsHaveScopes, RootsAreNodes, RootsAreExact}
 use Rattle.idl_term.specs.Meanings.{AreRoots}
@@ -35,7 +34,7 @@ use Rattle.dtp_entry.specs.Entries.{verdict_of}
 use Rattle.dtp_entry.specs.Standing.{Stands}
 use Rattle.smt_script.specs.Laws.{StepMade, SettledMade, OnlyExitEnds}
 use Rattle.dtp_entry.proofs.Standing.{stands_after}
-use Rattle.dtp_entry.proofs.Verdicts.{sorts_count}
+use Rattle.dtp_entry.proofs.Verdicts.{sorts_count, table_over}
 use Rattle.dtp_check.specs.declared.judge.Turn.{Turn}
 use Rattle.dtp_check.specs.declared.judge.Turn.TheVariants.{Going, Judged}
 use Rattle.dtp_check.specs.Turns.{IsCheckTurn, IsJudgedTurn}
@@ -160,12 +159,11 @@ module _ (kept : Kept) (s : State) (stands : Stands kept s) (values : List Named
   pub sorts_judged : (k : ℕ) → IsCounted → Some k ≡ first_of_wrong_sort 1 (sorts_of kept.scope.declared) values → values_flaw s.context values ≡ Some (WrongSort k)
   sorts_judged k e f = values_of_wrong_sort s.context values k (counted e) (sorted (Some k) f)
 
-  pub table_over : ContextsHaveScopes → IsCounted → IsTableOver (length values + 1) kept.nodes
-  table_over scope e =
+  pub kept_table_over : ContextsHaveScopes → IsCounted → IsTableOver (length values + 1) kept.nodes
+  kept_table_over scope e =
       let names = sorts_of s.context.declared in
-      let count : length names + 1 ≡ length values + 1 = ap (λ (n : ℕ). n + 1) (sorts_count s.context.declared ∙ sym (counted e)) in
-      let table = table_of-better (IsAtomFor names) (IsOver (length names + 1)) (λ (l : Literal) (h : IsAtomFor names l). h.over) s.context.nodes (scope s.context stands.made.context).table in
-      subst (λ (nodes : List NodeValue). IsTableOver (length values + 1) nodes) (sym stands.stands.nodes) (subst (λ (n : ℕ). IsTableOver n s.context.nodes) count table)
+      let count : length values + 1 ≡ length names + 1 = ap (λ (n : ℕ). n + 1) (counted e ∙ sym (sorts_count s.context.declared)) in
+      table_over (length values + 1) kept.nodes s.context.nodes names count stands.stands.nodes (scope s.context stands.made.context).table
 
   pub roots_within : RootsAreNodes → AllByRecursion (λ r. r < length kept.nodes) kept.roots
   roots_within roots =

@@ -61,14 +61,14 @@ turn_used s k used entries x new turn now is j =
     w.3
 
 module _ (one : OneOutcome) where
-  same_sexpr : (bytes : List ℕ) (place : ℕ) (x y : Sexpr) (m n : ℕ) → Spells bytes place x m → Spells bytes place y n → (x ≡ y) × (m ≡ n)
+  pub same_sexpr : (bytes : List ℕ) (place : ℕ) (x y : Sexpr) (m n : ℕ) → Spells bytes place x m → Spells bytes place y n → (x ≡ y) × (m ≡ n)
   same_sexpr bytes place x y m n h k =
       let w = one bytes place (expression x) (expression y) m n h k in
       let first = w.0 in
       let same : x ≡ y = cc in
       (same, w.1)
 
-  not_finished : (bytes : List ℕ) (place : ℕ) (x : Sexpr) (m n : ℕ) → Spells bytes place x m → Outcomes bytes place finished n → ⊥
+  pub not_finished : (bytes : List ℕ) (place : ℕ) (x : Sexpr) (m n : ℕ) → Spells bytes place x m → Outcomes bytes place finished n → ⊥
   not_finished bytes place x m n h k = let e = (one bytes place (expression x) finished m n h k).0 in absurd cc
 
   not_refused : (bytes : List ℕ) (place : ℕ) (x : Sexpr) (why : SexprRefusal) (m n : ℕ) → Spells bytes place x m → Outcomes bytes place (refused why) n → ⊥

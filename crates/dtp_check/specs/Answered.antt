@@ -15,9 +15,11 @@ checked_of _ = checked.NotAccepted
 -- the line of what the source comes to
 abbrev pub IsAnswer : List ℕ → List ℕ → Checked → Type 0
 IsAnswer bytes line checked =
-    (judgement : Judgement) × IsJudged bytes judgement × (line ≡ judgement_line judgement) × (checked ≡ checked_of judgement)
+    (judgement : Judgement) × IsJudged bytes judgement
+    × (line ≡ judgement_line judgement) × (checked ≡ checked_of judgement)
 
 -- nothing, or a front of that line
 abbrev pub IsAnswerPart : List ℕ → List ℕ → Type 0
 IsAnswerPart bytes written =
-    (written ≡ []) ⊎ ((line : List ℕ) × (checked : Checked) × IsAnswer bytes line checked × IsFront written line)
+    (written ≡ [])
+    ⊎ ((line : List ℕ) × (checked : Checked) × IsAnswer bytes line checked × IsFront written line)

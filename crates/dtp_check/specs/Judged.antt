@@ -73,7 +73,8 @@ is_of_sort _ _ = false
 
 -- the first value of another sort than its name's; the values are numbered from k on
 abbrev pub first_of_wrong_sort : ℕ → List Sort → List NamedValue → Option ℕ
-first_of_wrong_sort k (s ∷ names) (v ∷ values) = if is_of_sort s v then first_of_wrong_sort (k + 1) names values else Some k
+first_of_wrong_sort k (s ∷ names) (v ∷ values) =
+    if is_of_sort s v then first_of_wrong_sort (k + 1) names values else Some k
 first_of_wrong_sort k _ _ = None
 
 abbrev pub is_true : Value → Bool
@@ -83,7 +84,8 @@ is_true _ = false
 -- the first assertion that isn't true where the names stand for these values; the assertions are numbered from k on
 abbrev pub first_false : List Named → ℕ → List Sexpr → Option ℕ
 first_false env k [] = None
-first_false env k (t ∷ assertions) = if is_true (value env t) then first_false env (k + 1) assertions else Some k
+first_false env k (t ∷ assertions) =
+    if is_true (value env t) then first_false env (k + 1) assertions else Some k
 
 abbrev pub first_of_two : Option EntryFlaw → Option EntryFlaw → Option EntryFlaw
 first_of_two (Some flaw) other = Some flaw
@@ -126,14 +128,16 @@ judged_effect CheckSat s n entries others = judged_check s n entries (λ next re
 judged_effect Exit s n entries others = surplus_of n entries
 
 -- by what command k leads to
-abbrev pub judged_after : ℕ → ℕ → List Entry → Result Step Refusal → (State → ℕ → List Entry → Judgement) → Judgement
+abbrev pub judged_after : ℕ → ℕ → List Entry → Result Step Refusal
+    → (State → ℕ → List Entry → Judgement) → Judgement
 judged_after k n entries (Ok step) others = judged_effect step.effect step.state n entries others
 judged_after k n entries (Err why) others = Script k (kind_of why)
 
 -- command k and those behind it, in this state, with entry n and those behind it
 unfoldable pub judged : State → ℕ → ℕ → List Sexpr → List Entry → Judgement
 judged s k n [] entries = surplus_of n entries
-judged s k n (x ∷ xs) entries = judged_after k n entries (after s x) (λ next m rest. judged next (k + 1) m xs rest)
+judged s k n (x ∷ xs) entries =
+    judged_after k n entries (after s x) (λ next m rest. judged next (k + 1) m xs rest)
 
 -- the commands with what stands behind them
 abbrev pub judged_with : List Sexpr → CertificateOutcome → Judgement
@@ -143,7 +147,8 @@ judged_with xs (no_certificate why) = Certificate why
 abbrev pub JudgedPart : List ℕ → List Sexpr → PartEnd → ℕ → Judgement → Type 0
 JudgedPart bytes xs (part.Unread kind) behind judgement = judgement ≡ Script (length xs + 1) kind
 JudgedPart bytes xs end behind judgement =
-    (outcome : CertificateOutcome) × CertificateBehind bytes end behind outcome × (judgement ≡ judged_with xs outcome)
+    (outcome : CertificateOutcome) × CertificateBehind bytes end behind outcome
+    × (judgement ≡ judged_with xs outcome)
 
 -- what a source comes to, which is a script and then a certificate
 pub record IsJudged (bytes : List ℕ) (judgement : Judgement) : Type 0 where

@@ -13,7 +13,8 @@ use Rattle.dtp_check.specs.Judged.{EndsPart}
 
 -- what stands at the place, and the place behind it
 abbrev pub IsNext : List ℕ → ℕ → Table → ℕ → Next → Type 0
-IsNext bytes place t after (Command id) = (x : Sexpr) × Means t id x × Spells bytes place x after × (x ≢ header_sexpr)
+IsNext bytes place t after (Command id) =
+    (x : Sexpr) × Means t id x × Spells bytes place x after × (x ≢ header_sexpr)
 IsNext bytes place t after (Ended end) = EndsPart bytes place end after
 
 -- more may follow it

@@ -5,4 +5,5 @@ use Rattle.std.specs.Prelude.{ℕ, ◌+◌, List, [], ◌∷◌, Bool, false, if
 -- the first root that isn't marked; the roots are numbered from k on
 abbrev pub first_unmarked : List Bool → ℕ → List ℕ → Option ℕ
 first_unmarked marks k [] = None
-first_unmarked marks k (root ∷ roots) = if slice_index_or marks root false then first_unmarked marks (k + 1) roots else Some k
+first_unmarked marks k (root ∷ roots) =
+    if slice_index_or marks root false then first_unmarked marks (k + 1) roots else Some k

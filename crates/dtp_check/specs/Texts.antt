@@ -21,13 +21,15 @@ flaw_text LastLemmaNotEmpty = codes "last lemma not empty"
 
 abbrev pub certificate_line : CertificateRefusal → List ℕ
 certificate_line NoHeader = codes "refused: certificate: no header\n"
-certificate_line (IllFormed entry) = codes "refused: certificate: entry " ++ (decimal entry ++ codes " is ill-formed\n")
+certificate_line (IllFormed entry) =
+    codes "refused: certificate: entry " ++ (decimal entry ++ codes " is ill-formed\n")
 certificate_line NoEnd = codes "refused: certificate: no end\n"
 certificate_line TextAfterEnd = codes "refused: certificate: text after the end\n"
 
 -- the last kind is of all lemmas together
 abbrev pub lemma_line : ℕ → ℕ → ℕ → FlawKind → List ℕ
-lemma_line entry lemma step LastLemmaNotEmpty = codes "refused: entry " ++ (decimal entry ++ codes ": last lemma not empty\n")
+lemma_line entry lemma step LastLemmaNotEmpty =
+    codes "refused: entry " ++ (decimal entry ++ codes ": last lemma not empty\n")
 lemma_line entry lemma step kind =
     codes "refused: entry " ++ (decimal entry ++ (codes ": lemma " ++ (decimal lemma
     ++ (codes ": step " ++ (decimal step ++ (codes ": " ++ (flaw_text kind ++ codes "\n")))))))
@@ -35,7 +37,8 @@ lemma_line entry lemma step kind =
 abbrev pub entry_line : ℕ → EntryFlaw → List ℕ
 entry_line entry WrongCount = codes "refused: entry " ++ (decimal entry ++ codes ": wrong count of values\n")
 entry_line entry (WrongSort k) =
-    codes "refused: entry " ++ (decimal entry ++ (codes ": value " ++ (decimal k ++ codes " has the wrong sort\n")))
+    codes "refused: entry "
+    ++ (decimal entry ++ (codes ": value " ++ (decimal k ++ codes " has the wrong sort\n")))
 entry_line entry (FalseAssertion k) =
     codes "refused: entry " ++ (decimal entry ++ (codes ": assertion " ++ (decimal k ++ codes " is false\n")))
 entry_line entry (Flawed flaw) = lemma_line entry flaw.lemma flaw.step flaw.kind

@@ -16,15 +16,19 @@ use Rattle.dtp_check.specs.Judged.{judged_check, judged}
 abbrev pub IsCheckTurn : State → ℕ → List Entry → Kept → Turn → Type 0
 IsCheckTurn s used entries kept (Going now) =
     (next : State) × Stands kept next × (now ≤ length entries)
-    × ((others : State → List Entry → Judgement) → judged_check s (used + 1) (drop used entries) others ≡ others next (drop now entries))
+    × ((others : State → List Entry → Judgement)
+    → judged_check s (used + 1) (drop used entries) others ≡ others next (drop now entries))
     × (now ≡ used + 1)
 IsCheckTurn s used entries kept (Judged judgement) =
-    (others : State → List Entry → Judgement) → judged_check s (used + 1) (drop used entries) others ≡ judgement
+    (others : State → List Entry → Judgement)
+    → judged_check s (used + 1) (drop used entries) others ≡ judgement
 
 -- command k in a state, and what is kept behind it
 abbrev pub IsJudgedTurn : State → ℕ → ℕ → List Entry → Sexpr → Kept → Turn → Type 0
 IsJudgedTurn s k used entries x kept (Going now) =
     (next : State) × Stands kept next × (is_exit x ≡ false) × (now ≤ length entries)
-    × ((xs : List Sexpr) → judged s k (used + 1) (x ∷ xs) (drop used entries) ≡ judged next (k + 1) (now + 1) xs (drop now entries))
+    × ((xs : List Sexpr)
+    → judged s k (used + 1) (x ∷ xs) (drop used entries)
+    ≡ judged next (k + 1) (now + 1) xs (drop now entries))
 IsJudgedTurn s k used entries x kept (Judged judgement) =
     (xs : List Sexpr) → judged s k (used + 1) (x ∷ xs) (drop used entries) ≡ judgement

@@ -1,5 +1,5 @@
 //! The call that accepts or refuses.
-ghost use Rattle.std.specs.Prelude.{◌≡◌, ◌≤◌, IfOk, OnErr, Err};
+ghost use Rattle.std.specs.Prelude.{◌≡◌, ◌≢◌, ◌≤◌, IfOk, OnErr, Err};
 ghost use Rattle.std.specs.Io.KnownBytes.{Appends};
 ghost use Rattle.dtp_io.specs.Faults.{Rose};
 ghost use Rattle.dtp_entry.specs.Written.{Writes};
@@ -54,6 +54,7 @@ pub fn check_pair<K: Sink>(
         (λ added. IsAnswer bytes.now added checked)) }
     ensures part { OnErr result (Writes (K.holds sink.old) (K.holds sink.new) (IsAnswerPart bytes.now)) }
     ensures fault { result ≡ Err SessionError.WriteFault → Rose (K.faults sink.old) (K.faults sink.new) }
+    ensures quiet { result ≢ Err SessionError.WriteFault → K.faults sink.new ≡ K.faults sink.old }
     ensures later { K.faults sink.old ≤ K.faults sink.new }
 {
     let judgement = judgement_of(alloc, bytes)?;

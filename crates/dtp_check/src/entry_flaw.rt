@@ -78,7 +78,8 @@ fn values_flaw(
     values: &NamedValues,
 ) -> Result<Option<EntryFlaw>, AllocError>
     requires { (s : Meaning) × Stands state.now s }
-    ensures { IfOk result (λ flaw. (s : Meaning) → Stands state.now s → flaw ≡ values_flaw s.context values.now) }
+    ensures { IfOk result (λ flaw. (s : Meaning) → Stands state.now s
+        → flaw ≡ values_flaw s.context values.now) }
 {
     idl_term::context_law();
     let names = state.names();
@@ -104,7 +105,8 @@ pub fn entry_flaw(
     entry: &Entry,
 ) -> Result<Option<EntryFlaw>, AllocError>
     requires { (s : Meaning) × Stands state.now s }
-    ensures { IfOk result (λ flaw. (s : Meaning) → Stands state.now s → flaw ≡ entry_flaw s.context entry.now) }
+    ensures { IfOk result (λ flaw. (s : Meaning) → Stands state.now s
+        → flaw ≡ entry_flaw s.context entry.now) }
 {
     match entry {
         Entry::Sat(values) => {
@@ -126,7 +128,8 @@ fn lemmas_flaw(
 ) -> Result<Option<EntryFlaw>, AllocError>
     requires { (s : Meaning) × Stands state.now s }
     ensures { IfOk result (λ flaw. (s : Meaning) → Stands state.now s
-        → flaw ≡ option_map Flawed (refutation_flaw (points_of s.context) (problem_of s.context) refutation.now)) }
+        → flaw ≡ option_map Flawed
+        (refutation_flaw (points_of s.context) (problem_of s.context) refutation.now)) }
 {
     let problem = problem(alloc, state)?;
     match check_refutation(alloc, &problem, refutation) {

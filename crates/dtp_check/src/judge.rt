@@ -2,7 +2,6 @@
 ghost use Rattle.std.specs.Prelude.{◌≡◌, ◌≢◌, ◌+◌, ◌<◌, ◌≤◌, ℕ, List, length, drop, IfOk, None};
 ghost use Rattle.smt_sexpr.specs.Tree.{Sexpr};
 ghost use Rattle.smt_sexpr.specs.Table.{Means, HasMeaning};
-ghost use Rattle.smt_answer.specs.Kinds.{kind_of};
 ghost use Rattle.smt_script.specs.States.{State as Meaning, start_state};
 ghost use Rattle.dtp_entry.specs.Standing.{Stands};
 ghost use Rattle.dtp_check.specs.declared.script_part.PartEnd.{PartEnd as End};
@@ -14,10 +13,9 @@ use crate::entry_flaw::entry_flaw;
 use crate::judgement::Judgement;
 use crate::script_part::{Next, PartEnd, next_command};
 use cert_text::Entry;
-use dtp_entry::verdict_of;
-use smt_answer::Kind;
+use dtp_entry::{kind_of, verdict_of};
 use smt_lex::Lexer;
-use smt_script::{Effect, Refusal, ScriptError, State};
+use smt_script::{Effect, ScriptError, State};
 use smt_sexpr::{SexprId, Sexprs};
 use std::alloc::{AllocError, Global};
 
@@ -50,7 +48,8 @@ fn judge_check(
 ) -> Result<Turn, AllocError>
     requires stands { (s : Meaning) × Stands state.old s }
     requires used { used ≤ length entries.now }
-    ensures { IfOk result (λ turn. (s : Meaning) → Stands state.old s → IsCheckTurn s used entries.now state.new turn) }
+    ensures { IfOk result (λ turn. (s : Meaning) → Stands state.old s
+        → IsCheckTurn s used entries.now state.new turn) }
 {
     smt_script::state_law();
     match entries.get(used) {
@@ -63,13 +62,6 @@ fn judge_check(
         },
         None => Ok(Turn::Judged(Judgement::Missing(used + 1))),
     }
-}
-
-/// Why a command is refused, of all that may refuse it.
-fn kind(why: Refusal) -> Kind
-    ensures { result ≡ kind_of why }
-{
-    Kind::from(why)
 }
 
 /// A command, with the entry of its check-sat.
@@ -97,7 +89,10 @@ fn judge_command<'a>(
             Ok(turn)
         }
         Ok(Effect::Exit) => Ok(Turn::Judged(surplus(entries, used))),
-        Err(ScriptError::Refused(why)) => Ok(Turn::Judged(Judgement::Script(command, kind(why)))),
+        Err(ScriptError::Refused(why)) => Ok(Turn::Judged(Judgement::Script(
+            command,
+            kind_of(why),
+        ))),
         Err(ScriptError::OutOfMemory) => Err(AllocError),
     }
 }
@@ -105,7 +100,8 @@ fn judge_command<'a>(
 /// What the script comes to with these entries. The script is read again, command by command.
 pub fn judge(alloc: Global, bytes: &[u8], entries: &[Entry]) -> Result<Judgement, AllocError>
     ensures { IfOk result (λ judgement. (xs : List Sexpr) (end : End) (behind : ℕ)
-        → ScriptPart bytes.now 0 xs end behind → IsReadable end → judgement ≡ judged start_state 1 1 xs entries.now) }
+        → ScriptPart bytes.now 0 xs end behind → IsReadable end
+        → judgement ≡ judged start_state 1 1 xs entries.now) }
 {
     smt_sexpr::one_outcome();
     smt_script::state_law();

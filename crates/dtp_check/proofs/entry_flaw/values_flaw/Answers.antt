@@ -6,7 +6,7 @@ use Rattle.idl_node.specs.Tables.{IsTableOver}
 use Rattle.idl_node.specs.Truth.{truth, point_values}
 use Rattle.dtp_check.specs.declared.judgement.EntryFlaw.TheVariants.{FalseAssertion}
 use Rattle.dtp_check.specs.Roots.{first_unmarked}
-use Rattle.dtp_check.proofs.Judging.{counted_by, sorts_by, table_over, roots_within, sorts_judged, values_judged}
+use Rattle.dtp_check.proofs.Judging.{counted_by, sorts_by, kept_table_over, roots_within, sorts_judged, values_judged}
 use Rattle.dtp_check.proofs.entry_flaw.values_flaw.Goals as goal
 
 pub returns-in-Some : goal.returns-in-Some
@@ -18,7 +18,7 @@ pub truths-requires : goal.truths-requires
 truths-requires c =
     let r = c.requires in
     let count = counted_by _ _ _ _ _ c.as_slice-given.ensures c.if-given-len.false c.len.ensures c.names-names.ensures.names in
-    subst (λ (nodes : List NodeValue). IsTableOver (length c.args.values.now + 1) nodes) (sym c.nodes.ensures) (table_over c.args.state.now r.0 r.1 c.args.values.now c.context_law.ensures.scope count)
+    subst (λ (nodes : List NodeValue). IsTableOver (length c.args.values.now + 1) nodes) (sym c.nodes.ensures) (kept_table_over c.args.state.now r.0 r.1 c.args.values.now c.context_law.ensures.scope count)
 
 pub first_unmarked-requires : goal.first_unmarked-requires
 first_unmarked-requires c =

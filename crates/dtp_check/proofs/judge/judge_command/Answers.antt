@@ -40,4 +40,4 @@ pub returns-in-Err-Refused : goal.returns-in-Err-Refused
 returns-in-Err-Refused c = λ s x stands means xs.
     judged_err s c.args.command (c.args.used + 1) x xs (drop c.args.used c.args.entries.now) c.in-Err-Refused.why
     (c.in-Err-Refused.ensures.refused c.in-Err-Refused.why (ap Err c.in-Err-Refused.field-0-is) s x stands.stands means)
-    ∙ ap (Script c.args.command) (sym (c.kind.ensures ∙ ap kind_of c.in-Err-Refused.why-is))
+    ∙ ap (Script c.args.command) (sym (c.kind_of.ensures ∙ ap kind_of c.in-Err-Refused.why-is))
