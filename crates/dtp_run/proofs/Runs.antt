@@ -40,23 +40,28 @@ not_accepted NotAccepted e = refl
 not_accepted TooLong e = absurd (omega (arith, e))
 
 -- the outcome of a run by its line and its status
-ends_as : {line : Line} {input : List ℕ} {old new : Outside} {code : ℕ} (status : Status) → (r : Runs line input old new code) → r.run.status ≡ status → IsOutcome (Some line) old new status
+ends_as : {line : Line} {input : List ℕ} {old new : Outside} {code : ℕ} (status : Status)
+    → (r : Runs line input old new code) → r.run.status ≡ status → IsOutcome (Some line) old new status
 ends_as {line} {input} {old} {new} status r same =
-    subst (λ (s : Status). IsOutcome (Some line) old new s) same (subst (λ (o : Option Line). IsOutcome o old new r.run.status) r.asks r.run.outcome)
+    let outcome = subst (λ (o : Option Line). IsOutcome o old new r.run.status) r.asks r.run.outcome in
+    subst (λ (s : Status). IsOutcome (Some line) old new s) same outcome
 
 -- the bytes that a source had are those that were read
-taken_by : (left now : Option (List ℕ)) (input bytes : List ℕ) → left ≡ Some input → Consumes left now bytes → IsAtEnd now → bytes ≡ input
+taken_by : (left now : Option (List ℕ)) (input bytes : List ℕ) → left ≡ Some input → Consumes left now bytes
+    → IsAtEnd now → bytes ≡ input
 taken_by None now input bytes is taken ends = cc
 taken_by (Some xs) None input bytes is taken ends = absurd taken
 taken_by (Some xs) (Some ys) input bytes is taken ends =
     let whole : xs ≡ bytes = taken ∙ ap (λ z. bytes ++ z) ends ∙ append-nil bytes in
     cc
 
-pub input_of : {old new : Outside} {input bytes : List ℕ} → old.left ≡ Some input → IsInput old new bytes → bytes ≡ input
+pub input_of : {old new : Outside} {input bytes : List ℕ} → old.left ≡ Some input → IsInput old new bytes
+    → bytes ≡ input
 input_of {old} {new} {input} {bytes} is i = taken_by old.left new.left input bytes is i.consumed i.ended
 
 -- what was added to what the sink held
-added_by : (old new : Option (List ℕ)) (held added out : List ℕ) → old ≡ Some held → new ≡ Some (held ++ added) → Appends old new out → out ≡ added
+added_by : (old new : Option (List ℕ)) (held added out : List ℕ) → old ≡ Some held
+    → new ≡ Some (held ++ added) → Appends old new out → out ≡ added
 added_by None new held added out before now h = cc
 added_by (Some xs) None held added out before now h = absurd h
 added_by (Some xs) (Some ys) held added out before now h =
@@ -65,27 +70,41 @@ added_by (Some xs) (Some ys) held added out before now h =
     append_cancel_left held out added (ap (λ z. z ++ out) (sym was) ∙ sym h ∙ is)
 
 -- the certificate of a run that ended well is the script's
-certificate_of : (script certificate : List ℕ) (old new : Outside) → old.left ≡ Some script → Gives certificate old new → Reports Certificate old new 0 → IsReport Certificate script certificate 0
+certificate_of : (script certificate : List ℕ) (old new : Outside) → old.left ≡ Some script
+    → Gives certificate old new → Reports Certificate old new 0 → IsReport Certificate script certificate 0
 certificate_of script certificate old new has gives (read, out, input, appends, report) =
     let first : read ≡ script = input_of has input in
-    let second : out ≡ certificate = added_by old.holds new.holds gives.held certificate out gives.before gives.now appends in
-    subst (λ z. IsReport Certificate script z 0) second (subst (λ z. IsReport Certificate z out 0) first report)
+    let second : out ≡ certificate =
+    added_by old.holds new.holds gives.held certificate out gives.before gives.now appends in
+    let of_script = subst (λ z. IsReport Certificate z out 0) first report in
+    subst (λ z. IsReport Certificate script z 0) second of_script
 
-is_judged : (checked : Checked) (source : List ℕ) (old new : Outside) → old.left ≡ Some source → Checks checked old new → (j : Judgement) × IsJudged source j × (checked ≡ checked_of j)
+-- the source was judged so, and the call's end is that of the judgement
+abbrev IsEnd : List ℕ → Checked → Type 0
+IsEnd source checked = (j : Judgement) × IsJudged source j × (checked ≡ checked_of j)
+
+is_judged : (checked : Checked) (source : List ℕ) (old new : Outside) → old.left ≡ Some source
+    → Checks checked old new → IsEnd source checked
 is_judged checked source old new has (read, line, input, appends, (j, judged, text, end)) =
     (j, subst (λ z. IsJudged z j) (input_of has input) judged, end)
 
 pub not_refused : CertifiedIsAccepted → OneJudgement → CertifiedIsNotRefused
 not_refused accepted one search script certificate a b c d code whole written gives checked six =
-    let report : IsReport Certificate script certificate 0 = certificate_of script certificate a b written.has gives (ends_as Done written (done written.run.status written.run.code_is)) in
-    let good : IsJudged (script ++ certificate) judgement.Accepted = accepted script certificate report whole in
-    let bad : (j : Judgement) × IsJudged (script ++ certificate) j × (Unaccepted ≡ checked_of j) =
-    is_judged Unaccepted (script ++ certificate) c d checked.has (ends_as NotAccepted checked (not_accepted checked.run.status (sym six ∙ checked.run.code_is))) in
+    let reported = ends_as Done written (done written.run.status written.run.code_is) in
+    let report : IsReport Certificate script certificate 0 =
+    certificate_of script certificate a b written.has gives reported in
+    let good : IsJudged (script ++ certificate) judgement.Accepted =
+    accepted script certificate report whole in
+    let refused =
+    ends_as NotAccepted checked (not_accepted checked.run.status (sym six ∙ checked.run.code_is)) in
+    let bad : IsEnd (script ++ certificate) Unaccepted =
+    is_judged Unaccepted (script ++ certificate) c d checked.has refused in
     let same : bad.0 ≡ judgement.Accepted = one (script ++ certificate) bad.0 judgement.Accepted bad.1 good in
     let end : Unaccepted ≡ Accepted = bad.2 ∙ ap (λ j. checked_of j) same in
     cc
 
-accepted_is_judged : (source : List ℕ) (j : Judgement) → IsJudged source j → Accepted ≡ checked_of j → IsJudged source judgement.Accepted
+accepted_is_judged : (source : List ℕ) (j : Judgement) → IsJudged source j → Accepted ≡ checked_of j
+    → IsJudged source judgement.Accepted
 accepted_is_judged source judgement.Accepted judged e = judged
 accepted_is_judged source (judgement.Script k kind) judged e = cc
 accepted_is_judged source (judgement.Certificate why) judged e = cc
@@ -95,5 +114,6 @@ accepted_is_judged source (judgement.Surplus k) judged e = cc
 
 pub accepted_says : NothingFalseIsAccepted → AcceptedSaysNothingFalse
 accepted_says nothing_false source a b checked =
-    let ended = is_judged Accepted source a b checked.has (ends_as Done checked (done checked.run.status checked.run.code_is)) in
+    let done_so = ends_as Done checked (done checked.run.status checked.run.code_is) in
+    let ended = is_judged Accepted source a b checked.has done_so in
     nothing_false source (accepted_is_judged source ended.0 ended.1 ended.2)

@@ -18,15 +18,22 @@ of_a_line (Solve search) old new h = h
 of_a_line (Certify search) old new h = h
 of_a_line Check old new h = h
 
-of_a_line_by : (o : Option Line) (line : Line) (old new : Outside) (status : Status) → o ≡ Some line → IsOutcome o old new status → status ≡ Usage → ⊥
-of_a_line_by o line old new status e h is = of_a_line line old new (subst (λ (s : Status). IsOutcome (Some line) old new s) is (subst (λ (p : Option Line). IsOutcome p old new status) e h))
+of_a_line_by : (o : Option Line) (line : Line) (old new : Outside) (status : Status) → o ≡ Some line
+    → IsOutcome o old new status → status ≡ Usage → ⊥
+of_a_line_by o line old new status e h is =
+    let outcome = subst (λ (p : Option Line). IsOutcome p old new status) e h in
+    of_a_line line old new (subst (λ (s : Status). IsOutcome (Some line) old new s) is outcome)
 
-pub not_on_plain : (words : List (List ℕ)) (old new : Outside) (status : Status) → IsOutcome (line_of words) old new status → (line : Line) → IsPlainLine words line → status ≢ Usage
-not_on_plain words old new status h line plain = λ is. of_a_line_by (line_of words) line old new status (plain_line words line plain) h is
+pub not_on_plain : (words : List (List ℕ)) (old new : Outside) (status : Status)
+    → IsOutcome (line_of words) old new status → (line : Line) → IsPlainLine words line → status ≢ Usage
+not_on_plain words old new status h line plain =
+    λ is. of_a_line_by (line_of words) line old new status (plain_line words line plain) h is
 
-none_by : (o : Option Line) (old new : Outside) (status : Status) → IsOutcome o old new status → status ≡ Usage → o ≡ None
+none_by : (o : Option Line) (old new : Outside) (status : Status) → IsOutcome o old new status
+    → status ≡ Usage → o ≡ None
 none_by None old new status h is = refl
 none_by (Some line) old new status h is = absurd (of_a_line_by (Some line) line old new status refl h is)
 
-pub has_fault : (words : List (List ℕ)) (old new : Outside) (status : Status) → IsOutcome (line_of words) old new status → status ≡ Usage → fault_of dtp_app words ≢ []
+pub has_fault : (words : List (List ℕ)) (old new : Outside) (status : Status)
+    → IsOutcome (line_of words) old new status → status ≡ Usage → fault_of dtp_app words ≢ []
 has_fault words old new status h is = no_line_has_fault words (none_by (line_of words) old new status h is)

@@ -31,4 +31,5 @@ CertifiedIsNotRefused =
 
 -- where `check` ends with status 0, the entries behind the script in its source say nothing false, whoever made them
 abbrev pub AcceptedSaysNothingFalse : Type 0
-AcceptedSaysNothingFalse = (source : List ℕ) (a b : Outside) → Runs Check source a b 0 → SaysNothingFalse source
+AcceptedSaysNothingFalse =
+    (source : List ℕ) (a b : Outside) → Runs Check source a b 0 → SaysNothingFalse source

@@ -10,7 +10,7 @@ use command_line::{Line, LineError, Search, read_line};
 use dtp_check::{Checked, check_pair};
 use dtp_entry::{Report, SessionError};
 use dtp_io::{ReadError, Sink, Source, read_all, write_all_of};
-use dtp_session::{Gate, Solved, certify_script, solve_script};
+use dtp_session::{Gate, SearchOptions, Solved, certify_script, solve_script};
 use std::alloc::Global;
 use std::sync::Wait;
 use std::thread::Threads;
@@ -136,10 +136,13 @@ fn write_report<R: Wait, K: Sink, G: Gate>(
     ensures solved { IsSolved report script.now (K.holds sink.old) (K.holds sink.new)
         (K.faults sink.old) (K.faults sink.new) result }
 {
-    let slice = u64::from(search.slice);
+    let options = SearchOptions {
+        workers: search.workers,
+        slice: search.slice,
+    };
     match report {
-        Report::Verdicts => solve_script(rt, alloc, script, sink, search.workers, slice, gate),
-        Report::Certificate => certify_script(rt, alloc, script, sink, search.workers, slice, gate),
+        Report::Verdicts => solve_script(rt, alloc, script, sink, options, gate),
+        Report::Certificate => certify_script(rt, alloc, script, sink, options, gate),
     }
 }
 
