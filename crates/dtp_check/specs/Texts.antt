@@ -1,7 +1,7 @@
 -- The line that answers a script with its certificate. Its words are this project's own.
 use Rattle.std.specs.Prelude.{ℕ, List, ◌++◌, codes, decimal}
 use Rattle.cert_check.specs.declared.flaw.FlawKind.{FlawKind}
-use Rattle.cert_check.specs.declared.flaw.FlawKind.TheVariants.{NoSuchPoint, NoSuchClause, NotAssumed, NotACycle, StepsMissing, StepsLeftOver, LastLemmaNotEmpty}
+use Rattle.cert_check.specs.declared.flaw.FlawKind.TheVariants.{NoSuchPoint, NoSuchClause, NotAssumed, NotACycle, NotDenied, StepsMissing, StepsLeftOver, LastLemmaNotEmpty}
 use Rattle.smt_answer.specs.Texts.{kind_text}
 use Rattle.cert_read.specs.declared.error.CertificateRefusal.{CertificateRefusal}
 use Rattle.cert_read.specs.declared.error.CertificateRefusal.TheVariants.{NoHeader, IllFormed, NoEnd, TextAfterEnd}
@@ -15,6 +15,7 @@ flaw_text NoSuchPoint = codes "no such point"
 flaw_text NoSuchClause = codes "no such clause"
 flaw_text NotAssumed = codes "not assumed"
 flaw_text NotACycle = codes "not a cycle"
+flaw_text NotDenied = codes "not denied"
 flaw_text StepsMissing = codes "steps missing"
 flaw_text StepsLeftOver = codes "steps left over"
 flaw_text LastLemmaNotEmpty = codes "last lemma not empty"

@@ -20,6 +20,7 @@ fn flaw_text(kind: FlawKind) -> &'static str
         FlawKind::NoSuchClause => "no such clause",
         FlawKind::NotAssumed => "not assumed",
         FlawKind::NotACycle => "not a cycle",
+        FlawKind::NotDenied => "not denied",
         FlawKind::StepsMissing => "steps missing",
         FlawKind::StepsLeftOver => "steps left over",
         FlawKind::LastLemmaNotEmpty => "last lemma not empty",
