@@ -65,7 +65,7 @@ each_refuted points clauses earlier (l ∷ lemmas) h (suc j) lemma e =
     subst (λ (k : List (List Literal)). IsRefuted points clauses k lemma) (append_assoc earlier (l.clause ∷ []) (map stated (take j lemmas))) (each_refuted points clauses (earlier ++ l.clause ∷ []) lemmas h.1 j lemma e)
 
 -- all lemmas and the last one are a refutation
-closed_refutation : (problem : Problem) (lemmas : List Lemma) (steps : List Step) → AreRefuted problem.points problem.clauses [] lemmas → Tree problem.clauses (map stated lemmas) [] steps [] → All (NamesOver problem.points) steps → IsRefutation problem.points problem.clauses (lemmas ++ last_lemma steps ∷ [])
+pub closed_refutation : (problem : Problem) (lemmas : List Lemma) (steps : List Step) → AreRefuted problem.points problem.clauses [] lemmas → Tree problem.clauses (map stated lemmas) [] steps [] → All (NamesOver problem.points) steps → IsRefutation problem.points problem.clauses (lemmas ++ last_lemma steps ∷ [])
 closed_refutation problem lemmas steps h t over =
     let last : Lemma = last_lemma steps in
     let refuted : IsRefuted problem.points problem.clauses (map stated lemmas) last = record {

@@ -1,5 +1,5 @@
 //! The book itself.
-ghost use Rattle.std.specs.Prelude.{◌≡◌, ◌+◌, ◌<◌, ◌++◌, ◌∷◌, [], ℕ, length, map, IfOk, OnOk, OnErr, IfErr, IfSome, IfNone, Some, slice_get};
+ghost use Rattle.std.specs.Prelude.{◌≡◌, ◌+◌, ◌<◌, ◌^◌, ◌++◌, ◌∷◌, [], ℕ, length, map, IfOk, OnOk, OnErr, IfErr, IfSome, IfNone, Some, slice_get};
 ghost use Rattle.cover_tree.specs.declared.node.Node.TheVariants.{Held, Free};
 ghost use Rattle.cover_tree.specs.Covers.{node_at, holder_of, NoneHeld};
 ghost use Rattle.book_core.specs.declared.event.Event.TheVariants.{Take, Deliver, Release};
@@ -141,6 +141,7 @@ impl Book {
     /// A cube for the seat, if one is free. At `Err` nothing changed.
     pub fn take(&mut self, seat: u32) -> Result<Answer, AllocError>
         ensures ok { IfOk result (λ answer. Answers self.old seat answer self.new) }
+        ensures small { OnOk result (length self.new.journal < 2 ^ 64) }
         ensures err { OnErr result (self.new ≡ self.old) }
     {
         match self.next() {
@@ -180,6 +181,7 @@ impl Book {
     fn record_take(&mut self, seat: u32, taken: Taken) -> Result<(), AllocError>
         requires { MayAnswer (state_of self.old) taken }
         ensures ok { OnOk result (self.new ≡ with_event self.old (Take seat taken)) }
+        ensures small { OnOk result (length self.new.journal < 2 ^ 64) }
         ensures err { OnErr result (self.new ≡ self.old) }
     {
         let held = self.cover.held_count();

@@ -1,0 +1,35 @@
+-- Of the code and not of the meaning: from a slice's answer to a delivery, and from one turn to the next.
+use Rattle.std.specs.Prelude.{◌≡◌, ◌<◌, ◌≤◌, ◌^◌, ℕ, List, [], map, length, Bool, true, false, Option, Some, None}
+use Rattle.stn_core.specs.declared.literal.Literal.{Literal}
+use Rattle.stn_core.specs.declared.problem.Problem.{Problem}
+use Rattle.refute_tree.specs.declared.lemma.Lemma.{Lemma}
+use Rattle.refute_tree.specs.Trees.{stated}
+use Rattle.refute_tree.specs.Batches.{LemmaBatch}
+use Rattle.branch_search.specs.declared.answer.Slice.{Slice}
+use Rattle.branch_search.specs.Search.{question_of}
+use Rattle.branch_search.specs.Divisions.{IsSlice}
+use Rattle.cover_tree.specs.Covers.{NoneHeld}
+use Rattle.book_core.specs.declared.event.Outcome.{Outcome}
+use Rattle.book_core.specs.declared.event.Event.TheVariants.{Deliver}
+use Rattle.book_core.specs.Books.{IsJustified, IsDone}
+use Rattle.book_core.specs.Runs.{Ledger, state_of, with_event}
+
+-- the delivery is justified wherever the slice is an answer
+abbrev pub Delivers : Slice → LemmaBatch → Outcome → Type 0
+Delivers slice batch outcome =
+    (problem : Problem) (lemmas : List Lemma) (cube : List Literal)
+    → IsSlice (question_of problem (map stated lemmas) cube) slice → IsJustified problem lemmas cube batch outcome
+
+-- the leaf's seat, number 0, delivered something
+abbrev pub IsDelivered : Ledger → ℕ → Ledger → Type 0
+IsDelivered old id new = (batch : LemmaBatch) × (outcome : Outcome) × (new ≡ with_event old (Deliver 0 id batch outcome))
+
+-- the book has the problem, and no leaf is Held
+pub record IsWaiting (problem : Problem) (b : Ledger) : Type 0 where
+  pub problem_is : b.problem ≡ problem
+  pub none_held : NoneHeld (state_of b).cover
+
+-- after a turn the journal is longer, or nothing is left to do
+abbrev pub Advances : Ledger → Ledger → Option Bool → Type 0
+Advances old new None = IsDone (state_of new)
+Advances old new (Some divided) = (length old.journal < length new.journal) × (length new.journal ≤ 2 ^ 64)

@@ -1,0 +1,114 @@
+//! The turns of one worker.
+ghost use Rattle.std.specs.Prelude.{◌≡◌, ◌<◌, ◌^◌, [], length, IfOk, OnOk};
+ghost use Rattle.cover_tree.specs.Covers.{cube_at};
+ghost use Rattle.book_core.specs.Books.{IsHeldBy};
+ghost use Rattle.book_core.specs.Runs.{state_of};
+ghost use Rattle.book_core.specs.Verdicts.{IsRight};
+ghost use Rattle.steal_search.specs.Deliveries.{IsDelivered, IsWaiting, Advances};
+
+use crate::base::decide_units;
+use crate::delivery::delivery_of;
+use book_core::{Answer, Book, Verdict};
+use branch_search::slice;
+use inc_paths::Network;
+use std::alloc::{AllocError, Global};
+use stn_core::{Literal, Problem};
+
+/// The greatest budget of a slice.
+const BUDGET_LIMIT: u64 = 1_000_000;
+
+/// One slice of search under the cube, and the delivery of what it found: whether the cube is divided now.
+fn work(
+    alloc: Global,
+    book: &mut Book,
+    net: &mut Network,
+    id: usize,
+    cube: &[Literal],
+    budget: u64,
+) -> Result<bool, AllocError>
+    requires held { IsHeldBy (state_of book.old) id 0 }
+    requires cube { cube.now ≡ cube_at (state_of book.old).cover id }
+    requires points { net.old.points ≡ book.old.problem.points }
+    requires empty { net.old.literals ≡ [] }
+    ensures points { net.new.points ≡ net.old.points }
+    ensures literals { net.new.literals ≡ [] }
+    ensures delivered { OnOk result (IsDelivered book.old id book.new) }
+{
+    book.sound();
+    let lemmas = book.lemmas();
+    let found = slice(alloc, book.problem(), &lemmas, cube, budget, net)?;
+    let delivery = delivery_of(found)?;
+    let divides = delivery.divides;
+    match book.deliver(0, id, delivery.batch, delivery.outcome) {
+        Ok(()) => Ok(divides),
+        Err(_) => Err(AllocError),
+    }
+}
+
+/// One turn: a cube is taken and worked on. The answer says whether it was divided, and is `None` where nothing is left
+/// to do.
+fn turn(
+    alloc: Global,
+    problem: &Problem,
+    book: &mut Book,
+    net: &mut Network,
+    budget: u64,
+) -> Result<Option<bool>, AllocError>
+    requires waiting { IsWaiting problem.now book.old }
+    requires points { net.old.points ≡ problem.now.points }
+    requires empty { net.old.literals ≡ [] }
+    ensures waiting { OnOk result (IsWaiting problem.now book.new) }
+    ensures points { net.new.points ≡ net.old.points }
+    ensures literals { net.new.literals ≡ [] }
+    ensures advances { IfOk result (Advances book.old book.new) }
+{
+    match book.take(0)? {
+        Answer::Cube(id, cube) => {
+            let divided = work(alloc, book, net, id, cube.as_slice(), budget)?;
+            Ok(Some(divided))
+        }
+        Answer::Idle => unreachable!(),
+        Answer::Done => Ok(None),
+    }
+}
+
+/// Twice the budget, up to the greatest.
+fn doubled(budget: u64) -> u64 {
+    if budget >= BUDGET_LIMIT / 2 {
+        BUDGET_LIMIT
+    } else {
+        budget * 2
+    }
+}
+
+fn search(alloc: Global, problem: &Problem, budget: u64) -> Result<Verdict, AllocError>
+    ensures { IfOk result (IsRight problem.now) }
+{
+    let mut book = Book::new(alloc, problem.copy()?)?;
+    let mut net = Network::new(alloc, problem.points)?;
+    let mut budget = budget;
+    'turns: while let Some(divided) = turn(alloc, problem, &mut book, &mut net, budget)? {
+        if divided {
+            budget = doubled(budget);
+        }
+    }
+    match book.conclude()? {
+        Some(verdict) => Ok(verdict),
+        None => unreachable!(),
+    }
+}
+
+/// Decides the problem by slices of search, one after the other: a cube that isn't decided within the slice's budget of
+/// adds is divided, and the next slice gets twice the last budget, up to 1,000,000. It returns on every problem. The one
+/// error is want of memory.
+pub fn solve_one(alloc: Global, problem: &Problem, budget: u64) -> Result<Verdict, AllocError>
+    ensures { IfOk result (IsRight problem.now) }
+{
+    match decide_units(alloc, problem)? {
+        Some(verdict) => Ok(verdict),
+        None => {
+            let verdict = search(alloc, problem, budget)?;
+            Ok(verdict)
+        }
+    }
+}
