@@ -53,15 +53,15 @@ excluding q own es levels j literals none learned =
     let count = learned.count in
     (omega arith, learned.excludes none, learned.state.proved)
 
-pub cut_back : (q : Question) (own kept mid : List Lemma) (es there now : List Entry) (levels these fewer : List Level) (j : ℕ) (literals left : List Literal) (level : ℕ) → level < length these → IsSearchLearned q own es levels j literals → there ≡ es → these ≡ levels → mid ≡ own → now ≡ take (start_of these level) there → fewer ≡ take level these → left ≡ take (in_net_of these level) literals → kept ≡ mid → IsSearch q kept now fewer left
-cut_back q own kept mid es there now levels these fewer j literals left level lt learned a b c is_now is_fewer is_left same =
-    let state : IsSearch q own there these literals = subst (λ (fs : List Entry). IsSearch q own fs these literals) (sym a) (subst (λ (vs : List Level). IsSearch q own es vs literals) (sym b) learned.state) in
+pub cut_back : (q : Question) (own kept mid : List Lemma) (es there now : List Entry) (levels these fewer : List Level) (literals left : List Literal) (level : ℕ) → level < length these → IsSearch q own es levels literals → there ≡ es → these ≡ levels → mid ≡ own → now ≡ take (start_of these level) there → fewer ≡ take level these → left ≡ take (in_net_of these level) literals → kept ≡ mid → IsSearch q kept now fewer left
+cut_back q own kept mid es there now levels these fewer literals left level lt s a b c is_now is_fewer is_left same =
+    let state : IsSearch q own there these literals = subst (λ (fs : List Entry). IsSearch q own fs these literals) (sym a) (subst (λ (vs : List Level). IsSearch q own es vs literals) (sym b) s) in
     subst (λ (ls : List Lemma). IsSearch q ls now fewer left) (sym (same ∙ c)) (state_cut q own there now these fewer literals left level lt state is_now is_fewer is_left)
 
 -- the level's literals are in the net
-pub cut_within : (q : Question) (own : List Lemma) (es : List Entry) (levels these : List Level) (j : ℕ) (literals : List Literal) (level : ℕ) → level < length these → IsSearchLearned q own es levels j literals → these ≡ levels → in_net_of these level ≤ length literals
-cut_within q own es levels these j literals level lt learned same =
-    let state : IsSearch q own es these literals = subst (λ (vs : List Level). IsSearch q own es vs literals) (sym same) learned.state in
+pub cut_within : (q : Question) (own : List Lemma) (es : List Entry) (levels these : List Level) (literals : List Literal) (level : ℕ) → level < length these → IsSearch q own es levels literals → these ≡ levels → in_net_of these level ≤ length literals
+cut_within q own es levels these literals level lt s same =
+    let state : IsSearch q own es these literals = subst (λ (vs : List Level). IsSearch q own es vs literals) (sym same) s in
     (state.each level lt).in_net
 
 pub fewer_levels : (levels fewer : List Level) (level : ℕ) → level < length levels → fewer ≡ take level levels → length fewer < length levels

@@ -8,3 +8,4 @@ pub mod Learned
 pub mod Proposals
 pub mod Splits
 pub mod Answered
+pub mod Restated

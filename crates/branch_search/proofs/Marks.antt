@@ -219,7 +219,7 @@ used_by_cycle inputs lemmas trail roles below conflict cycle given h e is used =
     subst (IsConflict inputs lemmas (StandsUsed trail roles below)) (sym e) (there.0, subst P is used)
 
 -- an entry that was read, whatever stands beyond the end
-entry_is : (trail : List Entry) (k : ℕ) (d : Entry) → k < length trail → get_or trail k d ≡ entry_at trail k
+pub entry_is : (trail : List Entry) (k : ℕ) (d : Entry) → k < length trail → get_or trail k d ≡ entry_at trail k
 entry_is [] k d within = absurd (omega arith)
 entry_is (f ∷ trail) zero d within = refl
 entry_is (f ∷ trail) (suc k) d within = entry_is trail k d (omega arith)

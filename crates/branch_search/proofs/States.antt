@@ -28,7 +28,7 @@ use Rattle.branch_search.specs.Proved.{IsClauseOver, IsProved}
 use Rattle.branch_search.specs.Search.{Question, all_lemmas, AreProved, level_at, start_of, in_net_of, AllStand, IsLevel, IsSearch, IsStuckSearch}
 
 -- a list and its part agree on the entries of the part
-length_part : (n : ℕ) (es : List Entry) (k : ℕ) → k < length (take n es) → (k < n) × (k < length es)
+pub length_part : (n : ℕ) (es : List Entry) (k : ℕ) → k < length (take n es) → (k < n) × (k < length es)
 length_part zero es k lt = absurd (omega arith)
 length_part (suc n) [] k lt = absurd (omega arith)
 length_part (suc n) (e ∷ es) zero lt = (omega arith, omega arith)
@@ -43,7 +43,7 @@ cycle_moved es fs k l cycle move h = record {
   ];
 }
 
-reason_moved : (inputs lemmas : List (List Literal)) (cube : List Literal) (es fs : List Entry) (k : ℕ) (l : Literal) (r : Reason) → ((m : Literal) → Stands es k m → Stands fs k m) → IsReason inputs lemmas cube es k l r → IsReason inputs lemmas cube fs k l r
+pub reason_moved : (inputs lemmas : List (List Literal)) (cube : List Literal) (es fs : List Entry) (k : ℕ) (l : Literal) (r : Reason) → ((m : Literal) → Stands es k m → Stands fs k m) → IsReason inputs lemmas cube es k l r → IsReason inputs lemmas cube fs k l r
 reason_moved inputs lemmas cube es fs k l Given move h = h
 reason_moved inputs lemmas cube es fs k l Decision move h = h
 reason_moved inputs lemmas cube es fs k l (ByClause source place) move h = record {

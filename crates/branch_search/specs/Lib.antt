@@ -6,6 +6,7 @@ pub mod Denials
 pub mod Slices
 pub mod Divisions
 pub mod Clauses
+pub mod Roots
 pub use Rattle.stn_core.specs.Limits
 pub use Rattle.stn_core.specs.Literal
 pub use Rattle.stn_core.specs.Problem

@@ -4,8 +4,10 @@ ghost use Rattle.stn_core.specs.declared.literal.Literal.{Literal as Bound};
 ghost use Rattle.branch_search.specs.Trails.{IsTrail, IsConflict, Stands, IsDenial, AreOver, KeepsAll, DeniesKept};
 ghost use Rattle.branch_search.specs.Proved.{IsProved};
 
-use crate::entry::{Conflict, Entry, Level, Role};
+use crate::entry::{Conflict, Entry, Level, Reason, Role};
 use crate::marking::{Marks, mark_back, need_conflict};
+use crate::reading::named;
+use crate::roots::is_cited;
 use crate::spine::steps_for;
 use refute_tree::{Earlier, Lemma};
 use search_guide::Guide;
@@ -35,21 +37,46 @@ fn root_end(trail: &[Entry], levels: &[Level]) -> usize {
     }
 }
 
-// The literals on which the conflict rests are more active than they were.
-fn bump_used(trail: &[Entry], marks: &Marks, guide: &mut Guide) {
-    for k in 0..trail.len() {
-        if marks.root <= k && k < marks.roles.len() && marks.roles[k] != Role::Unused {
+// The literals on which the conflict rests are more active than they were, and so are the clauses.
+fn bump_used(trail: &[Entry], marks: &Marks, guide: &mut Guide, conflict: &Conflict) {
+    if let Conflict::Clause(source) = conflict {
+        guide.bump_clause(named(*source));
+    }
+    for k in marks.root..trail.len() {
+        if k < marks.roles.len() && marks.roles[k] != Role::Unused {
             guide.bump(trail[k].number);
+            if let Reason::Clause(source, _) = &trail[k].reason {
+                guide.bump_clause(named(*source));
+            }
         }
     }
-    guide.decay();
+}
+
+// Where the root's literals stand on which the conflict rests, and which no lemma states.
+fn wanted_roots<E: Earlier>(
+    problem: &Problem,
+    earlier: &E,
+    trail: &[Entry],
+    marks: &Marks,
+    guide: &Guide,
+    wanted: &mut Vec<usize>,
+) -> Result<(), AllocError> {
+    for k in 0..marks.root {
+        if k < marks.roles.len() && marks.roles[k] == Role::Resolved {
+            if !is_cited(problem, earlier, guide, trail, k) {
+                wanted.push(k)?;
+            }
+        }
+    }
+    Ok(())
 }
 
 /// The clause that a conflict teaches, with its tree: the negations of some of the trail's literals. The one error is want
 /// of memory.
 ///
 /// With `whole` the literals are negations of decided ones and of the cube's. Else it is the clause of the first unique
-/// implication point of the last level on which the conflict rests.
+/// implication point of the last level on which the conflict rests, and to `wanted` come the places of the root's literals
+/// whose reasons are in the steps and could be cited.
 pub fn analyze<E: Earlier>(
     alloc: Global,
     problem: &Problem,
@@ -59,6 +86,7 @@ pub fn analyze<E: Earlier>(
     guide: &mut Guide,
     whole: bool,
     conflict: &Conflict,
+    wanted: &mut Vec<usize>,
 ) -> Result<Lemma, AllocError>
     requires trail { (cube : List Bound) × IsTrail problem.now.clauses (E.clauses earlier.now) cube trail.now }
     requires over { AreOver problem.now.points trail.now }
@@ -76,7 +104,10 @@ pub fn analyze<E: Earlier>(
     };
     need_conflict(problem, earlier, trail, &mut marks, guide, conflict);
     mark_back(problem, earlier, trail, levels, &mut marks, guide, whole);
-    bump_used(trail, &marks, guide);
+    if !whole {
+        bump_used(trail, &marks, guide, conflict);
+        wanted_roots(problem, earlier, trail, &marks, guide, wanted)?;
+    }
     let clause = kept_clause(alloc, trail, &marks.roles)?;
     let steps = steps_for(alloc, problem, earlier, trail, &marks.roles, conflict)?;
     Ok(Lemma {

@@ -35,9 +35,9 @@ fn numbers_of(
     Ok(numbers)
 }
 
-// The clause of the last lemma.
-fn last_clause(own: &[Lemma]) -> &[Literal] {
-    match own.last() {
+// The clause of the lemma with the number.
+fn clause_at(own: &[Lemma], j: usize) -> &[Literal] {
+    match own.get(j) {
         Some(lemma) => lemma.clause.as_slice(),
         None => &[],
     }
@@ -53,6 +53,7 @@ impl State {
         cube: &[Literal],
         net: &N,
         conflict: &Conflict,
+        wanted: &mut Vec<usize>,
     ) -> Result<(), AllocError>
         requires few { length (E.clauses handed.now) < 2 ^ 63 }
         requires stuck { IsStuck (question_of problem.now (E.clauses handed.now) cube.now) self.old
@@ -75,23 +76,29 @@ impl State {
             &mut self.guide,
             whole,
             conflict,
+            wanted,
         )?;
         self.guide.add_lemma(lemma.clause.as_slice())?;
         self.own.push(lemma)?;
         Ok(())
     }
 
-    // To which level to jump back from the last lemma's clause. Any level is right.
-    fn jump_level(&mut self, alloc: Global, source: Source) -> Result<usize, AllocError>
+    // To which level to jump back from the clause of a lemma. Any level is right.
+    fn jump_level(
+        &mut self,
+        alloc: Global,
+        source: Source,
+        count: usize,
+    ) -> Result<usize, AllocError>
         requires { 0 < length self.old.levels.items }
         ensures entries { self.new.entries.items ≡ self.old.entries.items }
         ensures levels { self.new.levels.items ≡ self.old.levels.items }
         ensures own { self.new.own.items ≡ self.old.own.items }
         ensures within { IfOk result (λ level. level < length self.old.levels.items) }
     {
-        let count = last_clause(&self.own).len();
         let numbers = numbers_of(alloc, &self.guide, source, count)?;
         let level = self.guide.after_conflict(&numbers);
+        self.guide.decay();
         self.met_conflict = true;
         if level < self.levels.len() {
             Ok(level)
@@ -121,14 +128,17 @@ impl State {
         ensures adds { N.adds_of net.new ≡ N.adds_of net.old }
     {
         let j = self.own.len();
-        self.learn(alloc, problem, handed, cube, net, conflict)?;
+        let mut wanted = Vec::new(alloc);
+        self.learn(alloc, problem, handed, cube, net, conflict, &mut wanted)?;
         if self.levels.is_empty() {
             return Ok(Some(j));
         }
+        self.cite_all(alloc, problem, handed, cube, net, &wanted)?;
         let source = Source::Lemma(handed.count() + j);
-        let level = self.jump_level(alloc, source)?;
+        let count = clause_at(&self.own, j).len();
+        let level = self.jump_level(alloc, source, count)?;
         self.cut(net, level);
-        let clause = last_clause(&self.own);
+        let clause = clause_at(&self.own, j);
         let place = open_place(&self.guide, &self.entries, source, clause);
         self.take_unit(problem, handed, cube, net, source, place)?;
         Ok(None)
@@ -153,7 +163,8 @@ impl State {
             self.new) }
     {
         let j = self.own.len();
-        self.learn(alloc, problem, handed, cube, net, conflict)?;
+        let mut wanted = Vec::new(alloc);
+        self.learn(alloc, problem, handed, cube, net, conflict, &mut wanted)?;
         Ok(j)
     }
 }

@@ -18,6 +18,7 @@ mod marking;
 mod model;
 mod propagate;
 mod reading;
+mod roots;
 mod search;
 mod slicing;
 mod spine;

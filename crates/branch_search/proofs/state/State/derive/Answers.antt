@@ -1,0 +1,61 @@
+use Rattle.std.proofs.Common.{refl, ◌≡◌, ◌∙◌, ap, sym, take, set, ◌+◌, List}
+use Rattle.stn_core.specs.declared.literal.Literal.{Literal}
+use Rattle.branch_search.specs.declared.entry.Entry.{Entry}
+use Rattle.branch_search.specs.declared.entry.Reason.TheVariants.{Decision}
+use Rattle.branch_search.specs.Trails.{on_trail}
+use Rattle.branch_search.specs.Search.{question_of, all_lemmas}
+use Rattle.branch_search.proofs.Marks.{entry_is}
+use Rattle.branch_search.proofs.Learned.{trail_seen}
+use Rattle.branch_search.proofs.Restated.{prefix_trail, prefix_over, prefix_conflict, put_back, derived}
+use Rattle.refute_tree.specs.declared.lemma.Lemma.{Lemma}
+use Rattle.branch_search.proofs.state.State.derive.Goals as goal
+
+pub analyze-requires-clause-trail : goal.analyze-requires-clause-trail
+analyze-requires-clause-trail g c =
+    let q = question_of c.args.problem.now (g.E.Earlier.clauses c.args.handed.now) c.args.cube.now in
+    let es = c.args.self.now.entries.items in
+    let k = c.args.k in
+    let made = c.replace-entry.ensures.after ∙ ap (λ (m : Literal). record { literal = m; number = c.negated.result; reason = Decision }) c.negate.ensures in
+    let is = ap (take (k + 1)) (c.deref-2.ensures.value ∙ ap (λ (d : Entry). set es k d) made) in (
+      c.args.cube.now,
+      prefix_trail es _ k c.negated.result c.literal_on.result c.requires.within is q.inputs (all_lemmas q.handed c.as_slice.result.now) q.cube
+          (trail_seen q c.args.self.now.own.items c.as_slice.result.now es es c.as_slice.ensures.value refl c.requires.state.trail),
+    )
+
+pub analyze-requires-clause-over : goal.analyze-requires-clause-over
+analyze-requires-clause-over g c =
+    let es = c.args.self.now.entries.items in
+    let k = c.args.k in
+    let made = c.replace-entry.ensures.after ∙ ap (λ (m : Literal). record { literal = m; number = c.negated.result; reason = Decision }) c.negate.ensures in
+    let is = ap (take (k + 1)) (c.deref-2.ensures.value ∙ ap (λ (d : Entry). set es k d) made) in
+    prefix_over es _ k c.negated.result c.literal_on.result c.requires.within is c.args.problem.now.points
+    (c.literal_on.ensures ∙ ap (λ (fs : List Entry). on_trail fs k) c.deref.ensures.value) c.requires.state.over
+
+pub analyze-requires-clause-conflict : goal.analyze-requires-clause-conflict
+analyze-requires-clause-conflict g c =
+    let q = question_of c.args.problem.now (g.E.Earlier.clauses c.args.handed.now) c.args.cube.now in
+    let es = c.args.self.now.entries.items in
+    let k = c.args.k in
+    let made = c.replace-entry.ensures.after ∙ ap (λ (m : Literal). record { literal = m; number = c.negated.result; reason = Decision }) c.negate.ensures in
+    let is = ap (take (k + 1)) (c.deref-2.ensures.value ∙ ap (λ (d : Entry). set es k d) made) in
+    let at = c.index.ensures ∙ entry_is es k c.index.result.now c.requires.within in
+    prefix_conflict es _ k c.negated.result c.literal_on.result c.requires.within is q.inputs
+    (all_lemmas q.handed c.as_slice.result.now) q.cube c.index.result.now c.in_ok-conflict.field-0 c.in-Some.conflict
+    (trail_seen q c.args.self.now.own.items c.as_slice.result.now es es c.as_slice.ensures.value refl c.requires.state.trail)
+    at
+    (c.literal_on.ensures ∙ ap (λ (fs : List Entry). on_trail fs k) c.deref.ensures.value ∙ sym (ap (λ (f : Entry). f.literal) at))
+    c.in_ok-conflict.ensures c.in-Some.is
+
+pub returns-clause-entries : goal.returns-clause-entries
+returns-clause-entries g c =
+    put_back c.args.self.now.entries.items c.args.k c.replace-entry.new.dest c.replace-entry.result c.index_mut.result.now
+    c.requires.within (sym c.index_mut.ensures.value ∙ sym c.replace-entry.ensures.value)
+
+pub returns-clause-state : goal.returns-clause-state
+returns-clause-state g c =
+    let q = question_of c.args.problem.now (g.E.Earlier.clauses c.args.handed.now) c.args.cube.now in
+    derived q c.args.self.now.own.items c.as_slice.result.now c.push.new.self.items c.in_ok-lemma.lemma
+    c.args.self.now.entries.items _ c.args.self.now.levels.items (g.N.Net.literals_of c.args.net.now) c.requires.state
+    (put_back c.args.self.now.entries.items c.args.k c.replace-entry.new.dest c.replace-entry.result
+    c.index_mut.result.now c.requires.within (sym c.index_mut.ensures.value ∙ sym c.replace-entry.ensures.value))
+    c.as_slice.ensures.value c.in_ok-lemma.ensures.proved c.in_ok-push.ensures.items

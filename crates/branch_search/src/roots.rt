@@ -1,0 +1,224 @@
+//! Lemmas for what holds without a decision, so that a learned lemma doesn't write its reasons again: each is made once, when
+//! a conflict first rests on the literal, and is then the literal's reason.
+ghost use Rattle.std.specs.Prelude.{◌≡◌, ◌<◌, ◌^◌, length, IfOk, OnOk};
+ghost use Rattle.branch_search.specs.Roots.{denial_of};
+ghost use Rattle.branch_search.specs.Search.{question_of, IsState};
+
+use crate::analysis::analyze;
+use crate::both::Both;
+use crate::denial::unit_of;
+use crate::entry::{Conflict, Entry, Reason, Source};
+use crate::reading::{clause_of, denial_place, is_known, is_same, literal_on};
+use crate::state::State;
+use refute_tree::{Earlier, Lemma};
+use search_guide::Guide;
+use std::alloc::{AllocError, Global};
+use std::mem;
+use stn_core::{Literal, Literals, Net, Problem, negate};
+
+// Whether the cube's literal stands at the place, if there is one.
+fn is_given(entries: &[Entry], place: Option<usize>) -> bool {
+    match place {
+        Some(k) => k < entries.len() && matches!(&entries[k].reason, Reason::Given),
+        None => false,
+    }
+}
+
+// Whether the clause's literals but the one at the place are negations of the cube's.
+fn are_given(guide: &Guide, entries: &[Entry], source: Source, count: usize, place: usize) -> bool {
+    for q in 0..count {
+        if q != place && !is_given(entries, denial_place(guide, source, q)) {
+            return false;
+        }
+    }
+    true
+}
+
+// How many literals the clause has.
+fn count_of<E: Earlier>(problem: &Problem, earlier: &E, source: Source) -> usize {
+    if is_known(problem, earlier, source) {
+        clause_of(problem, earlier, source).len()
+    } else {
+        0
+    }
+}
+
+/// Whether the literal at the place follows from the cube's literals by one clause, or from none.
+pub fn is_cited<E: Earlier>(
+    problem: &Problem,
+    earlier: &E,
+    guide: &Guide,
+    entries: &[Entry],
+    k: usize,
+) -> bool {
+    if k >= entries.len() {
+        return true;
+    }
+    match &entries[k].reason {
+        Reason::Given => true,
+        Reason::Decision => true,
+        Reason::Clause(source, place) => {
+            let count = count_of(problem, earlier, *source);
+            are_given(guide, entries, *source, count, *place)
+        }
+        Reason::Pair(_) => false,
+        Reason::Cycle(_) => false,
+    }
+}
+
+// What the literal's negation is in conflict with, where the literal follows from others.
+fn denial_conflict(alloc: Global, entry: &Entry) -> Result<Option<Conflict>, AllocError>
+    ensures { IfOk result (λ found. found ≡ denial_of entry.now.literal entry.now.reason) }
+{
+    match &entry.reason {
+        Reason::Given => Ok(None),
+        Reason::Decision => Ok(None),
+        Reason::Clause(source, _) => Ok(Some(Conflict::Clause(*source))),
+        Reason::Pair(tighter) => {
+            let cycle = vec![in alloc; *tighter, negate(entry.literal)]?;
+            Ok(Some(Conflict::Cycle(Literals::new(cycle))))
+        }
+        Reason::Cycle(cycle) => {
+            let copy = Vec::from_slice(alloc, cycle.as_slice())?;
+            Ok(Some(Conflict::Cycle(Literals::new(copy))))
+        }
+    }
+}
+
+// At which place of the last lemma's clause the literal stands, or 0.
+fn place_in(own: &[Lemma], literal: Literal) -> usize {
+    let Some(lemma) = own.last() else {
+        return 0;
+    };
+    let clause = lemma.clause.as_slice();
+    for q in 0..clause.len() {
+        if clause[q] == literal {
+            return q;
+        }
+    }
+    0
+}
+
+impl State {
+    // A lemma for the literal at the place, given the cube: the negation is assumed in its place.
+    fn derive<E: Earlier, N: Net>(
+        &mut self,
+        alloc: Global,
+        problem: &Problem,
+        handed: &E,
+        cube: &[Literal],
+        net: &N,
+        k: usize,
+    ) -> Result<(), AllocError>
+        requires few { length (E.clauses handed.now) < 2 ^ 63 }
+        requires within { k < length self.old.entries.items }
+        requires state { IsState (question_of problem.now (E.clauses handed.now) cube.now) self.old
+            (N.literals_of net.now) }
+        ensures levels { self.new.levels.items ≡ self.old.levels.items }
+        ensures entries { OnOk result (self.new.entries.items ≡ self.old.entries.items) }
+        ensures state { OnOk result (IsState (question_of problem.now (E.clauses handed.now) cube.now) self.new
+            (N.literals_of net.now)) }
+    {
+        let Some(conflict) = denial_conflict(alloc, &self.entries[k])? else {
+            return Ok(());
+        };
+        let denial = Entry {
+            literal: negate(literal_on(&self.entries, k)),
+            number: Guide::negated(self.entries[k].number),
+            reason: Reason::Decision,
+        };
+        let entry = mem::replace(&mut self.entries[k], denial);
+        let both = Both {
+            handed,
+            own: self.own.as_slice(),
+        };
+        let mut wanted = Vec::new(alloc);
+        let lemma = analyze(
+            alloc,
+            problem,
+            &both,
+            &self.entries[..k + 1],
+            [].as_slice(),
+            &mut self.guide,
+            true,
+            &conflict,
+            &mut wanted,
+        )?;
+        self.entries[k] = entry;
+        self.guide.add_lemma(lemma.clause.as_slice())?;
+        self.own.push(lemma)?;
+        Ok(())
+    }
+
+    // The literal at the place rests on the clause, where all others of the clause are denied before it.
+    fn rest_on<E: Earlier, N: Net>(
+        &mut self,
+        problem: &Problem,
+        handed: &E,
+        cube: &[Literal],
+        net: &N,
+        source: Source,
+        k: usize,
+    )
+        requires few { length (E.clauses handed.now) < 2 ^ 63 }
+        requires within { k < length self.old.entries.items }
+        requires state { IsState (question_of problem.now (E.clauses handed.now) cube.now) self.old
+            (N.literals_of net.now) }
+        ensures levels { self.new.levels.items ≡ self.old.levels.items }
+        ensures state { IsState (question_of problem.now (E.clauses handed.now) cube.now) self.new
+            (N.literals_of net.now) }
+    {
+        let literal = literal_on(&self.entries, k);
+        let place = place_in(&self.own, literal);
+        let both = Both {
+            handed,
+            own: self.own.as_slice(),
+        };
+        let Some(unit) = unit_of(
+            problem,
+            &both,
+            &self.guide,
+            &self.entries[..k],
+            source,
+            place,
+        ) else {
+            return;
+        };
+        if !is_same(unit, literal) {
+            return;
+        }
+        let number = self.entries[k].number;
+        self.entries[k] = Entry {
+            literal,
+            number,
+            reason: Reason::Clause(source, place),
+        };
+    }
+
+    /// Lemmas for the literals at the places, from the first on, where they have none.
+    pub fn cite_all<E: Earlier, N: Net>(
+        &mut self,
+        alloc: Global,
+        problem: &Problem,
+        handed: &E,
+        cube: &[Literal],
+        net: &N,
+        wanted: &[usize],
+    ) -> Result<(), AllocError>
+        requires few { length (E.clauses handed.now) < 2 ^ 63 }
+        requires state { IsState (question_of problem.now (E.clauses handed.now) cube.now) self.old
+            (N.literals_of net.now) }
+        ensures levels { self.new.levels.items ≡ self.old.levels.items }
+        ensures state { OnOk result (IsState (question_of problem.now (E.clauses handed.now) cube.now) self.new
+            (N.literals_of net.now)) }
+    {
+        'wanted: for k in wanted {
+            if *k < self.entries.len() {
+                let source = Source::Lemma(handed.count() + self.own.len());
+                self.derive(alloc, problem, handed, cube, net, *k)?;
+                self.rest_on(problem, handed, cube, net, source, *k);
+            }
+        }
+        Ok(())
+    }
+}
