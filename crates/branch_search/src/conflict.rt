@@ -79,6 +79,7 @@ impl State {
             wanted,
         )?;
         self.guide.add_lemma(lemma.clause.as_slice())?;
+        self.known = self.known.saturating_add(1);
         self.own.push(lemma)?;
         Ok(())
     }
@@ -100,6 +101,7 @@ impl State {
         let level = self.guide.after_conflict(&numbers);
         self.guide.decay();
         self.met_conflict = true;
+        self.conflicts = self.conflicts.saturating_add(1);
         if level < self.levels.len() {
             Ok(level)
         } else {

@@ -25,4 +25,4 @@ mod spine;
 mod state;
 
 pub use answer::Slice;
-pub use slicing::slice;
+pub use slicing::{Searcher, slice};

@@ -103,6 +103,7 @@ impl State {
             return Ok(Turn::Ended(Found::Spent));
         }
         self.begin_level(net)?;
+        self.decisions = self.decisions.saturating_add(1);
         self.push(literal, number, Reason::Decision)?;
         Ok(Turn::Decided)
     }

@@ -107,7 +107,7 @@ fn answer_of(division: Division, seen: usize, lemmas: Vec<Lemma>) -> Slice
 // Where the search found nothing within its budget: the net is emptied, and the cube entered alone.
 fn divide_cube<E: Earlier, N: Net>(
     alloc: Global,
-    searched: State,
+    state: &mut State,
     problem: &Problem,
     handed: &E,
     cube: &[Literal],
@@ -117,7 +117,7 @@ fn divide_cube<E: Earlier, N: Net>(
     requires few { length (E.clauses handed.now) < 2 ^ 63 }
     requires points { N.points_of net.old ≡ problem.now.points }
     requires lemmas { All (IsClauseOver problem.now.points) (E.clauses handed.now) }
-    requires proved { AreProved (question_of problem.now (E.clauses handed.now) cube.now) searched.own.items }
+    requires proved { AreProved (question_of problem.now (E.clauses handed.now) cube.now) state.old.own.items }
     requires over { All (IsOver problem.now.points) cube.now }
     ensures points { N.points_of net.new ≡ N.points_of net.old }
     ensures answer { IfOk result (IsSlice (question_of problem.now (E.clauses handed.now) cube.now)) }
@@ -126,14 +126,14 @@ fn divide_cube<E: Earlier, N: Net>(
     net.retract(Mark { length: 0 });
     spend(net, problem, target)?;
     net.retract(Mark { length: 0 });
-    let mut state = searched;
     state.clear();
     let division = state.finish(alloc, problem, handed, cube, net)?;
-    Ok(answer_of(division, handed.count(), state.own))
+    Ok(answer_of(division, handed.count(), state.take_own(alloc)))
 }
 
 fn run<E: Earlier, N: Net>(
     alloc: Global,
+    state: &mut State,
     problem: &Problem,
     handed: &E,
     cube: &[Literal],
@@ -154,18 +154,69 @@ fn run<E: Earlier, N: Net>(
         decisions: budget,
         target,
     };
-    let guide = Guide::new(alloc, problem)?;
-    let mut state = State::new(alloc, guide);
+    state.renew(alloc, problem, handed)?;
     match state.begin(alloc, problem, handed, cube, net, rest)? {
         Found::Model(schedule) => {
-            let batch = Batch::new(handed.count(), state.own);
+            let batch = Batch::new(handed.count(), state.take_own(alloc));
             Ok(Slice::Model(schedule, batch))
         }
         Found::Excluded(j) => {
-            let batch = Batch::new(handed.count(), state.own);
+            let batch = Batch::new(handed.count(), state.take_own(alloc));
             Ok(Slice::Refuted(batch, j))
         }
         Found::Spent => divide_cube(alloc, state, problem, handed, cube, net, target),
+    }
+}
+
+/// What one worker keeps from slice to slice of one problem: what it has seen of clauses, activities and phases. Kept or not,
+/// and whatever a searcher was used for before, a slice answers by the same contract.
+#[derive(Drop)]
+pub struct Searcher {
+    state: State,
+}
+
+impl Searcher {
+    /// The one error is want of memory.
+    pub fn new(alloc: Global, problem: &Problem) -> Result<Self, AllocError> {
+        let guide = Guide::new(alloc, problem)?;
+        Ok(Searcher {
+            state: State::new(alloc, guide),
+        })
+    }
+
+    /// How many conflicts the slices met, up to 2^64 - 1.
+    pub fn conflicts(&self) -> u64 {
+        self.state.conflicts
+    }
+
+    /// How many decisions they made, up to 2^64 - 1.
+    pub fn decisions(&self) -> u64 {
+        self.state.decisions
+    }
+
+    /// As `slice`.
+    pub fn slice<E: Earlier, N: Net>(
+        &mut self,
+        alloc: Global,
+        problem: &Problem,
+        handed: &E,
+        cube: &[Literal],
+        budget: u64,
+        net: &mut N,
+    ) -> Result<Slice, AllocError>
+        requires few { length (E.clauses handed.now) < 2 ^ 63 }
+        requires points { N.points_of net.old ≡ problem.now.points }
+        requires empty { N.literals_of net.old ≡ [] }
+        requires lemmas { All (IsClauseOver problem.now.points) (E.clauses handed.now) }
+        requires over { All (IsOver problem.now.points) cube.now }
+        ensures points { N.points_of net.new ≡ N.points_of net.old }
+        ensures literals { N.literals_of net.new ≡ [] }
+        ensures answer { IfOk result (IsSlice (question_of problem.now (E.clauses handed.now) cube.now)) }
+        ensures spent { IfOk result (HasSpent (N.adds_of net.old) budget (N.adds_of net.new)) }
+    {
+        let result = run(alloc, &mut self.state, problem, handed, cube, budget, net);
+        net.retract(Mark { length: 0 });
+        result
     }
 }
 
@@ -191,7 +242,6 @@ pub fn slice<E: Earlier, N: Net>(
     ensures answer { IfOk result (IsSlice (question_of problem.now (E.clauses handed.now) cube.now)) }
     ensures spent { IfOk result (HasSpent (N.adds_of net.old) budget (N.adds_of net.new)) }
 {
-    let result = run(alloc, problem, handed, cube, budget, net);
-    net.retract(Mark { length: 0 });
-    result
+    let mut searcher = Searcher::new(alloc, problem)?;
+    searcher.slice(alloc, problem, handed, cube, budget, net)
 }

@@ -9,6 +9,7 @@ use crate::reading::{is_same, literal_on};
 use refute_tree::{Earlier, Lemma};
 use search_guide::{Guide, LiteralNumber};
 use std::alloc::{AllocError, Global};
+use std::mem;
 use stn_core::{Added, Literal, Mark, Net, Problem};
 
 #[derive(Drop)]
@@ -21,8 +22,21 @@ pub struct State {
     pub followed: usize,
     /// the first place whose literal hasn't been put into the net yet, or passed by
     pub netted: usize,
-    /// whether there was a conflict
+    /// whether there was a conflict in this slice
     pub met_conflict: bool,
+    /// how many lemmas the guide knows, of those that were handed and of the own ones
+    pub known: usize,
+    /// how many conflicts and decisions there were in all slices
+    pub conflicts: u64,
+    pub decisions: u64,
+}
+
+// Whether the guide has the same first literal for the clause of the lemma with this number, or has forgotten it.
+fn has_clause(guide: &Guide, j: usize, clause: &[Literal]) -> bool {
+    match guide.number_at(search_guide::Source::Lemma(j), 0) {
+        Some(number) => guide.literal(number) == clause.first().copied(),
+        None => true,
+    }
 }
 
 // The literals from a place on leave the trail.
@@ -50,7 +64,52 @@ impl State {
             followed: 0,
             netted: 0,
             met_conflict: false,
+            known: 0,
+            conflicts: 0,
+            decisions: 0,
         }
+    }
+
+    // Whether the lemmas that the guide knows are the first of those that are handed.
+    fn knows<E: Earlier>(&self, handed: &E) -> bool {
+        if self.known > handed.count() {
+            return false;
+        }
+        for j in 0..self.known {
+            if !has_clause(&self.guide, j, handed.clause(j)) {
+                return false;
+            }
+        }
+        true
+    }
+
+    /// Before another slice: no literal stands on the trail, and there are no own lemmas. The guide stays, where the lemmas
+    /// that it knows are the first of those that are handed.
+    pub fn renew<E: Earlier>(
+        &mut self,
+        alloc: Global,
+        problem: &Problem,
+        handed: &E,
+    ) -> Result<(), AllocError>
+        ensures entries { OnOk result (self.new.entries.items ≡ []) }
+        ensures levels { OnOk result (self.new.levels.items ≡ []) }
+        ensures own { OnOk result (self.new.own.items ≡ []) }
+    {
+        self.clear();
+        self.own.truncate(0);
+        self.met_conflict = false;
+        if !self.knows(handed) {
+            self.guide = Guide::new(alloc, problem)?;
+            self.known = 0;
+        }
+        Ok(())
+    }
+
+    /// The own lemmas, which leave the state.
+    pub fn take_own(&mut self, alloc: Global) -> Vec<Lemma>
+        ensures { result.items ≡ self.old.own.items }
+    {
+        mem::replace(&mut self.own, Vec::new(alloc))
     }
 
     /// One literal more.

@@ -10,6 +10,6 @@ finish-requires-clause-state g c =
     let q = question_of c.args.problem.now handed c.args.cube.now in
     empty_search q c.clear.new.self.own.items _ _ (g.N.Net.literals_of c.retract-2.new.self) c.clear.ensures.entries
     c.clear.ensures.levels (c.retract-2.ensures.literals ∙ refl)
-    (lemmas_over c.args.problem.now.points handed c.args.searched.own.items c.clear.new.self.own.items
+    (lemmas_over c.args.problem.now.points handed c.args.state.now.own.items c.clear.new.self.own.items
     c.clear.ensures.own c.requires.lemmas c.requires.proved.1)
     (subst (AreProved q) (sym c.clear.ensures.own) c.requires.proved)
