@@ -75,10 +75,15 @@ impl Clauses {
         self.spans.get(clause as usize).copied()
     }
 
+    /// The literals that stand there.
+    pub fn literals_at(&self, span: Span) -> &[LiteralNumber] {
+        part(&self.numbers, span.start as usize, span.length as usize)
+    }
+
     /// The clause's literals, none where there is no such clause.
     pub fn literals(&self, clause: u32) -> &[LiteralNumber] {
-        match self.spans.get(clause as usize) {
-            Some(span) => part(&self.numbers, span.start as usize, span.length as usize),
+        match self.span(clause) {
+            Some(span) => self.literals_at(span),
             None => &[],
         }
     }

@@ -133,33 +133,8 @@ impl Watches {
             clause,
             blocker: one,
         };
-        self.append(negated(one), watch_one, is_pair)?;
-        self.append(negated(two), watch_two, is_pair)
-    }
-
-    /// The literal's list gets a watch at its end.
-    fn append(
-        &mut self,
-        number: LiteralNumber,
-        watch: Watch,
-        is_pair: bool,
-    ) -> Result<(), AllocError> {
-        let Some(lists) = self.lists.get_mut(number as usize) else {
-            return Ok(());
-        };
-        if is_pair {
-            lists.pairs.push(watch)?;
-        } else {
-            lists.longer.push(watch)?;
-        }
-        Ok(())
-    }
-
-    fn keep(&mut self, watch: Watch) {
-        if let Some(slot) = self.list.get_mut(self.kept) {
-            *slot = watch;
-        }
-        self.kept = self.kept.wrapping_add(1);
+        append(&mut self.lists, negated(one), watch_one, is_pair)?;
+        append(&mut self.lists, negated(two), watch_two, is_pair)
     }
 
     /// The list that was taken out goes back.
@@ -169,12 +144,14 @@ impl Watches {
         };
         self.literal = None;
         if self.kept < self.seen {
-            for place in self.seen..self.list.len() {
-                if let Some(watch) = self.list.get(place).copied() {
-                    self.keep(watch);
+            let mut kept = self.kept;
+            let list = self.list.as_mut_slice();
+            for place in self.seen..list.len() {
+                if let Some(watch) = list.get(place).copied() {
+                    kept = keep(list, kept, watch);
                 }
             }
-            self.list.truncate(self.kept);
+            self.list.truncate(kept);
         }
         if let Some(lists) = self.lists.get_mut(literal as usize) {
             mem::swap(&mut lists.longer, &mut self.list);
@@ -249,51 +226,43 @@ impl Watches {
         assignment: &Assignment,
     ) -> Result<Proposal, AllocError> {
         let denied = negated(literal);
-        for place in self.seen..self.list.len() {
-            let Some(watch) = self.list.get(place).copied() else {
+        let mut kept = self.kept;
+        let list = self.list.as_mut_slice();
+        for place in self.seen..list.len() {
+            let Some(watch) = list.get(place).copied() else {
                 break;
             };
-            self.seen = place + 1;
             if assignment.truth(watch.blocker) == Truth::True {
-                self.keep(watch);
+                kept = keep(list, kept, watch);
                 continue;
             }
             let clause = watch.clause;
             match look_at(clauses, clause, denied, assignment) {
-                Visit::Holds(blocker) => self.keep(Watch { clause, blocker }),
-                Visit::Moves(step) => self.follow(clauses, watch, step)?,
-                Visit::Unit(place, blocker) => {
-                    self.keep(Watch { clause, blocker });
-                    return Ok(Proposal::Unit(clauses.source(clause), place as usize));
+                Visit::Holds(blocker) => kept = keep(list, kept, Watch { clause, blocker }),
+                Visit::Moves(step) => {
+                    if let Err(error) = follow(&mut self.lists, clauses, clause, step) {
+                        self.seen = place;
+                        self.kept = kept;
+                        return Err(error);
+                    }
+                }
+                Visit::Unit(unit, blocker) => {
+                    self.kept = keep(list, kept, Watch { clause, blocker });
+                    self.seen = place + 1;
+                    return Ok(Proposal::Unit(clauses.source(clause), unit as usize));
                 }
                 Visit::Conflict(blocker) => {
-                    self.keep(Watch { clause, blocker });
+                    self.kept = keep(list, kept, Watch { clause, blocker });
+                    self.seen = place + 1;
                     return Ok(Proposal::Conflict(clauses.source(clause)));
                 }
                 Visit::Gone => {}
             }
         }
+        self.seen = list.len();
+        self.kept = kept;
         self.end();
         Ok(Proposal::Nothing)
-    }
-
-    /// The clause is watched at another place. Where there is no memory, the watch stays.
-    fn follow(
-        &mut self,
-        clauses: &mut Clauses,
-        watch: Watch,
-        step: Move,
-    ) -> Result<(), AllocError> {
-        let moved = Watch {
-            clause: watch.clause,
-            blocker: step.other,
-        };
-        if let Err(error) = self.append(negated(step.literal), moved, false) {
-            self.keep(watch);
-            return Err(error);
-        }
-        clauses.move_watch(watch.clause, step.from, step.to);
-        Ok(())
     }
 
     /// The lists lose the clauses that have no literals any more.
@@ -307,6 +276,48 @@ impl Watches {
     }
 }
 
+/// The watch stands next behind those that stay, of which there is one more then.
+fn keep(list: &mut [Watch], kept: usize, watch: Watch) -> usize {
+    if let Some(slot) = list.get_mut(kept) {
+        *slot = watch;
+    }
+    kept.wrapping_add(1)
+}
+
+/// The literal's list gets a watch at its end.
+fn append(
+    lists: &mut [Lists],
+    number: LiteralNumber,
+    watch: Watch,
+    is_pair: bool,
+) -> Result<(), AllocError> {
+    let Some(list) = lists.get_mut(number as usize) else {
+        return Ok(());
+    };
+    if is_pair {
+        list.pairs.push(watch)?;
+    } else {
+        list.longer.push(watch)?;
+    }
+    Ok(())
+}
+
+/// The clause is watched at another place. Where there is no memory, the watch stays.
+fn follow(
+    lists: &mut [Lists],
+    clauses: &mut Clauses,
+    clause: u32,
+    step: Move,
+) -> Result<(), AllocError> {
+    let watch = Watch {
+        clause,
+        blocker: step.other,
+    };
+    append(lists, negated(step.literal), watch, false)?;
+    clauses.move_watch(clause, step.from, step.to);
+    Ok(())
+}
+
 /// Reads the clause, one of whose watched literals is `denied`.
 fn look_at(
     clauses: &Clauses,
@@ -317,7 +328,7 @@ fn look_at(
     let Some(span) = clauses.span(clause) else {
         return Visit::Gone;
     };
-    let literals = clauses.literals(clause);
+    let literals = clauses.literals_at(span);
     let first = literals.get(span.first as usize).copied();
     let (from, place) = if first == Some(denied) {
         (span.first, span.second)
@@ -350,14 +361,16 @@ fn find(
     other: usize,
     assignment: &Assignment,
 ) -> Option<(usize, LiteralNumber)> {
-    for (place, literal) in literals.iter().enumerate().skip(from) {
-        if place != other && assignment.truth(*literal) != Truth::False {
-            return Some((place, *literal));
+    for place in from..literals.len() {
+        let literal = *literals.get(place)?;
+        if place != other && assignment.truth(literal) != Truth::False {
+            return Some((place, literal));
         }
     }
-    for (place, literal) in literals.iter().enumerate().take(from) {
-        if place != other && assignment.truth(*literal) != Truth::False {
-            return Some((place, *literal));
+    for place in 0..from {
+        let literal = *literals.get(place)?;
+        if place != other && assignment.truth(literal) != Truth::False {
+            return Some((place, literal));
         }
     }
     None
