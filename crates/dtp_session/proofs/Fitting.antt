@@ -1,5 +1,5 @@
 -- The numbers of a refutation that is shown are within the limits of the format.
-use Rattle.std.proofs.Common.{sym, subst, arith, ◌≡◌, ◌≤◌, ◌^◌, ℕ, List, [], ◌∷◌, length, map, take, Option, Some, None, ℤ, pos, negsuc, neg_ℤ, ◌≤ℤ◌, get_or, length-take}
+use Rattle.std.proofs.Common.{subst, arith, ◌≡◌, ◌≤◌, ◌^◌, ℕ, List, [], ◌∷◌, length, map, take, Option, Some, None, ℤ, pos, negsuc, neg_ℤ, ◌≤ℤ◌, get_or, length-take}
 use Rattle.std.specs.Prelude.{All, Contains, slice_get}
 use Rattle.std.specs.List.{AllByRecursion}
 use Rattle.std.proofs.lemmas.Int.{ints}
@@ -17,8 +17,6 @@ use Rattle.refute_tree.specs.Laws.{LengthenedPlain}
 use Rattle.refute_tree.specs.Lengths.{pair_step, written_out, lengthened_step, lengthened, lengthened_lemma, IsNoClash}
 use Rattle.refute_tree.specs.Trees.{Tree, Forest, leaf, clash, cases, none, more, stated, IsRefutation}
 use Rattle.cert_text.specs.Limits.{limit, NumberFits, LiteralWithin, StepWithin, LemmaWithin}
-use Rattle.plain_search.specs.Base.{IsPlain}
-use Rattle.plain_search.specs.Verdicts.{IsOfInputs}
 
 -- ---- numbers
 
@@ -174,33 +172,3 @@ module _ (points : ℕ) (clauses : List (List Literal)) where
       All-map HasNoClash (lengthened_lemma clauses) lemmas (All-from_get_or (λ (lemma : Lemma). HasNoClash (lengthened_lemma clauses lemma)) lemmas nothing (λ j lt.
       let lemma = get_or lemmas j nothing in
       law points clauses (map stated (take j lemmas)) lemma (h.each j lemma (slice_get-get_or lemmas j nothing lt))))
-
-  -- ---- what the search finds
-
-  plain_over : (step : Step) → IsPlain step → NamesOver points step
-  plain_over (Cycle cycle) h = All-nil (IsOver points)
-  plain_over (Input i) h = All-nil (IsOver points)
-  plain_over (Earlier j) h = All-nil (IsOver points)
-  plain_over (Clash i) h = All-nil (IsOver points)
-  plain_over (Either l) h = absurd cc
-
-  plain_steps_over : (steps : List Step) → AllByRecursion IsPlain steps → AllByRecursion (NamesOver points) steps
-  plain_steps_over [] h = tt
-  plain_steps_over (step ∷ steps) h = (plain_over step h.0, plain_steps_over steps h.1)
-
-  abbrev IsOfInputsAlone : Lemma → Type 0
-  IsOfInputsAlone lemma = (lemma.clause ≡ []) × All IsPlain lemma.steps
-
-  found_lemma_over : (lemma : Lemma) → IsOfInputsAlone lemma → LemmaIsOver points lemma
-  found_lemma_over lemma h = record {
-    clause = subst (All (IsOver points)) (sym h.0) (All-nil (IsOver points));
-    steps = All-from_recursion (NamesOver points) lemma.steps (plain_steps_over lemma.steps (recursion_from_All IsPlain lemma.steps h.1));
-  }
-
-  found_over_each : (lemmas : List Lemma) → AllByRecursion IsOfInputsAlone lemmas → AllByRecursion (LemmaIsOver points) lemmas
-  found_over_each [] h = tt
-  found_over_each (lemma ∷ lemmas) h = (found_lemma_over lemma h.0, found_over_each lemmas h.1)
-
-  pub found_lemmas_over : (lemmas : List Lemma) → IsOfInputs lemmas → All (LemmaIsOver points) lemmas
-  found_lemmas_over lemmas h =
-      All-from_recursion (LemmaIsOver points) lemmas (found_over_each lemmas (recursion_from_All IsOfInputsAlone lemmas h))

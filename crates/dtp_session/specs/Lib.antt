@@ -1,5 +1,4 @@
 pub mod Ends
-pub mod Options
 pub mod Sessions
 pub mod Solving
 pub use Rattle.dtp_io.specs.Faults

@@ -1,6 +1,5 @@
 //! What decides a check-sat.
-ghost use Rattle.std.specs.Prelude.{◌≡◌, map, IfOk};
-ghost use Rattle.plain_search.specs.Verdicts.{IsVerdict as IsSolved};
+ghost use Rattle.std.specs.Prelude.{◌≡◌, ◌≤◌, map, IfOk};
 ghost use Rattle.refute_tree.specs.Lengths.{lengthened_lemma};
 ghost use Rattle.smt_script.specs.States.{State as Meaning};
 ghost use Rattle.dtp_entry.specs.Standing.{Stands};
@@ -9,21 +8,11 @@ ghost use Rattle.dtp_entry.specs.Transcripts.{Decides};
 use cert_text::{Entry, NUMBER_LIMIT};
 use clause_form::restrict;
 use dtp_entry::problem;
-use inc_paths::Network;
-use plain_search::Verdict;
 use refute_tree::{Refutation, lengthen};
 use smt_script::State;
 use std::alloc::{AllocError, Global};
+use steal_search::{Verdict, solve_one};
 use stn_core::Problem;
-
-/// A solution of the problem, or a refutation of it. It is a search, whose time may grow with the number of ways to choose a
-/// literal of each clause.
-fn solution(alloc: Global, problem: &Problem) -> Result<Verdict, AllocError>
-    ensures { IfOk result (IsSolved problem.now.points problem.now.clauses) }
-{
-    let mut net = Network::new(alloc, problem.points)?;
-    plain_search::decide(alloc, problem, &mut net)
-}
 
 /// The refutation with each clash written out, which is how a certificate shows it.
 fn written_out(
@@ -41,9 +30,11 @@ fn written_out(
     Ok(Refutation::new(shown))
 }
 
-/// Decides the assertions: a schedule that satisfies them, or a refutation of their problem.
-pub fn decide(alloc: Global, state: &State) -> Result<Entry, AllocError>
-    requires { (s : Meaning) × Stands state.now s }
+/// Decides the assertions: a schedule that satisfies them, or a refutation of their problem. The search adds so many
+/// literals in a slice; its time may grow with the number of ways to choose a literal of each clause.
+pub fn decide(alloc: Global, state: &State, slice: u64) -> Result<Entry, AllocError>
+    requires stands { (s : Meaning) × Stands state.now s }
+    requires slice { (1 ≤ slice) × (slice ≤ 1000000) }
     ensures { IfOk result (λ entry. (s : Meaning) → Stands state.now s → Decides s.context entry) }
 {
     idl_term::context_law();
@@ -52,7 +43,7 @@ pub fn decide(alloc: Global, state: &State) -> Result<Entry, AllocError>
     refute_tree::lengths_law();
     stn_core::negation_kept();
     let problem = problem(alloc, state)?;
-    match solution(alloc, &problem)? {
+    match solve_one(alloc, &problem, slice)? {
         Verdict::Sat(schedule) => {
             let values = restrict(alloc, schedule.as_slice(), state.names().sorts())?;
             Ok(Entry::Sat(values))

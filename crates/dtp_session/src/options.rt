@@ -1,10 +1,13 @@
 //! How a script is to be decided.
+ghost use Rattle.std.specs.Prelude.{◌≤◌};
 
 /// How check-sats are searched.
 #[derive(Clone, Copy, Debug, PartialEq, Eq)]
 pub struct SearchOptions {
-    /// How many workers search, 1 to 64.
+    /// How many workers search.
     pub workers: u32,
-    /// How many literals a slice of search may add, 1 to 1,000,000.
+    /// How many literals a slice of search may add.
     pub slice: u32,
+    pub ghost workers_in: { (1 ≤ workers) × (workers ≤ 64) },
+    pub ghost slice_in: { (1 ≤ slice) × (slice ≤ 1000000) },
 }

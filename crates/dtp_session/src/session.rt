@@ -11,6 +11,7 @@ ghost use Rattle.dtp_session.specs.Sessions.{IsReady, IsStart, KeepsReading, Kee
 ghost use Rattle.dtp_session.specs.Ends.{status_of};
 
 use crate::decision::decide;
+use crate::options::SearchOptions;
 use crate::piece::Piece;
 use cert_text::Entry;
 use dtp_entry::{Report, SessionError, kind_of, verdict_of};
@@ -28,6 +29,8 @@ pub struct Session<'a> {
     pub alloc: Global,
     /// What is written of the script.
     pub report: Report,
+    /// How check-sats are searched.
+    pub options: SearchOptions,
     /// Reads the script.
     pub lexer: Lexer<'a>,
     /// The command that was read last.
@@ -51,7 +54,7 @@ pub enum Solved {
 
 impl<'a> Session<'a> {
     /// A session before the first command. It takes no memory yet.
-    pub fn new(alloc: Global, bytes: &'a [u8], report: Report) -> Self
+    pub fn new(alloc: Global, bytes: &'a [u8], report: Report, options: SearchOptions) -> Self
         ensures start { IsStart result }
         ensures report { result.report ≡ report }
         ensures bytes { result.lexer.bytes ≡ bytes.now }
@@ -60,6 +63,7 @@ impl<'a> Session<'a> {
         Session {
             alloc,
             report,
+            options,
             lexer: Lexer::new(bytes),
             sexprs: Sexprs::new(alloc, bytes),
             state: State::new(alloc),
@@ -159,7 +163,7 @@ impl<'a> Session<'a> {
     {
         smt_script::state_law();
         self.held = None;
-        let entry = decide(self.alloc, &self.state)?;
+        let entry = decide(self.alloc, &self.state, u64::from(self.options.slice))?;
         self.state.settle(verdict_of(&entry));
         self.held = Some(entry);
         Ok(())

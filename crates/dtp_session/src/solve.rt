@@ -1,6 +1,5 @@
 //! The calls that decide a script.
 ghost use Rattle.dtp_entry.specs.declared.report.Report.TheVariants.{Verdicts, Certificate};
-ghost use Rattle.dtp_session.specs.Options.{IsInRange};
 ghost use Rattle.dtp_session.specs.Solving.{IsSolved};
 
 use crate::gate::Gate;
@@ -17,18 +16,19 @@ fn write_report<K: Sink>(
     bytes: &[u8],
     sink: &mut K,
     report: Report,
+    options: SearchOptions,
 ) -> Result<Solved, SessionError>
     ensures solved { IsSolved report bytes.now (K.holds sink.old) (K.holds sink.new)
         (K.faults sink.old) (K.faults sink.new) result }
 {
-    let mut session = Session::new(alloc, bytes, report);
+    let mut session = Session::new(alloc, bytes, report, options);
     session.answer(sink)
 }
 
 /// Writes the transcript of a script: the answers to its commands in order, each a line, up to the end, to `(exit)` or
 /// to the first refusal, whose error line it ends with.
 ///
-/// The options and the gate have no effect yet: one thread decides, and the call returns without waiting.
+/// The number of workers and the gate have no effect yet: one thread decides, and the call returns without waiting.
 pub fn solve_script<R: Wait, K: Sink, G: Gate>(
     _rt: &R,
     alloc: Global,
@@ -37,11 +37,10 @@ pub fn solve_script<R: Wait, K: Sink, G: Gate>(
     options: SearchOptions,
     _gate: &G,
 ) -> Result<Solved, SessionError>
-    requires options { IsInRange options }
     ensures solved { IsSolved Verdicts bytes.now (K.holds sink.old) (K.holds sink.new)
         (K.faults sink.old) (K.faults sink.new) result }
 {
-    write_report(alloc, bytes, sink, Report::Verdicts)
+    write_report(alloc, bytes, sink, Report::Verdicts, options)
 }
 
 /// Writes the certificate of a script: a header, for each check-sat a schedule or a refutation, and the end, or the
@@ -56,9 +55,8 @@ pub fn certify_script<R: Wait, K: Sink, G: Gate>(
     options: SearchOptions,
     _gate: &G,
 ) -> Result<Solved, SessionError>
-    requires options { IsInRange options }
     ensures solved { IsSolved Certificate bytes.now (K.holds sink.old) (K.holds sink.new)
         (K.faults sink.old) (K.faults sink.new) result }
 {
-    write_report(alloc, bytes, sink, Report::Certificate)
+    write_report(alloc, bytes, sink, Report::Certificate, options)
 }
