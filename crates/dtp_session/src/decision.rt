@@ -1,17 +1,18 @@
 //! What decides a check-sat.
-ghost use Rattle.std.specs.Prelude.{◌≡◌, ◌≤◌, map, IfOk};
+ghost use Rattle.std.specs.Prelude.{◌≡◌, map, IfOk};
 ghost use Rattle.refute_tree.specs.Lengths.{lengthened_lemma};
 ghost use Rattle.smt_script.specs.States.{State as Meaning};
 ghost use Rattle.dtp_entry.specs.Standing.{Stands};
 ghost use Rattle.dtp_entry.specs.Transcripts.{Decides};
 
+use book_core::Verdict;
 use cert_text::{Entry, NUMBER_LIMIT};
 use clause_form::restrict;
 use dtp_entry::problem;
 use refute_tree::{Refutation, lengthen};
 use smt_script::State;
 use std::alloc::{AllocError, Global};
-use steal_search::{Verdict, solve_one};
+use steal_search::solve_one;
 use stn_core::Problem;
 
 /// The refutation with each clash written out, which is how a certificate shows it.
@@ -33,8 +34,7 @@ fn written_out(
 /// Decides the assertions: a schedule that satisfies them, or a refutation of their problem. The search adds so many
 /// literals in a slice; its time may grow with the number of ways to choose a literal of each clause.
 pub fn decide(alloc: Global, state: &State, slice: u64) -> Result<Entry, AllocError>
-    requires stands { (s : Meaning) × Stands state.now s }
-    requires slice { (1 ≤ slice) × (slice ≤ 1000000) }
+    requires { (s : Meaning) × Stands state.now s }
     ensures { IfOk result (λ entry. (s : Meaning) → Stands state.now s → Decides s.context entry) }
 {
     idl_term::context_law();

@@ -5,7 +5,7 @@
 //! refusal ends the script.
 //!
 //! What is written of a script is the relation `IsReport` of `dtp_entry/specs/Transcripts.antt`, and what a call that fails
-//! has written is the relation `IsReportPart` there. A `check-sat` is decided by one call of `plain_search::decide` over the
+//! has written is the relation `IsReportPart` there. A `check-sat` is decided by one call of `steal_search::solve_one` over the
 //! clause form of the assertions.
 #![tactic(auto)]
 

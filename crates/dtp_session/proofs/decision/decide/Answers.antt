@@ -18,8 +18,8 @@ use Rattle.dtp_session.proofs.decision.decide.Goals as goal
 
 pub restrict-requires-clause-some : goal.restrict-requires-clause-some
 restrict-requires-clause-some c =
-    let s = c.requires.stands.0 in
-    let stands = c.requires.stands.1 in
+    let s = c.requires.0 in
+    let stands = c.requires.1 in
     let e = c.in_ok-problem.ensures s stands in
     let found : IsSolution c.in_ok-problem.problem c.in-Sat.schedule = as_found _ _ _ c.in-Sat.is c.in_ok-schedule.ensures in
     let count : length c.as_slice.result.now ≡ points_of s.context = ap (λ (values : List ℤ). length values) c.as_slice.ensures ∙ found.count ∙ e.0 in

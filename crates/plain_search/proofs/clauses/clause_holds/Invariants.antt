@@ -1,6 +1,0 @@
-use Rattle.std.proofs.Common.{take}
-use Rattle.plain_search.specs.Clauses.{IsFalse}
-use Rattle.plain_search.proofs.clauses.clause_holds.Given as goal
-
-abbrev pub invariant-loop-literal : goal.invariant-loop-literal
-invariant-loop-literal l = record { fails : IsFalse l.values (take l.literal-index l.clause) }

@@ -1,5 +1,0 @@
-use Rattle.plain_search.specs.Clauses.{HoldBetween}
-use Rattle.plain_search.proofs.clauses.false_between.Given as goal
-
-abbrev pub invariant-loop-i : goal.invariant-loop-i
-invariant-loop-i l = record { hold : HoldBetween l.values l.clauses l.fn.low l.i }

@@ -1,5 +1,0 @@
-use Rattle.plain_search.specs.Base.{IsBase}
-use Rattle.plain_search.proofs.units.Units.of.Given as goal
-
-abbrev pub invariant-loop-number : goal.invariant-loop-number
-invariant-loop-number l = record { base : IsBase l.clauses l.units }
