@@ -100,3 +100,10 @@ judged problem lemmas cube batch outcome seen own known all es eo le ek ea over 
       over = subst (All (LemmaIsOver problem.points)) eo over;
       fits = subst (λ (ls : List Lemma). Fits problem ls cube outcome) (ea ∙ (ap (λ (ls : List Lemma). ls ++ own) first ∙ ap (λ (ls : List Lemma). take batch.seen lemmas ++ ls) eo)) fits;
     }
+
+-- the same of any property of steps
+pub steps_next : (P : Step → Type 0) (whole old new : List Step) (s : Step) → old ≡ s ∷ new → P s → (All P old → All P whole) → All P new → All P whole
+steps_next P whole old new s e h all rest = all (subst (All P) (sym e) (All-cons P s new h rest))
+
+pub steps_end : (P : Step → Type 0) (whole old : List Step) → old ≡ [] → (All P old → All P whole) → All P whole
+steps_end P whole old e all = all (subst (All P) (sym e) (All-nil P))

@@ -6,6 +6,8 @@ mod judge;
 #[cfg(test)]
 mod limits;
 #[cfg(test)]
+mod moves;
+#[cfg(test)]
 mod outcomes;
 #[cfg(test)]
 mod solving;
