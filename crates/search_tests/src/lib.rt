@@ -1,0 +1,5 @@
+//! Slices of search on small problems.
+#![tactic(auto)]
+
+#[cfg(test)]
+mod slices;

@@ -1,0 +1,140 @@
+ghost use Rattle.std.specs.Prelude.{◌≡◌, ◌<◌, ◌≤◌, All, IfOk, true};
+ghost use Rattle.stn_core.specs.Limits.{points_limit};
+ghost use Rattle.stn_core.specs.Literal.{IsOver};
+
+use branch_search::{Searcher, Slice, slice};
+use inc_paths::Network;
+use refute_tree::Lemma;
+use std::alloc::{AllocError, Global};
+use std::test::Fail;
+use stn_core::{Clause, Clauses, Literal, Net, Problem};
+
+fn is_small(l: Literal, points: u32) -> bool
+    ensures { result ≡ true → IsOver points l }
+{
+    l.x < points && l.y < points && -9 <= l.c && l.c <= 9
+}
+
+/// The literals of a clause that are over so many points.
+fn clause_of(alloc: Global, points: u32, literals: &[Literal]) -> Result<Clause, AllocError>
+    ensures { IfOk result (All (IsOver points)) }
+{
+    let mut kept = Vec::new(alloc);
+    for l in literals {
+        if is_small(*l, points) {
+            kept.push(*l)?;
+        }
+    }
+    Ok(Clause::new(kept))
+}
+
+fn with_clause(problem: Problem, literals: &[Literal]) -> Result<Problem, AllocError> {
+    let points = problem.points;
+    let mut clauses = problem.clauses.into_vec();
+    clauses.push(clause_of(*clauses.allocator(), points, literals)?)?;
+    Ok(Problem {
+        points,
+        clauses: Clauses::new(clauses),
+    })
+}
+
+fn literal(x: u32, y: u32, c: i64) -> Literal {
+    Literal { x, y, c }
+}
+
+/// One of two orders of two points.
+fn with_order(problem: Problem, x: u32, y: u32) -> Result<Problem, AllocError> {
+    with_clause(problem, [literal(x, y, -1), literal(y, x, -1)].as_slice())
+}
+
+fn empty(alloc: Global, points: u32) -> Problem
+    requires some { 1 ≤ points }
+    requires few { points ≤ points_limit }
+{
+    Problem {
+        points,
+        clauses: Clauses::new(Vec::new(alloc)),
+    }
+}
+
+/// Twenty free pairs, and then three points of which each pair is in an order, all within two places.
+fn pairs_and_orders(alloc: Global) -> Result<Problem, AllocError> {
+    let mut problem = empty(alloc, 44);
+    for i in 0..20u32 {
+        problem = with_order(problem, 4 + 2 * i, 5 + 2 * i)?;
+    }
+    for p in 1..4u32 {
+        problem = with_clause(problem, [literal(0, p, 0)].as_slice())?;
+        problem = with_clause(problem, [literal(p, 0, 1)].as_slice())?;
+    }
+    problem = with_order(problem, 1, 2)?;
+    problem = with_order(problem, 1, 3)?;
+    with_order(problem, 2, 3)
+}
+
+/// A Bool name that holds, each of which implies the next one, and the last of which doesn't hold.
+fn implications(alloc: Global, names: u32) -> Result<Problem, AllocError>
+    requires { names < points_limit }
+{
+    let mut problem = empty(alloc, names + 1);
+    problem = with_clause(problem, [literal(1, 0, 0)].as_slice())?;
+    for i in 1..names {
+        problem = with_clause(
+            problem,
+            [literal(0, i, -1), literal(i + 1, 0, 0)].as_slice(),
+        )?;
+    }
+    with_clause(problem, [literal(0, names, -1)].as_slice())
+}
+
+/// A slice on the problem, without a cube: which answer, how many adds, and how many lemmas.
+fn run(alloc: Global, problem: &Problem, budget: u64) -> Result<(u32, u64, usize), AllocError> {
+    let mut net = Network::new(alloc, problem.points)?;
+    let handed: &[Lemma] = &[];
+    let answer = slice(alloc, problem, &handed, &[], budget, &mut net)?;
+    match answer {
+        Slice::Model(_, batch) => Ok((0, net.adds(), batch.lemmas().len())),
+        Slice::Refuted(batch, _) => Ok((1, net.adds(), batch.lemmas().len())),
+        Slice::Split(_, batch) => Ok((2, net.adds(), batch.lemmas().len())),
+    }
+}
+
+/// Two slices of one searcher, the second over the lemmas of the first: which answer the second gives, and how many conflicts
+/// both met.
+fn run_twice(alloc: Global, problem: &Problem) -> Result<(u32, u64), AllocError> {
+    let mut net = Network::new(alloc, problem.points)?;
+    let mut searcher = Searcher::new(alloc, problem)?;
+    let none: &[Lemma] = &[];
+    searcher.slice(alloc, problem, &none, &[], 1, &mut net)?;
+    let answer = searcher.slice(alloc, problem, &none, &[], 1_000_000, &mut net)?;
+    let kind = match answer {
+        Slice::Model(_, _) => 0,
+        Slice::Refuted(_, _) => 1,
+        Slice::Split(_, _) => 2,
+    };
+    Ok((kind, searcher.conflicts()))
+}
+
+#[test]
+fn three_orders_in_two_places(rt: HostRuntime) -> Result<(), Fail> {
+    let alloc = rt.alloc();
+    let problem = pairs_and_orders(alloc)?;
+    let (kind, adds, lemmas) = run(alloc, &problem, 1_000_000)?;
+    let (small_kind, small_adds, _) = run(alloc, &problem, 1)?;
+    let (again_kind, conflicts) = run_twice(alloc, &problem)?;
+    assert_eq!(rt; (kind, small_kind, again_kind), (1, 2, 1));
+    assert!(rt; 0 < conflicts);
+    assert!(rt; adds < 1000);
+    assert!(rt; lemmas < 100);
+    assert!(rt; small_adds < 1000);
+    Ok(())
+}
+
+#[test]
+fn chain_of_implications(rt: HostRuntime) -> Result<(), Fail> {
+    let alloc = rt.alloc();
+    let problem = implications(alloc, 20_000)?;
+    let (kind, adds, lemmas) = run(alloc, &problem, 1_000_000)?;
+    assert_eq!(rt; (kind, adds, lemmas), (1, 0, 1));
+    Ok(())
+}
