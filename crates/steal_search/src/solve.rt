@@ -9,7 +9,7 @@ ghost use Rattle.steal_search.specs.Deliveries.{IsDelivered, IsWaiting, Advances
 use crate::base::decide_units;
 use crate::delivery::delivery_of;
 use book_core::{Answer, Book, Verdict};
-use branch_search::slice;
+use branch_search::Searcher;
 use inc_paths::Network;
 use std::alloc::{AllocError, Global};
 use stn_core::{Literal, Problem};
@@ -20,6 +20,7 @@ const BUDGET_LIMIT: u64 = 1_000_000;
 /// One slice of search under the cube, and the delivery of what it found: whether the cube is divided now.
 fn work(
     alloc: Global,
+    searcher: &mut Searcher,
     book: &mut Book,
     net: &mut Network,
     id: usize,
@@ -36,7 +37,7 @@ fn work(
 {
     book.sound();
     let lemmas = book.lemmas();
-    let found = slice(alloc, book.problem(), &lemmas, cube, budget, net)?;
+    let found = searcher.slice(alloc, book.problem(), &lemmas, cube, budget, net)?;
     let delivery = delivery_of(found)?;
     let divides = delivery.divides;
     match book.deliver(0, id, delivery.batch, delivery.outcome) {
@@ -50,6 +51,7 @@ fn work(
 fn turn(
     alloc: Global,
     problem: &Problem,
+    searcher: &mut Searcher,
     book: &mut Book,
     net: &mut Network,
     budget: u64,
@@ -64,7 +66,7 @@ fn turn(
 {
     match book.take(0)? {
         Answer::Cube(id, cube) => {
-            let divided = work(alloc, book, net, id, cube.as_slice(), budget)?;
+            let divided = work(alloc, searcher, book, net, id, cube.as_slice(), budget)?;
             Ok(Some(divided))
         }
         Answer::Idle => unreachable!(),
@@ -86,8 +88,16 @@ fn search(alloc: Global, problem: &Problem, budget: u64) -> Result<Verdict, Allo
 {
     let mut book = Book::new(alloc, problem.copy()?)?;
     let mut net = Network::new(alloc, problem.points)?;
+    let mut searcher = Searcher::new(alloc, problem)?;
     let mut budget = budget;
-    'turns: while let Some(divided) = turn(alloc, problem, &mut book, &mut net, budget)? {
+    'turns: while let Some(divided) = turn(
+        alloc,
+        problem,
+        &mut searcher,
+        &mut book,
+        &mut net,
+        budget,
+    )? {
         if divided {
             budget = doubled(budget);
         }
