@@ -56,12 +56,10 @@ impl Units {
     fn add(&mut self, literal: Literal, number: usize) -> Result<(), AllocError>
         ensures { OnOk result (self.new ≡ with_unit self.old literal number) }
     {
-        if !self.literals.contains(&literal) {
-            self.numbers.push(number)?;
-            if let Err(error) = self.literals.insert(literal) {
-                self.numbers.pop();
-                return Err(AllocError::from(error));
-            }
+        self.numbers.reserve(1)?;
+        let (_place, added) = self.literals.insert_full(literal)?;
+        if added {
+            self.numbers.push_reserved(number);
         }
         Ok(())
     }
