@@ -131,6 +131,12 @@ fn divide_cube<E: Earlier, N: Net>(
     Ok(answer_of(division, handed.count(), state.take_own(alloc)))
 }
 
+// How many decisions a slice may make. A decision that adds nothing to the net is cheap, and a script of many formulas wants as many
+// as it has names, so that there are far more of them than adds.
+fn decisions_of(budget: u64) -> u64 {
+    budget.saturating_mul(100).saturating_add(100_000)
+}
+
 fn run<E: Earlier, N: Net>(
     alloc: Global,
     state: &mut State,
@@ -151,7 +157,7 @@ fn run<E: Earlier, N: Net>(
 {
     let target = net.adds().saturating_add(budget);
     let rest = Rest {
-        decisions: budget,
+        decisions: decisions_of(budget),
         target,
     };
     state.renew(alloc, problem, handed)?;
