@@ -24,6 +24,7 @@ pub fn worked_clause_form()
     // no root, no clause
     ensures nothing { clauses_of 3 mixed_nodes [] ≡ [] }
     // a fresh point's value isn't looked at
-    ensures schedule { restricted (sort.Bool ∷ sort.Bool ∷ sort.Int ∷ []) (negsuc 6 ∷ negsuc 6 ∷ negsuc 5 ∷ negsuc 11 ∷ negsuc 0 ∷ [])
+    ensures schedule { restricted (sort.Bool ∷ sort.Bool ∷ sort.Int ∷ [])
+        (negsuc 6 ∷ negsuc 6 ∷ negsuc 5 ∷ negsuc 11 ∷ negsuc 0 ∷ [])
         ≡ Truth true ∷ Truth false ∷ Int (negsuc 4) ∷ [] }
 {}

@@ -26,7 +26,8 @@ impl Model for Linear {
 
     ghost view = { λ l. record { summands = held_summands l.summands; constant = l.constant } };
 
-    ghost invariant = { λ l. IsLinear (record { summands = held_summands l.summands; constant = l.constant }) };
+    ghost invariant = { λ l. IsLinear
+        (record { summands = held_summands l.summands; constant = l.constant }) };
 }
 
 impl Linear {

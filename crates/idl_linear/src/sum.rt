@@ -30,7 +30,8 @@ impl Model for LinearSum {
 
     ghost view = { λ s. record { summands = s.summands.items; constant = s.constant; terms = s.terms } };
 
-    ghost invariant = { λ s. IsSum (record { summands = s.summands.items; constant = s.constant; terms = s.terms }) };
+    ghost invariant = { λ s. IsSum
+        (record { summands = s.summands.items; constant = s.constant; terms = s.terms }) };
 }
 
 impl LinearSum {

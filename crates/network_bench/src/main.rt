@@ -38,13 +38,47 @@ fn literal(state: &mut u64, hidden: &[u32], spread: u32, shift: u32) -> Literal
     Literal { x, y, c }
 }
 
+// Some of the literals behind the base leave the net.
+fn go_back(net: &mut Network, base: usize, state: &mut u64)
+    ensures { net.new.points ≡ net.old.points }
+{
+    let mark = net.mark().length;
+    let depth = mark.saturating_sub(base);
+    let back = below(state, 20) as usize;
+    let length = base.saturating_add(depth.saturating_sub(back));
+    if length <= mark {
+        net.retract(Mark { length });
+    }
+}
+
+// A million adds and retracts in the manner of a search: how many adds were refused.
+fn search(net: &mut Network, hidden: &[u32], state: &mut u64) -> io::Result<u64>
+    requires { net.old.points ≡ 60000 }
+{
+    let base = net.mark().length;
+    let mut refused = 0u64;
+    let mut done = 0u32;
+    'second: while done < 1_000_000 {
+        done = done.saturating_add(1);
+        let l = literal(state, hidden, 2_000, 200);
+        let taken = matches!(net.add(l)?, Added::Yes);
+        if !taken {
+            refused = refused.saturating_add(1);
+        }
+        if !taken || below(state, 10) == 0 {
+            go_back(net, base, state);
+            done = done.saturating_add(1);
+        }
+    }
+    Ok(refused)
+}
+
 fn main(rt: HostRuntime) -> io::Result<()> {
     let alloc = rt.alloc();
     let mut words = 0u32;
     for _w in env::args(&rt)? {
         words = words.saturating_add(1);
     }
-    let searching = words > 1;
     let mut state = 1u64;
     let mut hidden = Vec::new(alloc);
     for _i in 0..POINTS {
@@ -55,28 +89,9 @@ fn main(rt: HostRuntime) -> io::Result<()> {
         let l = literal(&mut state, &hidden, 1_000, 0);
         let _ = net.add(l)?;
     }
-    let mut refused = 0u64;
-    if searching {
-        let base = net.mark().length;
-        let mut done = 0u32;
-        'second: while done < 1_000_000 {
-            done = done.saturating_add(1);
-            let l = literal(&mut state, &hidden, 2_000, 200);
-            let taken = matches!(net.add(l)?, Added::Yes);
-            if !taken {
-                refused = refused.saturating_add(1);
-            }
-            if !taken || below(&mut state, 10) == 0 {
-                let mark = net.mark().length;
-                let depth = mark.saturating_sub(base);
-                let back = below(&mut state, 20) as usize;
-                let length = base.saturating_add(depth.saturating_sub(back));
-                if length <= mark {
-                    net.retract(Mark { length });
-                }
-                done = done.saturating_add(1);
-            }
-        }
+    let mut refused = 0;
+    if words > 1 {
+        refused = search(&mut net, &hidden, &mut state)?;
     }
     let mut sum = 0u128;
     for value in net.schedule() {
