@@ -6,6 +6,7 @@ use std::alloc::{AllocError, Global};
 use std::sync::Arc;
 use std::test::Fail;
 use stn_core::{Clause, Clauses, Literal, Problem, Schedule};
+use trim_lemmas::trimmed;
 
 const X_BEFORE_Y: Literal = Literal { x: 1, y: 2, c: -1 };
 
@@ -45,6 +46,27 @@ fn citing(alloc: Global, number: usize) -> Result<Refutation, AllocError> {
 /// The same by the tree.
 fn refutation(alloc: Global) -> Result<Refutation, AllocError> {
     Ok(Refutation::new(vec![in alloc; lemma_of(alloc, tree(alloc)?)]?))
+}
+
+/// The last lemma cites one of three that all state the same.
+fn with_idle_lemmas(alloc: Global) -> Result<Refutation, AllocError> {
+    let mut steps = Steps::new(alloc);
+    steps.push_lemma(1)?;
+    let first = lemma_of(alloc, tree(alloc)?);
+    let second = lemma_of(alloc, tree(alloc)?);
+    let third = lemma_of(alloc, tree(alloc)?);
+    let lemmas = vec![in alloc; first, second, third, lemma_of(alloc, steps)]?;
+    Ok(Refutation::new(lemmas))
+}
+
+#[test]
+fn without_idle_lemmas(rt: HostRuntime) -> Result<(), Fail> {
+    let alloc = rt.alloc();
+    let problem = two_orders(alloc)?;
+    let shorter = trimmed(alloc, with_idle_lemmas(alloc)?)?;
+    let found = check_refutation(alloc, &problem, &shorter);
+    assert_eq!(rt; (shorter.as_slice().len(), found), (2, Ok(())));
+    Ok(())
 }
 
 #[test]

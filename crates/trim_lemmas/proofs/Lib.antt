@@ -1,0 +1,4 @@
+pub mod Picked
+pub mod Counted
+pub mod Marked
+pub mod Shorter
