@@ -15,6 +15,9 @@ use Rattle.branch_search.specs.declared.entry.Role.{Role}
 use Rattle.branch_search.specs.declared.entry.Role.TheVariants.{Unused, Kept, Resolved}
 use Rattle.branch_search.specs.Trails.{literal_at, source_clause, pair_cycle, entry_at, on_trail, role_at, IsByClause, IsByCycle, Follows, Stands, IsReason, IsTrail, IsConflict, IsUsed, StandsUsed, IsClosed, IsMarkedMore, IsFirst, IsTurned, IsMarked, KeepsAll, DeniesKept, IsDenial}
 use Rattle.branch_search.specs.Spines.{IsNamed, AreNamed, IsNamedBy}
+use Rattle.branch_search.specs.Places.{ArePassed}
+use Rattle.branch_search.proofs.Passing.{kept_used}
+use Rattle.std.specs.Prelude.{slice_index}
 
 -- one literal is kept
 pub marked_one : (old new : List Role) (k below : ℕ) → k < length old → k < below → new ≡ set old k Kept → IsMarkedMore below old new
@@ -32,6 +35,12 @@ marked_one old new k below within lt e = subst (IsMarkedMore below old) (sym e) 
   ];
   above = λ j le. get_or-set_other old k j Kept Unused (λ same. absurd (omega arith));
 })
+
+-- it was used before
+pub used_already : (trail : List Entry) (roles : List Role) (k below : ℕ) (l : Literal) (r : Role) → role_at roles k ≡ r → (r ≡ Unused → ⊥) → k < below → on_trail trail k ≡ l → StandsUsed trail roles below l
+used_already trail roles k below l Unused at not lt is = absurd (not refl)
+used_already trail roles k below l Kept at not lt is = (k, lt, subst IsUsed (sym at) tt, is)
+used_already trail roles k below l Resolved at not lt is = (k, lt, subst IsUsed (sym at) tt, is)
 
 pub used_one : (trail : List Entry) (old new : List Role) (k below : ℕ) (l : Literal) → k < length old → k < below → new ≡ set old k Kept → on_trail trail k ≡ l → StandsUsed trail new below l
 used_one trail old new k below l within lt e is =
@@ -110,14 +119,14 @@ turned_resolved inputs lemmas trail whole old mid new k within closed more follo
       first = λ w is. (let no : Resolved ≡ Kept = sym here ∙ is in absurd cc);
     })
 
-pub turned_by_clause : (inputs lemmas : List (List Literal)) (cube : List Literal) (trail : List Entry) (whole : Bool) (old mid new : List Role) (k : ℕ) (source : Source) (place : ℕ) (clause : List Literal) → k < length trail → length old ≡ length trail → IsTrail inputs lemmas cube trail → (entry_at trail k).reason ≡ ByClause source place → clause ≡ source_clause inputs lemmas source → IsClosed inputs lemmas trail old → IsMarkedMore k old mid → ((q : ℕ) → q < length clause → q ≢ place → StandsUsed trail mid k (negation_of (literal_at clause q))) → new ≡ set mid k Resolved → IsTurned inputs lemmas trail whole k old new
+pub turned_by_clause : (inputs lemmas : List (List Literal)) (cube : List Literal) (trail : List Entry) (whole : Bool) (old mid new : List Role) (k : ℕ) (source : Source) (place : ℕ) (clause : List Literal) → k < length trail → length trail ≤ length old → IsTrail inputs lemmas cube trail → (entry_at trail k).reason ≡ ByClause source place → clause ≡ source_clause inputs lemmas source → IsClosed inputs lemmas trail old → IsMarkedMore k old mid → ((q : ℕ) → q < length clause → q ≢ place → StandsUsed trail mid k (negation_of (literal_at clause q))) → new ≡ set mid k Resolved → IsTurned inputs lemmas trail whole k old new
 turned_by_clause inputs lemmas cube trail whole old mid new k source place clause within count h e c closed more used is =
     let r = clause_reason inputs lemmas cube trail k source place h within e in
     let P : List Literal → Type 0 = λ ls. (q : ℕ) → q < length ls → q ≢ place → StandsUsed trail mid k (negation_of (literal_at ls q)) in
     let follows : IsByClause inputs lemmas (StandsUsed trail mid k) (on_trail trail k) source place = record { known = r.known; within = r.within; at = r.at; others = subst P c used } in
     turned_resolved inputs lemmas trail whole old mid new k (omega arith) closed more (subst (Follows inputs lemmas (StandsUsed trail mid k) (on_trail trail k)) (sym e) follows) is
 
-pub turned_by_cycle : (inputs lemmas : List (List Literal)) (cube : List Literal) (trail : List Entry) (whole : Bool) (old mid new : List Role) (k : ℕ) (cycle given : List Literal) (l : Literal) → k < length trail → length old ≡ length trail → IsTrail inputs lemmas cube trail → (entry_at trail k).reason ≡ ByCycle cycle → given ≡ cycle → l ≡ on_trail trail k → IsClosed inputs lemmas trail old → IsMarkedMore k old mid → ((q : ℕ) → q < length given → (literal_at given q ≡ negation_of l) ⊎ StandsUsed trail mid k (literal_at given q)) → new ≡ set mid k Resolved → IsTurned inputs lemmas trail whole k old new
+pub turned_by_cycle : (inputs lemmas : List (List Literal)) (cube : List Literal) (trail : List Entry) (whole : Bool) (old mid new : List Role) (k : ℕ) (cycle given : List Literal) (l : Literal) → k < length trail → length trail ≤ length old → IsTrail inputs lemmas cube trail → (entry_at trail k).reason ≡ ByCycle cycle → given ≡ cycle → l ≡ on_trail trail k → IsClosed inputs lemmas trail old → IsMarkedMore k old mid → ((q : ℕ) → q < length given → (literal_at given q ≡ negation_of l) ⊎ StandsUsed trail mid k (literal_at given q)) → new ≡ set mid k Resolved → IsTurned inputs lemmas trail whole k old new
 turned_by_cycle inputs lemmas cube trail whole old mid new k cycle given l within count h e g a closed more used is =
     let r = cycle_reason inputs lemmas cube trail k cycle h within e in
     let P : List Literal → Type 0 = λ ls. (q : ℕ) → q < length ls → (literal_at ls q ≡ negation_of l) ⊎ StandsUsed trail mid k (literal_at ls q) in
@@ -125,7 +134,7 @@ turned_by_cycle inputs lemmas cube trail whole old mid new k cycle given l withi
     let follows : IsByCycle (StandsUsed trail mid k) (on_trail trail k) cycle = record { negative = r.negative; others = subst Q a (subst P g used) } in
     turned_resolved inputs lemmas trail whole old mid new k (omega arith) closed more (subst (Follows inputs lemmas (StandsUsed trail mid k) (on_trail trail k)) (sym e) follows) is
 
-pub turned_by_pair : (inputs lemmas : List (List Literal)) (cube : List Literal) (trail : List Entry) (whole : Bool) (old mid new : List Role) (k : ℕ) (tighter : Literal) (given : List Literal) (l : Literal) → k < length trail → length old ≡ length trail → IsTrail inputs lemmas cube trail → (entry_at trail k).reason ≡ ByPair tighter → given ≡ pair_cycle tighter l → l ≡ on_trail trail k → IsClosed inputs lemmas trail old → IsMarkedMore k old mid → ((q : ℕ) → q < length given → (literal_at given q ≡ negation_of l) ⊎ StandsUsed trail mid k (literal_at given q)) → new ≡ set mid k Resolved → IsTurned inputs lemmas trail whole k old new
+pub turned_by_pair : (inputs lemmas : List (List Literal)) (cube : List Literal) (trail : List Entry) (whole : Bool) (old mid new : List Role) (k : ℕ) (tighter : Literal) (given : List Literal) (l : Literal) → k < length trail → length trail ≤ length old → IsTrail inputs lemmas cube trail → (entry_at trail k).reason ≡ ByPair tighter → given ≡ pair_cycle tighter l → l ≡ on_trail trail k → IsClosed inputs lemmas trail old → IsMarkedMore k old mid → ((q : ℕ) → q < length given → (literal_at given q ≡ negation_of l) ⊎ StandsUsed trail mid k (literal_at given q)) → new ≡ set mid k Resolved → IsTurned inputs lemmas trail whole k old new
 turned_by_pair inputs lemmas cube trail whole old mid new k tighter given l within count h e g a closed more used is =
     let r = pair_reason inputs lemmas cube trail k tighter h within e in
     let P : List Literal → Type 0 = λ ls. (q : ℕ) → q < length ls → (literal_at ls q ≡ negation_of l) ⊎ StandsUsed trail mid k (literal_at ls q) in
@@ -136,19 +145,8 @@ turned_by_pair inputs lemmas cube trail whole old mid new k tighter given l with
 pub turned_not : (inputs lemmas : List (List Literal)) (trail : List Entry) (whole : Bool) (roles : List Role) (k : ℕ) → IsClosed inputs lemmas trail roles → (whole ≡ true → role_at roles k ≡ Kept → IsFirst (entry_at trail k).reason) → IsTurned inputs lemmas trail whole k roles roles
 turned_not inputs lemmas trail whole roles k closed first = record { count = refl; closed = closed; used = λ j u. u; above = λ j lt. refl; first = first }
 
-pub marked_start : (inputs lemmas : List (List Literal)) (trail : List Entry) (whole : Bool) (roles : List Role) (k : ℕ) → length trail ≤ k → length roles ≡ length trail → IsClosed inputs lemmas trail roles → IsMarked inputs lemmas trail whole k roles roles
+pub marked_start : (inputs lemmas : List (List Literal)) (trail : List Entry) (whole : Bool) (roles : List Role) (k : ℕ) → length trail ≤ k → length trail ≤ length roles → IsClosed inputs lemmas trail roles → IsMarked inputs lemmas trail whole k roles roles
 marked_start inputs lemmas trail whole roles k past count closed = record { count = count; closed = closed; used = λ j u. u; first = λ w j le lt is. absurd (omega arith) }
-
-pub marked_more : (inputs lemmas : List (List Literal)) (trail : List Entry) (whole : Bool) (first mid new : List Role) (k n : ℕ) → n ≡ k + 1 → IsMarked inputs lemmas trail whole n first mid → IsTurned inputs lemmas trail whole k mid new → IsMarked inputs lemmas trail whole k first new
-marked_more inputs lemmas trail whole first mid new k n e m t = record {
-  count = t.count ∙ m.count;
-  closed = t.closed;
-  used = λ j u. t.used j (m.used j u);
-  first = λ w j le lt is. elim (cases_eq j k) [
-    | inl same ↦ subst (λ (i : ℕ). IsFirst (entry_at trail i).reason) (sym same) (t.first w (subst (λ (i : ℕ). role_at new i ≡ Kept) same is))
-    | inr other ↦ (let beyond : k < j = omega arith in m.first w j (omega arith) lt (sym (t.above j beyond) ∙ is))
-  ];
-}
 
 -- at first no literal is used
 pub closed_start : (inputs lemmas : List (List Literal)) (trail : List Entry) (roles : List Role) → ((j : ℕ) → role_at roles j ≡ Unused) → IsClosed inputs lemmas trail roles
@@ -271,18 +269,26 @@ denials_of inputs lemmas trail whole first roles clause m denies k d lt =
     let h = denies k d lt in
     (h.0, h.1, h.3, λ w. m.first w h.0 (omega arith) h.1 h.2)
 
--- the clause so far: one place more
-pub kept_push : (trail : List Entry) (roles : List Role) (k : ℕ) (clause new : List Literal) (l : Literal) → KeepsAll trail roles k clause → new ≡ clause ++ l ∷ [] → l ≡ negation_of (on_trail trail k) → KeepsAll trail roles (k + 1) new
-kept_push trail roles k clause new l keeps e is j lt kept = subst (λ (ls : List Literal). Contains ls (negation_of (on_trail trail j))) (sym e) (elim (cases_eq j k) [
-  | inl same ↦ subst (Contains (clause ++ l ∷ [])) (is ∙ ap (λ (i : ℕ). negation_of (on_trail trail i)) (sym same)) (Contains-push clause l)
-  | inr other ↦ Contains-append_left clause (l ∷ []) (negation_of (on_trail trail j)) (keeps j (omega arith) kept)
+-- the clause so far: the negations of the kept literals at the first places passed
+abbrev pub KeepsPassed : List Entry → List Role → List ℕ → ℕ → List Literal → Type 0
+KeepsPassed trail roles passed i clause = (a : ℕ) → a < i → role_at roles (slice_index passed a) ≡ Kept → Contains clause (negation_of (on_trail trail (slice_index passed a)))
+
+pub kept_push : (trail : List Entry) (roles : List Role) (passed : List ℕ) (i : ℕ) (clause new : List Literal) (l : Literal) → KeepsPassed trail roles passed i clause → new ≡ clause ++ l ∷ [] → l ≡ negation_of (on_trail trail (slice_index passed i)) → KeepsPassed trail roles passed (i + 1) new
+kept_push trail roles passed i clause new l keeps e is a lt kept = subst (λ (ls : List Literal). Contains ls (negation_of (on_trail trail (slice_index passed a)))) (sym e) (elim (cases_eq a i) [
+  | inl same ↦ subst (Contains (clause ++ l ∷ [])) (is ∙ ap (λ (b : ℕ). negation_of (on_trail trail (slice_index passed b))) (sym same)) (Contains-push clause l)
+  | inr other ↦ Contains-append_left clause (l ∷ []) (negation_of (on_trail trail (slice_index passed a))) (keeps a (omega arith) kept)
 ])
 
-pub kept_past : (trail : List Entry) (roles : List Role) (k : ℕ) (clause : List Literal) → KeepsAll trail roles k clause → (role_at roles k ≡ Kept → ⊥) → KeepsAll trail roles (k + 1) clause
-kept_past trail roles k clause keeps not j lt kept = elim (cases_eq j k) [
-  | inl same ↦ absurd (not (subst (λ (i : ℕ). role_at roles i ≡ Kept) same kept))
-  | inr other ↦ keeps j (omega arith) kept
+pub kept_past : (trail : List Entry) (roles : List Role) (passed : List ℕ) (i : ℕ) (clause : List Literal) → KeepsPassed trail roles passed i clause → (role_at roles (slice_index passed i) ≡ Kept → ⊥) → KeepsPassed trail roles passed (i + 1) clause
+kept_past trail roles passed i clause keeps not a lt kept = elim (cases_eq a i) [
+  | inl same ↦ absurd (not (subst (λ (b : ℕ). role_at roles (slice_index passed b) ≡ Kept) same kept))
+  | inr other ↦ keeps a (omega arith) kept
 ]
+
+pub kept_all : (trail : List Entry) (roles : List Role) (passed : List ℕ) (low count : ℕ) (clause : List Literal) → ArePassed 0 count roles passed → KeepsPassed trail roles passed (length passed) clause → KeepsAll trail roles low clause
+kept_all trail roles passed low count clause p keeps j lt kept =
+    let at = p.all j (omega arith) (kept_used roles j kept) in
+    subst (λ (k : ℕ). Contains clause (negation_of (on_trail trail k))) at.2 (keeps at.0 at.1 (subst (λ (k : ℕ). role_at roles k ≡ Kept) (sym at.2) kept))
 
 pub denies_push : (trail : List Entry) (roles : List Role) (k : ℕ) (clause new : List Literal) (l : Literal) → All (DeniesKept trail roles) clause → new ≡ clause ++ l ∷ [] → l ≡ negation_of (on_trail trail k) → k < length trail → role_at roles k ≡ Kept → All (DeniesKept trail roles) new
 denies_push trail roles k clause new l denies e is within kept = subst (All (DeniesKept trail roles)) (sym e) (All-push (DeniesKept trail roles) clause l denies (k, within, kept, is))

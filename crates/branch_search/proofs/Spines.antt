@@ -22,6 +22,7 @@ use Rattle.branch_search.specs.declared.entry.Role.TheVariants.{Unused, Kept, Re
 use Rattle.branch_search.specs.Proved.{IsProved}
 use Rattle.branch_search.specs.Trails.{no_literal, literal_at, pair_cycle, source_clause, entry_at, on_trail, role_at, IsByCycle, Follows, IsConflict, IsUsed, StandsUsed, IsClosed, KeepsAll, DeniesKept, AreOver}
 use Rattle.branch_search.specs.Spines.{step_of, two_cycle, opening, closing, conflict_steps, if_resolved, opening_at, closing_at, openings, closings, spine}
+use Rattle.branch_search.proofs.Passing.{kept_used}
 use Rattle.branch_search.proofs.Links.{join3, denied_forest, opened, link}
 
 -- the assumptions have the kept literals, and the resolved ones below a place
@@ -123,15 +124,10 @@ contains_denial [] l h = absurd (omega (arith, h.1))
 contains_denial (m ∷ clause) l (zero, lt, is) = (0, omega arith, ap negation_of is ∙ negation_twice l)
 contains_denial (m ∷ clause) l (suc k, lt, is) = (let h = contains_denial clause l (k, omega arith, is) in (suc h.0, omega (arith, h.1), h.2))
 
-role_within : (roles : List Role) (j : ℕ) → role_at roles j ≡ Kept → j < length roles
-role_within [] j e = absurd cc
-role_within (r ∷ roles) zero e = omega arith
-role_within (r ∷ roles) (suc j) e = let h = role_within roles j e in omega arith
-
-pub spine_tree : (inputs lemmas : List (List Literal)) (trail : List Entry) (roles : List Role) (conflict : Conflict) (clause : List Literal) → length roles ≡ length trail → IsClosed inputs lemmas trail roles → IsConflict inputs lemmas (StandsUsed trail roles (length trail)) conflict → KeepsAll trail roles (length trail) clause → Tree inputs lemmas (map negation_of clause) (spine inputs lemmas trail roles conflict) []
-spine_tree inputs lemmas trail roles conflict clause count closed conflicts keeps =
+pub spine_tree : (inputs lemmas : List (List Literal)) (trail : List Entry) (roles : List Role) (conflict : Conflict) (clause : List Literal) → ((j : ℕ) → IsUsed (role_at roles j) → j < length trail) → IsClosed inputs lemmas trail roles → IsConflict inputs lemmas (StandsUsed trail roles (length trail)) conflict → KeepsAll trail roles (length trail) clause → Tree inputs lemmas (map negation_of clause) (spine inputs lemmas trail roles conflict) []
+spine_tree inputs lemmas trail roles conflict clause within closed conflicts keeps =
     let gives : Gives trail roles 0 (map negation_of clause) = record {
-      kept = λ j is. (let within = role_within roles j is in contains_denial clause (on_trail trail j) (keeps j (omega arith) is));
+      kept = λ j is. contains_denial clause (on_trail trail j) (keeps j (within j (kept_used roles j is)) is);
       resolved = λ j lt is. absurd (omega arith);
     } in
     let whole = spine_closes inputs lemmas trail roles (length trail) (conflict_steps inputs lemmas conflict) closed (conflict_closes inputs lemmas trail roles (length trail) conflict conflicts) (map negation_of clause) [] gives in
@@ -198,8 +194,8 @@ module _ (points : ℕ) where
   all_on ls all k d lt = on_points (get_or ls k d) (all k d lt)
 
 -- the learned clause with its steps is a lemma that may be delivered
-pub learned : (points : ℕ) (inputs lemmas : List (List Literal)) (trail : List Entry) (roles : List Role) (conflict : Conflict) (clause : List Literal) (steps : List Step) → length roles ≡ length trail → AreOver points trail → IsClosed inputs lemmas trail roles → IsConflict inputs lemmas (StandsUsed trail roles (length trail)) conflict → KeepsAll trail roles (length trail) clause → All (DeniesKept trail roles) clause → steps ≡ spine inputs lemmas trail roles conflict → IsProved points inputs lemmas (record { clause = clause; steps = steps })
-learned points inputs lemmas trail roles conflict clause steps count over closed conflicts keeps denies is =
+pub learned : (points : ℕ) (inputs lemmas : List (List Literal)) (trail : List Entry) (roles : List Role) (conflict : Conflict) (clause : List Literal) (steps : List Step) → ((j : ℕ) → IsUsed (role_at roles j) → j < length trail) → AreOver points trail → IsClosed inputs lemmas trail roles → IsConflict inputs lemmas (StandsUsed trail roles (length trail)) conflict → KeepsAll trail roles (length trail) clause → All (DeniesKept trail roles) clause → steps ≡ spine inputs lemmas trail roles conflict → IsProved points inputs lemmas (record { clause = clause; steps = steps })
+learned points inputs lemmas trail roles conflict clause steps inside over closed conflicts keeps denies is =
     let clause_over : All (IsOver points) clause = λ k d lt. denial_over points trail roles (get_or clause k d) over (denies k d lt) in
     let all = spine inputs lemmas trail roles conflict in
     let within : All (NamesOver points) all = spine_on points inputs lemmas trail roles conflict over in
@@ -207,16 +203,8 @@ learned points inputs lemmas trail roles conflict clause steps count over closed
       refuted = record {
         clause = all_on points clause clause_over;
         steps = λ k d lt. all_on points (literals_named (get_or all k d)) (within k d lt);
-        tree = spine_tree inputs lemmas trail roles conflict clause count closed conflicts keeps;
+        tree = spine_tree inputs lemmas trail roles conflict clause inside closed conflicts keeps;
       };
       over = record { clause = clause_over; steps = within };
     } in
     subst (λ (s : List Step). IsProved points inputs lemmas (record { clause = clause; steps = s })) (sym is) lemma
-
--- one closing more is written
-pub closings_left : (inputs lemmas : List (List Literal)) (trail : List Entry) (roles : List Role) (k n : ℕ) (steps new whole : List Step) → n ≡ suc k → steps ++ closings inputs lemmas trail roles n ≡ whole → new ≡ steps ++ closing_at inputs lemmas trail roles k → new ++ closings inputs lemmas trail roles k ≡ whole
-closings_left inputs lemmas trail roles k n steps new whole e written is =
-    ap (λ (s : List Step). s ++ closings inputs lemmas trail roles k) is
-    ∙ append_assoc steps (closing_at inputs lemmas trail roles k) (closings inputs lemmas trail roles k)
-    ∙ ap (λ (i : ℕ). steps ++ closings inputs lemmas trail roles i) (sym e)
-    ∙ written

@@ -7,6 +7,7 @@ pub mod Slices
 pub mod Divisions
 pub mod Clauses
 pub mod Roots
+pub mod Places
 pub use Rattle.stn_core.specs.Limits
 pub use Rattle.stn_core.specs.Literal
 pub use Rattle.stn_core.specs.Problem

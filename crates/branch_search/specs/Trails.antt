@@ -137,7 +137,7 @@ pub record IsTurned (inputs lemmas : List (List Literal)) (trail : List Entry) (
 
 -- the way back over the trail, down to a place
 pub record IsMarked (inputs lemmas : List (List Literal)) (trail : List Entry) (whole : Bool) (k : ℕ) (old new : List Role) : Type 0 where
-  pub count : length new ≡ length trail
+  pub count : length trail ≤ length new
   pub closed : IsClosed inputs lemmas trail new
   pub used : (j : ℕ) → IsUsed (role_at old j) → IsUsed (role_at new j)
   pub first : whole ≡ true → (j : ℕ) → k ≤ j → j < length trail → role_at new j ≡ Kept → IsFirst (entry_at trail j).reason

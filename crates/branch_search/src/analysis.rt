@@ -1,27 +1,40 @@
 //! From a conflict to a learned clause with its tree.
-ghost use Rattle.std.specs.Prelude.{◌≡◌, List, length, All, IfOk};
+ghost use Rattle.std.specs.Prelude.{◌≡◌, ◌≤◌, ℕ, List, [], length, All, IfOk};
 ghost use Rattle.stn_core.specs.declared.literal.Literal.{Literal as Bound};
+ghost use Rattle.branch_search.specs.declared.entry.Role.TheVariants.{Unused};
 ghost use Rattle.branch_search.specs.Trails.{IsTrail, IsConflict, Stands, IsDenial, AreOver, KeepsAll, DeniesKept};
+ghost use Rattle.branch_search.specs.Trails.{role_at};
+ghost use Rattle.branch_search.specs.Places.{ArePassed};
 ghost use Rattle.branch_search.specs.Proved.{IsProved};
 
 use crate::entry::{Conflict, Entry, Level, Reason, Role};
 use crate::marking::{Marks, mark_back, need_conflict};
+use crate::places::Places;
 use crate::reading::named;
 use crate::roots::is_cited;
 use crate::spine::steps_for;
+use crate::tables::{Tables, Unmarked, unmark};
 use refute_tree::{Earlier, Lemma};
 use search_guide::Guide;
 use std::alloc::{AllocError, Global};
+use std::mem;
 use stn_core::{Clause, Literal, Problem, negate};
 
 // The negations of the literals that are kept.
-fn kept_clause(alloc: Global, trail: &[Entry], roles: &[Role]) -> Result<Vec<Literal>, AllocError>
-    requires { length roles.now ≡ length trail.now }
+fn kept_clause(
+    alloc: Global,
+    trail: &[Entry],
+    roles: &[Role],
+    passed: &[usize],
+) -> Result<Vec<Literal>, AllocError>
+    requires roles { length trail.now ≤ length roles.now }
+    requires passed { ArePassed 0 (length trail.now) roles.now passed.now }
     ensures kept { IfOk result (λ clause. KeepsAll trail.now roles.now (length trail.now) clause.items) }
     ensures denied { IfOk result (λ clause. All (DeniesKept trail.now roles.now) clause.items) }
 {
     let mut clause = Vec::new(alloc);
-    for k in 0..trail.len() {
+    for i in 0..passed.len() {
+        let k = passed[i];
         if let Role::Kept = roles[k] {
             clause.push(negate(trail[k].literal))?;
         }
@@ -37,22 +50,46 @@ fn root_end(trail: &[Entry], levels: &[Level]) -> usize {
     }
 }
 
+// Before a way back: no literal is used.
+fn begin(
+    alloc: Global,
+    trail: &[Entry],
+    levels: &[Level],
+    tables: &mut Tables,
+) -> Result<Marks, AllocError>
+    ensures count { IfOk result (λ marks. length trail.now ≤ length marks.roles.items) }
+    ensures clean { IfOk result (λ marks. (j : ℕ) → role_at marks.roles.items j ≡ Unused) }
+    ensures waiting { IfOk result (λ marks. marks.waiting ≡ []) }
+    ensures passed { IfOk result (λ marks. marks.passed.items ≡ []) }
+{
+    let unmarked = mem::replace(&mut tables.unmarked, Unmarked::new(alloc));
+    Ok(Marks {
+        roles: unmarked.into_roles(trail.len())?,
+        waiting: Places::new(alloc),
+        passed: Vec::new(alloc),
+        start: trail.len(),
+        open: 0,
+        root: root_end(trail, levels),
+    })
+}
+
 // The literals on which the conflict rests are more active than they were, and so are the clauses.
 fn bump_used(trail: &[Entry], marks: &Marks, guide: &mut Guide, conflict: &Conflict) {
     if let Conflict::Clause(source) = conflict {
         guide.bump_clause(named(*source));
     }
-    for k in marks.root..trail.len() {
-        if k < marks.roles.len() && marks.roles[k] != Role::Unused {
-            guide.bump(trail[k].number);
-            if let Reason::Clause(source, _) = &trail[k].reason {
-                guide.bump_clause(named(*source));
-            }
+    for k in &marks.passed {
+        if *k < marks.root || trail.len() <= *k {
+            return;
+        }
+        guide.bump(trail[*k].number);
+        if let Reason::Clause(source, _) = &trail[*k].reason {
+            guide.bump_clause(named(*source));
         }
     }
 }
 
-// Where the root's literals stand on which the conflict rests, and which no lemma states.
+// Where the root's literals stand on which the conflict rests, and which no lemma states: the first place first.
 fn wanted_roots<E: Earlier>(
     problem: &Problem,
     earlier: &E,
@@ -61,11 +98,12 @@ fn wanted_roots<E: Earlier>(
     guide: &Guide,
     wanted: &mut Vec<usize>,
 ) -> Result<(), AllocError> {
-    for k in 0..marks.root {
-        if k < marks.roles.len() && marks.roles[k] == Role::Resolved {
-            if !is_cited(problem, earlier, guide, trail, k) {
-                wanted.push(k)?;
-            }
+    for k in marks.passed.iter().rev() {
+        if marks.root <= *k {
+            return Ok(());
+        }
+        if !is_cited(problem, earlier, guide, trail, *k) {
+            wanted.push(*k)?;
         }
     }
     Ok(())
@@ -84,6 +122,7 @@ pub fn analyze<E: Earlier>(
     trail: &[Entry],
     levels: &[Level],
     guide: &mut Guide,
+    tables: &mut Tables,
     whole: bool,
     conflict: &Conflict,
     wanted: &mut Vec<usize>,
@@ -95,21 +134,24 @@ pub fn analyze<E: Earlier>(
     ensures proved { IfOk result (IsProved problem.now.points problem.now.clauses (E.clauses earlier.now)) }
     ensures denials { IfOk result (λ lemma. All (IsDenial trail.now whole) lemma.clause) }
 {
-    let count = trail.len();
-    let mut marks = Marks {
-        roles: vec![in alloc; Role::Unused; count]?,
-        start: count,
-        open: 0,
-        root: root_end(trail, levels),
-    };
-    need_conflict(problem, earlier, trail, &mut marks, guide, conflict);
-    mark_back(problem, earlier, trail, levels, &mut marks, guide, whole);
+    let mut marks = begin(alloc, trail, levels, tables)?;
+    need_conflict(problem, earlier, trail, &mut marks, guide, conflict)?;
+    mark_back(problem, earlier, trail, levels, &mut marks, guide, whole)?;
     if !whole {
         bump_used(trail, &marks, guide, conflict);
         wanted_roots(problem, earlier, trail, &marks, guide, wanted)?;
     }
-    let clause = kept_clause(alloc, trail, &marks.roles)?;
-    let steps = steps_for(alloc, problem, earlier, trail, &marks.roles, conflict)?;
+    let clause = kept_clause(alloc, trail, &marks.roles, &marks.passed)?;
+    let steps = steps_for(
+        alloc,
+        problem,
+        earlier,
+        trail,
+        &marks.roles,
+        &marks.passed,
+        conflict,
+    )?;
+    tables.unmarked = unmark(marks.roles, &marks.passed);
     Ok(Lemma {
         clause: Clause::new(clause),
         steps,

@@ -74,6 +74,7 @@ impl State {
             self.entries.as_slice(),
             self.levels.as_slice(),
             &mut self.guide,
+            &mut self.tables,
             whole,
             conflict,
             wanted,

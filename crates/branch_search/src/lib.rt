@@ -16,6 +16,7 @@ mod divide;
 mod entry;
 mod marking;
 mod model;
+mod places;
 mod propagate;
 mod reading;
 mod roots;
@@ -23,6 +24,7 @@ mod search;
 mod slicing;
 mod spine;
 mod state;
+mod tables;
 
 pub use answer::Slice;
 pub use slicing::{Searcher, slice};

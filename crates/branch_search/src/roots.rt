@@ -140,6 +140,7 @@ impl State {
             &self.entries[..k + 1],
             [].as_slice(),
             &mut self.guide,
+            &mut self.tables,
             true,
             &conflict,
             &mut wanted,

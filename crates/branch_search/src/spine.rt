@@ -1,8 +1,9 @@
 //! The steps that a conflict gives, front to back.
-ghost use Rattle.std.specs.Prelude.{◌≡◌, ◌<◌, ◌+◌, ◌++◌, ◌∷◌, [], length, map, OnOk, IfOk};
+ghost use Rattle.std.specs.Prelude.{◌≡◌, ◌<◌, ◌≤◌, ◌+◌, ◌++◌, ◌∷◌, [], length, map, OnOk, IfOk};
 ghost use Rattle.branch_search.specs.Spines.{step_of, two_cycle, opening, closing, opening_at, closing_at};
 ghost use Rattle.branch_search.specs.Spines.{openings, closings, conflict_steps, spine};
 ghost use Rattle.branch_search.specs.Spines.{IsNamed, IsNamedBy, AreNamed};
+ghost use Rattle.branch_search.specs.Places.{ArePassed};
 
 use crate::entry::{Conflict, Entry, Reason, Role, Source};
 use crate::reading::clause_of;
@@ -167,30 +168,32 @@ fn push_closing_at<E: Earlier>(
     }
 }
 
-/// The steps, for the roles that the trail's literals have.
+/// The steps, for the roles that the trail's literals have, of which these are used, the last one first.
 pub fn steps_for<E: Earlier>(
     alloc: Global,
     problem: &Problem,
     earlier: &E,
     trail: &[Entry],
     roles: &[Role],
+    passed: &[usize],
     conflict: &Conflict,
 ) -> Result<Steps, AllocError>
-    requires roles { length roles.now ≡ length trail.now }
+    requires roles { length trail.now ≤ length roles.now }
+    requires passed { ArePassed 0 (length trail.now) roles.now passed.now }
     requires named { AreNamed problem.now.clauses (E.clauses earlier.now) trail.now }
     requires conflict { IsNamedBy problem.now.clauses (E.clauses earlier.now) conflict.now }
     ensures { IfOk result (λ steps. steps
         ≡ spine problem.now.clauses (E.clauses earlier.now) trail.now roles.now conflict.now) }
 {
     let mut steps = Steps::new(alloc);
-    'forth: for k in 0..trail.len() {
-        push_opening_at(problem, earlier, trail, roles, k, &mut steps)?;
+    let mut left = passed.len();
+    'forth: while 0 < left {
+        left -= 1;
+        push_opening_at(problem, earlier, trail, roles, passed[left], &mut steps)?;
     }
     push_conflict(problem, earlier, conflict, &mut steps)?;
-    let mut left = trail.len();
-    'back: while 0 < left {
-        left -= 1;
-        push_closing_at(problem, earlier, trail, roles, left, &mut steps)?;
+    'back: for i in 0..passed.len() {
+        push_closing_at(problem, earlier, trail, roles, passed[i], &mut steps)?;
     }
     Ok(steps)
 }

@@ -6,6 +6,7 @@ ghost use Rattle.branch_search.specs.Search.{adds_limit};
 
 use crate::entry::{Conflict, Entry, Level, Reason};
 use crate::reading::{is_same, literal_on};
+use crate::tables::Tables;
 use refute_tree::{Earlier, Lemma};
 use search_guide::{Guide, LiteralNumber};
 use std::alloc::{AllocError, Global};
@@ -18,6 +19,8 @@ pub struct State {
     pub entries: Vec<Entry>,
     pub levels: Vec<Level>,
     pub own: Vec<Lemma>,
+    /// what one conflict leaves to the next one
+    pub tables: Tables,
     /// the first place of the trail from which the guide hasn't looked yet for what follows
     pub followed: usize,
     /// the first place whose literal hasn't been put into the net yet, or passed by
@@ -61,6 +64,7 @@ impl State {
             entries: Vec::new(alloc),
             levels: Vec::new(alloc),
             own: Vec::new(alloc),
+            tables: Tables::new(alloc),
             followed: 0,
             netted: 0,
             met_conflict: false,

@@ -1,9 +1,10 @@
 use Rattle.std.proofs.Common.{All}
-use Rattle.branch_search.specs.Trails.{KeepsAll, DeniesKept}
+use Rattle.branch_search.specs.Trails.{DeniesKept}
+use Rattle.branch_search.proofs.Marks.{KeepsPassed}
 use Rattle.branch_search.proofs.analysis.kept_clause.Given as goal
 
-abbrev pub invariant-loop-k : goal.invariant-loop-k
-invariant-loop-k l = record {
-  kept : KeepsAll l.trail l.roles l.k l.clause.items;
+abbrev pub invariant-loop-i : goal.invariant-loop-i
+invariant-loop-i l = record {
+  kept : KeepsPassed l.trail l.roles l.passed l.i l.clause.items;
   denied : All (DeniesKept l.trail l.roles) l.clause.items;
 }

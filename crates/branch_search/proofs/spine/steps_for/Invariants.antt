@@ -1,15 +1,17 @@
-use Rattle.std.proofs.Common.{◌≡◌, ◌≤◌, ◌++◌, length}
-use Rattle.branch_search.specs.Spines.{openings, closings, spine}
+use Rattle.std.proofs.Common.{◌≤◌, length}
+use Rattle.branch_search.proofs.Written.{Opened, Closed}
 use Rattle.branch_search.proofs.spine.steps_for.Given as goal
 
 abbrev pub invariant-forth : goal.invariant-forth
-invariant-forth g l = record { written : l.steps ≡ openings l.problem.clauses (g.E.Earlier.clauses l.earlier) l.trail l.roles l.k }
+invariant-forth g l = record {
+  within : l.left ≤ length l.passed;
+  written : Opened l.problem.clauses (g.E.Earlier.clauses l.earlier) l.trail l.roles l.passed l.left l.steps;
+}
+
+abbrev pub decreases-forth : goal.decreases-forth
+decreases-forth g l = l.left
 
 abbrev pub invariant-back : goal.invariant-back
 invariant-back g l = record {
-  within : l.left ≤ length l.trail;
-  written : l.steps ++ closings l.problem.clauses (g.E.Earlier.clauses l.earlier) l.trail l.roles l.left ≡ spine l.problem.clauses (g.E.Earlier.clauses l.earlier) l.trail l.roles l.conflict;
+  written : Closed l.problem.clauses (g.E.Earlier.clauses l.earlier) l.trail l.roles l.passed l.conflict l.i l.steps;
 }
-
-abbrev pub decreases-back : goal.decreases-back
-decreases-back g l = l.left
