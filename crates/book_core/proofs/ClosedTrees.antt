@@ -1,10 +1,10 @@
 -- The steps that close a cover are a tree.
-use Rattle.std.proofs.Common.{arith, ◌≡◌, ℕ, zero, suc, ◌<◌, ◌≤◌, ◌+◌, ◌-◌, ◌*◌, ◌^◌, inl, inr, List, [], ◌∷◌, ◌++◌, length, map, Some, All, Contains, refl, sym, ap, ◌∙◌, subst, append_assoc, append-nil}
+use Rattle.std.proofs.Common.{arith, ◌≡◌, ℕ, suc, ◌<◌, ◌≤◌, ◌+◌, ◌-◌, ◌*◌, ◌^◌, inl, inr, List, [], ◌∷◌, ◌++◌, length, map, Some, All, Contains, refl, sym, ap, ◌∙◌, subst, append_assoc, append-nil}
 use Rattle.std.specs.Prelude.{slice_get}
 use Rattle.std.proofs.Math.Nat.{pow-le-pow_right, one-le-pow, pow-succ'}
 use Rattle.std.proofs.lemmas.Int.{ints}
 use Rattle.std.proofs.lemmas.List.{length-set}
-use Rattle.std.proofs.lemmas.List.Elements.{All-nil, All-cons, All-push, All-append, Contains-append_left, Contains-append_right, All-contains}
+use Rattle.std.proofs.lemmas.List.Elements.{All-nil, All-cons, All-push, All-append, Contains-append_left, Contains-append_right}
 use Rattle.stn_core.specs.declared.literal.Literal.{Literal}
 use Rattle.stn_core.specs.Literal.{negation_of, IsOver}
 use Rattle.stn_core.specs.Answer.{IsCycleAmong}
@@ -19,7 +19,6 @@ use Rattle.cover_tree.proofs.Parts.{as_long, all_but_last}
 use Rattle.cover_tree.proofs.Branching.{branches, cube_kept, length_divided}
 use Rattle.book_core.specs.Facts.{AreShut}
 use Rattle.book_core.specs.Closing.{AreOver, two_cycle, leaf_steps, SplitWritten, LeafWritten, Written, writing}
-use Rattle.book_core.proofs.Sound.{negation_twice}
 
 -- the root has no literals
 root_cube : (c : Cubes) → IsCover c → (cube_at c 0 ≡ []) × (0 < length c.nodes)

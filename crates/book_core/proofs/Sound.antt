@@ -9,7 +9,6 @@ use Rattle.std.proofs.lemmas.List.Quantifiers.{all_pairs_push}
 use Rattle.stn_core.specs.declared.literal.Literal.{Literal}
 use Rattle.stn_core.specs.declared.problem.Problem.{Problem}
 use Rattle.stn_core.specs.Literal.{negation_of}
-use Rattle.refute_tree.specs.declared.lemma.Lemma.{Lemma}
 use Rattle.refute_tree.specs.Trees.{stated}
 use Rattle.refute_tree.specs.Moves.{moved_number}
 use Rattle.refute_tree.specs.Batches.{LemmaBatch, AreRefuted, LemmaIsOver, MovedBatchLaw, JoinedLaw, moved_lemma}

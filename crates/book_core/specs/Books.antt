@@ -1,7 +1,7 @@
 -- A book's state, when an event may come, and what it makes of the state.
 --
 -- How seats take cubes and give them back is this project's own; cover_tree names the source of the division.
-use Rattle.std.specs.Prelude.{◌≡◌, ◌⊎◌, ℕ, ◌+◌, ◌≤◌, List, [], ◌++◌, length, map, take, All, Contains, Option, Some, None, IsSome, slice_get, ℤ}
+use Rattle.std.specs.Prelude.{◌≡◌, ◌⊎◌, ℕ, ◌≤◌, List, [], ◌++◌, length, map, take, All, Contains, Option, Some, None, IsSome, slice_get, ℤ}
 use Rattle.stn_core.specs.declared.literal.Literal.{Literal}
 use Rattle.stn_core.specs.declared.problem.Problem.{Problem}
 use Rattle.stn_core.specs.Literal.{negation_of}
@@ -11,7 +11,6 @@ use Rattle.refute_tree.specs.declared.lemma.Lemma.{Lemma}
 use Rattle.refute_tree.specs.Trees.{IsDenied, stated}
 use Rattle.refute_tree.specs.Moves.{moved_number}
 use Rattle.refute_tree.specs.Batches.{LemmaBatch, AreRefuted, LemmaIsOver, moved}
-use Rattle.cover_tree.specs.declared.node.Node.{Node}
 use Rattle.cover_tree.specs.declared.node.Node.TheVariants.{Free, Held, Shut}
 use Rattle.cover_tree.specs.Covers.{Cubes, whole, with_node, divided, node_at, cube_at, NoneFree, NoneHeld}
 use Rattle.book_core.specs.declared.event.Event.{Event}
@@ -66,9 +65,9 @@ Fits problem lemmas cube (Found values) = IsSolution problem values
 Fits problem lemmas cube (ShutBy j) = IsShutBy (map stated lemmas) cube j
 Fits problem lemmas cube (SplitBy l) = IsDecidable problem l × IsUndecided cube l
 
--- A delivery is justified over the lemmas that are known: the batch was made over the first of these, each of its
--- lemmas is refuted over them and those before it, its literals are within the limits, and the outcome holds of the
--- cube. (The literals of a cycle are among those assumed, so that their limits follow.)
+-- A delivery is justified over the lemmas that are known: the batch was made over the first of these, each of
+-- its lemmas is refuted over them and those before it, its literals are within the limits, and the outcome
+-- holds of the cube. (The literals of a cycle are among those assumed, so that their limits follow.)
 pub record IsJustified (problem : Problem) (lemmas : List Lemma) (cube : List Literal) (batch : LemmaBatch)
     (outcome : Outcome) : Type 0 where
   pub seen : batch.seen ≤ length lemmas
@@ -84,8 +83,8 @@ IsHeldBy s id seat = node_at s.cover id ≡ Some (Held seat)
 abbrev pub IsJustifiedIn : Problem → State → ℕ → LemmaBatch → Outcome → Type 0
 IsJustifiedIn problem s id batch outcome = IsJustified problem s.lemmas (cube_at s.cover id) batch outcome
 
--- what a `take` may be answered: Done where a schedule is found or all leaves are Shut; else some Free leaf; else
--- Idle, where some leaf is Held
+-- what a `take` may be answered: Done where a schedule is found or all leaves are Shut; else some Free leaf;
+-- else Idle, where some leaf is Held
 abbrev pub MayAnswer : State → Taken → Type 0
 MayAnswer s Done = IsDone s
 MayAnswer s Idle = (s.found ≡ None) × NoneFree s.cover × ((id : ℕ) × (seat : ℕ) × IsHeldBy s id seat)
@@ -104,8 +103,8 @@ cover_taken c seat Done = c
 cover_taken c seat Idle = c
 cover_taken c seat (Cube id) = with_node c id (Held seat)
 
--- the cover after a delivery whose batch, made over `seen` lemmas, comes behind `count` ones: a found schedule frees
--- the leaf, a lemma shuts it, and a literal divides it
+-- the cover after a delivery whose batch, made over `seen` lemmas, comes behind `count` ones: a found
+-- schedule frees the leaf, a lemma shuts it, and a literal divides it
 abbrev pub cover_delivered : Cubes → ℕ → ℕ → ℕ → Outcome → Cubes
 cover_delivered c id seen count (Found values) = with_node c id Free
 cover_delivered c id seen count (ShutBy j) = with_node c id (Shut (moved_number seen count j))

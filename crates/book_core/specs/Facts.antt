@@ -1,5 +1,5 @@
 -- What always holds in a run.
-use Rattle.std.specs.Prelude.{◌≡◌, ◌≢◌, ℕ, ℤ, AllPairs, List, [], map, All, Some, IfSome, slice_get}
+use Rattle.std.specs.Prelude.{◌≡◌, ◌≢◌, ℕ, ℤ, AllPairs, List, [], map, All, Some, IfSome}
 use Rattle.stn_core.specs.declared.literal.Literal.{Literal}
 use Rattle.stn_core.specs.declared.problem.Problem.{Problem}
 use Rattle.stn_core.specs.Literal.{negation_of}

@@ -1,6 +1,7 @@
 pub mod Books
 pub mod Runs
 pub mod Facts
+pub mod Ends
 pub mod Verdicts
 pub mod Shared
 pub mod Prepared

@@ -51,8 +51,8 @@ Answers old seat AnswerIdle new = Records old (Take seat Idle) new
 Answers old seat (AnswerCube id cube) new =
     Records old (Take seat (Cube id)) new × (cube ≡ cube_at (state_of old).cover id)
 
--- Of the code and not of the meaning: its state is the journal's replay, and there is room for an event of each
--- Held leaf
+-- Of the code and not of the meaning: its state is the journal's replay, and there is room for an event of
+-- each Held leaf
 pub record IsKept (problem : Problem) (events : List Event) (s : State) (room : ℕ) : Type 0 where
   pub run : IsRun problem events
   pub same : s ≡ replayed events

@@ -191,7 +191,8 @@ impl Book {
         Ok(())
     }
 
-    /// What the seat found of its cube. A schedule that comes after another isn't kept. At `Err` nothing changed.
+    /// What the seat found of its cube. A schedule that comes after another isn't kept. At `Err` nothing
+    /// changed.
     pub fn deliver(
         &mut self,
         seat: u32,
@@ -268,8 +269,8 @@ impl Book {
         }
     }
 
-    /// The verdict, where nothing is left to do: the schedule that was found first, or a refutation by the lemmas. It
-    /// takes time and memory in the sum of the lemmas and of the leaves' lemmas.
+    /// The verdict, where nothing is left to do: the schedule that was found first, or a refutation by the
+    /// lemmas. It takes time and memory in the sum of the lemmas and of the leaves' lemmas.
     pub fn conclude(&self) -> Result<Option<Verdict>, AllocError>
         ensures { IfOk result (Concludes self.now.problem (state_of self.now)) }
     {

@@ -12,8 +12,8 @@ use std::alloc::{AllocError, Global};
 use std::sync::Arc;
 use stn_core::Literal;
 
-/// A tree of the cover's form: at each inner node its literal's two cases, at each leaf the cases of its lemma, which
-/// the cube denies.
+/// A tree of the cover's form: at each inner node its literal's two cases, at each leaf the cases of its
+/// lemma, which the cube denies.
 pub(crate) fn closing_steps(
     alloc: Global,
     points: u32,

@@ -36,8 +36,8 @@ impl Outcome {
     }
 }
 
-/// One call on a book: who made it, what was handed in, and what was answered. A batch stands here as it was before
-/// its move.
+/// One call on a book: who made it, what was handed in, and what was answered. A batch stands here as it was
+/// before its move.
 #[derive(Drop)]
 pub enum Event {
     Take(u32, Taken),

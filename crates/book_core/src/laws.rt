@@ -1,9 +1,10 @@
 //! Laws of runs, of their definitions alone.
 ghost use Rattle.book_core.specs.Facts.{SoundLaw, DividedLaw, DoneKeptLaw};
+ghost use Rattle.book_core.specs.Ends.{ShortLaw, EndsLaw};
 
-/// What always holds, holds after every run: the leaves are a cover, each literal of a cube is decided once, each lemma
-/// is refuted over the problem and those before it and within the limits, the lemma of each shut leaf excludes its
-/// cube, and the problem holds on the schedule that was found.
+/// What always holds, holds after every run: the leaves are a cover, each literal of a cube is decided once,
+/// each lemma is refuted over the problem and those before it and within the limits, the lemma of each shut
+/// leaf excludes its cube, and the problem holds on the schedule that was found.
 pub fn sound_law()
     ensures { SoundLaw }
 {
@@ -22,3 +23,13 @@ pub fn divided_law()
 pub fn done_kept_law()
     ensures { DoneKeptLaw }
 {}
+
+/// No cube has more literals than the clauses have together, and so, until a schedule is found, each delivery
+/// leaves less to do, while a `take` or a `release` leaves as much: whoever goes on delivering comes to Done.
+pub fn ends_law()
+    ensures short { ShortLaw }
+    ensures ends { EndsLaw }
+{
+    refute_tree::moved_batch_law();
+    refute_tree::joined_law();
+}

@@ -14,8 +14,8 @@ use std::alloc::{AllocError, Global};
 use std::sync::Arc;
 use stn_core::{Clause, Problem};
 
-/// The lemmas up to the first one without literals; where there is none all of them, and one more that closes the
-/// cover.
+/// The lemmas up to the first one without literals; where there is none all of them, and one more that closes
+/// the cover.
 pub(crate) fn refutation_of(
     alloc: Global,
     problem: &Problem,

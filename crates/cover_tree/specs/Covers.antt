@@ -5,9 +5,10 @@ use Rattle.stn_core.specs.Literal.{negation_of}
 use Rattle.cover_tree.specs.declared.node.Node.{Node}
 use Rattle.cover_tree.specs.declared.node.Node.TheVariants.{Free, Held, Shut, Split}
 
--- For each number the literals on the path to it, outermost first, and what stands there: a leaf, which is Free, Held by
--- a seat, or Shut by a lemma, or an inner node with its literal l and a number n, whose branch for l has the number n
--- and whose branch for the negation has the number n + 1. The next number is the length of both lists.
+-- For each number the literals on the path to it, outermost first, and what stands there: a leaf, which is
+-- Free, Held by a seat, or Shut by a lemma, or an inner node with its literal l and a number n, whose branch
+-- for l has the number n and whose branch for the negation has the number n + 1. The next number is the
+-- length of both lists.
 pub record Cubes : Type 0 where
   pub paths : List (List Literal)
   pub nodes : List Node
@@ -34,7 +35,8 @@ whole = record { paths = [] ∷ []; nodes = Free ∷ [] }
 abbrev pub with_node : Cubes → ℕ → Node → Cubes
 with_node c k n = record { paths = c.paths; nodes = slice_set c.nodes k n }
 
--- the leaf becomes an inner node with two Free leaves, which take the two next numbers, the one for the literal first
+-- the leaf becomes an inner node with two Free leaves, which take the two next numbers, the one for the
+-- literal first
 abbrev pub divided : Cubes → ℕ → Literal → Cubes
 divided c k l = record {
   paths = c.paths ++ (cube_at c k ++ l ∷ []) ∷ (cube_at c k ++ negation_of l ∷ []) ∷ [];
@@ -44,8 +46,10 @@ divided c k l = record {
 -- How a cover comes about: from the whole, by leaves that change and leaves that are divided
 pub data IsCover : Cubes → Type 0 where
   opening : IsCover whole
-  changes : (c : Cubes) (k : ℕ) (old new : Node) → IsCover c → node_at c k ≡ Some old → IsLeaf old → IsLeaf new → IsCover (with_node c k new)
-  divides : (c : Cubes) (k : ℕ) (old : Node) (l : Literal) → IsCover c → node_at c k ≡ Some old → IsLeaf old → IsCover (divided c k l)
+  changes : (c : Cubes) (k : ℕ) (old new : Node) → IsCover c → node_at c k ≡ Some old → IsLeaf old → IsLeaf new
+      → IsCover (with_node c k new)
+  divides : (c : Cubes) (k : ℕ) (old : Node) (l : Literal) → IsCover c → node_at c k ≡ Some old → IsLeaf old
+      → IsCover (divided c k l)
 
 abbrev pub is_free : Node → Bool
 is_free Free = true

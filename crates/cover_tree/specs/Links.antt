@@ -25,7 +25,8 @@ abbrev pub cubes_of : List Link → List Node → Cubes
 cubes_of links nodes = record { paths = paths_of links; nodes = nodes }
 
 -- what the tables of a cover are to each other
-pub record AreTables (links : List Link) (nodes : List Node) (free held : List Bool) (holds : ℕ) : Type 0 where
+pub record AreTables (links : List Link) (nodes : List Node) (free held : List Bool) (holds : ℕ)
+    : Type 0 where
   pub cover : IsCover (cubes_of links nodes)
   pub back : AreBack 1 links
   pub same : length nodes ≡ length links + 1

@@ -10,10 +10,11 @@ use std::alloc::{AllocError, Global};
 use std::marker::Model;
 use stn_core::{Literal, Literals, negate};
 
-/// A tree of cubes, as a flat table by number. Numbers are given in order and never again, so an inner node keeps its own.
+/// A tree of cubes, as a flat table by number. Numbers are given in order and never again, so an inner node
+/// keeps its own.
 ///
-/// It takes some 60 bytes a number. Which leaves are free and which are held stands in two sets beside the table, so that
-/// one of either is found in constant time.
+/// It takes some 60 bytes a number. Which leaves are free and which are held stands in two sets beside the
+/// table, so that one of either is found in constant time.
 #[derive(Drop)]
 pub struct Cover {
     /// Of each number but 0.
@@ -33,7 +34,8 @@ impl Model for Cover {
 
     ghost view = { λ c. cubes_of c.links.items c.nodes.items };
 
-    ghost invariant = { λ c. AreTables c.links.items c.nodes.items (flags c.free.count c.free.place.items) (flags c.held.count c.held.place.items) c.holds };
+    ghost invariant = { λ c. AreTables c.links.items c.nodes.items
+        (flags c.free.count c.free.place.items) (flags c.held.count c.held.place.items) c.holds };
 }
 
 impl Cover {
@@ -59,7 +61,8 @@ impl Cover {
         })
     }
 
-    /// A free leaf: of those that are free the one that became so last, so that who takes it works depth first.
+    /// A free leaf: of those that are free the one that became so last, so that who takes it works depth
+    /// first.
     pub fn first_open(&self) -> Option<usize>
         ensures some { IfSome result (λ k. node_at self.now k ≡ Some Free) }
         ensures none { IfNone result (NoneFree self.now) }
@@ -172,11 +175,12 @@ impl Cover {
         self.holds -= 1;
     }
 
-    /// The leaf that was held becomes an inner node with two free leaves: one for the literal, whose number is the first of
-    /// the answer, and one for its negation.
+    /// The leaf that was held becomes an inner node with two free leaves: one for the literal, whose number
+    /// is the first of the answer, and one for its negation.
     pub fn split(&mut self, id: usize, literal: Literal) -> Result<(usize, usize), AllocError>
         requires { (seat : ℕ) × (node_at self.old id ≡ Some (Held seat)) }
-        ensures ok { IfOk result (λ r. (self.new ≡ divided self.old id literal) × (r.0 ≡ length self.old.nodes) × (r.1 ≡ length self.old.nodes + 1)) }
+        ensures ok { IfOk result (λ r. (self.new ≡ divided self.old id literal)
+            × (r.0 ≡ length self.old.nodes) × (r.1 ≡ length self.old.nodes + 1)) }
         ensures err { OnErr result (self.new ≡ self.old) }
     {
         self.links.reserve(2)?;

@@ -13,7 +13,9 @@ pub fn partition_law()
     stn_core::negation_law();
 }
 
-/// An inner node's branches stand behind it, and their cubes are its own with the literal, and with its negation.
+/// An inner node's branches stand behind it, and their cubes are its own with the literal, and with its
+/// negation.
 pub fn branches_law()
-    ensures { (c : Cubes) → IsCover c → (k : ℕ) (l : Literal) (n : ℕ) → node_at c k ≡ Some (Split l n) → AreBranches c k l n }
+    ensures { (c : Cubes) → IsCover c
+        → (k : ℕ) (l : Literal) (n : ℕ) → node_at c k ≡ Some (Split l n) → AreBranches c k l n }
 {}

@@ -1,11 +1,11 @@
 //! A set of numbers that gives a member, and takes one in or out, in constant time.
 ghost use Rattle.std.specs.Prelude.{◌≡◌, ◌≢◌, ◌<◌, ◌≤◌, ◌+◌, ◌-◌, [], ◌∷◌, ◌++◌, true, false, length, vec_len, vec_capacity, Some, IfOk, OnOk, OnErr, IfSome, IfNone, slice_get, slice_set};
-ghost use Rattle.cover_tree.specs.Members.{AreInverse, IsSet, NoMember, flags, order_with, place_with};
+ghost use Rattle.cover_tree.specs.Members.{AreInverse, IsSet, IsMember, NoMember, flags, order_with, place_with};
 
 use std::alloc::{AllocError, Global};
 
-/// A set of numbers below a bound: `order` lists all of them, the `count` members first, and `place` says where each
-/// stands. To add or remove one, two numbers change places.
+/// A set of numbers below a bound: `order` lists all of them, the `count` members first, and `place` says
+/// where each stands. To add or remove one, two numbers change places.
 #[derive(Drop)]
 pub(crate) struct Members {
     pub(crate) order: Vec<usize>,
@@ -28,7 +28,7 @@ impl Members {
 
     /// The member that came in last, where none was taken out since.
     pub(crate) fn any(&self) -> Option<usize>
-        ensures some { IfSome result (λ k. slice_get (flags self.now.count self.now.place.items) k ≡ Some true) }
+        ensures some { IfSome result (IsMember (flags self.now.count self.now.place.items)) }
         ensures none { IfNone result (NoMember (flags self.now.count self.now.place.items)) }
     {
         if self.count == 0 {
@@ -39,8 +39,10 @@ impl Members {
 
     /// Room for so many more numbers.
     pub(crate) fn reserve(&mut self, more: usize) -> Result<(), AllocError>
-        ensures flags { flags self.new.count self.new.place.items ≡ flags self.old.count self.old.place.items }
-        ensures room { OnOk result ((vec_len self.new.order + more ≤ vec_capacity self.new.order) × (vec_len self.new.place + more ≤ vec_capacity self.new.place)) }
+        ensures flags { flags self.new.count self.new.place.items
+            ≡ flags self.old.count self.old.place.items }
+        ensures room { OnOk result ((vec_len self.new.order + more ≤ vec_capacity self.new.order)
+            × (vec_len self.new.place + more ≤ vec_capacity self.new.place)) }
     {
         self.order.reserve(more)?;
         self.place.reserve(more)
@@ -50,9 +52,12 @@ impl Members {
     pub(crate) fn push_reserved(&mut self)
         requires order { vec_len self.old.order < vec_capacity self.old.order }
         requires place { vec_len self.old.place < vec_capacity self.old.place }
-        ensures flags { flags self.new.count self.new.place.items ≡ flags self.old.count self.old.place.items ++ false ∷ [] }
-        ensures order_room { (vec_capacity self.new.order ≡ vec_capacity self.old.order) × (vec_len self.new.order ≡ vec_len self.old.order + 1) }
-        ensures place_room { (vec_capacity self.new.place ≡ vec_capacity self.old.place) × (vec_len self.new.place ≡ vec_len self.old.place + 1) }
+        ensures flags { flags self.new.count self.new.place.items
+            ≡ flags self.old.count self.old.place.items ++ false ∷ [] }
+        ensures order_room { (vec_capacity self.new.order ≡ vec_capacity self.old.order)
+            × (vec_len self.new.order ≡ vec_len self.old.order + 1) }
+        ensures place_room { (vec_capacity self.new.place ≡ vec_capacity self.old.place)
+            × (vec_len self.new.place ≡ vec_len self.old.place + 1) }
     {
         let number = self.place.len();
         self.order.push_reserved(number);
@@ -62,7 +67,8 @@ impl Members {
     /// The number becomes a member.
     pub(crate) fn insert(&mut self, k: usize)
         requires { slice_get (flags self.old.count self.old.place.items) k ≡ Some false }
-        ensures flags { flags self.new.count self.new.place.items ≡ slice_set (flags self.old.count self.old.place.items) k true }
+        ensures flags { flags self.new.count self.new.place.items
+            ≡ slice_set (flags self.old.count self.old.place.items) k true }
     {
         let to = self.count;
         bring(&mut self.order, &mut self.place, k, to);
@@ -71,8 +77,9 @@ impl Members {
 
     /// The number is no member any more.
     pub(crate) fn remove(&mut self, k: usize)
-        requires { slice_get (flags self.old.count self.old.place.items) k ≡ Some true }
-        ensures flags { flags self.new.count self.new.place.items ≡ slice_set (flags self.old.count self.old.place.items) k false }
+        requires { IsMember (flags self.old.count self.old.place.items) k }
+        ensures flags { flags self.new.count self.new.place.items
+            ≡ slice_set (flags self.old.count self.old.place.items) k false }
     {
         let to = self.count - 1;
         bring(&mut self.order, &mut self.place, k, to);

@@ -10,6 +10,7 @@ pub enum Node {
     Held(u32),
     /// A leaf on whose cube the lemma with this number has no literal that may hold.
     Shut(usize),
-    /// An inner node: its literal, and the number of the branch for it; the branch for its negation has the next one.
+    /// An inner node: its literal, and the number of the branch for it; the branch for its negation has the
+    /// next one.
     Split(Literal, usize),
 }

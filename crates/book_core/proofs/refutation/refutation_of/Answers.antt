@@ -1,4 +1,4 @@
-use Rattle.std.proofs.Common.{refl, ◌∙◌, map, None}
+use Rattle.std.proofs.Common.{refl, ◌∙◌, None}
 use Rattle.std.specs.Arc.{arc_value}
 use Rattle.refute_tree.specs.declared.lemma.Lemma.{Lemma as Stated}
 use Rattle.book_core.specs.Shared.{lemmas_of}

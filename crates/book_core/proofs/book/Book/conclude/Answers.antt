@@ -1,4 +1,4 @@
-use Rattle.std.proofs.Common.{rules, refl, inr, map}
+use Rattle.std.proofs.Common.{rules, refl, inr}
 use Rattle.std.specs.Arc.{arc_value}
 use Rattle.stn_core.specs.declared.problem.Problem.{Problem}
 use Rattle.refute_tree.specs.declared.lemma.Lemma.{Lemma as Stated}

@@ -1,7 +1,5 @@
-use Rattle.std.proofs.Common.{rules, map}
-use Rattle.std.specs.Arc.{arc_value}
+use Rattle.std.proofs.Common.{rules}
 use Rattle.stn_core.specs.declared.problem.Problem.{Problem}
-use Rattle.refute_tree.specs.declared.lemma.Lemma.{Lemma as Stated}
 use Rattle.book_core.specs.declared.event.Taken.TheVariants.{Idle}
 use Rattle.book_core.specs.Shared.{lemmas_of}
 use Rattle.book_core.specs.Books.{State, state_with, MayAnswer}

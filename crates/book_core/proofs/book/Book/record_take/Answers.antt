@@ -1,7 +1,5 @@
-use Rattle.std.proofs.Common.{arith, ap, ◌∙◌, map, List, [], ◌∷◌, ◌++◌}
-use Rattle.std.specs.Arc.{arc_value}
+use Rattle.std.proofs.Common.{arith, ap, ◌∙◌, List, [], ◌∷◌, ◌++◌}
 use Rattle.stn_core.specs.declared.problem.Problem.{Problem}
-use Rattle.refute_tree.specs.declared.lemma.Lemma.{Lemma as Stated}
 use Rattle.book_core.specs.declared.event.Event.{Event}
 use Rattle.book_core.specs.declared.event.Event.TheVariants.{Take}
 use Rattle.book_core.specs.Shared.{lemmas_of}

@@ -1,6 +1,4 @@
-use Rattle.std.proofs.Common.{arith, ap, map}
-use Rattle.std.specs.Arc.{arc_value}
-use Rattle.refute_tree.specs.declared.lemma.Lemma.{Lemma as Stated}
+use Rattle.std.proofs.Common.{arith, ap}
 use Rattle.book_core.specs.declared.event.Event.TheVariants.{Release}
 use Rattle.book_core.specs.Shared.{lemmas_of}
 use Rattle.book_core.specs.Books.{State, state_with}

@@ -1,0 +1,65 @@
+-- Why a run in which all is delivered comes to its end: each delivery leaves less to do.
+use Rattle.std.specs.Prelude.{◌≡◌, ℕ, zero, suc, ◌+◌, ◌-◌, ◌<◌, ◌≤◌, List, [], ◌∷◌, length, flat_map, Option, Some, None, ℤ}
+use Rattle.stn_core.specs.declared.literal.Literal.{Literal}
+use Rattle.stn_core.specs.declared.problem.Problem.{Problem}
+use Rattle.cover_tree.specs.declared.node.Node.{Node}
+use Rattle.cover_tree.specs.declared.node.Node.TheVariants.{Free, Held, Shut, Split}
+use Rattle.cover_tree.specs.Covers.{cube_at}
+use Rattle.book_core.specs.declared.event.Event.{Event}
+use Rattle.book_core.specs.declared.event.Event.TheVariants.{Take, Deliver, Release}
+use Rattle.book_core.specs.Books.{State, IsAllowed, after}
+use Rattle.book_core.specs.Runs.{IsRun, replayed, Ledger, state_of}
+
+-- the literals of all clauses
+abbrev pub all_literals : Problem → List Literal
+all_literals problem = flat_map (λ (clause : List Literal). clause) problem.clauses
+
+-- a tree whose paths have at most so many branches has at most so many nodes
+abbrev pub most_nodes : ℕ → ℕ
+most_nodes zero = 1
+most_nodes (suc branches) = 1 + (most_nodes branches + most_nodes branches)
+
+-- the nodes that may still be dealt with at and below a node, where no cube has more than `most` literals
+abbrev pub nodes_at : ℕ → List Literal → Node → ℕ
+nodes_at most cube Free = most_nodes (most - length cube)
+nodes_at most cube (Held seat) = most_nodes (most - length cube)
+nodes_at most cube (Shut lemma) = 0
+nodes_at most cube (Split l n) = 0
+
+abbrev pub nodes_left : ℕ → List (List Literal) → List Node → ℕ
+nodes_left most [] nodes = 0
+nodes_left most (cube ∷ cubes) [] = 0
+nodes_left most (cube ∷ cubes) (node ∷ nodes) = nodes_at most cube node + nodes_left most cubes nodes
+
+-- the schedule that may still be found
+abbrev pub schedules_left : Option (List ℤ) → ℕ
+schedules_left None = 1
+schedules_left (Some values) = 0
+
+-- so many deliveries may come at most until Done
+abbrev pub left_to_do : Problem → State → ℕ
+left_to_do problem s =
+    schedules_left s.found + nodes_left (length (all_literals problem)) s.cover.paths s.cover.nodes
+
+abbrev pub left_in : Ledger → ℕ
+left_in b = left_to_do b.problem (state_of b)
+
+-- a delivery leaves less, any other event as much
+abbrev pub Leaves : Event → ℕ → ℕ → Type 0
+Leaves (Take seat taken) before now = now ≡ before
+Leaves (Deliver seat id batch outcome) before now = now < before
+Leaves (Release seat id) before now = now ≡ before
+
+-- each literal of a cube is decided once, so that no cube has more literals than all clauses together
+abbrev pub ShortLaw : Type 0
+ShortLaw =
+    (problem : Problem) (events : List Event) → IsRun problem events
+    → (k : ℕ) → length (cube_at (replayed events).cover k) ≤ length (all_literals problem)
+
+-- and so, until a schedule is found, each delivery leaves less to do: a split decides one more atom of its
+-- cube
+abbrev pub EndsLaw : Type 0
+EndsLaw =
+    (problem : Problem) (events : List Event) (e : Event)
+    → IsRun problem events → IsAllowed problem (replayed events) e → (replayed events).found ≡ None
+    → Leaves e (left_to_do problem (replayed events)) (left_to_do problem (after (replayed events) e))
