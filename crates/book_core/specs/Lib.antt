@@ -5,6 +5,7 @@ pub mod Ends
 pub mod Verdicts
 pub mod Shared
 pub mod Prepared
+pub mod Handed
 pub mod Closing
 pub use Rattle.refute_tree.specs.Trees
 pub use Rattle.refute_tree.specs.Batches

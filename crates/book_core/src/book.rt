@@ -29,7 +29,7 @@ pub struct Refused {
     pub outcome: Outcome,
 }
 
-/// The book of a problem. It keeps each lemma twice: published, and in the event that brought it.
+/// The book of a problem. A lemma is kept once: the event that brought it shares it with the list of all.
 #[derive(Drop)]
 pub struct Book {
     problem: Problem,
@@ -212,7 +212,11 @@ impl Book {
             Ok(prepared) => prepared,
             Err(_) => return Err(Refused { batch, outcome }),
         };
-        let Prepared { shared, schedule } = prepared;
+        let Prepared {
+            shared,
+            handed,
+            schedule,
+        } = prepared;
         match self.lemmas.reserve(shared.len()) {
             Ok(()) => {}
             Err(_) => return Err(Refused { batch, outcome }),
@@ -231,7 +235,7 @@ impl Book {
         }
         publish(&mut self.lemmas, shared);
         self.journal
-            .push_reserved(Event::Deliver(seat, id, batch, outcome));
+            .push_reserved(Event::Deliver(seat, id, handed, outcome));
         Ok(())
     }
 

@@ -1,6 +1,6 @@
 ghost use Rattle.std.specs.Prelude.{◌≡◌, IfOk};
 
-use refute_tree::Batch;
+use crate::handed::HandedBatch;
 use std::alloc::AllocError;
 use stn_core::{Literal, Schedule};
 
@@ -41,6 +41,6 @@ impl Outcome {
 #[derive(Drop)]
 pub enum Event {
     Take(u32, Taken),
-    Deliver(u32, usize, Batch, Outcome),
+    Deliver(u32, usize, HandedBatch, Outcome),
     Release(u32, usize),
 }

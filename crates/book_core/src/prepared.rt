@@ -10,6 +10,7 @@ ghost use Rattle.book_core.specs.Shared.{lemmas_of};
 ghost use Rattle.book_core.specs.Prepared.{given_schedule};
 
 use crate::event::Outcome;
+use crate::handed::HandedBatch;
 use cover_tree::Cover;
 use refute_tree::{Batch, Lemma};
 use std::alloc::{AllocError, Global};
@@ -20,6 +21,7 @@ use stn_core::Schedule;
 #[derive(Drop)]
 pub(crate) struct Prepared {
     pub(crate) shared: Vec<Arc<Lemma>>,
+    pub(crate) handed: HandedBatch,
     pub(crate) schedule: Option<Schedule>,
 }
 
@@ -30,8 +32,10 @@ pub(crate) fn prepare(
     batch: &Batch,
     outcome: &Outcome,
 ) -> Result<Prepared, AllocError>
-    requires { All (LemmaRefersBelow (batch.now.seen + length batch.now.lemmas)) batch.now.lemmas }
+    requires seen { batch.now.seen ≤ base }
+    requires below { All (LemmaRefersBelow (batch.now.seen + length batch.now.lemmas)) batch.now.lemmas }
     ensures lemmas { IfOk result (λ p. lemmas_of p.shared.items ≡ (moved base batch.now).lemmas) }
+    ensures handed { IfOk result (λ p. p.handed ≡ batch.now) }
     ensures fits { IfOk result (λ p. base + length batch.now.lemmas < 2 ^ 64) }
     ensures schedule { IfOk result (λ p. p.schedule ≡ given_schedule outcome.now) }
 {
@@ -41,11 +45,16 @@ pub(crate) fn prepare(
     let mut moved = batch.copy()?;
     moved.move_to(base);
     let shared = share(alloc, moved.into_lemmas())?;
+    let handed = HandedBatch::new(batch.seen(), base, share_again(alloc, shared.as_slice())?);
     let schedule = match outcome {
         Outcome::Found(schedule) => Some(schedule.copy()?),
         _ => None,
     };
-    Ok(Prepared { shared, schedule })
+    Ok(Prepared {
+        shared,
+        handed,
+        schedule,
+    })
 }
 
 fn share(alloc: Global, lemmas: Vec<Lemma>) -> Result<Vec<Arc<Lemma>>, AllocError>
@@ -59,6 +68,16 @@ fn share(alloc: Global, lemmas: Vec<Lemma>) -> Result<Vec<Arc<Lemma>>, AllocErro
         }
     }
     Ok(shared)
+}
+
+fn share_again(alloc: Global, shared: &[Arc<Lemma>]) -> Result<Vec<Arc<Lemma>>, AllocError>
+    ensures { IfOk result (λ again. lemmas_of again.items ≡ lemmas_of shared.now) }
+{
+    let mut again = Vec::with_capacity(alloc, shared.len())?;
+    for lemma in shared {
+        again.push(Arc::try_clone(lemma)?)?;
+    }
+    Ok(again)
 }
 
 /// The lemmas go behind the others, in the room that is there.

@@ -53,7 +53,11 @@ fn first_empty(lemmas: &[Arc<Lemma>]) -> Option<usize>
 }
 
 /// The first so many lemmas, in memory of their own.
-fn copies(alloc: Global, lemmas: &[Arc<Lemma>], count: usize) -> Result<Vec<Lemma>, AllocError>
+pub(crate) fn copies(
+    alloc: Global,
+    lemmas: &[Arc<Lemma>],
+    count: usize,
+) -> Result<Vec<Lemma>, AllocError>
     requires { count ≤ length lemmas.now }
     ensures { IfOk result (λ all. all.items ≡ take count (lemmas_of lemmas.now)) }
 {
