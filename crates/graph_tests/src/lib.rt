@@ -1,7 +1,9 @@
-//! One short run of each public call that takes memory and that no script reaches, with ample memory: of nets, cycles,
-//! pruning, covers, refutation trees and the checker.
+//! One short run of each public call that takes memory and that no script reaches, with ample memory: of nets and batches,
+//! cycles, pruning, covers, refutation trees and the checker.
 #![tactic(auto)]
 
+#[cfg(test)]
+mod batches;
 #[cfg(test)]
 mod chains;
 #[cfg(test)]

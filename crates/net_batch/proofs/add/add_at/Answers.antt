@@ -1,0 +1,11 @@
+use Rattle.std.proofs.Common.{rules}
+use Rattle.net_batch.proofs.Parts.{part-more, cycle-part}
+use Rattle.net_batch.proofs.add.add_at.Goals as goal
+
+pub returns-in-Yes-clause-part : goal.returns-in-Yes-clause-part
+returns-in-Yes-clause-part g c = λ old h. search (rules, part-more old c.args.literals.now c.args.marks.now (g.N.Net.literals_of c.args.net.now) c.args.place (search rules) h)
+
+pub returns-in-Cycle-clause-tried : goal.returns-in-Cycle-clause-tried
+returns-in-Cycle-clause-tried g c = λ old h.
+    cycle-part old c.args.literals.now (g.N.Net.literals_of c.args.net.now) c.in-Cycle.cycle c.args.place (search rules) h.longer.among
+    (search rules)
