@@ -8,6 +8,7 @@ pub mod Holding
 pub mod States
 pub mod Learned
 pub mod Proposals
+pub mod Hits
 pub mod Splits
 pub mod Answered
 pub mod Restated

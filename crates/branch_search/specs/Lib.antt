@@ -3,6 +3,7 @@ pub mod Spines
 pub mod Proved
 pub mod Search
 pub mod Denials
+pub mod Hits
 pub mod Slices
 pub mod Divisions
 pub mod Clauses

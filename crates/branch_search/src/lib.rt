@@ -12,6 +12,7 @@ mod clauses;
 mod conflict;
 mod cube;
 mod denial;
+mod distances;
 mod divide;
 mod entry;
 mod marking;

@@ -1,4 +1,4 @@
-//! What follows from the trail's literals, by ladders, clauses and the net.
+//! What follows from the trail's literals, by ladders, clauses, the net and distances.
 ghost use Rattle.std.specs.Prelude.{◌≡◌, ◌<◌, ◌≤◌, ◌+◌, ◌^◌, length, true, min, IfOk, OnOk};
 ghost use Rattle.branch_search.specs.Search.{question_of, IsState, IsAfter, IsTaken, IsWeaker, adds_limit};
 
@@ -216,12 +216,13 @@ impl State {
         Ok(None)
     }
 
-    // Whether the net is to have the literal at the place. Pure ones and those that another one implies add nothing to it.
-    fn is_for_net(&self, k: usize) -> bool
+    /// Whether the net is to have the literal at the place, and so the distances. Pure ones and those that others imply add
+    /// nothing to it.
+    pub fn is_for_net(&self, k: usize) -> bool
         requires { k < length self.now.entries.items }
     {
         match &self.entries[k].reason {
-            Reason::Pair(_) => false,
+            Reason::Pair(_) | Reason::Cycle(_) => false,
             _ => !self.guide.is_pure(self.entries[k].number),
         }
     }
@@ -255,7 +256,34 @@ impl State {
         Ok(found)
     }
 
-    /// All that follows from the trail's literals, by ladders, clauses and the net, or a conflict.
+    // The next literal into the net, or else, where all are in it, into the distances.
+    fn advance<E: Earlier, N: Net>(
+        &mut self,
+        alloc: Global,
+        problem: &Problem,
+        handed: &E,
+        cube: &[Literal],
+        net: &mut N,
+    ) -> Result<Option<Conflict>, AllocError>
+        requires points { N.points_of net.old ≡ problem.now.points }
+        requires state { IsState (question_of problem.now (E.clauses handed.now) cube.now) self.old
+            (N.literals_of net.old) }
+        ensures points { N.points_of net.new ≡ N.points_of net.old }
+        ensures levels { self.new.levels.items ≡ self.old.levels.items }
+        ensures after { IfOk result (IsAfter (question_of problem.now (E.clauses handed.now) cube.now) self.new
+            (N.literals_of net.new)) }
+        ensures counts { OnOk result (min (N.adds_of net.old) adds_limit ≤ N.adds_of net.new) }
+    {
+        if self.netted < self.entries.len() {
+            let found = self.net_next(problem, handed, cube, net)?;
+            return Ok(found);
+        }
+        self.measure_next(alloc, problem, handed, cube, net)?;
+        Ok(None)
+    }
+
+    /// All that follows from the trail's literals, by ladders, clauses, the net and distances, or a conflict. All literals go
+    /// into the net before the next one goes into the distances, since what clauses and ladders alone lead to costs less.
     pub fn propagate<E: Earlier, N: Net>(
         &mut self,
         alloc: Global,
@@ -274,15 +302,16 @@ impl State {
             (N.literals_of net.new)) }
         ensures counts { OnOk result (min (N.adds_of net.old) adds_limit ≤ N.adds_of net.new) }
     {
-        let limit = self.guide.literals();
+        // each literal goes once into the net and once into the distances
+        let limit = self.guide.literals().saturating_add(1);
         'literals: for _turn in 0..limit {
             if let Some(conflict) = self.follow_all(alloc, problem, handed, cube, net)? {
                 return Ok(Some(conflict));
             }
-            if self.netted >= self.entries.len() {
+            if self.netted >= self.entries.len() && self.is_measured() {
                 return Ok(None);
             }
-            if let Some(conflict) = self.net_next(problem, handed, cube, net)? {
+            if let Some(conflict) = self.advance(alloc, problem, handed, cube, net)? {
                 return Ok(Some(conflict));
             }
         }

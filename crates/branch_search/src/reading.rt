@@ -72,6 +72,21 @@ pub fn denial_place(guide: &Guide, source: Source, place: usize) -> Option<usize
     }
 }
 
+/// Whether the literal, which has this number, stands on the trail where the guide has it.
+pub fn is_standing(
+    guide: &Guide,
+    entries: &[Entry],
+    number: LiteralNumber,
+    literal: Literal,
+) -> bool
+    ensures { result ≡ true → Stands entries.now (length entries.now) literal }
+{
+    match guide.place(number) {
+        Some(k) => k < entries.len() && is_same(entries[k].literal, literal),
+        None => false,
+    }
+}
+
 /// Where the guide has the literal.
 pub fn literal_place(guide: &Guide, literal: Literal) -> Option<usize> {
     match guide.number_of(literal) {

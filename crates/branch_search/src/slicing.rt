@@ -11,6 +11,7 @@ use crate::divide::Division;
 use crate::search::{Found, Rest};
 use crate::state::State;
 use refute_tree::{Batch, Earlier, Lemma};
+use search_distances::Distances;
 use search_guide::Guide;
 use std::alloc::{AllocError, Global};
 use stn_core::{Literal, Mark, Net, Problem};
@@ -185,8 +186,9 @@ impl Searcher {
     /// The one error is want of memory.
     pub fn new(alloc: Global, problem: &Problem) -> Result<Self, AllocError> {
         let guide = Guide::new(alloc, problem)?;
+        let distances = Distances::new(alloc, &guide, problem.points)?;
         Ok(Searcher {
-            state: State::new(alloc, guide),
+            state: State::new(alloc, guide, distances),
         })
     }
 

@@ -5,9 +5,10 @@ ghost use Rattle.branch_search.specs.Search.{question_of, level_at, start_of, in
 ghost use Rattle.branch_search.specs.Search.{adds_limit};
 
 use crate::entry::{Conflict, Entry, Level, Reason};
-use crate::reading::{is_same, literal_on};
+use crate::reading::{is_standing, literal_on};
 use crate::tables::Tables;
 use refute_tree::{Earlier, Lemma};
+use search_distances::Distances;
 use search_guide::{Guide, LiteralNumber};
 use std::alloc::{AllocError, Global};
 use std::mem;
@@ -16,6 +17,8 @@ use stn_core::{Added, Literal, Mark, Net, Problem};
 #[derive(Drop)]
 pub struct State {
     pub guide: Guide,
+    /// distances between points, where there are few of them
+    pub distances: Option<Distances>,
     pub entries: Vec<Entry>,
     pub levels: Vec<Level>,
     pub own: Vec<Lemma>,
@@ -25,6 +28,8 @@ pub struct State {
     pub followed: usize,
     /// the first place whose literal hasn't been put into the net yet, or passed by
     pub netted: usize,
+    /// the first place whose literal hasn't been put into the distances yet, or passed by
+    pub measured: usize,
     /// whether there was a conflict in this slice
     pub met_conflict: bool,
     /// how many lemmas the guide knows, of those that were handed and of the own ones
@@ -53,20 +58,29 @@ fn unset_from(entries: &[Entry], guide: &mut Guide, start: usize) {
     }
 }
 
+// And the distances.
+fn retract_distances(distances: &mut Option<Distances>, start: usize) {
+    if let Some(distances) = distances {
+        distances.retract(start);
+    }
+}
+
 impl State {
-    pub fn new(alloc: Global, guide: Guide) -> Self
+    pub fn new(alloc: Global, guide: Guide, distances: Option<Distances>) -> Self
         ensures entries { result.entries.items ≡ [] }
         ensures levels { result.levels.items ≡ [] }
         ensures own { result.own.items ≡ [] }
     {
         State {
             guide,
+            distances,
             entries: Vec::new(alloc),
             levels: Vec::new(alloc),
             own: Vec::new(alloc),
             tables: Tables::new(alloc),
             followed: 0,
             netted: 0,
+            measured: 0,
             met_conflict: false,
             known: 0,
             conflicts: 0,
@@ -104,6 +118,7 @@ impl State {
         self.met_conflict = false;
         if !self.knows(handed) {
             self.guide = Guide::new(alloc, problem)?;
+            self.distances = Distances::new(alloc, &self.guide, problem.points)?;
             self.known = 0;
         }
         Ok(())
@@ -142,10 +157,7 @@ impl State {
     pub fn is_on_trail(&self, number: LiteralNumber, literal: Literal) -> bool
         ensures { result ≡ true → Stands self.now.entries.items (length self.now.entries.items) literal }
     {
-        match self.guide.place(number) {
-            Some(k) => k < self.entries.len() && is_same(self.entries[k].literal, literal),
-            None => false,
-        }
+        is_standing(&self.guide, &self.entries, number, literal)
     }
 
     /// The literal at the place of the trail goes into the net. The conflict is with the net's literals.
@@ -208,6 +220,8 @@ impl State {
         self.entries.truncate(start);
         self.followed = self.followed.min(start);
         self.netted = self.netted.min(start);
+        self.measured = self.measured.min(start);
+        retract_distances(&mut self.distances, start);
         net.retract(Mark { length: in_net });
     }
 
@@ -222,5 +236,7 @@ impl State {
         self.entries.truncate(0);
         self.followed = 0;
         self.netted = 0;
+        self.measured = 0;
+        retract_distances(&mut self.distances, 0);
     }
 }

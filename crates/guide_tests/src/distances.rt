@@ -1,5 +1,5 @@
 use search_distances::Distances;
-use search_guide::{Guide, LiteralNumber};
+use search_guide::Guide;
 use std::alloc::{AllocError, Global};
 use std::test::Fail;
 use stn_core::{Clause, Clauses, Literal, Problem};
@@ -17,27 +17,27 @@ fn problem(alloc: Global) -> Result<Problem, AllocError> {
     Ok(Problem { points: 4, clauses })
 }
 
-/// The hits after the first and after the second literal, with the path to the latter, and the change that is taken back.
+/// The hits after the first and after the second literal, how long the path to the latter is, and its hit when the second
+/// literal is added once more.
 fn hits(
-    alloc: Global,
     guide: &mut Guide,
     distances: &mut Distances,
-) -> Result<(Option<Literal>, Option<Literal>, Vec<LiteralNumber>, usize), AllocError> {
+) -> Result<(Option<Literal>, Option<Literal>, usize, bool), AllocError> {
     let first = guide.add_literal(FIRST)?;
     let second = guide.add_literal(SECOND)?;
     guide.set(first, 0, 0);
     guide.set(second, 1, 0);
-    distances.add(guide, first)?;
+    distances.add(guide, first, 0)?;
     let none = distances.next_hit(guide);
-    let mark = distances.mark();
-    distances.add(guide, second)?;
+    distances.add(guide, second, 1)?;
     let hit = distances.next_hit(guide);
-    let mut path = Vec::new(alloc);
-    distances.path(guide, hit.unwrap_or(first), &mut path)?;
-    distances.retract(mark);
+    let path = distances.path(guide, hit.unwrap_or(first))?.len();
+    distances.retract(1);
+    distances.add(guide, second, 1)?;
+    let again = distances.next_hit(guide);
     let before = none.and_then(|number| guide.literal(number));
     let after = hit.and_then(|number| guide.literal(number));
-    Ok((before, after, path, distances.mark()))
+    Ok((before, after, path, hit == again))
 }
 
 #[test]
@@ -47,8 +47,7 @@ fn follows_from_two(rt: HostRuntime) -> Result<(), Fail> {
     let Some(mut distances) = Distances::new(alloc, &guide, 4)? else {
         return Ok(());
     };
-    let (before, after, path, changes) = hits(alloc, &mut guide, &mut distances)?;
-    let found = (before, after, path.len(), changes);
-    assert_eq!(rt; found, (None, Some(BOTH), 2, 1));
+    let found = hits(&mut guide, &mut distances)?;
+    assert_eq!(rt; found, (None, Some(BOTH), 2, true));
     Ok(())
 }

@@ -6,6 +6,7 @@
 //! propagation at all 4 times.
 //!
 //! The table is for few points, since it has an entry of 28 bytes for each pair: with 400 points, 4.5 MB.
+use crate::paths::Walk;
 use crate::rungs::{Rung, Rungs};
 use search_guide::{Guide, LiteralNumber};
 use std::alloc::{AllocError, Global};
@@ -27,6 +28,13 @@ struct Change {
     by: LiteralNumber,
 }
 
+/// The place on the trail of a literal that lowered entries, and how many changes there were before it.
+#[derive(Clone, Copy)]
+struct Step {
+    place: usize,
+    changes: usize,
+}
+
 /// A row, and a distance from or to it.
 #[derive(Clone, Copy)]
 struct Reach {
@@ -37,7 +45,6 @@ struct Reach {
 /// Distances between points, of which those that only pure literals name are left out.
 #[derive(Drop)]
 pub struct Distances {
-    alloc: Global,
     /// for each time point its row, if it has one
     row_of: Vec<Option<usize>>,
     rows: usize,
@@ -49,10 +56,12 @@ pub struct Distances {
     greatest: Vec<i64>,
     rungs: Rungs,
     changes: Vec<Change>,
+    steps: Vec<Step>,
     hits: Vec<usize>,
     next_hit: usize,
     forward: Vec<Reach>,
     backward: Vec<Reach>,
+    pub(crate) walk: Walk,
 }
 
 /// The literals of which distances are kept.
@@ -146,7 +155,6 @@ impl Distances {
             }
         }
         Ok(Some(Distances {
-            alloc,
             row_of,
             rows,
             distances,
@@ -154,15 +162,13 @@ impl Distances {
             greatest,
             rungs: Rungs::start(alloc, pairs, rungs)?,
             changes: Vec::new(alloc),
+            steps: Vec::new(alloc),
             hits: Vec::new(alloc),
             next_hit: 0,
             forward: Vec::new(alloc),
             backward: Vec::new(alloc),
+            walk: Walk::new(alloc),
         }))
-    }
-
-    pub(crate) fn alloc(&self) -> Global {
-        self.alloc
     }
 
     pub(crate) fn rows(&self) -> usize {
@@ -192,9 +198,14 @@ impl Distances {
         Some((from, to))
     }
 
-    /// The literal is in the net, consistent with those before it. Its hits are those that `next_hit` answers from now on.
-    /// The one error is want of memory; what was lowered by then is taken back with the mark before it.
-    pub fn add(&mut self, guide: &Guide, number: LiteralNumber) -> Result<(), AllocError> {
+    /// The literal stands at this place of the trail, behind those that were added before, and is consistent with them. Its
+    /// hits are those that `next_hit` answers from now on. The one error is want of memory.
+    pub fn add(
+        &mut self,
+        guide: &Guide,
+        number: LiteralNumber,
+        place: usize,
+    ) -> Result<(), AllocError> {
         self.hits.truncate(0);
         self.next_hit = 0;
         let Some((from, to)) = self.ends(guide, number) else {
@@ -206,6 +217,10 @@ impl Distances {
         if self.distance(from, to) <= literal.c {
             return Ok(());
         }
+        self.steps.push(Step {
+            place,
+            changes: self.changes.len(),
+        })?;
         self.reach_forward(from, to, literal.c)?;
         self.reach_backward(from, to, literal.c)?;
         for k in 0..self.backward.len() {
@@ -285,15 +300,23 @@ impl Distances {
         None
     }
 
-    /// What was changed so far, to come back to by `retract`.
-    pub fn mark(&self) -> usize {
-        self.changes.len()
+    /// The literals at this place of the trail and beyond leave it. It takes no memory.
+    pub fn retract(&mut self, place: usize) {
+        self.hits.truncate(0);
+        for _step in 0..self.steps.len() {
+            match self.steps.last().copied() {
+                Some(step) if step.place >= place => {
+                    self.take_back(step.changes);
+                    self.steps.pop();
+                }
+                _ => return,
+            }
+        }
     }
 
-    /// The distances are as they were at the mark. It takes no memory.
-    pub fn retract(&mut self, mark: usize) {
-        self.hits.truncate(0);
-        for _change in mark..self.changes.len() {
+    /// The entries are as they were when there were so many changes.
+    fn take_back(&mut self, count: usize) {
+        for _change in count..self.changes.len() {
             let Some(change) = self.changes.pop() else {
                 return;
             };

@@ -87,6 +87,15 @@ fn implications(alloc: Global, names: u32) -> Result<Problem, AllocError>
     with_clause(problem, [literal(0, names, -1)].as_slice())
 }
 
+/// Two bounds, from which a third follows, and two clauses that can't both hold where the third does.
+fn third_bound(alloc: Global) -> Result<Problem, AllocError> {
+    let mut problem = empty(alloc, 5);
+    problem = with_clause(problem, [literal(1, 2, -5)].as_slice())?;
+    problem = with_clause(problem, [literal(2, 3, -5)].as_slice())?;
+    problem = with_clause(problem, [literal(3, 1, 1), literal(4, 0, 0)].as_slice())?;
+    with_clause(problem, [literal(3, 1, 1), literal(0, 4, -1)].as_slice())
+}
+
 /// A slice on the problem, without a cube: which answer, how many adds, and how many lemmas.
 fn run(alloc: Global, problem: &Problem, budget: u64) -> Result<(u32, u64, usize), AllocError> {
     let mut net = Network::new(alloc, problem.points)?;
@@ -115,6 +124,15 @@ fn run_twice(alloc: Global, problem: &Problem) -> Result<(u32, u64), AllocError>
     Ok((kind, searcher.conflicts()))
 }
 
+/// Whether a slice refutes the problem, and how many decisions it made.
+fn run_counted(alloc: Global, problem: &Problem) -> Result<(bool, u64), AllocError> {
+    let mut net = Network::new(alloc, problem.points)?;
+    let mut searcher = Searcher::new(alloc, problem)?;
+    let none: &[Lemma] = &[];
+    let answer = searcher.slice(alloc, problem, &none, &[], 1_000, &mut net)?;
+    Ok((matches!(answer, Slice::Refuted(_, _)), searcher.decisions()))
+}
+
 #[test]
 fn three_orders_in_two_places(rt: HostRuntime) -> Result<(), Fail> {
     let alloc = rt.alloc();
@@ -136,5 +154,14 @@ fn chain_of_implications(rt: HostRuntime) -> Result<(), Fail> {
     let problem = implications(alloc, 20_000)?;
     let (kind, adds, lemmas) = run(alloc, &problem, 1_000_000)?;
     assert_eq!(rt; (kind, adds, lemmas), (1, 0, 1));
+    Ok(())
+}
+
+#[test]
+fn distances_alone(rt: HostRuntime) -> Result<(), Fail> {
+    let alloc = rt.alloc();
+    let problem = third_bound(alloc)?;
+    let found = run_counted(alloc, &problem)?;
+    assert_eq!(rt; found, (true, 0));
     Ok(())
 }

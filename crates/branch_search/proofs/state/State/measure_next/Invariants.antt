@@ -1,0 +1,11 @@
+use Rattle.std.proofs.Common.{◌≡◌, length}
+use Rattle.branch_search.specs.Search.{question_of, IsSearch}
+use Rattle.branch_search.proofs.state.State.measure_next.Given as goal
+
+abbrev pub invariant-hits : goal.invariant-hits
+invariant-hits g l =
+    let q = question_of l.problem (g.E.Earlier.clauses l.handed) l.cube in
+    record {
+      levels : l.self.levels.items ≡ l.fn.self.levels.items;
+      state : IsSearch q l.self.own.items l.self.entries.items l.self.levels.items (g.N.Net.literals_of l.net);
+    }
