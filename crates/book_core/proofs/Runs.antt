@@ -28,6 +28,10 @@ pub replayed_push : (s : State) (es : List Event) (e : Event) → replayed_from 
 replayed_push s [] e = refl
 replayed_push s (x ∷ es) e = replayed_push (after s x) es e
 
+-- the state of a ledger that is one event longer
+pub state_next : (b now : Ledger) (e : Event) → now ≡ with_event b e → state_of now ≡ after (state_of b) e
+state_next b now e is = ap (λ (k : Ledger). state_of k) is ∙ replayed_push opening b.journal e
+
 run_push : (problem : Problem) (s : State) (es : List Event) (e : Event) → IsRunFrom problem s es → IsAllowed problem (replayed_from s es) e → IsRunFrom problem s (es ++ e ∷ [])
 run_push problem s [] e h a = (a, tt)
 run_push problem s (x ∷ es) e h a = (h.0, run_push problem (after s x) es e h.1 a)

@@ -1,16 +1,15 @@
 -- The literals of unit clauses, and the leaves that rest on them.
-use Rattle.std.proofs.Common.{arith, ◌≡◌, ℕ, ℤ, zero, suc, ◌<◌, ◌≤◌, ◌+◌, inl, inr, ◌⊎◌, List, [], ◌∷◌, ◌++◌, length, flat_map, take, Bool, true, false, Option, Some, None, All, Contains, get_or, subst, sym, ap, ◌∙◌, refl, ◌==◌, ◌&&◌, append_assoc, append-nil}
+use Rattle.std.proofs.Common.{arith, ◌≡◌, ℕ, zero, suc, ◌<◌, ◌≤◌, ◌+◌, inl, inr, ◌⊎◌, List, [], ◌∷◌, ◌++◌, length, flat_map, take, Bool, true, false, Option, Some, None, All, Contains, get_or, subst, sym, ap, ◌∙◌, refl, ◌&&◌, append_assoc, append-nil}
 use Rattle.std.specs.Prelude.{slice_get, slice_index, option_map, if◌then◌else◌}
 use Rattle.std.specs.List.{position, position_or_len, list_any}
-use Rattle.std.specs.Ordering.{int_eq}
 use Rattle.std.proofs.lemmas.Grind.{common_steps, flat_map-append}
-use Rattle.std.proofs.lemmas.Bool.{eqb-true, cases_lt}
-use Rattle.std.proofs.lemmas.Bool.Decides.{Decides-int_eq, nat_tests}
+use Rattle.std.proofs.lemmas.Bool.{cases_lt}
+use Rattle.std.proofs.lemmas.Bool.Decides.{nat_tests}
 use Rattle.std.proofs.lemmas.Int.{ints}
 use Rattle.std.proofs.lemmas.List.{get_or_append_left, get_or_at, length_push, take_more, take_all}
 use Rattle.std.proofs.lemmas.List.Quantifiers.{position-Some}
 use Rattle.std.proofs.lemmas.List.Sums.{fails_before_first}
-use Rattle.std.proofs.lemmas.List.Elements.{Contains-append_cases, Contains-append_left, Contains-push, Contains-get_or, All-weaker, All-take, All-contains}
+use Rattle.std.proofs.lemmas.List.Elements.{Contains-append_cases, Contains-append_left, Contains-push, Contains-get_or, All-weaker}
 use Rattle.std.proofs.lemmas.Option.{slice_get-get_or, slice_get_within, get_or_from_slice_get}
 use Rattle.stn_core.specs.declared.literal.Literal.{Literal}
 use Rattle.stn_core.proofs.SameLiteral.{same_literal_decides}
@@ -18,7 +17,7 @@ use Rattle.stn_core.specs.Cycle.{IsNegativeCycle}
 use Rattle.stn_core.specs.Answer.{IsCycleAmong}
 use Rattle.refute_tree.specs.declared.step.Step.{Step}
 use Rattle.refute_tree.specs.declared.step.Step.TheVariants.{Cycle}
-use Rattle.stn_core.specs.Literal.{Holds, IsOver, same_literal}
+use Rattle.stn_core.specs.Literal.{IsOver, same_literal}
 use Rattle.refute_tree.specs.Trees.{Tree, leaf, cases, none, more}
 use Rattle.steal_search.specs.Base.{Base, IsBase, with_unit, number_of, steps_of, unit_steps, leaf_steps}
 

@@ -1,5 +1,5 @@
 -- What the clauses of one literal decide.
-use Rattle.std.proofs.Common.{◌≡◌, ℕ, ℤ, Bool, true, List, [], ◌∷◌, ◌++◌, length, flat_map, Option, Some, None, All, append-nil, subst, sym, ap, ◌∙◌, refl}
+use Rattle.std.proofs.Common.{◌≡◌, ℕ, ℤ, Bool, true, List, [], ◌∷◌, ◌++◌, flat_map, Option, Some, None, All, append-nil, subst, sym, ap, ◌∙◌}
 use Rattle.std.proofs.lemmas.List.Elements.{All-nil, All-cons, All-append}
 use Rattle.stn_core.specs.declared.literal.Literal.{Literal}
 use Rattle.stn_core.specs.declared.problem.Problem.{Problem}
@@ -11,7 +11,7 @@ use Rattle.stn_core.specs.Problem.{ProblemHolds}
 use Rattle.refute_tree.specs.declared.step.Step.{Step}
 use Rattle.refute_tree.specs.declared.step.Step.TheVariants.{Cycle, Input}
 use Rattle.refute_tree.specs.declared.lemma.Lemma.{Lemma}
-use Rattle.refute_tree.specs.Trees.{Tree, IsRefutation}
+use Rattle.refute_tree.specs.Trees.{Tree}
 use Rattle.refute_tree.specs.Batches.{NamesOver, LemmaIsOver}
 use Rattle.book_core.specs.declared.verdict.Verdict.TheVariants.{Unsat}
 use Rattle.book_core.specs.Books.{IsSolution}

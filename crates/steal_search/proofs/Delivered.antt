@@ -1,5 +1,5 @@
 -- What a slice answers may be delivered.
-use Rattle.std.proofs.Common.{arith, ◌≡◌, ℕ, zero, suc, ◌<◌, ◌≤◌, ◌+◌, inl, inr, List, [], ◌∷◌, ◌++◌, length, map, take, Some, All, Contains, ℤ, refl, sym, ap, ◌∙◌, subst}
+use Rattle.std.proofs.Common.{arith, ◌≡◌, ℕ, zero, suc, ◌+◌, inl, List, [], ◌∷◌, ◌++◌, length, map, take, Some, All, Contains, ℤ, refl, sym, ap, ◌∙◌, subst}
 use Rattle.std.specs.Prelude.{slice_get}
 use Rattle.std.proofs.lemmas.List.{length-map}
 use Rattle.std.proofs.lemmas.List.Elements.{All-map, All-weaker, All-contains, Contains-append_left, Contains-append_right}
@@ -14,7 +14,6 @@ use Rattle.branch_search.specs.declared.answer.Slice.{Slice}
 use Rattle.branch_search.specs.declared.answer.Slice.TheVariants.{Model, Refuted, Split}
 use Rattle.branch_search.specs.Proved.{IsClauseOver}
 use Rattle.branch_search.specs.Search.{question_of, Excludes}
-use Rattle.branch_search.specs.Slices.{IsModel}
 use Rattle.branch_search.specs.Divisions.{IsSlice, IsSplit, IsBatch}
 use Rattle.cover_tree.proofs.Sets.{get_behind}
 use Rattle.cover_tree.proofs.Tables.{get_map}

@@ -1,9 +1,8 @@
 -- From one turn to the next.
-use Rattle.std.proofs.Common.{arith, ◌≡◌, ◌≢◌, ℕ, ◌<◌, ◌≤◌, ◌+◌, ◌^◌, inl, inr, List, [], ◌∷◌, ◌++◌, length, map, set, Some, All, refl, sym, ap, ◌∙◌, subst, length-append}
+use Rattle.std.proofs.Common.{arith, ◌≡◌, ℕ, ◌<◌, inl, inr, List, length, set, Some, None, sym, ap, ◌∙◌, subst}
 use Rattle.std.specs.Prelude.{slice_get}
 use Rattle.stn_core.specs.declared.literal.Literal.{Literal}
 use Rattle.stn_core.specs.declared.problem.Problem.{Problem}
-use Rattle.refute_tree.specs.declared.lemma.Lemma.{Lemma}
 use Rattle.refute_tree.specs.Batches.{LemmaBatch}
 use Rattle.refute_tree.specs.Moves.{moved_number}
 use Rattle.cover_tree.specs.declared.node.Node.{Node}
@@ -17,9 +16,10 @@ use Rattle.book_core.specs.declared.answer.Answer.{Answer}
 use Rattle.book_core.specs.declared.answer.Answer.TheVariants.{Cube as AnswerCube, Done as AnswerDone}
 use Rattle.book_core.specs.declared.event.Outcome.{Outcome}
 use Rattle.book_core.specs.declared.event.Outcome.TheVariants.{Found, Shut as ShutBy, Split as SplitBy}
-use Rattle.book_core.specs.Books.{State, IsDone, after, cover_delivered}
-use Rattle.book_core.specs.Runs.{Ledger, state_of, with_event, Records, Answers}
-use Rattle.book_core.proofs.Runs.{replayed_push}
+use Rattle.book_core.specs.Books.{State, IsDone, IsHeldBy, IsJustifiedIn, after, cover_delivered}
+use Rattle.book_core.specs.Runs.{Ledger, IsRun, state_of, with_event, Records, Answers}
+use Rattle.book_core.specs.Ends.{EndsLaw, left_to_do, left_in}
+use Rattle.book_core.proofs.Runs.{state_next}
 use Rattle.steal_search.specs.Deliveries.{IsWaiting, IsDelivered}
 
 -- no other leaf is Held
@@ -56,9 +56,6 @@ none_delivered c id seat seen count (Found values) only e = none_left c id seat 
 none_delivered c id seat seen count (ShutBy j) only e = none_left c id seat (Shut (moved_number seen count j)) only e (λ o x. absurd cc)
 none_delivered c id seat seen count (SplitBy l) only e = none_divided c id seat l only e
 
-pub state_next : (b now : Ledger) (e : Event) → now ≡ with_event b e → state_of now ≡ after (state_of b) e
-state_next b now e is = ap (λ (k : Ledger). state_of k) is ∙ replayed_push _ b.journal e
-
 -- a leaf was taken, and what was found of it delivered
 pub waiting_on : (problem : Problem) (old taken new : Ledger) (id : ℕ) → IsWaiting problem old → taken ≡ with_event old (Take 0 (Cube id)) → node_at (state_of old).cover id ≡ Some Free → IsDelivered taken id new → IsWaiting problem new
 waiting_on problem old taken new id w et free d =
@@ -78,9 +75,6 @@ pub taken_held : (old taken : Ledger) (id : ℕ) → taken ≡ with_event old (T
 taken_held old taken id et free =
     ap (λ (s : State). node_at s.cover id) (state_next old taken (Take 0 (Cube id)) et) ∙ get_set_same (state_of old).cover.nodes id Free (Held 0) free
 
-pub longer_by : (old new : Ledger) (e : Event) → new ≡ with_event old e → length new.journal ≡ length old.journal + 1
-longer_by old new e is = ap (λ (b : Ledger). length b.journal) is ∙ length-append old.journal (e ∷ [])
-
 -- a cube was taken
 pub cube_taken : (old new : Ledger) (answer : Answer) (id : ℕ) (cube : List Literal) → answer ≡ AnswerCube id cube → Answers old 0 answer new → Records old (Take 0 (Cube id)) new × (cube ≡ cube_at (state_of old).cover id)
 cube_taken old new answer id cube e h = subst (λ (a : Answer). Answers old 0 a new) e h
@@ -91,11 +85,24 @@ done_taken old new answer e h = subst (λ (a : Answer). Answers old 0 a new) e h
 pub same_cube : (old taken : Ledger) (shown cube : List Literal) (id : ℕ) → shown ≡ cube → cube ≡ cube_at (state_of old).cover id → taken ≡ with_event old (Take 0 (Cube id)) → shown ≡ cube_at (state_of taken).cover id
 same_cube old taken shown cube id es e et = es ∙ (e ∙ sym (ap (λ (s : State). cube_at s.cover id) (state_next old taken (Take 0 (Cube id)) et)))
 
-pub advanced : (old taken new : Ledger) (id : ℕ) (cube : ℕ) → taken ≡ with_event old (Take 0 (Cube cube)) → IsDelivered taken id new → length taken.journal < 2 ^ 64 → (length old.journal < length new.journal) × (length new.journal ≤ 2 ^ 64)
-advanced old taken new id cube et d small =
-    let first = longer_by old taken (Take 0 (Cube cube)) et in
-    let second = longer_by taken new (Deliver 0 id d.0 d.1) d.2 in
-    (omega (arith, first, second), omega (arith, second, small))
+-- no schedule was found before the leaf was taken, and so none after it
+pub unfound_taken : (old taken : Ledger) (id : ℕ) → taken ≡ with_event old (Take 0 (Cube id)) → (state_of old).found ≡ None → (state_of taken).found ≡ None
+unfound_taken old taken id et none = ap (λ (s : State). s.found) (state_next old taken (Take 0 (Cube id)) et) ∙ none
+
+-- what an event leaves to do
+left_next : (old new : Ledger) (e : Event) → new ≡ with_event old e → left_in new ≡ left_to_do old.problem (after (state_of old) e)
+left_next old new e is =
+    ap (λ (b : Ledger). left_to_do b.problem (state_of new)) is ∙ ap (λ (s : State). left_to_do old.problem s) (state_next old new e is)
+
+pub delivered_less : EndsLaw → (old new : Ledger) (id : ℕ) (batch : LemmaBatch) (outcome : Outcome) → IsRun old.problem old.journal → IsHeldBy (state_of old) id 0 → IsJustifiedIn old.problem (state_of old) id batch outcome → (state_of old).found ≡ None → new ≡ with_event old (Deliver 0 id batch outcome) → left_in new < left_in old
+delivered_less ends old new id batch outcome run held justified none is =
+    let less = ends old.problem old.journal (Deliver 0 id batch outcome) run (held, justified) none in
+    omega (arith, less, left_next old new (Deliver 0 id batch outcome) is)
+
+pub taken_less : EndsLaw → (old taken new : Ledger) (id : ℕ) → IsRun old.problem old.journal → Records old (Take 0 (Cube id)) taken → left_in new < left_in taken → left_in new < left_in old
+taken_less ends old taken new id run r less =
+    let same = ends old.problem old.journal (Take 0 (Cube id)) run r.0 r.0.0 in
+    omega (arith, less, same, left_next old taken (Take 0 (Cube id)) r.1)
 
 pub waiting_done : (problem : Problem) (old new : Ledger) → IsWaiting problem old → new ≡ with_event old (Take 0 Done) → IsWaiting problem new
 waiting_done problem old new w e =

@@ -42,4 +42,5 @@ with_unit base l number =
 -- its literals are within the limits where those of the clauses are
 abbrev pub BaseIsOver : List (List Literal) → Base → Type 0
 BaseIsOver clauses base =
-    (points : ℕ) → All (λ (c : List Literal). All (IsOver points) c) clauses → All (IsOver points) base.literals
+    (points : ℕ) → All (λ (c : List Literal). All (IsOver points) c) clauses
+    → All (IsOver points) base.literals

@@ -1,5 +1,5 @@
 -- Of the code and not of the meaning: from a slice's answer to a delivery, and from one turn to the next.
-use Rattle.std.specs.Prelude.{◌≡◌, ◌<◌, ◌≤◌, ◌^◌, ℕ, List, [], map, length, Bool, true, false, Option, Some, None}
+use Rattle.std.specs.Prelude.{◌≡◌, ◌<◌, ℕ, List, map, Bool, Option, Some, None}
 use Rattle.stn_core.specs.declared.literal.Literal.{Literal}
 use Rattle.stn_core.specs.declared.problem.Problem.{Problem}
 use Rattle.refute_tree.specs.declared.lemma.Lemma.{Lemma}
@@ -13,23 +13,26 @@ use Rattle.book_core.specs.declared.event.Outcome.{Outcome}
 use Rattle.book_core.specs.declared.event.Event.TheVariants.{Deliver}
 use Rattle.book_core.specs.Books.{IsJustified, IsDone}
 use Rattle.book_core.specs.Runs.{Ledger, state_of, with_event}
+use Rattle.book_core.specs.Ends.{left_in}
 
 -- the delivery is justified wherever the slice is an answer
 abbrev pub Delivers : Slice → LemmaBatch → Outcome → Type 0
 Delivers slice batch outcome =
     (problem : Problem) (lemmas : List Lemma) (cube : List Literal)
-    → IsSlice (question_of problem (map stated lemmas) cube) slice → IsJustified problem lemmas cube batch outcome
+    → IsSlice (question_of problem (map stated lemmas) cube) slice
+    → IsJustified problem lemmas cube batch outcome
 
 -- the leaf's seat, number 0, delivered something
 abbrev pub IsDelivered : Ledger → ℕ → Ledger → Type 0
-IsDelivered old id new = (batch : LemmaBatch) × (outcome : Outcome) × (new ≡ with_event old (Deliver 0 id batch outcome))
+IsDelivered old id new =
+    (batch : LemmaBatch) × (outcome : Outcome) × (new ≡ with_event old (Deliver 0 id batch outcome))
 
 -- the book has the problem, and no leaf is Held
 pub record IsWaiting (problem : Problem) (b : Ledger) : Type 0 where
   pub problem_is : b.problem ≡ problem
   pub none_held : NoneHeld (state_of b).cover
 
--- after a turn the journal is longer, or nothing is left to do
+-- after a turn less is left to do, or nothing
 abbrev pub Advances : Ledger → Ledger → Option Bool → Type 0
 Advances old new None = IsDone (state_of new)
-Advances old new (Some divided) = (length old.journal < length new.journal) × (length new.journal ≤ 2 ^ 64)
+Advances old new (Some divided) = left_in new < left_in old

@@ -10,8 +10,8 @@ use refute_tree::{Lemma, Refutation, Steps};
 use std::alloc::{AllocError, Global};
 use stn_core::{Clause, Greatest, Literal, Problem, greatest};
 
-/// A schedule, where the greatest one of the clauses with one literal makes all clauses hold, or a refutation, where
-/// these clauses have no schedule.
+/// A schedule, where the greatest one of the clauses with one literal makes all clauses hold, or a
+/// refutation, where these clauses have no schedule.
 pub(crate) fn decide_units(alloc: Global, problem: &Problem) -> Result<Option<Verdict>, AllocError>
     ensures { IfOk result (λ o. IfSome o (IsRight problem.now)) }
 {

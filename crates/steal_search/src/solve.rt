@@ -1,8 +1,9 @@
 //! The turns of one worker.
-ghost use Rattle.std.specs.Prelude.{◌≡◌, ◌<◌, ◌^◌, [], length, IfOk, OnOk};
+ghost use Rattle.std.specs.Prelude.{◌≡◌, ◌<◌, [], IfOk, OnOk, None};
 ghost use Rattle.cover_tree.specs.Covers.{cube_at};
 ghost use Rattle.book_core.specs.Books.{IsHeldBy};
 ghost use Rattle.book_core.specs.Runs.{state_of};
+ghost use Rattle.book_core.specs.Ends.{left_in};
 ghost use Rattle.book_core.specs.Verdicts.{IsRight};
 ghost use Rattle.steal_search.specs.Deliveries.{IsDelivered, IsWaiting, Advances};
 
@@ -28,14 +29,17 @@ fn work(
     budget: u64,
 ) -> Result<bool, AllocError>
     requires held { IsHeldBy (state_of book.old) id 0 }
+    requires unfound { (state_of book.old).found ≡ None }
     requires cube { cube.now ≡ cube_at (state_of book.old).cover id }
     requires points { net.old.points ≡ book.old.problem.points }
     requires empty { net.old.literals ≡ [] }
     ensures points { net.new.points ≡ net.old.points }
     ensures literals { net.new.literals ≡ [] }
     ensures delivered { OnOk result (IsDelivered book.old id book.new) }
+    ensures less { OnOk result (left_in book.new < left_in book.old) }
 {
     book.sound();
+    book_core::ends_law();
     let lemmas = book.lemmas();
     let found = searcher.slice(alloc, book.problem(), &lemmas, cube, budget, net)?;
     let delivery = delivery_of(found)?;
@@ -46,8 +50,8 @@ fn work(
     }
 }
 
-/// One turn: a cube is taken and worked on. The answer says whether it was divided, and is `None` where nothing is left
-/// to do.
+/// One turn: a cube is taken and worked on. The answer says whether it was divided, and is `None` where
+/// nothing is left to do.
 fn turn(
     alloc: Global,
     problem: &Problem,
@@ -64,6 +68,8 @@ fn turn(
     ensures literals { net.new.literals ≡ [] }
     ensures advances { IfOk result (Advances book.old book.new) }
 {
+    book.sound();
+    book_core::ends_law();
     match book.take(0)? {
         Answer::Cube(id, cube) => {
             let divided = work(alloc, searcher, book, net, id, cube.as_slice(), budget)?;
@@ -108,9 +114,10 @@ fn search(alloc: Global, problem: &Problem, budget: u64) -> Result<Verdict, Allo
     }
 }
 
-/// Decides the problem by slices of search, one after the other: a cube that isn't decided within the slice's budget of
-/// adds is divided, and the next slice gets twice the last budget, up to 1,000,000. It returns on every problem. The one
-/// error is want of memory.
+/// Decides the problem by slices of search, one after the other: a cube that isn't decided within the slice's
+/// budget of adds is divided, and the next slice gets twice the last budget, up to 1,000,000. It returns on
+/// every problem, since each split decides one more atom of its cube (`book_core::ends_law`). The one error
+/// is want of memory.
 pub fn solve_one(alloc: Global, problem: &Problem, budget: u64) -> Result<Verdict, AllocError>
     ensures { IfOk result (IsRight problem.now) }
 {

@@ -7,7 +7,8 @@ use std::alloc::{AllocError, Global};
 use std::marker::Model;
 use stn_core::{Clause, Literal};
 
-/// The different literals of the clauses with one literal, in order, each with the number of the first such clause.
+/// The different literals of the clauses with one literal, in order, each with the number of the first such
+/// clause.
 #[derive(Drop)]
 pub struct Units {
     literals: IndexSet<Literal>,

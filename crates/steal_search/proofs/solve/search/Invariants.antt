@@ -1,4 +1,5 @@
-use Rattle.std.proofs.Common.{◌≡◌, ◌≤◌, ◌-◌, ◌^◌, [], length}
+use Rattle.std.proofs.Common.{◌≡◌, []}
+use Rattle.book_core.specs.Ends.{left_in}
 use Rattle.steal_search.specs.Deliveries.{IsWaiting}
 use Rattle.steal_search.proofs.solve.search.Given as goal
 
@@ -7,8 +8,8 @@ invariant-turns l = record {
   waiting : IsWaiting l.problem l.book;
   points : l.net.points ≡ l.problem.points;
   literals : l.net.literals ≡ [];
-  small : length l.book.journal ≤ 2 ^ 64;
 }
 
+-- each turn but the last leaves less to do
 abbrev pub decreases-turns : goal.decreases-turns
-decreases-turns l = 2 ^ 64 - length l.book.journal
+decreases-turns l = left_in l.book

@@ -1,4 +1,4 @@
-use Rattle.steal_search.proofs.Waiting.{cube_taken, done_taken, taken_held, same_cube, waiting_on, advanced, waiting_done, done_is}
+use Rattle.steal_search.proofs.Waiting.{cube_taken, done_taken, taken_held, same_cube, waiting_on, taken_less, unfound_taken, waiting_done, done_is}
 use Rattle.steal_search.proofs.solve.turn.Goals as goal
 
 pub work-requires-clause-held : goal.work-requires-clause-held
@@ -19,7 +19,12 @@ returns-in_ok-divided-in-Cube-clause-waiting c =
 pub returns-in_ok-divided-in-Cube-clause-advances : goal.returns-in_ok-divided-in-Cube-clause-advances
 returns-in_ok-divided-in-Cube-clause-advances c =
     let t = cube_taken c.args.book.now c.take.new.self c.in_ok-id.field-0 c.in-Cube.id c.in-Cube.cube c.in-Cube.is c.in_ok-id.ensures.ok in
-    advanced c.args.book.now c.take.new.self c.work.new.book c.in-Cube.id c.in-Cube.id t.0.1 c.in_ok-divided-in-Cube.ensures.delivered c.in_ok-id.ensures.small
+    taken_less c.ends_law.ensures.ends c.args.book.now c.take.new.self c.work.new.book c.in-Cube.id c.sound.ensures.run t.0 c.in_ok-divided-in-Cube.ensures.less
+
+pub work-requires-clause-unfound : goal.work-requires-clause-unfound
+work-requires-clause-unfound c =
+    let t = cube_taken c.args.book.now c.take.new.self c.in_ok-id.field-0 c.in-Cube.id c.in-Cube.cube c.in-Cube.is c.in_ok-id.ensures.ok in
+    unfound_taken c.args.book.now c.take.new.self c.in-Cube.id t.0.1 t.0.0.0
 
 pub returns-in-Done-clause-waiting : goal.returns-in-Done-clause-waiting
 returns-in-Done-clause-waiting c =
