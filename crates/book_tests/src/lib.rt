@@ -1,14 +1,10 @@
-//! A plain program that decides whether a delivery is justified, and short runs of a book with ample memory.
+//! Short runs of a book with ample memory, and deliveries that are judged.
 #![tactic(auto)]
 
 #[cfg(test)]
-mod judge;
-#[cfg(test)]
-mod limits;
-#[cfg(test)]
 mod moves;
 #[cfg(test)]
-mod outcomes;
+mod runs;
 #[cfg(test)]
 mod solving;
 #[cfg(test)]

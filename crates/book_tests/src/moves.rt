@@ -57,7 +57,8 @@ fn cited(step: Option<StepView<'_>>) -> usize {
     }
 }
 
-/// What the second lemma of a batch of two cites, which was made over two lemmas and cited 1 and 2, after its move.
+/// What the second lemma of a batch of two cites, which was made over two lemmas and cited 1 and 2, after its
+/// move.
 fn moved_to(alloc: Global, base: usize) -> Result<Option<(usize, usize)>, AllocError> {
     let lemmas = vec![in alloc; citing(alloc, 0, 1)?, citing(alloc, 1, 2)?]?;
     let mut batch = Batch::new(2, lemmas);

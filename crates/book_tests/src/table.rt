@@ -1,18 +1,19 @@
-//! Deliveries on a new book of x < y and y < x whose cube without literals is held, and what is wrong with them.
-use crate::judge::{Fault, judge};
+//! Deliveries on a new book of x < y and y < x whose cube without literals is held, and what is wrong with
+//! them.
 use book_core::Outcome;
+use book_judge::{Fault, judge};
 use refute_tree::{Batch, Lemma, Steps};
 use std::alloc::{AllocError, Global};
 use std::sync::Arc;
 use std::test::Fail;
 use stn_core::{Clause, Clauses, Literal, Problem, Schedule};
 
-const X_BEFORE_Y: Literal = Literal { x: 1, y: 2, c: -1 };
+pub(crate) const X_BEFORE_Y: Literal = Literal { x: 1, y: 2, c: -1 };
 
-const Y_BEFORE_X: Literal = Literal { x: 2, y: 1, c: -1 };
+pub(crate) const Y_BEFORE_X: Literal = Literal { x: 2, y: 1, c: -1 };
 
 /// x < y and y < x, where x is point 1 and y is point 2.
-fn two_orders(alloc: Global) -> Result<Problem, AllocError> {
+pub(crate) fn two_orders(alloc: Global) -> Result<Problem, AllocError> {
     let first = Clause::new([X_BEFORE_Y].to_vec(alloc)?);
     let second = Clause::new([Y_BEFORE_X].to_vec(alloc)?);
     let clauses = Clauses::new(vec![in alloc; first, second]?);

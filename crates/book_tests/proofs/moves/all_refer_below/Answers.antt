@@ -1,6 +1,6 @@
 use Rattle.std.proofs.Common.{subst, refl}
 use Rattle.refute_tree.specs.Batches.{LemmaRefersBelow}
-use Rattle.book_tests.proofs.Judged.{all_more, all_end}
+use Rattle.book_judge.proofs.Judged.{all_more, all_end}
 use Rattle.book_tests.proofs.moves.all_refer_below.Goals as goal
 
 pub loop-lemma-preserved : goal.loop-lemma-preserved

@@ -1,0 +1,123 @@
+//! Whether a delivery is justified, and the first thing that is wrong where it isn't.
+ghost use Rattle.std.specs.Prelude.{◌≡◌, ◌≤◌, ◌++◌, [], ◌∷◌, length, map, take, IfOk, OnOk, All};
+ghost use Rattle.refute_tree.specs.Trees.{IsRefuted, stated};
+ghost use Rattle.refute_tree.specs.Batches.{AreRefuted, LemmaIsOver};
+ghost use Rattle.book_core.specs.Books.{IsJustified};
+ghost use Rattle.book_core.specs.Shared.{lemmas_of, clauses_of};
+
+use crate::limits::lemma_over;
+use crate::outcomes::check_outcome;
+use book_core::Outcome;
+use cert_check::{CheckError, FlawKind, check_lemma};
+use refute_tree::{Batch, Lemma};
+use std::alloc::{AllocError, Global};
+use std::sync::Arc;
+use stn_core::{Literal, Problem};
+
+/// What is wrong with a delivery.
+#[derive(Clone, Copy, Debug, PartialEq, Eq)]
+pub enum Fault {
+    /// The batch was made over more lemmas than there are.
+    NoSuchClause,
+    BoundOutOfRange,
+    NotRefuted(FlawKind),
+    NotASchedule,
+    DoesNotExclude,
+    AlreadyDecided,
+    OutOfMemory,
+}
+
+impl From<AllocError> for Fault {
+    fn from(_failed: AllocError) -> Self {
+        Fault::OutOfMemory
+    }
+}
+
+/// The first so many lemmas, shared.
+fn first_lemmas(
+    alloc: Global,
+    lemmas: &[Arc<Lemma>],
+    count: usize,
+) -> Result<Vec<Arc<Lemma>>, AllocError>
+    requires { count ≤ length lemmas.now }
+    ensures { IfOk result (λ known. lemmas_of known.items ≡ take count (lemmas_of lemmas.now)) }
+{
+    let mut known = Vec::with_capacity(alloc, count)?;
+    for lemma in &lemmas[..count] {
+        known.push(Arc::new(alloc, lemma.copy(alloc)?)?)?;
+    }
+    Ok(known)
+}
+
+fn add_lemma(
+    alloc: Global,
+    problem: &Problem,
+    known: &mut Vec<Arc<Lemma>>,
+    lemma: &Lemma,
+) -> Result<(), Fault>
+    ensures known { OnOk result (lemmas_of known.new.items ≡ lemmas_of known.old.items ++ lemma.now ∷ []) }
+    ensures over { OnOk result (LemmaIsOver problem.now.points lemma.now) }
+    ensures refuted { OnOk result
+        (IsRefuted problem.now.points problem.now.clauses (clauses_of known.old.items) lemma.now) }
+{
+    if !lemma_over(problem.points, lemma) {
+        return Err(Fault::BoundOutOfRange);
+    }
+    match check_lemma(alloc, problem, &known.as_slice(), lemma) {
+        Ok(()) => {}
+        Err(CheckError::Refused(flaw)) => return Err(Fault::NotRefuted(flaw.kind)),
+        Err(CheckError::OutOfMemory) => return Err(Fault::OutOfMemory),
+    }
+    let copy = lemma.copy(alloc)?;
+    match Arc::new(alloc, copy) {
+        Ok(shared) => push(known, shared),
+        Err(_) => Err(Fault::OutOfMemory),
+    }
+}
+
+fn push(known: &mut Vec<Arc<Lemma>>, lemma: Arc<Lemma>) -> Result<(), Fault>
+    ensures { OnOk result (known.new.items ≡ known.old.items ++ lemma ∷ []) }
+{
+    match known.push(lemma) {
+        Ok(()) => Ok(()),
+        Err(_) => Err(Fault::OutOfMemory),
+    }
+}
+
+fn add_lemmas(
+    alloc: Global,
+    problem: &Problem,
+    known: &mut Vec<Arc<Lemma>>,
+    lemmas: &[Lemma],
+) -> Result<(), Fault>
+    ensures known { OnOk result (lemmas_of known.new.items ≡ lemmas_of known.old.items ++ lemmas.now) }
+    ensures over { OnOk result (All (LemmaIsOver problem.now.points) lemmas.now) }
+    ensures refuted { OnOk result
+        (AreRefuted problem.now.points problem.now.clauses
+        (map stated (lemmas_of known.old.items)) lemmas.now) }
+{
+    for lemma in lemmas {
+        add_lemma(alloc, problem, known, lemma)?;
+    }
+    Ok(())
+}
+
+/// Whether the delivery is justified over these lemmas, of this cube.
+pub fn judge(
+    alloc: Global,
+    problem: &Problem,
+    lemmas: &[Arc<Lemma>],
+    cube: &[Literal],
+    batch: &Batch,
+    outcome: &Outcome,
+) -> Result<(), Fault>
+    ensures { OnOk result (IsJustified problem.now (lemmas_of lemmas.now) cube.now batch.now outcome.now) }
+{
+    if batch.seen() > lemmas.len() {
+        return Err(Fault::NoSuchClause);
+    }
+    let mut known = first_lemmas(alloc, lemmas, batch.seen())?;
+    add_lemmas(alloc, problem, &mut known, batch.lemmas())?;
+    check_outcome(problem, known.as_slice(), cube, outcome)?;
+    Ok(())
+}
