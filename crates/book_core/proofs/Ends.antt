@@ -1,6 +1,6 @@
 -- Each delivery leaves less to do.
 use Rattle.std.proofs.Common.{arith, ◌≡◌, ℕ, zero, suc, ◌<◌, ◌≤◌, ◌+◌, ◌-◌, ◌⊎◌, inl, inr, List, [], ◌∷◌, ◌++◌, length, flat_map, get_or, set, Option, Some, None, All, Contains, ℤ, refl, sym, ap, ◌∙◌, subst, length-append}
-use Rattle.std.specs.Prelude.{slice_get, AllPairs}
+use Rattle.std.specs.Prelude.{slice_get, AllPairs, IsSome}
 use Rattle.std.proofs.lemmas.List.{length-set}
 use Rattle.std.proofs.lemmas.List.Elements.{Contains-append_cases, Contains-append_left, Contains-append_right, All-weaker}
 use Rattle.std.proofs.lemmas.Option.{slice_get_within}
@@ -17,10 +17,12 @@ use Rattle.book_core.specs.declared.event.Event.TheVariants.{Take, Deliver, Rele
 use Rattle.book_core.specs.declared.event.Taken.TheVariants.{Done, Idle, Cube}
 use Rattle.book_core.specs.declared.event.Outcome.TheVariants.{Found, Shut as ShutBy, Split as SplitBy}
 use Rattle.refute_tree.specs.Moves.{moved_number}
-use Rattle.book_core.specs.Books.{State, IsAtom, IsDecidable, IsAllowed, after, first_found}
+use Rattle.refute_tree.specs.Batches.{MovedBatchLaw, JoinedLaw}
+use Rattle.book_core.specs.Books.{State, opening, IsAtom, IsDecidable, IsAllowed, after, first_found}
 use Rattle.book_core.specs.Facts.{IsApart, IsSound}
-use Rattle.book_core.specs.Ends.{all_literals, most_nodes, nodes_at, nodes_left, schedules_left, left_to_do, Leaves}
-use Rattle.book_core.proofs.Sound.{negation_twice}
+use Rattle.book_core.specs.Runs.{IsRun, IsRunFrom, replayed, replayed_from}
+use Rattle.book_core.specs.Ends.{all_literals, most_nodes, nodes_at, nodes_left, schedules_left, left_to_do, Leaves, deliveries}
+use Rattle.book_core.proofs.Sound.{negation_twice, found_stays, not_some, event_sound, opening_sound}
 
 -- a list at one of its items
 record Parted {A : Type 0} (xs : List A) (x : A) : Type 0 where
@@ -166,3 +168,39 @@ leaves problem s (Deliver seat id batch (SplitBy l)) h now a none =
     let longer : length (cube_at (divided s.cover id l) (length s.cover.nodes)) ≤ most = short problem (after s (Deliver seat id batch (SplitBy l))) now (length s.cover.nodes) in
     let count : length (cube_at (divided s.cover id l) (length s.cover.nodes)) ≡ length (cube_at s.cover id) + 1 = ap (λ (p : List Literal). length p) (cube_first s.cover id l long) ∙ length-append (cube_at s.cover id) (l ∷ []) in
     omega (arith, left_divided most s.cover id long (Held seat) a.0 l (omega (arith, longer, count)) refl)
+
+found_after : (s : State) (e : Event) → IsSome s.found → IsSome (after s e).found
+found_after s (Take seat taken) h = h
+found_after s (Deliver seat id batch outcome) h = found_stays s outcome h
+found_after s (Release seat id) h = h
+
+-- no schedule was found before either
+unfound_before : (s : State) (e : Event) → (after s e).found ≡ None → s.found ≡ None
+unfound_before s e none = by s.found refl
+  where
+    by : (o : Option (List ℤ)) → s.found ≡ o → o ≡ None
+    by None is = refl
+    by (Some values) is = absurd (not_some (after s e).found none (found_after s e (subst IsSome (sym is) refl)))
+
+-- from the start of a run to its end
+unfound_start : (s : State) (events : List Event) → (replayed_from s events).found ≡ None → s.found ≡ None
+unfound_start s [] none = none
+unfound_start s (e ∷ events) none = unfound_before s e (unfound_start (after s e) events none)
+
+counted : (e : Event) (events : List Event) (before now end : ℕ) → Leaves e before now → deliveries events + end ≤ now → deliveries (e ∷ events) + end ≤ before
+counted (Take seat taken) events before now end l h = omega (arith, l, h)
+counted (Deliver seat id batch outcome) events before now end l h = omega (arith, l, h)
+counted (Release seat id) events before now end l h = omega (arith, l, h)
+
+module _ (problem : Problem) (moved_batch : MovedBatchLaw) (joined : JoinedLaw) where
+  few_from : (s : State) (events : List Event) → IsSound problem s → IsRunFrom problem s events → (replayed_from s events).found ≡ None
+      → deliveries events + left_to_do problem (replayed_from s events) ≤ left_to_do problem s
+  few_from s [] h r none = omega arith
+  few_from s (e ∷ events) h r none =
+      let next = event_sound problem moved_batch joined s e h r.0 in
+      let first = leaves problem s e h next r.0 (unfound_start s (e ∷ events) none) in
+      let later = few_from (after s e) events next r.1 none in
+      counted e events (left_to_do problem s) (left_to_do problem (after s e)) (left_to_do problem (replayed_from (after s e) events)) first later
+
+  pub few : (events : List Event) → IsRun problem events → (replayed events).found ≡ None → deliveries events + left_to_do problem (replayed events) ≤ left_to_do problem opening
+  few events r none = few_from opening events (opening_sound problem moved_batch joined) r none

@@ -219,12 +219,12 @@ some_first : (found : Option (List ℤ)) (values : List ℤ) → IsSome (first_f
 some_first None values = refl
 some_first (Some first) values = refl
 
-found_stays : (s : State) (outcome : Outcome) → IsSome s.found → IsSome (found_delivered s.found outcome)
+pub found_stays : (s : State) (outcome : Outcome) → IsSome s.found → IsSome (found_delivered s.found outcome)
 found_stays s (Found values) h = some_first s.found values
 found_stays s (ShutBy j) h = h
 found_stays s (SplitBy l) h = h
 
-not_some : (found : Option (List ℤ)) → found ≡ None → IsSome found → ⊥
+pub not_some : (found : Option (List ℤ)) → found ≡ None → IsSome found → ⊥
 not_some None e h = absurd cc
 not_some (Some v) e h = absurd cc
 

@@ -7,7 +7,7 @@ use Rattle.cover_tree.specs.declared.node.Node.TheVariants.{Free, Held, Shut, Sp
 use Rattle.cover_tree.specs.Covers.{cube_at}
 use Rattle.book_core.specs.declared.event.Event.{Event}
 use Rattle.book_core.specs.declared.event.Event.TheVariants.{Take, Deliver, Release}
-use Rattle.book_core.specs.Books.{State, IsAllowed, after}
+use Rattle.book_core.specs.Books.{State, opening, IsAllowed, after}
 use Rattle.book_core.specs.Runs.{IsRun, replayed, Ledger, state_of}
 
 -- the literals of all clauses
@@ -36,7 +36,7 @@ abbrev pub schedules_left : Option (List ℤ) → ℕ
 schedules_left None = 1
 schedules_left (Some values) = 0
 
--- so many deliveries may come at most until Done
+-- so many deliveries may come at most until a schedule is found or all leaves are Shut
 abbrev pub left_to_do : Problem → State → ℕ
 left_to_do problem s =
     schedules_left s.found + nodes_left (length (all_literals problem)) s.cover.paths s.cover.nodes
@@ -63,3 +63,16 @@ EndsLaw =
     (problem : Problem) (events : List Event) (e : Event)
     → IsRun problem events → IsAllowed problem (replayed events) e → (replayed events).found ≡ None
     → Leaves e (left_to_do problem (replayed events)) (left_to_do problem (after (replayed events) e))
+
+-- how many deliveries there were
+abbrev pub deliveries : List Event → ℕ
+deliveries [] = 0
+deliveries (Take seat taken ∷ events) = deliveries events
+deliveries (Deliver seat id batch outcome ∷ events) = 1 + deliveries events
+deliveries (Release seat id ∷ events) = deliveries events
+
+-- so a run that has found no schedule has few deliveries
+abbrev pub FewLaw : Type 0
+FewLaw =
+    (problem : Problem) (events : List Event) → IsRun problem events → (replayed events).found ≡ None
+    → deliveries events + left_to_do problem (replayed events) ≤ left_to_do problem opening

@@ -1,6 +1,6 @@
 //! Laws of runs, of their definitions alone.
 ghost use Rattle.book_core.specs.Facts.{SoundLaw, DividedLaw, DoneKeptLaw};
-ghost use Rattle.book_core.specs.Ends.{ShortLaw, EndsLaw};
+ghost use Rattle.book_core.specs.Ends.{ShortLaw, EndsLaw, FewLaw};
 
 /// What always holds, holds after every run: the leaves are a cover, each literal of a cube is decided once,
 /// each lemma is refuted over the problem and those before it and within the limits, the lemma of each shut
@@ -29,6 +29,7 @@ pub fn done_kept_law()
 pub fn ends_law()
     ensures short { ShortLaw }
     ensures ends { EndsLaw }
+    ensures few { FewLaw }
 {
     refute_tree::moved_batch_law();
     refute_tree::joined_law();
