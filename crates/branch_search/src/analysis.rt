@@ -11,6 +11,7 @@ use crate::entry::{Conflict, Entry, Level, Reason, Role};
 use crate::marking::{Marks, mark_back, need_conflict};
 use crate::places::Places;
 use crate::reading::named;
+use crate::redundancy::Redundancy;
 use crate::roots::is_cited;
 use crate::spine::steps_for;
 use crate::tables::{Tables, Unmarked, unmark};
@@ -63,6 +64,8 @@ fn begin(
     ensures passed { IfOk result (λ marks. marks.passed.items ≡ []) }
 {
     let unmarked = mem::replace(&mut tables.unmarked, Unmarked::new(alloc));
+    let mut redundancy = mem::replace(&mut tables.redundancy, Redundancy::new(alloc));
+    redundancy.begin(trail.len())?;
     Ok(Marks {
         roles: unmarked.into_roles(trail.len())?,
         waiting: Places::new(alloc),
@@ -70,10 +73,22 @@ fn begin(
         start: trail.len(),
         open: 0,
         root: root_end(trail, levels),
+        redundancy,
     })
 }
 
-// The literals on which the conflict rests are more active than they were, and so are the clauses.
+fn is_resolved(marks: &Marks, k: usize) -> bool {
+    matches!(marks.roles.get(k), Some(Role::Resolved))
+}
+
+fn bump_reason(entry: &Entry, guide: &mut Guide) {
+    if let Reason::Clause(source, _) = &entry.reason {
+        guide.bump_clause(named(*source));
+    }
+}
+
+// The literals on which the conflict rests are more active than they were, but those that it rests on for the sake of fewer
+// literals in the clause. So are the clauses up to the implication point.
 fn bump_used(trail: &[Entry], marks: &Marks, guide: &mut Guide, conflict: &Conflict) {
     if let Conflict::Clause(source) = conflict {
         guide.bump_clause(named(*source));
@@ -82,9 +97,11 @@ fn bump_used(trail: &[Entry], marks: &Marks, guide: &mut Guide, conflict: &Confl
         if *k < marks.root || trail.len() <= *k {
             return;
         }
-        guide.bump(trail[*k].number);
-        if let Reason::Clause(source, _) = &trail[*k].reason {
-            guide.bump_clause(named(*source));
+        if !marks.redundancy.is_inner(*k) {
+            guide.bump(trail[*k].number);
+        }
+        if marks.start <= *k && is_resolved(marks, *k) {
+            bump_reason(&trail[*k], guide);
         }
     }
 }
@@ -152,6 +169,7 @@ pub fn analyze<E: Earlier>(
         conflict,
     )?;
     tables.unmarked = unmark(marks.roles, &marks.passed);
+    tables.redundancy = marks.redundancy;
     Ok(Lemma {
         clause: Clause::new(clause),
         steps,

@@ -20,6 +20,7 @@ mod model;
 mod places;
 mod propagate;
 mod reading;
+mod redundancy;
 mod roots;
 mod search;
 mod slicing;

@@ -4,12 +4,12 @@ ghost use Rattle.stn_core.specs.declared.literal.Literal.{Literal as Bound};
 ghost use Rattle.stn_core.specs.Literal.{negation_of};
 ghost use Rattle.branch_search.specs.Trails.{literal_at, Stands, StandsUsed, IsMarkedMore, IsTrail, IsClosed};
 ghost use Rattle.branch_search.specs.Trails.{role_at, IsUsed, IsConflict, IsTurned, IsMarked};
-ghost use Rattle.branch_search.specs.Spines.{IsNamed, AreNamed};
 ghost use Rattle.branch_search.specs.Places.{AreWaiting, KeepsWaiting, ArePassed};
 
 use crate::entry::{Conflict, Entry, Level, Reason, Role, Source};
 use crate::places::Places;
 use crate::reading::{clause_of, denial_place, is_same, literal_place, place_of};
+use crate::redundancy::Redundancy;
 use refute_tree::Earlier;
 use search_guide::Guide;
 use std::alloc::AllocError;
@@ -29,6 +29,8 @@ pub struct Marks {
     pub open: usize,
     /// below which place the root's literals stand, which are all resolved
     pub root: usize,
+    /// which of the kept literals follow from others
+    pub redundancy: Redundancy,
 }
 
 // The conflict rests on a literal that stands below the place.
@@ -237,11 +239,44 @@ fn begin_at(marks: &mut Marks, levels: &[Level], k: usize)
     marks.open = marks.waiting.count_from(marks.start).saturating_add(1);
 }
 
+// Whether the literal at the place, which stands below the last level, can be resolved without a literal more in the
+// learned clause. Any body is right.
+fn is_redundant(
+    trail: &[Entry],
+    marks: &mut Marks,
+    guide: &Guide,
+    k: usize,
+) -> Result<bool, AllocError>
+    ensures roles { marks.new.roles.items ≡ marks.old.roles.items }
+    ensures waiting { marks.new.waiting ≡ marks.old.waiting }
+    ensures passed { marks.new.passed.items ≡ marks.old.passed.items }
+{
+    if marks.redundancy.has_no_level() {
+        for place in marks.waiting.as_slice() {
+            if let Some(entry) = trail.get(*place) {
+                marks.redundancy.add_level(guide, entry);
+            }
+        }
+        if let Some(entry) = trail.get(k) {
+            marks.redundancy.add_level(guide, entry);
+        }
+    }
+    marks
+        .redundancy
+        .is_redundant(trail, &marks.roles, marks.root, guide, k)
+}
+
 // Whether to resolve a literal that the conflict rests on. Any body is right.
 //
 // The first unique implication point: of the literals on the last level all but one are resolved. So are the root's, which
-// need no place in the clause.
-fn is_to_resolve(marks: &mut Marks, levels: &[Level], k: usize) -> bool
+// need no place in the clause, and those that follow from others.
+fn is_to_resolve(
+    trail: &[Entry],
+    levels: &[Level],
+    marks: &mut Marks,
+    guide: &Guide,
+    k: usize,
+) -> Result<bool, AllocError>
     ensures roles { marks.new.roles.items ≡ marks.old.roles.items }
     ensures waiting { marks.new.waiting ≡ marks.old.waiting }
     ensures passed { marks.new.passed.items ≡ marks.old.passed.items }
@@ -252,50 +287,12 @@ fn is_to_resolve(marks: &mut Marks, levels: &[Level], k: usize) -> bool
     if marks.start <= k {
         let others = marks.open > 1;
         marks.open = marks.open.saturating_sub(1);
-        return others;
+        return Ok(others);
     }
-    k < marks.root
-}
-
-// Whether the conflict rests on the literal at the place, if there is one.
-fn is_used(marks: &Marks, place: Option<usize>) -> bool {
-    match place {
-        Some(k) => k < marks.roles.len() && marks.roles[k] != Role::Unused,
-        None => false,
+    if k < marks.root {
+        return Ok(true);
     }
-}
-
-// Whether it rests on the negations of the clause's literals but the one at the place.
-fn are_used(marks: &Marks, guide: &Guide, source: Source, count: usize, place: usize) -> bool {
-    for q in 0..count {
-        if q != place && !is_used(marks, denial_place(guide, source, q)) {
-            return false;
-        }
-    }
-    true
-}
-
-// Whether the literal can be resolved without a literal more in the learned clause (minimization by marking). Any body is
-// right.
-fn is_redundant<E: Earlier>(
-    problem: &Problem,
-    earlier: &E,
-    entry: &Entry,
-    marks: &Marks,
-    guide: &Guide,
-) -> bool
-    requires { IsNamed problem.now.clauses (E.clauses earlier.now) entry.now.reason }
-{
-    match &entry.reason {
-        Reason::Given => false,
-        Reason::Decision => false,
-        Reason::Clause(source, place) => {
-            let count = clause_of(problem, earlier, *source).len();
-            are_used(marks, guide, *source, count, *place)
-        }
-        Reason::Pair(tighter) => is_used(marks, literal_place(guide, *tighter)),
-        Reason::Cycle(_) => false,
-    }
+    is_redundant(trail, marks, guide, k)
 }
 
 // A turn of the way back over the trail.
@@ -312,7 +309,6 @@ fn turn<E: Earlier>(
     requires count { length trail.now ≤ length marks.old.roles.items }
     requires within { k < length trail.now }
     requires trail { (cube : List Bound) × IsTrail problem.now.clauses (E.clauses earlier.now) cube trail.now }
-    requires named { AreNamed problem.now.clauses (E.clauses earlier.now) trail.now }
     requires closed { IsClosed problem.now.clauses (E.clauses earlier.now) trail.now marks.old.roles.items }
     ensures turned { OnOk result (IsTurned problem.now.clauses (E.clauses earlier.now) trail.now whole k
         marks.old.roles.items marks.new.roles.items) }
@@ -321,8 +317,8 @@ fn turn<E: Earlier>(
     ensures passed { OnOk result (marks.new.passed.items ≡ marks.old.passed.items) }
 {
     if let Role::Kept = marks.roles[k] {
-        let resolves = is_to_resolve(marks, levels, k);
-        if whole || resolves || is_redundant(problem, earlier, &trail[k], marks, guide) {
+        let resolves = is_to_resolve(trail, levels, marks, guide, k)?;
+        if whole || resolves {
             resolve(problem, earlier, trail, marks, guide, k, whole)?;
         }
     }
@@ -341,7 +337,6 @@ pub fn mark_back<E: Earlier>(
 ) -> Result<(), AllocError>
     requires count { length trail.now ≤ length marks.old.roles.items }
     requires trail { (cube : List Bound) × IsTrail problem.now.clauses (E.clauses earlier.now) cube trail.now }
-    requires named { AreNamed problem.now.clauses (E.clauses earlier.now) trail.now }
     requires closed { IsClosed problem.now.clauses (E.clauses earlier.now) trail.now marks.old.roles.items }
     requires waiting { AreWaiting (length trail.now) marks.old.roles.items marks.old.waiting }
     requires passed { ArePassed (length trail.now) (length trail.now) marks.old.roles.items

@@ -53,6 +53,11 @@ impl Places {
         None
     }
 
+    /// All places, in no order.
+    pub fn as_slice(&self) -> &[usize] {
+        self.heap.as_slice()
+    }
+
     /// How many places there are from a place on.
     pub fn count_from(&self, start: usize) -> usize {
         let mut count = 0usize;

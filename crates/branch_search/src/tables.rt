@@ -4,6 +4,7 @@ ghost use Rattle.branch_search.specs.Trails.{role_at, IsUsed};
 ghost use Rattle.branch_search.specs.declared.entry.Role.TheVariants.{Unused};
 
 use crate::entry::Role;
+use crate::redundancy::Redundancy;
 use std::alloc::{AllocError, Global};
 
 /// A table of roles in which no place is used.
@@ -49,12 +50,14 @@ pub fn unmark(mut roles: Vec<Role>, passed: &[usize]) -> Unmarked
 #[derive(Drop)]
 pub struct Tables {
     pub unmarked: Unmarked,
+    pub redundancy: Redundancy,
 }
 
 impl Tables {
     pub fn new(alloc: Global) -> Self {
         Tables {
             unmarked: Unmarked::new(alloc),
+            redundancy: Redundancy::new(alloc),
         }
     }
 }
