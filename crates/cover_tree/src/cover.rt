@@ -28,14 +28,12 @@ pub struct Cover {
 impl Model for Cover {
     ghost use Rattle.cover_tree.specs.Covers.{Cubes};
     ghost use Rattle.cover_tree.specs.Links.{cubes_of, AreTables};
-    ghost use Rattle.cover_tree.specs.Members.{flags};
 
     ghost Value = { Cubes };
 
     ghost view = { λ c. cubes_of c.links.items c.nodes.items };
 
-    ghost invariant = { λ c. AreTables c.links.items c.nodes.items
-        (flags c.free.count c.free.place.items) (flags c.held.count c.held.place.items) c.holds };
+    ghost invariant = { λ c. AreTables c.links.items c.nodes.items c.free.flags c.held.flags c.holds };
 }
 
 impl Cover {

@@ -1,23 +1,37 @@
 //! A set of numbers that gives a member, and takes one in or out, in constant time.
-ghost use Rattle.std.specs.Prelude.{◌≡◌, ◌≢◌, ◌<◌, ◌≤◌, ◌+◌, ◌-◌, [], ◌∷◌, ◌++◌, true, false, length, vec_len, vec_capacity, Some, IfOk, OnOk, OnErr, IfSome, IfNone, slice_get, slice_set};
-ghost use Rattle.cover_tree.specs.Members.{AreInverse, IsSet, IsMember, NoMember, flags, order_with, place_with};
+ghost use Rattle.std.specs.Prelude.{◌≡◌, ◌<◌, ◌≤◌, ◌+◌, [], ◌∷◌, ◌++◌, true, false, length, Some, OnOk, IfSome, IfNone, slice_get, slice_set};
+ghost use Rattle.cover_tree.specs.Members.{AreInverse, IsMember, NoMember, order_with, place_with};
 
 use std::alloc::{AllocError, Global};
+use std::marker::Model;
 
 /// A set of numbers below a bound: `order` lists all of them, the `count` members first, and `place` says
 /// where each stands. To add or remove one, two numbers change places.
 #[derive(Drop)]
 pub(crate) struct Members {
-    pub(crate) order: Vec<usize>,
-    pub(crate) place: Vec<usize>,
-    pub(crate) count: usize,
-    ghost kept: { IsSet count order.items place.items },
+    order: Vec<usize>,
+    place: Vec<usize>,
+    count: usize,
+}
+
+impl Model for Members {
+    ghost use Rattle.std.specs.Prelude.{◌-◌, min, vec_len, vec_capacity};
+    ghost use Rattle.cover_tree.specs.Members.{NumberSet, IsSet, flags};
+
+    ghost Value = { NumberSet };
+
+    ghost view = { λ m. record {
+      flags = flags m.count m.place.items;
+      room = min (vec_capacity m.order - vec_len m.order) (vec_capacity m.place - vec_len m.place);
+    } };
+
+    ghost invariant = { λ m. IsSet m.count m.order.items m.place.items };
 }
 
 impl Members {
     /// Nothing, below the bound 0.
     pub(crate) fn new(alloc: Global) -> Self
-        ensures { flags result.count result.place.items ≡ [] }
+        ensures { result.flags ≡ [] }
     {
         Members {
             order: Vec::new(alloc),
@@ -28,8 +42,8 @@ impl Members {
 
     /// The member that came in last, where none was taken out since.
     pub(crate) fn any(&self) -> Option<usize>
-        ensures some { IfSome result (IsMember (flags self.now.count self.now.place.items)) }
-        ensures none { IfNone result (NoMember (flags self.now.count self.now.place.items)) }
+        ensures some { IfSome result (IsMember self.now.flags) }
+        ensures none { IfNone result (NoMember self.now.flags) }
     {
         if self.count == 0 {
             return None;
@@ -39,10 +53,8 @@ impl Members {
 
     /// Room for so many more numbers.
     pub(crate) fn reserve(&mut self, more: usize) -> Result<(), AllocError>
-        ensures flags { flags self.new.count self.new.place.items
-            ≡ flags self.old.count self.old.place.items }
-        ensures room { OnOk result ((vec_len self.new.order + more ≤ vec_capacity self.new.order)
-            × (vec_len self.new.place + more ≤ vec_capacity self.new.place)) }
+        ensures flags { self.new.flags ≡ self.old.flags }
+        ensures room { OnOk result (more ≤ self.new.room) }
     {
         self.order.reserve(more)?;
         self.place.reserve(more)
@@ -50,14 +62,9 @@ impl Members {
 
     /// The bound rises by one.
     pub(crate) fn push_reserved(&mut self)
-        requires order { vec_len self.old.order < vec_capacity self.old.order }
-        requires place { vec_len self.old.place < vec_capacity self.old.place }
-        ensures flags { flags self.new.count self.new.place.items
-            ≡ flags self.old.count self.old.place.items ++ false ∷ [] }
-        ensures order_room { (vec_capacity self.new.order ≡ vec_capacity self.old.order)
-            × (vec_len self.new.order ≡ vec_len self.old.order + 1) }
-        ensures place_room { (vec_capacity self.new.place ≡ vec_capacity self.old.place)
-            × (vec_len self.new.place ≡ vec_len self.old.place + 1) }
+        requires { 0 < self.old.room }
+        ensures flags { self.new.flags ≡ self.old.flags ++ false ∷ [] }
+        ensures room { self.new.room + 1 ≡ self.old.room }
     {
         let number = self.place.len();
         self.order.push_reserved(number);
@@ -66,9 +73,8 @@ impl Members {
 
     /// The number becomes a member.
     pub(crate) fn insert(&mut self, k: usize)
-        requires { slice_get (flags self.old.count self.old.place.items) k ≡ Some false }
-        ensures flags { flags self.new.count self.new.place.items
-            ≡ slice_set (flags self.old.count self.old.place.items) k true }
+        requires { slice_get self.old.flags k ≡ Some false }
+        ensures flags { self.new.flags ≡ slice_set self.old.flags k true }
     {
         let to = self.count;
         bring(&mut self.order, &mut self.place, k, to);
@@ -77,9 +83,8 @@ impl Members {
 
     /// The number is no member any more.
     pub(crate) fn remove(&mut self, k: usize)
-        requires { IsMember (flags self.old.count self.old.place.items) k }
-        ensures flags { flags self.new.count self.new.place.items
-            ≡ slice_set (flags self.old.count self.old.place.items) k false }
+        requires { IsMember self.old.flags k }
+        ensures flags { self.new.flags ≡ slice_set self.old.flags k false }
     {
         let to = self.count - 1;
         bring(&mut self.order, &mut self.place, k, to);
