@@ -48,8 +48,8 @@ pub data IsCover : Cubes → Type 0 where
   opening : IsCover whole
   changes : (c : Cubes) (k : ℕ) (old new : Node) → IsCover c → node_at c k ≡ Some old → IsLeaf old → IsLeaf new
       → IsCover (with_node c k new)
-  divides : (c : Cubes) (k : ℕ) (old : Node) (l : Literal) → IsCover c → node_at c k ≡ Some old → IsLeaf old
-      → IsCover (divided c k l)
+  divides : (c : Cubes) (k : ℕ) (old : Node) (l : Literal) → IsCover c → node_at c k ≡ Some old
+      → IsLeaf old → IsCover (divided c k l)
 
 abbrev pub is_free : Node → Bool
 is_free Free = true
