@@ -1,8 +1,9 @@
-//! Activities: which atom is decided next. Each atom of a conflict gains by an increment that grows by 1/0.95 with each
-//! conflict, so that the gains of the past count less and less (Moskewicz and others 2001, in the form of Een and
-//! Sorensson 2003). Open atoms stand in a heap, the most active one first. At first an atom has a little for each clause
-//! that it is in, the more the shorter the clause, so that atoms of tight clauses come first; one conflict outweighs that.
-//! Branching only on clauses that are false on the schedule, without activities, took over 40 times as long.
+//! Activities: which atom is decided next. Each atom of a conflict gains by an increment that grows by 1/0.95
+//! with each conflict, so that the gains of the past count less and less (Moskewicz and others 2001, in the
+//! form of Een and Sorensson 2003). Open atoms stand in a heap, the most active one first. At first an atom
+//! has a little for each clause that it is in, the more the shorter the clause, so that atoms of tight
+//! clauses come first; one conflict outweighs that. Branching only on clauses that are false on the schedule,
+//! without activities, took over 40 times as long.
 use crate::numbers::{LiteralNumber, atom_of, narrow};
 use std::alloc::{AllocError, Global};
 

@@ -1,5 +1,5 @@
-//! Which literals stand on the trail: a byte for each literal, which most steps of propagation read and nothing else, and
-//! for each atom the place on the trail and the level.
+//! Which literals stand on the trail: a byte for each literal, which most steps of propagation read and
+//! nothing else, and for each atom the place on the trail and the level.
 use crate::numbers::{LiteralNumber, atom_of, narrow, negated};
 use std::alloc::{AllocError, Global};
 

@@ -1,6 +1,6 @@
-//! The clauses as numbers of literals, one after the other in one table: first the problem's, then the lemmas. Their order
-//! within a clause stays as it was given, so that a place tells a search which literal is meant; the two places that are
-//! watched stand beside it.
+//! The clauses as numbers of literals, one after the other in one table: first the problem's, then the
+//! lemmas. Their order within a clause stays as it was given, so that a place tells a search which literal is
+//! meant; the two places that are watched stand beside it.
 use crate::numbers::{LiteralNumber, narrow};
 use std::alloc::{AllocError, Global};
 
@@ -42,16 +42,8 @@ impl Clauses {
         self.inputs = self.spans.len();
     }
 
-    pub fn len(&self) -> usize {
-        self.spans.len()
-    }
-
     pub fn inputs(&self) -> usize {
         self.inputs
-    }
-
-    pub fn lemmas(&self) -> usize {
-        self.spans.len().saturating_sub(self.inputs)
     }
 
     pub fn source(&self, clause: u32) -> Source {
@@ -116,7 +108,8 @@ impl Clauses {
         Ok(())
     }
 
-    /// The literals pushed since the last clause are the next one. The table holds less than 2^32 literals and clauses.
+    /// The literals pushed since the last clause are the next one. The table holds less than 2^32 literals
+    /// and clauses.
     pub fn end_clause(&mut self) -> Result<u32, AllocError> {
         let count = self.spans.len();
         if self.numbers.len() >= u32::MAX as usize || count >= u32::MAX as usize {

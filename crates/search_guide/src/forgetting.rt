@@ -1,8 +1,9 @@
-//! Forgetting: a search learns a lemma a conflict, and each that is watched makes every step slower. After 2,000 conflicts,
-//! and then after 2,000 + 300 k more, half of the lemmas that matter least are taken out of the watches; they stay with
-//! their owner, since refutations cite them. A lemma matters the more, the fewer levels its literals had when they were
-//! denied (Audemard, Simon 2009), and then the more it took part in late conflicts. Lemmas of two literals or of at most
-//! two levels stay for ever, and so does a lemma that may be the reason of a literal of the trail.
+//! Forgetting: a search learns a lemma a conflict, and each that is watched makes every step slower. After
+//! 2,000 conflicts, and then after 2,000 + 300 k more, half of the lemmas that matter least are taken out of
+//! the watches; they stay with their owner, since refutations cite them. A lemma matters the more, the fewer
+//! levels its literals had when they were denied (Audemard, Simon 2009), and then the more it took part in
+//! late conflicts. Lemmas of two literals or of at most two levels stay for ever, and so does a lemma that
+//! may be the reason of a literal of the trail.
 use crate::assignment::{Assignment, Truth};
 use crate::clauses::Clauses;
 use crate::numbers::LiteralNumber;

@@ -4,15 +4,16 @@ use crate::clauses::{Clauses, Source};
 use crate::forgetting::Forgetting;
 use crate::ladders::Ladders;
 use crate::numbers::{LiteralNumber, Numbers, narrow, negated};
+use crate::patience::Patience;
 use crate::phases::{Phases, holds_on};
 use crate::restarts::Restarts;
 use crate::watches::{Proposal, Watches};
 use std::alloc::{AllocError, Global};
 use stn_core::{Literal, Problem, Value};
 
-/// The hints of a search. It is told what happens on the trail (`set`, `unset`), what is learned (`add_lemma`) and what
-/// took part in conflicts (`bump`, `bump_clause`, `decay`, `after_conflict`), and answers what to look at. What it was told
-/// wrongly makes its hints worse, and nothing else.
+/// The hints of a search. It is told what happens on the trail (`set`, `unset`), what is learned
+/// (`add_lemma`) and what took part in conflicts (`bump`, `bump_clause`, `decay`, `after_conflict`), and
+/// answers what to look at. What it was told wrongly makes its hints worse, and nothing else.
 #[derive(Drop)]
 pub struct Guide {
     alloc: Global,
@@ -27,6 +28,7 @@ pub struct Guide {
     forgetting: Forgetting,
     /// the clause of the problem from which the next look for a model goes on
     pointer: usize,
+    patience: Patience,
 }
 
 /// Numbers the literals, and puts the problem's clauses into the table.
@@ -61,6 +63,7 @@ impl Guide {
             restarts: Restarts::new(),
             forgetting: Forgetting::new(alloc),
             pointer: 0,
+            patience: Patience::new(),
         };
         for _atom in 0..guide.numbers.len() {
             guide.push_atom()?;
@@ -103,7 +106,8 @@ impl Guide {
         Ok(number)
     }
 
-    /// The next lemma's clause. It is watched at the two places that leave the trail last. The one error is want of memory.
+    /// The next lemma's clause. It is watched at the two places that leave the trail last. The one error is
+    /// want of memory.
     pub fn add_lemma(&mut self, clause: &[Literal]) -> Result<(), AllocError> {
         self.watches.end();
         self.clauses.begin_clause();
@@ -141,8 +145,8 @@ impl Guide {
         self.clauses.literals_of(source)
     }
 
-    /// The number of the clause's literal at a place. There is none beyond the clause, and none for a lemma that was
-    /// forgotten.
+    /// The number of the clause's literal at a place. There is none beyond the clause, and none for a lemma
+    /// that was forgotten.
     pub fn number_at(&self, source: Source, place: usize) -> Option<LiteralNumber> {
         self.clauses.literals_of(source).get(place).copied()
     }
@@ -186,7 +190,8 @@ impl Guide {
         self.watches.begin(number, weaker);
     }
 
-    /// What follows next. After a unit or a conflict the next call goes on behind it. The one error is want of memory.
+    /// What follows next. After a unit or a conflict the next call goes on behind it. The one error is want
+    /// of memory.
     pub fn next(&mut self) -> Result<Proposal, AllocError> {
         self.watches
             .next(&mut self.clauses, &self.ladders, &self.assignment)
@@ -215,9 +220,13 @@ impl Guide {
         false
     }
 
-    /// Whether each clause of the problem has a literal whose `side` is true. It looks from where it found none the last
-    /// time, so that a call that answers no is mostly short.
+    /// Whether each clause of the problem has a literal whose `side` is true. It looks from where it found
+    /// none the last time, so that a call that answers no is mostly short. Where it is asked again after a
+    /// yes, it passes some calls by, and answers no.
     pub fn seems_model(&mut self, values: &[Value]) -> bool {
+        if !self.patience.is_over() {
+            return false;
+        }
         let inputs = self.clauses.inputs();
         for _turn in 0..inputs {
             if !self.seems_true(narrow(self.pointer), values) {
@@ -226,10 +235,12 @@ impl Guide {
             let next = self.pointer.wrapping_add(1);
             self.pointer = if next < inputs { next } else { 0 };
         }
+        self.patience.said_yes();
         true
     }
 
-    /// Whether the literal is true: on the trail, or else, if it is pure, by its phase, or else on the values.
+    /// Whether the literal is true: on the trail, or else, if it is pure, by its phase, or else on the
+    /// values.
     pub fn side(&self, number: LiteralNumber, values: &[Value]) -> bool {
         match self.assignment.truth(number) {
             Truth::True => true,
@@ -261,8 +272,8 @@ impl Guide {
         self.forgetting.decay();
     }
 
-    /// The level to jump back to from a conflict, whose learned clause has these literals, all denied: the second greatest
-    /// of their levels, or 0 for one literal.
+    /// The level to jump back to from a conflict, whose learned clause has these literals, all denied: the
+    /// second greatest of their levels, or 0 for one literal.
     pub fn after_conflict(&mut self, clause: &[LiteralNumber]) -> usize {
         self.restarts.count_conflict();
         self.forgetting.count_conflict();
@@ -285,8 +296,8 @@ impl Guide {
         self.restarts.is_due()
     }
 
-    /// Takes lemmas out of the watches where it is time, and answers how many. Their numbers stay theirs; `number_at`
-    /// answers nothing for them from then on. The one error is want of memory.
+    /// Takes lemmas out of the watches where it is time, and answers how many. Their numbers stay theirs;
+    /// `number_at` answers nothing for them from then on. The one error is want of memory.
     pub fn forget(&mut self) -> Result<usize, AllocError> {
         if !self.forgetting.is_due() {
             return Ok(0);

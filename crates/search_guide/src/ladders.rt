@@ -1,8 +1,9 @@
-//! Ladders: the atoms of one pair of points by their bounds. A literal that holds makes each weaker bound on its pair hold
-//! too, and its negation each weaker one of the negations. Each literal knows the next weaker one, so propagation goes up
-//! the ladder step by step, before it looks at clauses, and the reason of a step is one literal. Without ladders the same
-//! takes one cycle of two literals through the net for each, and a search with wide clauses over one pair doesn't end in
-//! useful time (1.46 times as long over all that was measured).
+//! Ladders: the atoms of one pair of points by their bounds. A literal that holds makes each weaker bound on
+//! its pair hold too, and its negation each weaker one of the negations. Each literal knows the next weaker
+//! one, so propagation goes up the ladder step by step, before it looks at clauses, and the reason of a step
+//! is one literal. Without ladders the same takes one cycle of two literals through the net for each, and a
+//! search with wide clauses over one pair doesn't end in useful time (1.46 times as long over all that was
+//! measured).
 use crate::numbers::{LiteralNumber, negated};
 use std::alloc::{AllocError, Global};
 use std::collections::HashMap;

@@ -1,6 +1,6 @@
-//! Numbers of literals. A literal is hashed once, when it is met first; from then on the search speaks of its number, so
-//! that all other tables are flat. An atom is the one literal of a literal and its negation whose first point has the
-//! smaller number; atom v has the number 2v and its negation 2v + 1.
+//! Numbers of literals. A literal is hashed once, when it is met first; from then on the search speaks of its
+//! number, so that all other tables are flat. An atom is the one literal of a literal and its negation whose
+//! first point has the smaller number; atom v has the number 2v and its negation 2v + 1.
 use std::alloc::{AllocError, Global};
 use std::collections::HashMap;
 use stn_core::{Literal, negate};

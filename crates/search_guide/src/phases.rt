@@ -1,11 +1,13 @@
-//! Phases: which side of an atom is decided. An atom keeps the side that it had on the trail last (Pipatsrisawat, Darwiche
-//! 2007), so that after a jump back or a restart the search comes back to where it was. An atom that was never on the
-//! trail takes the side that holds on the net's schedule, which adds nothing to the net that moves a point. Other rules
-//! (always false, always by the schedule) were measured and differ by less than 7% in time, either way.
+//! Phases: which side of an atom is decided. An atom keeps the side that it had on the trail last
+//! (Pipatsrisawat, Darwiche 2007), so that after a jump back or a restart the search comes back to where it
+//! was. An atom that was never on the trail takes the side that holds on the net's schedule, which adds
+//! nothing to the net that moves a point. Other rules (always false, always by the schedule) were measured
+//! and differ by less than 7% in time, either way.
 //!
-//! An atom is pure when one of its points other than the first is in no other atom, as the point of a Bool name is. It
-//! constrains nothing but clauses. So it stays out of the net until there is a model, and is false at first: a name that is
-//! true costs as little, but clauses of formulas mostly want names to be false.
+//! An atom is pure when one of its points other than the first is in no other atom, as the point of a Bool
+//! name is. It constrains nothing but clauses. So it stays out of the net until there is a model, and is
+//! false at first: a name that is true costs as little, but clauses of formulas mostly want names to be
+//! false.
 use crate::numbers::{LiteralNumber, atom_of, is_atom};
 use std::alloc::{AllocError, Global};
 use stn_core::{Literal, Value};
@@ -16,7 +18,8 @@ pub struct Phases {
     pure: Vec<bool>,
 }
 
-/// Whether the bound holds on the values. A difference beyond the range of values counts as the greatest or least value.
+/// Whether the bound holds on the values. A difference beyond the range of values counts as the greatest or
+/// least value.
 pub fn holds_on(literal: Literal, values: &[Value]) -> bool {
     let (Some(x), Some(y)) = (
         values.get(literal.x as usize),

@@ -1,7 +1,8 @@
-//! Restarts: after so many conflicts the search goes back to its root, keeping what it learned, its activities and its
-//! phases. The waits are 100 conflicts times the sequence 1, 1, 2, 1, 1, 2, 4, 1, .. (Luby, Sinclair, Zuckerman 1993),
-//! made one by one as in Knuth's The Art of Computer Programming 4B, 7.2.2.2. Restarts that follow the levels of learned
-//! clauses instead took 1.3 times as long on disjunctive temporal problems.
+//! Restarts: after so many conflicts the search goes back to its root, keeping what it learned, its
+//! activities and its phases. The waits are 100 conflicts times the sequence 1, 1, 2, 1, 1, 2, 4, 1, ..
+//! (Luby, Sinclair, Zuckerman 1993), made one by one as in Knuth's The Art of Computer Programming 4B,
+//! 7.2.2.2. Restarts that follow the levels of learned clauses instead took 1.3 times as long on disjunctive
+//! temporal problems.
 
 /// How many conflicts the sequence's 1 stands for.
 const UNIT: u64 = 100;

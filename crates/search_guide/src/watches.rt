@@ -1,8 +1,9 @@
-//! Watches: each clause of three literals or more has two that aren't denied, as long as it has two, and is looked at only
-//! where one of them is denied (Moskewicz and others 2001). A watch also names another literal of its clause, a blocker:
-//! where that one holds, the clause isn't read at all. A clause of two literals stands in lists of its own, where the
-//! blocker is the other literal, and these lists come first. A search for a new watch begins behind the old one and goes
-//! round, so that a branch of the search reads a long clause about once (Gent 2013).
+//! Watches: each clause of three literals or more has two that aren't denied, as long as it has two, and is
+//! looked at only where one of them is denied (Moskewicz and others 2001). A watch also names another literal
+//! of its clause, a blocker: where that one holds, the clause isn't read at all. A clause of two literals
+//! stands in lists of its own, where the blocker is the other literal, and these lists come first. A search
+//! for a new watch begins behind the old one and goes round, so that a branch of the search reads a long
+//! clause about once (Gent 2013).
 //!
 //! Coming back from a branch costs nothing: the watches stay where they are.
 use crate::assignment::{Assignment, Truth};
