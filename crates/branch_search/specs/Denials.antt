@@ -8,4 +8,5 @@ use Rattle.branch_search.specs.Trails.{literal_at, Stands}
 -- the negations of the clause's literals but the one at the place stand on the trail
 abbrev pub AreDenied : List Entry → List Literal → ℕ → Type 0
 AreDenied entries clause place =
-    (q : ℕ) → q < length clause → q ≢ place → Stands entries (length entries) (negation_of (literal_at clause q))
+    (q : ℕ) → q < length clause → q ≢ place
+    → Stands entries (length entries) (negation_of (literal_at clause q))

@@ -1,5 +1,6 @@
 -- What the cube alone comes to, and a slice's answer.
-use Rattle.std.specs.Prelude.{◌≡◌, ℕ, ◌<◌, ◌≤◌, ◌+◌, min, List, [], ◌∷◌, ◌++◌, length, Contains, Option, Some, None, slice_index_or}
+use Rattle.std.specs.Prelude.{◌≡◌, ℕ, ◌<◌, ◌≤◌, ◌+◌, min, List, [], ◌∷◌, ◌++◌, length, Contains, Option, Some}
+use Rattle.std.specs.Prelude.{None, slice_index_or}
 use Rattle.stn_core.specs.declared.literal.Literal.{Literal}
 use Rattle.stn_core.specs.Literal.{negation_of}
 use Rattle.stn_core.specs.Net.{IsConsistent}
@@ -13,7 +14,8 @@ use Rattle.branch_search.specs.declared.divide.Division.TheVariants.{Model, Excl
 use Rattle.branch_search.specs.declared.divide.Live.{Live}
 use Rattle.branch_search.specs.declared.divide.Live.TheVariants.{At, Nowhere}
 use Rattle.branch_search.specs.declared.answer.Slice.{Slice}
-use Rattle.branch_search.specs.declared.answer.Slice.TheVariants.{Model as AsModel, Refuted as AsRefuted, Split as AsSplit}
+use Rattle.branch_search.specs.declared.answer.Slice.TheVariants.{Model as AsModel, Refuted as AsRefuted}
+use Rattle.branch_search.specs.declared.answer.Slice.TheVariants.{Split as AsSplit}
 use Rattle.branch_search.specs.Trails.{literal_at}
 use Rattle.branch_search.specs.Denials.{AreDenied}
 use Rattle.branch_search.specs.Search.{Question, IsSearch, AreExcluding, AreProved, adds_limit}
@@ -28,7 +30,8 @@ abbrev pub IsLiveAt : ℕ → List Literal → List Entry → List Literal → O
 IsLiveAt points literals entries clause None = AreDenied entries clause (length clause)
 IsLiveAt points literals entries clause (Some place) = IsLive points literals clause place
 
--- both halves of the cube are consistent, and each clause of the problem has a literal that is consistent with the cube
+-- both halves of the cube are consistent, and each clause of the problem has a literal that is consistent
+-- with the cube
 pub record IsSplit (q : Question) (l : Literal) : Type 0 where
   pub stated : (clause : List Literal) × Contains q.inputs clause × Contains clause l
   pub with_it : IsConsistent q.points (q.cube ++ l ∷ [])
@@ -42,7 +45,8 @@ IsDivision q own (Excluded j) = AreExcluding q own j
 IsDivision q own (Split l) = IsSplit q l × AreProved q own
 
 -- the clause has a live literal, or a lemma excludes the cube
-abbrev pub IsSearchLiveness : Question → List Lemma → List Entry → List Level → List Literal → ℕ → Live → Type 0
+abbrev pub IsSearchLiveness : Question → List Lemma → List Entry → List Level → List Literal → ℕ → Live
+    → Type 0
 IsSearchLiveness q own entries levels literals i (At place) =
     IsSearch q own entries levels literals × IsLive q.points literals (slice_index_or q.inputs i []) place
 IsSearchLiveness q own entries levels literals i (Nowhere j) = AreExcluding q own j

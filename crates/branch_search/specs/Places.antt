@@ -26,4 +26,5 @@ pub record ArePassed (low count : ℕ) (roles : List Role) (passed : List ℕ) :
   pub from : (i : ℕ) → i < length passed → low ≤ slice_index passed i
   pub within : (i : ℕ) → i < length passed → slice_index passed i < count
   pub falling : (i j : ℕ) → i < j → j < length passed → slice_index passed j < slice_index passed i
-  pub all : (j : ℕ) → low ≤ j → IsUsed (role_at roles j) → (i : ℕ) × (i < length passed) × (slice_index passed i ≡ j)
+  pub all : (j : ℕ) → low ≤ j → IsUsed (role_at roles j) → (i : ℕ) × (i < length passed)
+      × (slice_index passed i ≡ j)

@@ -2,7 +2,8 @@
 use Rattle.std.specs.Prelude.{Option, Some, None}
 use Rattle.stn_core.specs.declared.literal.Literal.{Literal}
 use Rattle.branch_search.specs.declared.entry.Reason.{Reason}
-use Rattle.branch_search.specs.declared.entry.Reason.TheVariants.{Given, Decision, Clause as ByClause, Pair as ByPair, Cycle as ByCycle}
+use Rattle.branch_search.specs.declared.entry.Reason.TheVariants.{Given, Decision, Clause as ByClause}
+use Rattle.branch_search.specs.declared.entry.Reason.TheVariants.{Pair as ByPair, Cycle as ByCycle}
 use Rattle.branch_search.specs.declared.entry.Conflict.{Conflict}
 use Rattle.branch_search.specs.declared.entry.Conflict.TheVariants.{Clause as OfClause, Cycle as OfCycle}
 use Rattle.branch_search.specs.Trails.{pair_cycle}

@@ -1,5 +1,6 @@
 -- A search in the middle of a slice, and what its end says.
-use Rattle.std.specs.Prelude.{◌≡◌, ℕ, ◌<◌, ◌≤◌, ◌+◌, List, [], ◌∷◌, ◌++◌, length, map, take, All, Contains, Option, Some, None, slice_get, slice_index_or, ◌≤ℤ◌}
+use Rattle.std.specs.Prelude.{◌≡◌, ℕ, ◌<◌, ◌≤◌, ◌+◌, List, [], ◌∷◌, ◌++◌, length, map, take, All, Contains}
+use Rattle.std.specs.Prelude.{Option, Some, None, slice_get, slice_index_or, ◌≤ℤ◌}
 use Rattle.stn_core.specs.declared.literal.Literal.{Literal}
 use Rattle.stn_core.specs.declared.problem.Problem.{Problem}
 use Rattle.stn_core.specs.Literal.{negation_of, IsOver}
@@ -27,7 +28,8 @@ pub record Question : Type 0 where
   pub cube : List Literal
 
 abbrev pub question_of : Problem → List (List Literal) → List Literal → Question
-question_of problem handed cube = record { points = problem.points; inputs = problem.clauses; handed = handed; cube = cube }
+question_of problem handed cube =
+    record { points = problem.points; inputs = problem.clauses; handed = handed; cube = cube }
 
 -- the clauses of the handed lemmas, and of the slice's own
 abbrev pub all_lemmas : List (List Literal) → List Lemma → List (List Literal)
@@ -58,7 +60,8 @@ pub record IsLevel (entries : List Entry) (literals : List Literal) (level : Lev
   pub stand : AllStand entries level.start (take level.in_net literals)
 
 -- the trail is a good one, the net's literals stand on it, and the levels begin one after the other
-pub record IsSearch (q : Question) (own : List Lemma) (entries : List Entry) (levels : List Level) (literals : List Literal) : Type 0 where
+pub record IsSearch (q : Question) (own : List Lemma) (entries : List Entry) (levels : List Level)
+    (literals : List Literal) : Type 0 where
   pub trail : IsTrail q.inputs (all_lemmas q.handed own) q.cube entries
   pub over : AreOver q.points entries
   pub lemmas : All (IsClauseOver q.points) (all_lemmas q.handed own)
@@ -66,23 +69,27 @@ pub record IsSearch (q : Question) (own : List Lemma) (entries : List Entry) (le
   pub each : (i : ℕ) → i < length levels → IsLevel entries literals (level_at levels i)
   pub starts : (i j : ℕ) → i ≤ j → j < length levels → start_of levels i ≤ start_of levels j
   pub in_nets : (i j : ℕ) → i ≤ j → j < length levels → in_net_of levels i ≤ in_net_of levels j
-  pub rooted : (j : ℕ) → (entry_at entries j).reason ≡ Decision → (0 < length levels) × (start_of levels 0 ≤ j)
+  pub rooted : (j : ℕ) → (entry_at entries j).reason ≡ Decision → (0 < length levels)
+      × (start_of levels 0 ≤ j)
   pub proved : AreProved q own
 
 abbrev pub IsState : Question → State → List Literal → Type 0
 IsState q s literals = IsSearch q s.own.items s.entries.items s.levels.items literals
 
 -- the trail's literals are in conflict
-pub record IsStuckSearch (q : Question) (own : List Lemma) (entries : List Entry) (levels : List Level) (literals : List Literal) (conflict : Conflict) : Type 0 where
+pub record IsStuckSearch (q : Question) (own : List Lemma) (entries : List Entry) (levels : List Level)
+    (literals : List Literal) (conflict : Conflict) : Type 0 where
   pub state : IsSearch q own entries levels literals
   pub clash : IsConflict q.inputs (all_lemmas q.handed own) (Stands entries (length entries)) conflict
 
 abbrev pub IsStuck : Question → State → List Literal → Conflict → Type 0
 IsStuck q s literals conflict = IsStuckSearch q s.own.items s.entries.items s.levels.items literals conflict
 
-abbrev pub IsSearchAfter : Question → List Lemma → List Entry → List Level → List Literal → Option Conflict → Type 0
+abbrev pub IsSearchAfter : Question → List Lemma → List Entry → List Level → List Literal → Option Conflict
+    → Type 0
 IsSearchAfter q own entries levels literals None = IsSearch q own entries levels literals
-IsSearchAfter q own entries levels literals (Some conflict) = IsStuckSearch q own entries levels literals conflict
+IsSearchAfter q own entries levels literals (Some conflict) =
+    IsStuckSearch q own entries levels literals conflict
 
 abbrev pub IsAfter : Question → State → List Literal → Option Conflict → Type 0
 IsAfter q s literals found = IsSearchAfter q s.own.items s.entries.items s.levels.items literals found
@@ -91,7 +98,8 @@ IsAfter q s literals found = IsSearchAfter q s.own.items s.entries.items s.level
 abbrev pub IsSearchTaken : Question → List Lemma → List Entry → List Level → List Literal → Taken → Type 0
 IsSearchTaken q own entries levels literals Pushed = IsSearch q own entries levels literals
 IsSearchTaken q own entries levels literals Nothing = IsSearch q own entries levels literals
-IsSearchTaken q own entries levels literals (Stuck conflict) = IsStuckSearch q own entries levels literals conflict
+IsSearchTaken q own entries levels literals (Stuck conflict) =
+    IsStuckSearch q own entries levels literals conflict
 
 abbrev pub IsTaken : Question → State → List Literal → Taken → Type 0
 IsTaken q s literals taken = IsSearchTaken q s.own.items s.entries.items s.levels.items literals taken
@@ -121,7 +129,8 @@ abbrev pub IsExcluded : Question → State → ℕ → Type 0
 IsExcluded q s j = AreExcluding q s.own.items j
 
 -- from a conflict a lemma was learned, which has this number; where nothing was decided it excludes the cube
-pub record IsSearchLearned (q : Question) (own : List Lemma) (entries : List Entry) (levels : List Level) (j : ℕ) (literals : List Literal) : Type 0 where
+pub record IsSearchLearned (q : Question) (own : List Lemma) (entries : List Entry) (levels : List Level)
+    (j : ℕ) (literals : List Literal) : Type 0 where
   pub state : IsSearch q own entries levels literals
   pub count : length own ≡ j + 1
   pub excludes : length levels ≡ 0 → Excludes q.cube own j
@@ -129,21 +138,27 @@ pub record IsSearchLearned (q : Question) (own : List Lemma) (entries : List Ent
 abbrev pub IsLearned : Question → State → ℕ → List Literal → Type 0
 IsLearned q s j literals = IsSearchLearned q s.own.items s.entries.items s.levels.items j literals
 
--- a conflict was settled, where there were so many levels: the search goes on with fewer, or a lemma excludes the cube
-abbrev pub IsSearchSettled : Question → ℕ → List Lemma → List Entry → List Level → List Literal → Option ℕ → Type 0
-IsSearchSettled q count own entries levels literals None = (length levels < count) × IsSearch q own entries levels literals
+-- a conflict was settled, where there were so many levels: the search goes on with fewer, or a lemma excludes
+-- the cube
+abbrev pub IsSearchSettled : Question → ℕ → List Lemma → List Entry → List Level → List Literal → Option ℕ
+    → Type 0
+IsSearchSettled q count own entries levels literals None =
+    (length levels < count) × IsSearch q own entries levels literals
 IsSearchSettled q count own entries levels literals (Some j) = AreExcluding q own j
 
 abbrev pub IsSettled : Question → ℕ → State → List Literal → Option ℕ → Type 0
-IsSettled q count s literals found = IsSearchSettled q count s.own.items s.entries.items s.levels.items literals found
+IsSettled q count s literals found =
+    IsSearchSettled q count s.own.items s.entries.items s.levels.items literals found
 
 -- where a net's count of adds stands still
 abbrev pub adds_limit : ℕ
 adds_limit = 18446744073709551615
 
 -- the net has the cube's literals alone, or a lemma excludes the cube
-abbrev pub IsSearchEntered : Question → List Lemma → List Entry → List Level → List Literal → Option ℕ → Type 0
-IsSearchEntered q own entries levels literals None = IsSearch q own entries levels literals × (levels ≡ []) × (literals ≡ q.cube)
+abbrev pub IsSearchEntered : Question → List Lemma → List Entry → List Level → List Literal → Option ℕ
+    → Type 0
+IsSearchEntered q own entries levels literals None =
+    IsSearch q own entries levels literals × (levels ≡ []) × (literals ≡ q.cube)
 IsSearchEntered q own entries levels literals (Some j) = AreExcluding q own j
 
 abbrev pub IsEntered : Question → State → List Literal → Option ℕ → Type 0

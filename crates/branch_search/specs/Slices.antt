@@ -28,14 +28,19 @@ abbrev pub IsFound : Question → State → Found → Type 0
 IsFound q s found = AreFound q s.own.items found
 
 -- a turn, where so many decisions were left and there were so many levels
-abbrev pub IsSearchTurn : Question → ℕ → ℕ → List Lemma → List Entry → List Level → List Literal → Turn → Type 0
-IsSearchTurn q left count own entries levels literals Decided = (0 < left) × (length levels ≤ count + 1) × IsSearch q own entries levels literals
-IsSearchTurn q left count own entries levels literals Jumped = (length levels < count) × IsSearch q own entries levels literals
+abbrev pub IsSearchTurn : Question → ℕ → ℕ → List Lemma → List Entry → List Level → List Literal → Turn
+    → Type 0
+IsSearchTurn q left count own entries levels literals Decided =
+    (0 < left) × (length levels ≤ count + 1) × IsSearch q own entries levels literals
+IsSearchTurn q left count own entries levels literals Jumped =
+    (length levels < count) × IsSearch q own entries levels literals
 IsSearchTurn q left count own entries levels literals (Ended found) = AreFound q own found
 
 abbrev pub IsTurn : Question → ℕ → ℕ → State → List Literal → Turn → Type 0
-IsTurn q left count s literals turn = IsSearchTurn q left count s.own.items s.entries.items s.levels.items literals turn
+IsTurn q left count s literals turn =
+    IsSearchTurn q left count s.own.items s.entries.items s.levels.items literals turn
 
--- a turn makes this less: it takes a decision, for which there may be one level more, or goes back over a level
+-- a turn makes this less: it takes a decision, for which there may be one level more, or goes back over a
+-- level
 abbrev pub weight : ℕ → ℕ → ℕ
 weight left count = 2 * left + count

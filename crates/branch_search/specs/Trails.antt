@@ -1,12 +1,15 @@
--- The literals that a search assumes, each with the reason why it stands there, and which of them a conflict rests on.
-use Rattle.std.specs.Prelude.{◌≡◌, ◌≢◌, ◌⊎◌, ℕ, ◌<◌, ◌≤◌, List, [], ◌∷◌, length, Contains, pos, slice_index_or, Bool, true}
+-- The literals that a search assumes, each with the reason why it stands there, and which of them a conflict
+-- rests on.
+use Rattle.std.specs.Prelude.{◌≡◌, ◌≢◌, ◌⊎◌, ℕ, ◌<◌, ◌≤◌, List, [], ◌∷◌, length, Contains, pos}
+use Rattle.std.specs.Prelude.{slice_index_or, Bool, true}
 use Rattle.stn_core.specs.declared.literal.Literal.{Literal}
 use Rattle.stn_core.specs.Literal.{negation_of, IsOver}
 use Rattle.stn_core.specs.Cycle.{IsNegativeCycle}
 use Rattle.branch_search.specs.declared.entry.Source.{Source}
 use Rattle.branch_search.specs.declared.entry.Source.TheVariants.{Input as OfInput, Lemma as OfLemma}
 use Rattle.branch_search.specs.declared.entry.Reason.{Reason}
-use Rattle.branch_search.specs.declared.entry.Reason.TheVariants.{Given, Decision, Clause as ByClause, Pair as ByPair, Cycle as ByCycle}
+use Rattle.branch_search.specs.declared.entry.Reason.TheVariants.{Given, Decision, Clause as ByClause}
+use Rattle.branch_search.specs.declared.entry.Reason.TheVariants.{Pair as ByPair, Cycle as ByCycle}
 use Rattle.branch_search.specs.declared.entry.Entry.{Entry}
 use Rattle.branch_search.specs.declared.entry.Conflict.{Conflict}
 use Rattle.branch_search.specs.declared.entry.Conflict.TheVariants.{Clause as OfClause, Cycle as OfCycle}
@@ -36,11 +39,13 @@ IsKnown inputs lemmas (OfInput i) = i < length inputs
 IsKnown inputs lemmas (OfLemma j) = j < length lemmas
 
 -- the literals that Good holds of make the literal at the place the clause's last hope
-pub record IsByClause (inputs lemmas : List (List Literal)) (Good : Literal → Type 0) (l : Literal) (source : Source) (place : ℕ) : Type 0 where
+pub record IsByClause (inputs lemmas : List (List Literal)) (Good : Literal → Type 0) (l : Literal)
+    (source : Source) (place : ℕ) : Type 0 where
   pub known : IsKnown inputs lemmas source
   pub within : place < length (source_clause inputs lemmas source)
   pub at : literal_at (source_clause inputs lemmas source) place ≡ l
-  pub others : (q : ℕ) → q < length (source_clause inputs lemmas source) → q ≢ place → Good (negation_of (literal_at (source_clause inputs lemmas source) q))
+  pub others : (q : ℕ) → q < length (source_clause inputs lemmas source) → q ≢ place
+      → Good (negation_of (literal_at (source_clause inputs lemmas source) q))
 
 -- with the literal's negation they have a negative cycle
 pub record IsByCycle (Good : Literal → Type 0) (l : Literal) (cycle : List Literal) : Type 0 where
@@ -52,7 +57,8 @@ abbrev pub pair_cycle : Literal → Literal → List Literal
 pair_cycle tighter l = tighter ∷ negation_of l ∷ []
 
 -- the literal follows from literals that Good holds of
-abbrev pub Follows : List (List Literal) → List (List Literal) → (Literal → Type 0) → Literal → Reason → Type 0
+abbrev pub Follows : List (List Literal) → List (List Literal) → (Literal → Type 0) → Literal → Reason
+    → Type 0
 Follows inputs lemmas Good l Given = ⊥
 Follows inputs lemmas Good l Decision = ⊥
 Follows inputs lemmas Good l (ByClause source place) = IsByClause inputs lemmas Good l source place
@@ -64,21 +70,29 @@ abbrev pub Stands : List Entry → ℕ → Literal → Type 0
 Stands trail below l = (j : ℕ) × (j < below) × (on_trail trail j ≡ l)
 
 -- the reason of the literal at a place is a good one
-abbrev pub IsReason : List (List Literal) → List (List Literal) → List Literal → List Entry → ℕ → Literal → Reason → Type 0
+abbrev pub IsReason : List (List Literal) → List (List Literal) → List Literal → List Entry → ℕ → Literal
+    → Reason → Type 0
 IsReason inputs lemmas cube trail k l Given = Contains cube l
 IsReason inputs lemmas cube trail k l Decision = Unit {0}
-IsReason inputs lemmas cube trail k l (ByClause source place) = IsByClause inputs lemmas (Stands trail k) l source place
+IsReason inputs lemmas cube trail k l (ByClause source place) =
+    IsByClause inputs lemmas (Stands trail k) l source place
 IsReason inputs lemmas cube trail k l (ByPair tighter) = IsByCycle (Stands trail k) l (pair_cycle tighter l)
 IsReason inputs lemmas cube trail k l (ByCycle cycle) = IsByCycle (Stands trail k) l cycle
 
 -- each literal of the trail has its reason in the cube, in a choice, or in the literals before it
 abbrev pub IsTrail : List (List Literal) → List (List Literal) → List Literal → List Entry → Type 0
-IsTrail inputs lemmas cube trail = (k : ℕ) → k < length trail → IsReason inputs lemmas cube trail k (on_trail trail k) (entry_at trail k).reason
+IsTrail inputs lemmas cube trail =
+    (k : ℕ) → k < length trail
+    → IsReason inputs lemmas cube trail k (on_trail trail k) (entry_at trail k).reason
 
 -- literals that Good holds of can't all hold
 abbrev pub IsConflict : List (List Literal) → List (List Literal) → (Literal → Type 0) → Conflict → Type 0
-IsConflict inputs lemmas Good (OfClause source) = IsKnown inputs lemmas source × ((q : ℕ) → q < length (source_clause inputs lemmas source) → Good (negation_of (literal_at (source_clause inputs lemmas source) q)))
-IsConflict inputs lemmas Good (OfCycle cycle) = IsNegativeCycle cycle × ((q : ℕ) → q < length cycle → Good (literal_at cycle q))
+IsConflict inputs lemmas Good (OfClause source) =
+    IsKnown inputs lemmas source
+    × ((q : ℕ) → q < length (source_clause inputs lemmas source)
+    → Good (negation_of (literal_at (source_clause inputs lemmas source) q)))
+IsConflict inputs lemmas Good (OfCycle cycle) =
+    IsNegativeCycle cycle × ((q : ℕ) → q < length cycle → Good (literal_at cycle q))
 
 abbrev pub role_at : List Role → ℕ → Role
 role_at roles k = slice_index_or roles k Unused
@@ -94,7 +108,9 @@ StandsUsed trail roles below l = (j : ℕ) × (j < below) × IsUsed (role_at rol
 
 -- what a resolved literal follows from is used
 abbrev pub IsClosed : List (List Literal) → List (List Literal) → List Entry → List Role → Type 0
-IsClosed inputs lemmas trail roles = (k : ℕ) → role_at roles k ≡ Resolved → Follows inputs lemmas (StandsUsed trail roles k) (on_trail trail k) (entry_at trail k).reason
+IsClosed inputs lemmas trail roles =
+    (k : ℕ) → role_at roles k ≡ Resolved
+    → Follows inputs lemmas (StandsUsed trail roles k) (on_trail trail k) (entry_at trail k).reason
 
 -- more literals are used, and none is resolved that wasn't; from a place on nothing changes
 pub record IsMarkedMore (below : ℕ) (old new : List Role) : Type 0 where
@@ -111,9 +127,12 @@ IsFirst (ByClause source place) = ⊥
 IsFirst (ByPair tighter) = ⊥
 IsFirst (ByCycle cycle) = ⊥
 
--- the literal is the negation of one that stands on the trail; of one without a reason before it, where only such are kept
+-- the literal is the negation of one that stands on the trail; of one without a reason before it, where only
+-- such are kept
 abbrev pub IsDenial : List Entry → Bool → Literal → Type 0
-IsDenial trail whole m = (j : ℕ) × (j < length trail) × (m ≡ negation_of (on_trail trail j)) × (whole ≡ true → IsFirst (entry_at trail j).reason)
+IsDenial trail whole m =
+    (j : ℕ) × (j < length trail) × (m ≡ negation_of (on_trail trail j))
+    × (whole ≡ true → IsFirst (entry_at trail j).reason)
 
 -- the trail's literals lie over so many points and within the limits
 abbrev pub AreOver : ℕ → List Entry → Type 0
@@ -121,14 +140,18 @@ AreOver points trail = (k : ℕ) → k < length trail → IsOver points (on_trai
 
 -- the negations of the kept literals of the first places are in the clause
 abbrev pub KeepsAll : List Entry → List Role → ℕ → List Literal → Type 0
-KeepsAll trail roles count clause = (j : ℕ) → j < count → role_at roles j ≡ Kept → Contains clause (negation_of (on_trail trail j))
+KeepsAll trail roles count clause =
+    (j : ℕ) → j < count → role_at roles j ≡ Kept → Contains clause (negation_of (on_trail trail j))
 
 -- the literal is the negation of a kept one
 abbrev pub DeniesKept : List Entry → List Role → Literal → Type 0
-DeniesKept trail roles m = (j : ℕ) × (j < length trail) × (role_at roles j ≡ Kept) × (m ≡ negation_of (on_trail trail j))
+DeniesKept trail roles m =
+    (j : ℕ) × (j < length trail) × (role_at roles j ≡ Kept) × (m ≡ negation_of (on_trail trail j))
 
--- a turn of the way back over the trail: at the place the literal may be resolved, and what it follows from is used
-pub record IsTurned (inputs lemmas : List (List Literal)) (trail : List Entry) (whole : Bool) (k : ℕ) (old new : List Role) : Type 0 where
+-- a turn of the way back over the trail: at the place the literal may be resolved, and what it follows from
+-- is used
+pub record IsTurned (inputs lemmas : List (List Literal)) (trail : List Entry) (whole : Bool) (k : ℕ)
+    (old new : List Role) : Type 0 where
   pub count : length new ≡ length old
   pub closed : IsClosed inputs lemmas trail new
   pub used : (j : ℕ) → IsUsed (role_at old j) → IsUsed (role_at new j)
@@ -136,8 +159,10 @@ pub record IsTurned (inputs lemmas : List (List Literal)) (trail : List Entry) (
   pub first : whole ≡ true → role_at new k ≡ Kept → IsFirst (entry_at trail k).reason
 
 -- the way back over the trail, down to a place
-pub record IsMarked (inputs lemmas : List (List Literal)) (trail : List Entry) (whole : Bool) (k : ℕ) (old new : List Role) : Type 0 where
+pub record IsMarked (inputs lemmas : List (List Literal)) (trail : List Entry) (whole : Bool) (k : ℕ)
+    (old new : List Role) : Type 0 where
   pub count : length trail ≤ length new
   pub closed : IsClosed inputs lemmas trail new
   pub used : (j : ℕ) → IsUsed (role_at old j) → IsUsed (role_at new j)
-  pub first : whole ≡ true → (j : ℕ) → k ≤ j → j < length trail → role_at new j ≡ Kept → IsFirst (entry_at trail j).reason
+  pub first : whole ≡ true → (j : ℕ) → k ≤ j → j < length trail → role_at new j ≡ Kept
+      → IsFirst (entry_at trail j).reason

@@ -2,7 +2,8 @@
 ghost use Rattle.std.specs.Prelude.{◌≡◌, ◌≤◌, ℕ, List, [], length, All, IfOk};
 ghost use Rattle.stn_core.specs.declared.literal.Literal.{Literal as Bound};
 ghost use Rattle.branch_search.specs.declared.entry.Role.TheVariants.{Unused};
-ghost use Rattle.branch_search.specs.Trails.{IsTrail, IsConflict, Stands, IsDenial, AreOver, KeepsAll, DeniesKept};
+ghost use Rattle.branch_search.specs.Trails.{IsTrail, IsConflict, Stands, IsDenial, AreOver, KeepsAll};
+ghost use Rattle.branch_search.specs.Trails.{DeniesKept};
 ghost use Rattle.branch_search.specs.Trails.{role_at};
 ghost use Rattle.branch_search.specs.Places.{ArePassed};
 ghost use Rattle.branch_search.specs.Proved.{IsProved};
@@ -87,8 +88,8 @@ fn bump_reason(entry: &Entry, guide: &mut Guide) {
     }
 }
 
-// The literals on which the conflict rests are more active than they were, but those that it rests on for the sake of fewer
-// literals in the clause. So are the clauses up to the implication point.
+// The literals on which the conflict rests are more active than they were, but those that it rests on for the
+// sake of fewer literals in the clause. So are the clauses up to the implication point.
 fn bump_used(trail: &[Entry], marks: &Marks, guide: &mut Guide, conflict: &Conflict) {
     if let Conflict::Clause(source) = conflict {
         guide.bump_clause(named(*source));
@@ -106,7 +107,8 @@ fn bump_used(trail: &[Entry], marks: &Marks, guide: &mut Guide, conflict: &Confl
     }
 }
 
-// Where the root's literals stand on which the conflict rests, and which no lemma states: the first place first.
+// Where the root's literals stand on which the conflict rests, and which no lemma states: the first place
+// first.
 fn wanted_roots<E: Earlier>(
     problem: &Problem,
     earlier: &E,
@@ -126,12 +128,12 @@ fn wanted_roots<E: Earlier>(
     Ok(())
 }
 
-/// The clause that a conflict teaches, with its tree: the negations of some of the trail's literals. The one error is want
-/// of memory.
+/// The clause that a conflict teaches, with its tree: the negations of some of the trail's literals. The one
+/// error is want of memory.
 ///
-/// With `whole` the literals are negations of decided ones and of the cube's. Else it is the clause of the first unique
-/// implication point of the last level on which the conflict rests, and to `wanted` come the places of the root's literals
-/// whose reasons are in the steps and could be cited.
+/// With `whole` the literals are negations of decided ones and of the cube's. Else it is the clause of the
+/// first unique implication point of the last level on which the conflict rests, and to `wanted` come the
+/// places of the root's literals whose reasons are in the steps and could be cited.
 pub fn analyze<E: Earlier>(
     alloc: Global,
     problem: &Problem,
@@ -144,7 +146,8 @@ pub fn analyze<E: Earlier>(
     conflict: &Conflict,
     wanted: &mut Vec<usize>,
 ) -> Result<Lemma, AllocError>
-    requires trail { (cube : List Bound) × IsTrail problem.now.clauses (E.clauses earlier.now) cube trail.now }
+    requires trail { (cube : List Bound)
+        × IsTrail problem.now.clauses (E.clauses earlier.now) cube trail.now }
     requires over { AreOver problem.now.points trail.now }
     requires conflict { IsConflict problem.now.clauses (E.clauses earlier.now)
         (Stands trail.now (length trail.now)) conflict.now }

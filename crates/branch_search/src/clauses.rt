@@ -1,5 +1,6 @@
 //! Which clauses hold.
-ghost use Rattle.std.specs.Prelude.{◌≡◌, ◌<◌, ◌≤◌, ℕ, [], length, All, true, false, MatchOption, IfSome, Some, slice_get};
+ghost use Rattle.std.specs.Prelude.{◌≡◌, ◌<◌, ◌≤◌, ℕ, [], length, All, true, false, MatchOption, IfSome};
+ghost use Rattle.std.specs.Prelude.{Some, slice_get};
 ghost use Rattle.stn_core.specs.Literal.{IsOver};
 ghost use Rattle.stn_core.specs.Problem.{ClauseHolds, ProblemHolds};
 ghost use Rattle.branch_search.specs.Clauses.{HoldBetween, IsFalse, IsFalseAt, IsNext, IsNotEmpty};
@@ -23,7 +24,8 @@ pub fn clause_holds(clause: &Clause, values: &[Value]) -> bool
 fn false_between(clauses: &[Clause], values: &[Value], low: usize, high: usize) -> Option<usize>
     requires over { All (λ clause. All (IsOver (length values.now)) clause) clauses.now }
     requires high { high ≤ length clauses.now }
-    ensures found { MatchOption result (HoldBetween values.now clauses.now low high) (IsFalseAt values.now clauses.now) }
+    ensures found { MatchOption result (HoldBetween values.now clauses.now low high)
+        (IsFalseAt values.now clauses.now) }
     ensures first { IfSome result (λ i. (low ≤ i) × (i < high) × HoldBetween values.now clauses.now low i) }
 {
     for i in low..high {
@@ -38,7 +40,8 @@ fn false_between(clauses: &[Clause], values: &[Value], low: usize, high: usize) 
 pub fn false_clause(clauses: &[Clause], values: &[Value], from: usize) -> Option<usize>
     requires over { All (λ clause. All (IsOver (length values.now)) clause) clauses.now }
     requires from { from ≤ length clauses.now }
-    ensures found { MatchOption result (ProblemHolds values.now clauses.now) (IsFalseAt values.now clauses.now) }
+    ensures found { MatchOption result (ProblemHolds values.now clauses.now)
+        (IsFalseAt values.now clauses.now) }
     ensures next { IfSome result (IsNext values.now clauses.now from) }
 {
     match false_between(clauses, values, from, clauses.len()) {

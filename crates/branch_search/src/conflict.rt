@@ -1,5 +1,6 @@
 //! What a conflict leads to.
-ghost use Rattle.std.specs.Prelude.{◌≡◌, ◌<◌, ◌≤◌, ◌+◌, ◌^◌, [], length, map, true, min, Some, slice_get, IfOk, OnOk};
+ghost use Rattle.std.specs.Prelude.{◌≡◌, ◌<◌, ◌≤◌, ◌+◌, ◌^◌, [], length, map, true, min, Some, slice_get};
+ghost use Rattle.std.specs.Prelude.{IfOk, OnOk};
 ghost use Rattle.refute_tree.specs.Trees.{stated};
 ghost use Rattle.branch_search.specs.Search.{question_of, IsState, IsStuck, IsLearned, IsSettled, IsExcluded};
 
@@ -110,8 +111,8 @@ impl State {
         }
     }
 
-    /// Learns from a conflict, jumps back and takes what the lemma gives there. With a number: that lemma excludes the
-    /// cube.
+    /// Learns from a conflict, jumps back and takes what the lemma gives there. With a number: that lemma
+    /// excludes the cube.
     pub fn react<E: Earlier, N: Net>(
         &mut self,
         alloc: Global,

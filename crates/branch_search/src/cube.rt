@@ -59,8 +59,8 @@ impl State {
         requires state { IsState (question_of problem.now (E.clauses handed.now) cube.now) self.old
             (N.literals_of net.now) }
         ensures levels { self.new.levels.items ≡ self.old.levels.items }
-        ensures taken { IfOk result (IsTaken (question_of problem.now (E.clauses handed.now) cube.now) self.new
-            (N.literals_of net.now)) }
+        ensures taken { IfOk result (IsTaken (question_of problem.now (E.clauses handed.now) cube.now)
+            self.new (N.literals_of net.now)) }
     {
         if count > 1 {
             return Ok(Taken::Nothing);
@@ -83,8 +83,8 @@ impl State {
         requires state { IsState (question_of problem.now (E.clauses handed.now) cube.now) self.old
             (N.literals_of net.now) }
         ensures levels { self.new.levels.items ≡ self.old.levels.items }
-        ensures after { IfOk result (IsAfter (question_of problem.now (E.clauses handed.now) cube.now) self.new
-            (N.literals_of net.now)) }
+        ensures after { IfOk result (IsAfter (question_of problem.now (E.clauses handed.now) cube.now)
+            self.new (N.literals_of net.now)) }
     {
         let clauses = problem.clauses.as_slice();
         'clauses: for i in 0..clauses.len() {
@@ -123,8 +123,8 @@ impl State {
         requires state { IsState (question_of problem.now (E.clauses handed.now) cube.now) self.old
             (N.literals_of net.now) }
         ensures levels { self.new.levels.items ≡ self.old.levels.items }
-        ensures after { IfOk result (IsAfter (question_of problem.now (E.clauses handed.now) cube.now) self.new
-            (N.literals_of net.now)) }
+        ensures after { IfOk result (IsAfter (question_of problem.now (E.clauses handed.now) cube.now)
+            self.new (N.literals_of net.now)) }
     {
         'lemmas: for j in 0..handed.count() {
             let clause = handed.clause(j);
@@ -156,8 +156,8 @@ impl State {
         requires state { IsState (question_of problem.now (E.clauses handed.now) cube.now) self.old
             (N.literals_of net.now) }
         ensures levels { self.new.levels.items ≡ self.old.levels.items }
-        ensures after { IfOk result (IsAfter (question_of problem.now (E.clauses handed.now) cube.now) self.new
-            (N.literals_of net.now)) }
+        ensures after { IfOk result (IsAfter (question_of problem.now (E.clauses handed.now) cube.now)
+            self.new (N.literals_of net.now)) }
     {
         if let Some(conflict) = self.take_handed(problem, handed, cube, net)? {
             return Ok(Some(conflict));

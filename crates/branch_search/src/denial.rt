@@ -12,7 +12,8 @@ use refute_tree::Earlier;
 use search_guide::Guide;
 use stn_core::{Literal, Problem, negate};
 
-/// Whether the negation of the literal, which stands at a place of a clause, is on the trail where the guide has it.
+/// Whether the negation of the literal, which stands at a place of a clause, is on the trail where the guide
+/// has it.
 pub fn is_denied(
     guide: &Guide,
     entries: &[Entry],

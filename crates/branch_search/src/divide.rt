@@ -1,5 +1,5 @@
-//! The end of a slice: with the cube alone, whether a clause has no literal that is consistent with it, and what to split
-//! on.
+//! The end of a slice: with the cube alone, whether a clause has no literal that is consistent with it, and
+//! what to split on.
 ghost use Rattle.std.specs.Prelude.{◌≡◌, ◌<◌, ◌≤◌, ◌+◌, ◌^◌, ◌++◌, ◌∷◌, [], All, length, min, IfOk, OnOk};
 ghost use Rattle.stn_core.specs.Literal.{IsOver, negation_of};
 ghost use Rattle.branch_search.specs.declared.entry.Reason.TheVariants.{Cycle as ByCycle};
@@ -42,7 +42,8 @@ impl State {
         self.push(negate(literal), 0, Reason::Cycle(cycle))
     }
 
-    // The first literal of the clause that is consistent with the net; those before it are denied on the trail.
+    // The first literal of the clause that is consistent with the net; those before it are denied on the
+    // trail.
     fn live_place<E: Earlier, N: Net>(
         &mut self,
         problem: &Problem,
@@ -59,8 +60,8 @@ impl State {
         ensures literals { N.literals_of net.new ≡ N.literals_of net.old }
         ensures levels { self.new.levels.items ≡ self.old.levels.items }
         ensures own { self.new.own.items ≡ self.old.own.items }
-        ensures state { IfOk result (λ _. IsState (question_of problem.now (E.clauses handed.now) cube.now) self.new
-            (N.literals_of net.new)) }
+        ensures state { IfOk result (λ _. IsState (question_of problem.now (E.clauses handed.now) cube.now)
+            self.new (N.literals_of net.new)) }
         ensures live { IfOk result (IsLiveAt (N.points_of net.old) (N.literals_of net.old)
             self.new.entries.items clause.now) }
         ensures counts { OnOk result (min (N.adds_of net.old) adds_limit ≤ N.adds_of net.new) }
@@ -97,8 +98,8 @@ impl State {
         ensures points { N.points_of net.new ≡ N.points_of net.old }
         ensures literals { N.literals_of net.new ≡ N.literals_of net.old }
         ensures levels { self.new.levels.items ≡ self.old.levels.items }
-        ensures live { IfOk result (IsLiveness (question_of problem.now (E.clauses handed.now) cube.now) self.new
-            (N.literals_of net.new) i) }
+        ensures live { IfOk result (IsLiveness (question_of problem.now (E.clauses handed.now) cube.now)
+            self.new (N.literals_of net.new) i) }
         ensures counts { OnOk result (min (N.adds_of net.old) adds_limit ≤ N.adds_of net.new) }
     {
         let clause = clause_of(problem, handed, Source::Input(i));

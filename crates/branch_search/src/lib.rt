@@ -1,8 +1,10 @@
-//! A slice of conflict-driven search for a schedule of a Disjunctive Temporal Problem, which leaves refutations.
+//! A slice of conflict-driven search for a schedule of a Disjunctive Temporal Problem, which leaves
+//! refutations.
 //!
-//! Source: Marques Silva and Sakallah, "GRASP: a search algorithm for propositional satisfiability", IEEE Transactions on
-//! Computers 48 (1999): trail, implication points, learned clauses; Ganzinger, Hagen, Nieuwenhuis, Oliveras and Tinelli,
-//! "DPLL(T): fast decision procedures", CAV 2004: the same beside a theory's own solver, which is a network here.
+//! Source: Marques Silva and Sakallah, "GRASP: a search algorithm for propositional satisfiability", IEEE
+//! Transactions on Computers 48 (1999): trail, implication points, learned clauses; Ganzinger, Hagen,
+//! Nieuwenhuis, Oliveras and Tinelli, "DPLL(T): fast decision procedures", CAV 2004: the same beside a
+//! theory's own solver, which is a network here.
 #![tactic(auto)]
 
 mod analysis;

@@ -8,7 +8,7 @@ ghost use Rattle.branch_search.specs.Places.{AreWaiting, KeepsWaiting, ArePassed
 
 use crate::entry::{Conflict, Entry, Level, Reason, Role, Source};
 use crate::places::Places;
-use crate::reading::{clause_of, denial_place, is_same, literal_place, place_of};
+use crate::reading::{clause_of, denial_guess, is_same, literal_place, place_of};
 use crate::redundancy::Redundancy;
 use refute_tree::Earlier;
 use search_guide::Guide;
@@ -84,7 +84,7 @@ fn need_denials(
 {
     for q in 0..clause.len() {
         if q != place {
-            let guess = denial_place(guide, source, q);
+            let guess = denial_guess(guide, source, q, clause[q]);
             need(trail, marks, negate(clause[q]), below, guess)?;
         }
     }
@@ -108,7 +108,8 @@ fn need_cycle(
     ensures waiting { OnOk result (KeepsWaiting marks.old.roles.items marks.old.waiting
         marks.new.roles.items marks.new.waiting) }
     ensures passed { OnOk result (marks.new.passed.items ≡ marks.old.passed.items) }
-    ensures used { OnOk result ((q : ℕ) → q < length cycle.now → (literal_at cycle.now q ≡ negation_of literal)
+    ensures used { OnOk result ((q : ℕ) → q < length cycle.now
+        → (literal_at cycle.now q ≡ negation_of literal)
         ⊎ StandsUsed trail.now marks.new.roles.items below (literal_at cycle.now q)) }
 {
     let denied = negate(literal);
@@ -188,7 +189,8 @@ fn resolve<E: Earlier>(
 ) -> Result<(), AllocError>
     requires count { length trail.now ≤ length marks.old.roles.items }
     requires within { k < length trail.now }
-    requires trail { (cube : List Bound) × IsTrail problem.now.clauses (E.clauses earlier.now) cube trail.now }
+    requires trail { (cube : List Bound)
+        × IsTrail problem.now.clauses (E.clauses earlier.now) cube trail.now }
     requires closed { IsClosed problem.now.clauses (E.clauses earlier.now) trail.now marks.old.roles.items }
     requires used { IsUsed (role_at marks.old.roles.items k) }
     ensures turned { OnOk result (IsTurned problem.now.clauses (E.clauses earlier.now) trail.now whole k
@@ -229,7 +231,8 @@ fn level_start(levels: &[Level], k: usize) -> usize {
     0
 }
 
-// The way back starts with the literal at the place, the last that the conflict rests on: what stands on its level.
+// The way back starts with the literal at the place, the last that the conflict rests on: what stands on its
+// level.
 fn begin_at(marks: &mut Marks, levels: &[Level], k: usize)
     ensures roles { marks.new.roles.items ≡ marks.old.roles.items }
     ensures waiting { marks.new.waiting ≡ marks.old.waiting }
@@ -239,8 +242,8 @@ fn begin_at(marks: &mut Marks, levels: &[Level], k: usize)
     marks.open = marks.waiting.count_from(marks.start).saturating_add(1);
 }
 
-// Whether the literal at the place, which stands below the last level, can be resolved without a literal more in the
-// learned clause. Any body is right.
+// Whether the literal at the place, which stands below the last level, can be resolved without a literal more
+// in the learned clause. Any body is right.
 fn is_redundant(
     trail: &[Entry],
     marks: &mut Marks,
@@ -268,8 +271,8 @@ fn is_redundant(
 
 // Whether to resolve a literal that the conflict rests on. Any body is right.
 //
-// The first unique implication point: of the literals on the last level all but one are resolved. So are the root's, which
-// need no place in the clause, and those that follow from others.
+// The first unique implication point: of the literals on the last level all but one are resolved. So are the
+// root's, which need no place in the clause, and those that follow from others.
 fn is_to_resolve(
     trail: &[Entry],
     levels: &[Level],
@@ -308,7 +311,8 @@ fn turn<E: Earlier>(
 ) -> Result<(), AllocError>
     requires count { length trail.now ≤ length marks.old.roles.items }
     requires within { k < length trail.now }
-    requires trail { (cube : List Bound) × IsTrail problem.now.clauses (E.clauses earlier.now) cube trail.now }
+    requires trail { (cube : List Bound)
+        × IsTrail problem.now.clauses (E.clauses earlier.now) cube trail.now }
     requires closed { IsClosed problem.now.clauses (E.clauses earlier.now) trail.now marks.old.roles.items }
     ensures turned { OnOk result (IsTurned problem.now.clauses (E.clauses earlier.now) trail.now whole k
         marks.old.roles.items marks.new.roles.items) }
@@ -336,7 +340,8 @@ pub fn mark_back<E: Earlier>(
     whole: bool,
 ) -> Result<(), AllocError>
     requires count { length trail.now ≤ length marks.old.roles.items }
-    requires trail { (cube : List Bound) × IsTrail problem.now.clauses (E.clauses earlier.now) cube trail.now }
+    requires trail { (cube : List Bound)
+        × IsTrail problem.now.clauses (E.clauses earlier.now) cube trail.now }
     requires closed { IsClosed problem.now.clauses (E.clauses earlier.now) trail.now marks.old.roles.items }
     requires waiting { AreWaiting (length trail.now) marks.old.roles.items marks.old.waiting }
     requires passed { ArePassed (length trail.now) (length trail.now) marks.old.roles.items

@@ -6,7 +6,7 @@ ghost use Rattle.branch_search.specs.Trails.{source_clause, IsKnown, Stands, on_
 use crate::entry::{Entry, Source};
 use refute_tree::Earlier;
 use search_guide::{Guide, LiteralNumber};
-use stn_core::{BOUND_LIMIT, Literal, Problem};
+use stn_core::{BOUND_LIMIT, Literal, Problem, negate};
 
 /// The clause that is named.
 pub fn clause_of<'a, E: Earlier>(
@@ -108,13 +108,32 @@ pub fn literal_on(entries: &[Entry], k: usize) -> Literal
     entries[k].literal
 }
 
-/// A place at which the literal stands, which stands below another place: the one that was guessed, or else the first.
+/// Where the guide has the negation of this literal, which stands at a place of a clause: by the clause, or
+/// else, where the guide has forgotten that, by the literal.
+pub fn denial_guess(
+    guide: &Guide,
+    source: Source,
+    place: usize,
+    literal: Literal,
+) -> Option<usize> {
+    match denial_place(guide, source, place) {
+        Some(k) => Some(k),
+        None => literal_place(guide, negate(literal)),
+    }
+}
+
+/// A place at which the literal stands, which stands below another place: the last one, or the one that was
+/// guessed, or else the first.
 pub fn place_of(trail: &[Entry], literal: Literal, below: usize, guess: Option<usize>) -> usize
     requires within { below ≤ length trail.now }
     requires stands { Stands trail.now below literal }
     ensures below { result < below }
     ensures is { on_trail trail.now result ≡ literal }
 {
+    let last = below.wrapping_sub(1);
+    if last < below && is_same(trail[last].literal, literal) {
+        return last;
+    }
     if let Some(k) = guess {
         if k < below && is_same(trail[k].literal, literal) {
             return k;

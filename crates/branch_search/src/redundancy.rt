@@ -1,5 +1,5 @@
-//! Which literals a learned clause doesn't need, since they follow from its others. Any answer is right: a literal that is
-//! resolved for nothing brings others into the clause.
+//! Which literals a learned clause doesn't need, since they follow from its others. Any answer is right: a
+//! literal that is resolved for nothing brings others into the clause.
 //!
 //! Source: Sörensson and Biere, "Minimizing learned clauses", SAT 2009.
 use crate::entry::{Entry, Reason, Role, Source};

@@ -1,5 +1,5 @@
-//! Lemmas for what holds without a decision, so that a learned lemma doesn't write its reasons again: each is made once, when
-//! a conflict first rests on the literal, and is then the literal's reason.
+//! Lemmas for what holds without a decision, so that a learned lemma doesn't write its reasons again: each is
+//! made once, when a conflict first rests on the literal, and is then the literal's reason.
 ghost use Rattle.std.specs.Prelude.{◌≡◌, ◌<◌, ◌^◌, length, IfOk, OnOk};
 ghost use Rattle.branch_search.specs.Roots.{denial_of};
 ghost use Rattle.branch_search.specs.Search.{question_of, IsState};
@@ -43,7 +43,8 @@ fn count_of<E: Earlier>(problem: &Problem, earlier: &E, source: Source) -> usize
     }
 }
 
-/// Whether the literal at the place follows from the cube's literals by one clause, or from none.
+/// Whether the literal at the place follows from none, from the cube's literals by one clause, or from a
+/// tighter one, which has a lemma of its own.
 pub fn is_cited<E: Earlier>(
     problem: &Problem,
     earlier: &E,
@@ -61,7 +62,7 @@ pub fn is_cited<E: Earlier>(
             let count = count_of(problem, earlier, *source);
             are_given(guide, entries, *source, count, *place)
         }
-        Reason::Pair(_) => false,
+        Reason::Pair(_) => true,
         Reason::Cycle(_) => false,
     }
 }
@@ -116,8 +117,8 @@ impl State {
             (N.literals_of net.now) }
         ensures levels { self.new.levels.items ≡ self.old.levels.items }
         ensures entries { OnOk result (self.new.entries.items ≡ self.old.entries.items) }
-        ensures state { OnOk result (IsState (question_of problem.now (E.clauses handed.now) cube.now) self.new
-            (N.literals_of net.now)) }
+        ensures state { OnOk result (IsState (question_of problem.now (E.clauses handed.now) cube.now)
+            self.new (N.literals_of net.now)) }
     {
         let Some(conflict) = denial_conflict(alloc, &self.entries[k])? else {
             return Ok(());
@@ -211,8 +212,8 @@ impl State {
         requires state { IsState (question_of problem.now (E.clauses handed.now) cube.now) self.old
             (N.literals_of net.now) }
         ensures levels { self.new.levels.items ≡ self.old.levels.items }
-        ensures state { OnOk result (IsState (question_of problem.now (E.clauses handed.now) cube.now) self.new
-            (N.literals_of net.now)) }
+        ensures state { OnOk result (IsState (question_of problem.now (E.clauses handed.now) cube.now)
+            self.new (N.literals_of net.now)) }
     {
         'wanted: for k in wanted {
             if *k < self.entries.len() {

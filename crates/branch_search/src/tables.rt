@@ -1,4 +1,5 @@
-//! The tables that one conflict leaves to the next one, so that it costs what it rests on, and not the trail's length.
+//! The tables that one conflict leaves to the next one, so that it costs what it rests on, and not the
+//! trail's length.
 ghost use Rattle.std.specs.Prelude.{◌≡◌, ◌≤◌, ◌<◌, ℕ, length, IfOk, [], slice_index};
 ghost use Rattle.branch_search.specs.Trails.{role_at, IsUsed};
 ghost use Rattle.branch_search.specs.declared.entry.Role.TheVariants.{Unused};
