@@ -10,6 +10,7 @@ mod laws;
 mod number;
 mod writer;
 
-pub use entry::{Entry, write_end, write_entry, write_header};
+pub use entry::{Entry, write_end, write_header};
 pub use laws::{entry_is_writable, one_entry, reads_back_entry};
 pub use number::NUMBER_LIMIT;
+pub use writer::Part;

@@ -17,7 +17,7 @@ use std::alloc::AllocError;
 use stn_core::{Literal, NamedValue, Value, negate};
 
 /// What is written as an s-expression.
-pub(crate) trait Part {
+pub trait Part {
     ghost sexpr: { Self → Sexpr };
 
     /// Appends its text; when memory ends, perhaps a part of it.
@@ -28,7 +28,7 @@ pub(crate) trait Part {
 
 /// Appends what stands in a list behind its first item: the other items, each behind a space, and the closing
 /// parenthesis.
-pub(crate) fn write_behind<T: Part>(items: &[T], out: &mut Vec<u8>) -> Result<(), AllocError>
+fn write_behind<T: Part>(items: &[T], out: &mut Vec<u8>) -> Result<(), AllocError>
     ensures ok { OnOk result (out.new.items
         ≡ out.old.items ++ text_behind (items_of (map (λ x. T.sexpr x) items.now))) }
     ensures front { take (vec_len out.old) out.new.items ≡ out.old.items }

@@ -5,7 +5,8 @@ use std::alloc::AllocError;
 /// Why a script isn't answered to its end.
 #[derive(Clone, Copy, Debug, PartialEq, Eq)]
 pub enum SessionError {
-    /// There was no memory. Answers that were written before it stay.
+    /// There was no memory. What was written before it stays: whole answers, and perhaps a front of a
+    /// certificate's line.
     OutOfMemory,
     /// The sink failed. A front of the line that was to be written may have gone out.
     WriteFault,

@@ -4,3 +4,4 @@ pub mod Looping
 pub mod Solving
 pub mod Transcribing
 pub mod Verdicts
+pub mod Telling

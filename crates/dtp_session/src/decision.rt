@@ -1,5 +1,5 @@
 //! What decides a check-sat.
-ghost use Rattle.std.specs.Prelude.{◌≡◌, map, IfOk};
+ghost use Rattle.std.specs.Prelude.{◌≡◌, map, IfOk, OnOk};
 ghost use Rattle.refute_tree.specs.Lengths.{lengthened_lemma};
 ghost use Rattle.smt_script.specs.States.{State as Meaning};
 ghost use Rattle.dtp_entry.specs.Standing.{Stands};
@@ -9,26 +9,34 @@ use book_core::Verdict;
 use cert_text::{Entry, NUMBER_LIMIT};
 use clause_form::restrict;
 use dtp_entry::problem;
-use refute_tree::{Refutation, lengthen};
+use refute_tree::{Lemma, Refutation, lengthen};
 use smt_script::State;
 use std::alloc::{AllocError, Global};
 use steal_search::solve_one;
 use stn_core::Problem;
+use trim_lemmas::trimmed;
+
+/// Writes out the clashes of each lemma, and lets the lemma as it was go.
+fn write_out_each(alloc: Global, problem: &Problem, lemmas: &mut [Lemma]) -> Result<(), AllocError>
+    ensures { OnOk result (lemmas.new ≡ map (lengthened_lemma problem.now.clauses) lemmas.old) }
+{
+    for lemma in lemmas.iter_mut() {
+        *lemma = lengthen(alloc, problem, lemma)?;
+    }
+    Ok(())
+}
 
 /// The refutation with each clash written out, which is how a certificate shows it.
 fn written_out(
     alloc: Global,
     problem: &Problem,
-    refutation: &Refutation,
+    refutation: Refutation,
 ) -> Result<Refutation, AllocError>
-    ensures { IfOk result (λ shown. shown ≡ map (lengthened_lemma problem.now.clauses) refutation.now) }
+    ensures { IfOk result (λ shown. shown ≡ map (lengthened_lemma problem.now.clauses) refutation) }
 {
-    let lemmas = refutation.as_slice();
-    let mut shown = Vec::with_capacity(alloc, lemmas.len())?;
-    for lemma in lemmas {
-        shown.push(lengthen(alloc, problem, lemma)?)?;
-    }
-    Ok(Refutation::new(shown))
+    let mut lemmas = refutation.into_vec();
+    write_out_each(alloc, problem, lemmas.as_mut_slice())?;
+    Ok(Refutation::new(lemmas))
 }
 
 /// Decides the assertions: a schedule that satisfies them, or a refutation of their problem. The search adds so many
@@ -49,16 +57,14 @@ pub fn decide(alloc: Global, state: &State, slice: u64) -> Result<Entry, AllocEr
             Ok(Entry::Sat(values))
         }
         Verdict::Unsat(refutation) => {
-            let count = problem
-                .clauses
-                .as_slice()
-                .len()
-                .max(refutation.as_slice().len());
+            let shorter = trimmed(alloc, refutation)?;
+            let lemmas = shorter.as_slice().len();
+            let count = problem.clauses.as_slice().len().max(lemmas);
             // an entry can't name so many clauses or lemmas, which are in no memory
             if count as u64 > NUMBER_LIMIT {
                 return Err(AllocError);
             }
-            let shown = written_out(alloc, &problem, &refutation)?;
+            let shown = written_out(alloc, &problem, shorter)?;
             Ok(Entry::Unsat(shown))
         }
     }

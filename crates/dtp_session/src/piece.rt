@@ -1,17 +1,20 @@
 //! The pieces of what is written.
-ghost use Rattle.std.specs.Prelude.{◌≡◌, ◌++◌, ℕ, List, IfOk, OnOk};
+ghost use Rattle.std.specs.Prelude.{◌≡◌, ◌≢◌, ◌++◌, ℕ, List, IfOk, OnOk};
 ghost use Rattle.smt_script.specs.States.{State as Meaning};
 ghost use Rattle.dtp_entry.specs.Transcripts.{Held, decision_line, told};
 ghost use Rattle.dtp_entry.specs.Written.{WritesOne};
+ghost use Rattle.dtp_entry.specs.declared.report.Report.TheVariants.{Verdicts};
+ghost use Rattle.dtp_session.specs.declared.piece.Piece.TheVariants.{Decision};
 ghost use Rattle.dtp_session.specs.Sessions.{IsText};
 
 use crate::session::Session;
-use cert_text::{Entry, write_end, write_entry, write_header};
+use cert_stream::write_entry;
+use cert_text::{Entry, write_end, write_header};
 use dtp_entry::{Report, SessionError, write_text};
 use dtp_io::Sink;
 use smt_answer::{Kind, error_text, success_text, unsupported_text, verdict_text};
 use smt_script::Notice;
-use std::alloc::AllocError;
+use std::alloc::{AllocError, Global};
 
 /// A piece of what is written of a script.
 #[derive(Clone, Copy, Debug, PartialEq, Eq)]
@@ -28,16 +31,32 @@ pub enum Piece {
     Error(Kind),
 }
 
-/// Appends the line of a check-sat.
-fn append_decision(report: Report, entry: &Entry, text: &mut Vec<u8>) -> Result<(), AllocError>
-    ensures { OnOk result (text.new.items ≡ text.old.items ++ decision_line report entry.now) }
+/// Writes what is answered to a check-sat.
+fn write_verdict<K: Sink>(alloc: Global, entry: &Entry, sink: &mut K) -> Result<(), SessionError>
+    ensures { WritesOne (λ text. text ≡ decision_line Verdicts entry.now) (K.holds sink.old) (K.holds sink.new)
+        (K.faults sink.old) (K.faults sink.new) result }
+{
+    let mut text = Vec::new(alloc);
+    match entry {
+        Entry::Sat(_) => verdict_text(true, &mut text)?,
+        Entry::Unsat(_) => verdict_text(false, &mut text)?,
+    }
+    write_text(sink, &text)
+}
+
+/// Writes the line of a check-sat: of a certificate in pieces, and else whole.
+fn write_line<K: Sink>(
+    alloc: Global,
+    report: Report,
+    entry: &Entry,
+    sink: &mut K,
+) -> Result<(), SessionError>
+    ensures { WritesOne (λ text. text ≡ decision_line report entry.now) (K.holds sink.old) (K.holds sink.new)
+        (K.faults sink.old) (K.faults sink.new) result }
 {
     match report {
-        Report::Verdicts => match entry {
-            Entry::Sat(_) => verdict_text(true, text),
-            Entry::Unsat(_) => verdict_text(false, text),
-        },
-        Report::Certificate => write_entry(entry, text),
+        Report::Verdicts => write_verdict(alloc, entry, sink),
+        Report::Certificate => write_entry(alloc, entry, sink),
     }
 }
 
@@ -59,8 +78,9 @@ fn append_notice(
 }
 
 impl<'a> Session<'a> {
-    /// Appends a piece.
+    /// Appends a piece that isn't a decision.
     fn append(&self, piece: Piece, text: &mut Vec<u8>) -> Result<(), AllocError>
+        requires { piece ≢ Decision }
         ensures { OnOk result ((added : List ℕ) × IsText self.now piece added
             × (text.new.items ≡ text.old.items ++ added)) }
     {
@@ -69,10 +89,7 @@ impl<'a> Session<'a> {
                 Report::Verdicts => Ok(()),
                 Report::Certificate => write_header(text),
             },
-            Piece::Decision => match &self.held {
-                Some(entry) => append_decision(self.report, entry, text),
-                None => Ok(()),
-            },
+            Piece::Decision => Ok(()),
             Piece::Notice(notice) => append_notice(
                 self.report,
                 self.state.print_success(),
@@ -87,8 +104,9 @@ impl<'a> Session<'a> {
         }
     }
 
-    /// The text of a piece.
+    /// The text of a piece that isn't a decision.
     fn text(&self, piece: Piece) -> Result<Vec<u8>, AllocError>
+        requires { piece ≢ Decision }
         ensures { IfOk result (λ text. IsText self.now piece text.items) }
     {
         let mut text = Vec::new(self.alloc);
@@ -96,12 +114,33 @@ impl<'a> Session<'a> {
         Ok(text)
     }
 
-    /// Writes a piece.
-    pub fn write<K: Sink>(&self, piece: Piece, sink: &mut K) -> Result<(), SessionError>
+    fn write_text_of<K: Sink>(&self, piece: Piece, sink: &mut K) -> Result<(), SessionError>
+        requires { piece ≢ Decision }
         ensures { WritesOne (IsText self.now piece) (K.holds sink.old) (K.holds sink.new)
             (K.faults sink.old) (K.faults sink.new) result }
     {
         let text = self.text(piece)?;
         write_text(sink, &text)
+    }
+
+    fn write_decision<K: Sink>(&self, sink: &mut K) -> Result<(), SessionError>
+        ensures { WritesOne (IsText self.now Decision) (K.holds sink.old) (K.holds sink.new)
+            (K.faults sink.old) (K.faults sink.new) result }
+    {
+        match &self.held {
+            Some(entry) => write_line(self.alloc, self.report, entry, sink),
+            None => Ok(()),
+        }
+    }
+
+    /// Writes a piece.
+    pub fn write<K: Sink>(&self, piece: Piece, sink: &mut K) -> Result<(), SessionError>
+        ensures { WritesOne (IsText self.now piece) (K.holds sink.old) (K.holds sink.new)
+            (K.faults sink.old) (K.faults sink.new) result }
+    {
+        match piece {
+            Piece::Decision => self.write_decision(sink),
+            _ => self.write_text_of(piece, sink),
+        }
     }
 }

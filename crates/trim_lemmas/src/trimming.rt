@@ -36,8 +36,8 @@ fn renumber(alloc: Global, lemmas: &mut [Lemma], places: &Places) -> Result<(), 
 
 /// The lemmas that the last one needs, numbered anew: what refuted a problem refutes it.
 ///
-/// It takes time in the steps that are kept and in the count of the lemmas. Beside a mark and a word for each lemma it takes
-/// memory for the steps of one lemma at a time, and those before it are let go.
+/// It takes time in the steps that are kept and in the count of the lemmas. Beside a mark and a word for each lemma
+/// it takes memory for the steps of one lemma at a time, and those before it are let go.
 pub fn trimmed(alloc: Global, refutation: Refutation) -> Result<Refutation, AllocError>
     ensures trimmed { IfOk result (IsTrimmed refutation) }
     ensures refutes { IfOk result (StaysRefutation refutation) }

@@ -1,0 +1,123 @@
+//! Text that waits, and goes out when it is long.
+#![tactic(auto, unfolding(smt_lex::specs::Bytes::is_symbol_byte))]
+
+ghost use Rattle.std.specs.Prelude.{◌≡◌, ◌∷◌, [], ◌++◌, map, OnOk};
+ghost use Rattle.smt_sexpr.specs.Printing.{text_of, text_behind};
+ghost use Rattle.smt_sexpr.specs.Shapes.{items_of};
+ghost use Rattle.cert_text.specs.Form.{entry_sexpr, line_of};
+ghost use Rattle.dtp_entry.specs.Written.{WritesOne};
+ghost use Rattle.cert_stream.specs.Streams.{Streams};
+
+use bstr::ByteVec;
+use cert_text::{Entry, Part};
+use dtp_entry::{SessionError, write_text};
+use dtp_io::Sink;
+use std::alloc::{AllocError, Global};
+
+/// How long the text is at least that goes out before the entry's end.
+const LONG: usize = 1 << 16;
+
+// Writes the text that waits, where it is long.
+fn settle<K: Sink>(text: &mut Vec<u8>, sink: &mut K) -> Result<(), SessionError>
+    ensures { Streams [] text.old.items text.new.items (K.holds sink.old) (K.holds sink.new)
+        (K.faults sink.old) (K.faults sink.new) result }
+{
+    if text.len() < LONG {
+        return Ok(());
+    }
+    write_text(sink, text.as_slice())?;
+    text.clear();
+    Ok(())
+}
+
+fn append_item<T: Part>(item: &T, text: &mut Vec<u8>) -> Result<(), AllocError>
+    ensures { OnOk result (text.new.items ≡ text.old.items ++ 32 ∷ text_of (T.sexpr item.now)) }
+{
+    text.push_str(b" ")?;
+    item.write(text)
+}
+
+// The same as `write_behind` of `cert_text`: the items, each behind a space, and the closing parenthesis.
+fn stream_behind<T: Part, K: Sink>(
+    items: &[T],
+    text: &mut Vec<u8>,
+    sink: &mut K,
+) -> Result<(), SessionError>
+    ensures { Streams (text_behind (items_of (map (λ x. T.sexpr x) items.now)))
+        text.old.items text.new.items (K.holds sink.old) (K.holds sink.new)
+        (K.faults sink.old) (K.faults sink.new) result }
+{
+    for item in items {
+        append_item(item, text)?;
+        settle(text, sink)?;
+    }
+    text.push_str(b")")?;
+    Ok(())
+}
+
+// A line that begins so, with the items behind it.
+fn stream_line<T: Part, K: Sink>(
+    head: &[u8],
+    items: &[T],
+    text: &mut Vec<u8>,
+    sink: &mut K,
+) -> Result<(), SessionError>
+    ensures { Streams (head.now ++ (text_behind (items_of (map (λ x. T.sexpr x) items.now)) ++ 10 ∷ []))
+        text.old.items text.new.items (K.holds sink.old) (K.holds sink.new)
+        (K.faults sink.old) (K.faults sink.new) result }
+{
+    text.push_str(head)?;
+    stream_behind(items, text, sink)?;
+    text.push_str(b"\n")?;
+    Ok(())
+}
+
+fn stream_entry<K: Sink>(
+    entry: &Entry,
+    text: &mut Vec<u8>,
+    sink: &mut K,
+) -> Result<(), SessionError>
+    ensures { Streams (line_of (entry_sexpr entry.now))
+        text.old.items text.new.items (K.holds sink.old) (K.holds sink.new)
+        (K.faults sink.old) (K.faults sink.new) result }
+{
+    match entry {
+        Entry::Sat(values) => stream_line(b"(sat", values.as_slice(), text, sink),
+        Entry::Unsat(refutation) => stream_line(b"(unsat", refutation.as_slice(), text, sink),
+    }
+}
+
+/// Writes the line of an entry, in pieces. Without memory for a piece, those before it are written.
+pub fn write_entry<K: Sink>(alloc: Global, entry: &Entry, sink: &mut K) -> Result<(), SessionError>
+    ensures { WritesOne (λ text. text ≡ line_of (entry_sexpr entry.now)) (K.holds sink.old) (K.holds sink.new)
+        (K.faults sink.old) (K.faults sink.new) result }
+{
+    let mut text = Vec::new(alloc);
+    stream_entry(entry, &mut text, sink)?;
+    write_text(sink, text.as_slice())?;
+    Ok(())
+}
+
+#[cfg(test)]
+mod tests {
+    use super::*;
+    use dtp_io::MemSink;
+    use std::test::Fail;
+    use stn_core::{NamedValue, NamedValues};
+
+    /// How long the line of so many values is.
+    fn length_of(alloc: Global, count: usize) -> Result<usize, SessionError> {
+        let values = NamedValues::new(vec![in alloc; NamedValue::Int(7); count]?);
+        let mut sink = MemSink::new(alloc, &[]);
+        write_entry(alloc, &Entry::Sat(values), &mut sink)?;
+        Ok(sink.held().len())
+    }
+
+    #[test]
+    fn a_line_in_pieces(rt: HostRuntime) -> Result<(), Fail> {
+        let short = length_of(rt.alloc(), 1);
+        let long = length_of(rt.alloc(), 100_000);
+        assert_eq!(rt; (short, long), (Ok(8), Ok(200_006)));
+        Ok(())
+    }
+}
