@@ -96,32 +96,55 @@ fn third_bound(alloc: Global) -> Result<Problem, AllocError> {
     with_clause(problem, [literal(3, 1, 1), literal(0, 4, -1)].as_slice())
 }
 
+/// Four pairs of points, each in one of two orders.
+fn free_pairs(alloc: Global) -> Result<Problem, AllocError> {
+    let mut problem = empty(alloc, 9);
+    for i in 0..4u32 {
+        problem = with_order(problem, 1 + 2 * i, 2 + 2 * i)?;
+    }
+    Ok(problem)
+}
+
+/// Which answer it is.
+fn kind_of(answer: &Slice) -> u32 {
+    match answer {
+        Slice::Model(_, _) => 0,
+        Slice::Refuted(_, _) => 1,
+        Slice::Split(_, _) => 2,
+    }
+}
+
 /// A slice on the problem, without a cube: which answer, how many adds, and how many lemmas.
 fn run(alloc: Global, problem: &Problem, budget: u64) -> Result<(u32, u64, usize), AllocError> {
     let mut net = Network::new(alloc, problem.points)?;
     let handed: &[Lemma] = &[];
     let answer = slice(alloc, problem, &handed, &[], budget, &mut net)?;
-    match answer {
-        Slice::Model(_, batch) => Ok((0, net.adds(), batch.lemmas().len())),
-        Slice::Refuted(batch, _) => Ok((1, net.adds(), batch.lemmas().len())),
-        Slice::Split(_, batch) => Ok((2, net.adds(), batch.lemmas().len())),
-    }
+    let lemmas = match &answer {
+        Slice::Model(_, batch) => batch.lemmas().len(),
+        Slice::Refuted(batch, _) => batch.lemmas().len(),
+        Slice::Split(_, batch) => batch.lemmas().len(),
+    };
+    Ok((kind_of(&answer), net.adds(), lemmas))
 }
 
-/// Two slices of one searcher, the second over the lemmas of the first: which answer the second gives, and how many conflicts
-/// both met.
+/// A slice of one add under the cube: which answer.
+fn run_under(alloc: Global, problem: &Problem, literals: &[Literal]) -> Result<u32, AllocError> {
+    let mut net = Network::new(alloc, problem.points)?;
+    let handed: &[Lemma] = &[];
+    let cube = clause_of(alloc, problem.points, literals)?;
+    let answer = slice(alloc, problem, &handed, cube.as_slice(), 1, &mut net)?;
+    Ok(kind_of(&answer))
+}
+
+/// Two slices of one searcher, the second over the lemmas of the first: which answer the second gives, and
+/// how many conflicts both met.
 fn run_twice(alloc: Global, problem: &Problem) -> Result<(u32, u64), AllocError> {
     let mut net = Network::new(alloc, problem.points)?;
     let mut searcher = Searcher::new(alloc, problem)?;
     let none: &[Lemma] = &[];
     searcher.slice(alloc, problem, &none, &[], 1, &mut net)?;
     let answer = searcher.slice(alloc, problem, &none, &[], 1_000_000, &mut net)?;
-    let kind = match answer {
-        Slice::Model(_, _) => 0,
-        Slice::Refuted(_, _) => 1,
-        Slice::Split(_, _) => 2,
-    };
-    Ok((kind, searcher.conflicts()))
+    Ok((kind_of(&answer), searcher.conflicts()))
 }
 
 /// Whether a slice refutes the problem, and how many decisions it made.
@@ -163,5 +186,24 @@ fn distances_alone(rt: HostRuntime) -> Result<(), Fail> {
     let problem = third_bound(alloc)?;
     let found = run_counted(alloc, &problem)?;
     assert_eq!(rt; found, (true, 0));
+    Ok(())
+}
+
+/// As long as a pair is free, one add is too few. Where none is, there is nothing to split on.
+#[test]
+fn free_pairs_and_decided_ones(rt: HostRuntime) -> Result<(), Fail> {
+    let alloc = rt.alloc();
+    let problem = free_pairs(alloc)?;
+    let (one, two) = (literal(1, 2, -1), literal(4, 3, -1));
+    let (three, four) = (literal(5, 6, -3), literal(8, 7, -1));
+    let free = run_under(alloc, &problem, [].as_slice())?;
+    let some = run_under(alloc, &problem, [one, two].as_slice())?;
+    let decided = run_under(alloc, &problem, [one, two, three, four].as_slice())?;
+    let equal = run_under(
+        alloc,
+        &problem,
+        [one, literal(3, 4, 0), literal(4, 3, 0)].as_slice(),
+    )?;
+    assert_eq!(rt; (free, some, decided, equal), (2, 2, 0, 1));
     Ok(())
 }
