@@ -195,5 +195,6 @@ pub fn steps_for<E: Earlier>(
     'back: for i in 0..passed.len() {
         push_closing_at(problem, earlier, trail, roles, passed[i], &mut steps)?;
     }
+    steps.shrink_to_fit();
     Ok(steps)
 }

@@ -134,6 +134,16 @@ impl Lists {
         cut_out(&mut self.literals, low.literals, high.literals);
     }
 
+    /// Gives back the memory that isn't needed.
+    pub fn shrink_to_fit(&mut self)
+        ensures { AreSame self.old self.new }
+    {
+        self.kinds.shrink_to_fit();
+        self.small.shrink_to_fit();
+        self.large.shrink_to_fit();
+        self.literals.shrink_to_fit();
+    }
+
     pub fn copy(&self, alloc: Global) -> Result<Lists, AllocError>
         ensures { IfOk result (AreSame self.now) }
     {

@@ -194,6 +194,13 @@ impl Steps {
         })
     }
 
+    /// Gives back the memory that the list has taken in advance.
+    pub fn shrink_to_fit(&mut self)
+        ensures { self.new ≡ self.old }
+    {
+        self.lists.shrink_to_fit();
+    }
+
     pub fn len(&self) -> usize
         ensures { result ≡ length self.now }
     {

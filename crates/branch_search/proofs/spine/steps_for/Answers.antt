@@ -1,4 +1,4 @@
-use Rattle.std.proofs.Common.{arith, ◌≡◌, ◌-◌, ◌+◌, ℕ, List, length, subst, refl, suc}
+use Rattle.std.proofs.Common.{arith, ◌≡◌, ◌∙◌, ◌-◌, ◌+◌, ℕ, List, length, subst, refl, suc}
 use Rattle.refute_tree.specs.declared.step.Step.{Step}
 use Rattle.branch_search.proofs.Written.{Opened, Closed, opened_none, opened_more, closed_none, closed_more, closed_all}
 use Rattle.branch_search.proofs.spine.steps_for.Goals as goal
@@ -48,5 +48,6 @@ returns g c =
     let all : c.back.i ≡ length c.args.passed.now = omega (arith, end, c.back-test.false) in
     let P : ℕ → Type 0 = λ k. Closed inputs lemmas c.args.trail.now c.args.roles.now c.args.passed.now
     c.args.conflict.now k c.back.steps in
-    closed_all inputs lemmas c.args.trail.now c.args.roles.now (length c.args.trail.now) c.args.passed.now
-    c.requires.passed c.args.conflict.now c.back.steps (subst P all c.back.invariant.written)
+    c.shrink_to_fit.ensures
+    ∙ closed_all inputs lemmas c.args.trail.now c.args.roles.now (length c.args.trail.now) c.args.passed.now
+      c.requires.passed c.args.conflict.now c.back.steps (subst P all c.back.invariant.written)
