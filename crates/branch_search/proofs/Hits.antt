@@ -1,5 +1,5 @@
 -- Literals that follow by distances, each with its cycle, over plain lists.
-use Rattle.std.proofs.Common.{arith, ◌≡◌, ◌≢◌, ℕ, ◌<◌, inl, inr, ◌⊎◌, List, [], ◌∷◌, ◌++◌, length, Option, Some, All, subst, sym, ap, ◌∙◌, refl}
+use Rattle.std.proofs.Common.{◌≡◌, ℕ, inr, List, [], ◌∷◌, ◌++◌, length, Option, Some, All, subst, sym}
 use Rattle.std.specs.Prelude.{IfSome}
 use Rattle.std.proofs.lemmas.List.Elements.{All-push}
 use Rattle.stn_core.specs.declared.literal.Literal.{Literal}
@@ -9,7 +9,7 @@ use Rattle.refute_tree.specs.declared.lemma.Lemma.{Lemma}
 use Rattle.branch_search.specs.declared.entry.Reason.TheVariants.{Cycle as ByCycle}
 use Rattle.branch_search.specs.declared.entry.Entry.{Entry}
 use Rattle.branch_search.specs.declared.entry.Level.{Level}
-use Rattle.branch_search.specs.Trails.{no_literal, literal_at, IsByCycle, Stands}
+use Rattle.branch_search.specs.Trails.{no_literal, IsByCycle, Stands}
 use Rattle.branch_search.specs.Hits.{IsOnPath}
 use Rattle.branch_search.specs.Search.{Question, IsSearch}
 use Rattle.branch_search.proofs.States.{state_pushed}

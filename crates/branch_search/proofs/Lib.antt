@@ -9,6 +9,7 @@ pub mod States
 pub mod Learned
 pub mod Proposals
 pub mod Hits
+pub mod AtOnce
 pub mod Splits
 pub mod Answered
 pub mod Restated

@@ -29,6 +29,7 @@ mod slicing;
 mod spine;
 mod state;
 mod tables;
+mod waiting;
 
 pub use answer::Slice;
 pub use slicing::{Searcher, slice};

@@ -256,7 +256,7 @@ impl State {
         Ok(found)
     }
 
-    // The next literal into the net, or else, where all are in it, into the distances.
+    // All waiting literals into the net, or the next one into it, or else, where all are in it, into the distances.
     fn advance<E: Earlier, N: Net>(
         &mut self,
         alloc: Global,
@@ -274,6 +274,10 @@ impl State {
             (N.literals_of net.new)) }
         ensures counts { OnOk result (min (N.adds_of net.old) adds_limit ≤ N.adds_of net.new) }
     {
+        if self.has_many_waiting() {
+            let found = self.net_waiting(alloc, problem, handed, cube, net)?;
+            return Ok(found);
+        }
         if self.netted < self.entries.len() {
             let found = self.net_next(problem, handed, cube, net)?;
             return Ok(found);

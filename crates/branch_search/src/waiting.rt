@@ -1,0 +1,62 @@
+//! Many literals of the trail into the net at once, as at a search's start: in the order of the trail a long chain might
+//! lower its points again with each literal.
+ghost use Rattle.std.specs.Prelude.{◌≡◌, ◌≤◌, length, min, IfOk, OnOk};
+ghost use Rattle.branch_search.specs.Search.{question_of, IsState, IsAfter, AllStand, adds_limit};
+
+use crate::entry::Conflict;
+use crate::reading::literal_on;
+use crate::state::State;
+use net_batch::add_all;
+use refute_tree::Earlier;
+use std::alloc::{AllocError, Global};
+use stn_core::{Literal, Net, Problem};
+
+/// Fewer literals than these go into the net one by one, since a batch looks at each point.
+const MANY: usize = 32;
+
+impl State {
+    /// Whether many literals wait for the net, and nothing is decided.
+    pub fn has_many_waiting(&self) -> bool {
+        self.levels.is_empty() && self.entries.len().saturating_sub(self.netted) >= MANY
+    }
+
+    // The literals for the net that stand on the trail from a place on.
+    fn literals_waiting(&self, alloc: Global, from: usize) -> Result<Vec<Literal>, AllocError>
+        ensures { IfOk result (λ literals. AllStand self.now.entries.items (length self.now.entries.items)
+            literals.items) }
+    {
+        let mut literals = Vec::new(alloc);
+        'places: for k in from..self.entries.len() {
+            if self.is_for_net(k) {
+                literals.push(literal_on(&self.entries, k))?;
+            }
+        }
+        Ok(literals)
+    }
+
+    /// All literals that wait for the net.
+    pub fn net_waiting<E: Earlier, N: Net>(
+        &mut self,
+        alloc: Global,
+        problem: &Problem,
+        handed: &E,
+        cube: &[Literal],
+        net: &mut N,
+    ) -> Result<Option<Conflict>, AllocError>
+        requires points { N.points_of net.old ≡ problem.now.points }
+        requires state { IsState (question_of problem.now (E.clauses handed.now) cube.now) self.old
+            (N.literals_of net.old) }
+        ensures points { N.points_of net.new ≡ N.points_of net.old }
+        ensures levels { self.new.levels.items ≡ self.old.levels.items }
+        ensures after { IfOk result (IsAfter (question_of problem.now (E.clauses handed.now) cube.now) self.new
+            (N.literals_of net.new)) }
+        ensures counts { OnOk result (min (N.adds_of net.old) adds_limit ≤ N.adds_of net.new) }
+    {
+        let literals = self.literals_waiting(alloc, self.netted)?;
+        self.netted = self.entries.len();
+        match add_all(alloc, net, &literals)? {
+            None => Ok(None),
+            Some(cycle) => Ok(Some(Conflict::Cycle(cycle))),
+        }
+    }
+}
