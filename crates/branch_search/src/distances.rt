@@ -1,5 +1,5 @@
-//! What follows from the trail's literals by distances between points, each with a negative cycle that shows it. The
-//! distances have no contract: each cycle is tested before it is a reason.
+//! What follows from the trail's literals by distances between points, each with a negative cycle that shows
+//! it. The distances have no contract: each cycle is tested before it is a reason.
 ghost use Rattle.std.specs.Prelude.{◌≡◌, ◌<◌, ◌≤◌, All, length, IfOk, IfSome, OnOk};
 ghost use Rattle.branch_search.specs.Trails.{Stands, IsByCycle};
 ghost use Rattle.branch_search.specs.Hits.{IsOnPath};
@@ -38,7 +38,8 @@ fn path_of(
     Ok(Some(path))
 }
 
-// The cycle of the literal's negation and those with the numbers, where it is negative and they stand on the trail.
+// The cycle of the literal's negation and those with the numbers, where it is negative and they stand on the
+// trail.
 fn cycle_of(
     alloc: Global,
     guide: &Guide,
@@ -46,7 +47,8 @@ fn cycle_of(
     literal: Literal,
     numbers: &[LiteralNumber],
 ) -> Result<Option<Literals>, AllocError>
-    ensures { IfOk result (λ found. IfSome found (IsByCycle (Stands entries.now (length entries.now)) literal)) }
+    ensures { IfOk result (λ found. IfSome found (IsByCycle (Stands entries.now (length entries.now))
+        literal)) }
 {
     let Some(path) = path_of(alloc, guide, entries, negate(literal), numbers)? else {
         return Ok(None);
@@ -104,8 +106,8 @@ impl State {
         requires state { IsState (question_of problem.now (E.clauses handed.now) cube.now) self.old
             (N.literals_of net.now) }
         ensures levels { self.new.levels.items ≡ self.old.levels.items }
-        ensures state { OnOk result (IsState (question_of problem.now (E.clauses handed.now) cube.now) self.new
-            (N.literals_of net.now)) }
+        ensures state { OnOk result (IsState (question_of problem.now (E.clauses handed.now) cube.now)
+            self.new (N.literals_of net.now)) }
     {
         let Some(literal) = self.guide.literal(number) else {
             return Ok(());
@@ -150,8 +152,8 @@ impl State {
         requires state { IsState (question_of problem.now (E.clauses handed.now) cube.now) self.old
             (N.literals_of net.now) }
         ensures levels { self.new.levels.items ≡ self.old.levels.items }
-        ensures state { OnOk result (IsState (question_of problem.now (E.clauses handed.now) cube.now) self.new
-            (N.literals_of net.now)) }
+        ensures state { OnOk result (IsState (question_of problem.now (E.clauses handed.now) cube.now)
+            self.new (N.literals_of net.now)) }
     {
         let k = self.measured;
         if k >= self.entries.len() {

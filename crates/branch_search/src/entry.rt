@@ -15,7 +15,8 @@ pub enum Reason {
     Given,
     /// It was decided.
     Decision,
-    /// It stands at this place of the clause, and the negations of the clause's other literals stand before it.
+    /// It stands at this place of the clause, and the negations of the clause's other literals stand before
+    /// it.
     Clause(Source, usize),
     /// This literal stands before it, and bounds the same two points at least as tightly.
     Pair(Literal),

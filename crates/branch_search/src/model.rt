@@ -56,7 +56,8 @@ fn add_pure<N: Net>(guide: &Guide, net: &mut N) -> Result<(), AllocError>
     Ok(())
 }
 
-/// The schedule on which all clauses hold, if the net's is one when it has the pure literals that are true too.
+/// The schedule on which all clauses hold, if the net's is one when it has the pure literals that are true
+/// too.
 pub fn try_model<N: Net>(
     alloc: Global,
     problem: &Problem,

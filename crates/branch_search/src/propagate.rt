@@ -45,8 +45,8 @@ impl State {
         requires state { IsState (question_of problem.now (E.clauses handed.now) cube.now) self.old
             (N.literals_of net.now) }
         ensures levels { self.new.levels.items ≡ self.old.levels.items }
-        ensures taken { IfOk result (IsTaken (question_of problem.now (E.clauses handed.now) cube.now) self.new
-            (N.literals_of net.now)) }
+        ensures taken { IfOk result (IsTaken (question_of problem.now (E.clauses handed.now) cube.now)
+            self.new (N.literals_of net.now)) }
         ensures longer { OnOk result (length self.old.entries.items ≤ length self.new.entries.items) }
     {
         let both = Both {
@@ -104,8 +104,8 @@ impl State {
         requires state { IsState (question_of problem.now (E.clauses handed.now) cube.now) self.old
             (N.literals_of net.now) }
         ensures levels { self.new.levels.items ≡ self.old.levels.items }
-        ensures taken { IfOk result (IsTaken (question_of problem.now (E.clauses handed.now) cube.now) self.new
-            (N.literals_of net.now)) }
+        ensures taken { IfOk result (IsTaken (question_of problem.now (E.clauses handed.now) cube.now)
+            self.new (N.literals_of net.now)) }
         ensures longer { OnOk result (length self.old.entries.items ≤ length self.new.entries.items) }
     {
         let tighter = literal_on(&self.entries, k);
@@ -138,8 +138,8 @@ impl State {
         requires state { IsState (question_of problem.now (E.clauses handed.now) cube.now) self.old
             (N.literals_of net.now) }
         ensures levels { self.new.levels.items ≡ self.old.levels.items }
-        ensures taken { IfOk result (IsTaken (question_of problem.now (E.clauses handed.now) cube.now) self.new
-            (N.literals_of net.now)) }
+        ensures taken { IfOk result (IsTaken (question_of problem.now (E.clauses handed.now) cube.now)
+            self.new (N.literals_of net.now)) }
         ensures longer { OnOk result (length self.old.entries.items ≤ length self.new.entries.items) }
     {
         match self.guide.next()? {
@@ -171,8 +171,8 @@ impl State {
         requires state { IsState (question_of problem.now (E.clauses handed.now) cube.now) self.old
             (N.literals_of net.now) }
         ensures levels { self.new.levels.items ≡ self.old.levels.items }
-        ensures after { IfOk result (IsAfter (question_of problem.now (E.clauses handed.now) cube.now) self.new
-            (N.literals_of net.now)) }
+        ensures after { IfOk result (IsAfter (question_of problem.now (E.clauses handed.now) cube.now)
+            self.new (N.literals_of net.now)) }
     {
         let limit = self.guide.literals();
         self.guide.begin(self.entries[k].number);
@@ -199,8 +199,8 @@ impl State {
         requires state { IsState (question_of problem.now (E.clauses handed.now) cube.now) self.old
             (N.literals_of net.now) }
         ensures levels { self.new.levels.items ≡ self.old.levels.items }
-        ensures after { IfOk result (IsAfter (question_of problem.now (E.clauses handed.now) cube.now) self.new
-            (N.literals_of net.now)) }
+        ensures after { IfOk result (IsAfter (question_of problem.now (E.clauses handed.now) cube.now)
+            self.new (N.literals_of net.now)) }
     {
         let limit = self.guide.literals();
         'literals: for _turn in 0..limit {
@@ -216,8 +216,8 @@ impl State {
         Ok(None)
     }
 
-    /// Whether the net is to have the literal at the place, and so the distances. Pure ones and those that others imply add
-    /// nothing to it.
+    /// Whether the net is to have the literal at the place, and so the distances. Pure ones and those that
+    /// others imply add nothing to it.
     pub fn is_for_net(&self, k: usize) -> bool
         requires { k < length self.now.entries.items }
     {
@@ -240,8 +240,8 @@ impl State {
             (N.literals_of net.old) }
         ensures points { N.points_of net.new ≡ N.points_of net.old }
         ensures levels { self.new.levels.items ≡ self.old.levels.items }
-        ensures after { IfOk result (IsAfter (question_of problem.now (E.clauses handed.now) cube.now) self.new
-            (N.literals_of net.new)) }
+        ensures after { IfOk result (IsAfter (question_of problem.now (E.clauses handed.now) cube.now)
+            self.new (N.literals_of net.new)) }
         ensures counts { OnOk result (min (N.adds_of net.old) adds_limit ≤ N.adds_of net.new) }
     {
         let k = self.netted;
@@ -256,7 +256,8 @@ impl State {
         Ok(found)
     }
 
-    // All waiting literals into the net, or the next one into it, or else, where all are in it, into the distances.
+    // All waiting literals into the net, or the next one into it, or else, where all are in it, into the
+    // distances.
     fn advance<E: Earlier, N: Net>(
         &mut self,
         alloc: Global,
@@ -270,8 +271,8 @@ impl State {
             (N.literals_of net.old) }
         ensures points { N.points_of net.new ≡ N.points_of net.old }
         ensures levels { self.new.levels.items ≡ self.old.levels.items }
-        ensures after { IfOk result (IsAfter (question_of problem.now (E.clauses handed.now) cube.now) self.new
-            (N.literals_of net.new)) }
+        ensures after { IfOk result (IsAfter (question_of problem.now (E.clauses handed.now) cube.now)
+            self.new (N.literals_of net.new)) }
         ensures counts { OnOk result (min (N.adds_of net.old) adds_limit ≤ N.adds_of net.new) }
     {
         if self.has_many_waiting() {
@@ -286,8 +287,9 @@ impl State {
         Ok(None)
     }
 
-    /// All that follows from the trail's literals, by ladders, clauses, the net and distances, or a conflict. All literals go
-    /// into the net before the next one goes into the distances, since what clauses and ladders alone lead to costs less.
+    /// All that follows from the trail's literals, by ladders, clauses, the net and distances, or a conflict.
+    /// All literals go into the net before the next one goes into the distances, since what clauses and
+    /// ladders alone lead to costs less.
     pub fn propagate<E: Earlier, N: Net>(
         &mut self,
         alloc: Global,
@@ -302,8 +304,8 @@ impl State {
             (N.literals_of net.old) }
         ensures points { N.points_of net.new ≡ N.points_of net.old }
         ensures levels { self.new.levels.items ≡ self.old.levels.items }
-        ensures after { IfOk result (IsAfter (question_of problem.now (E.clauses handed.now) cube.now) self.new
-            (N.literals_of net.new)) }
+        ensures after { IfOk result (IsAfter (question_of problem.now (E.clauses handed.now) cube.now)
+            self.new (N.literals_of net.new)) }
         ensures counts { OnOk result (min (N.adds_of net.old) adds_limit ≤ N.adds_of net.new) }
     {
         // each literal goes once into the net and once into the distances

@@ -207,7 +207,8 @@ impl State {
         requires state { IsState (question_of problem.now (E.clauses handed.now) cube.now) self.old
             (N.literals_of net.old) }
         ensures points { N.points_of net.new ≡ N.points_of net.old }
-        ensures found { IfOk result (IsFound (question_of problem.now (E.clauses handed.now) cube.now) self.new) }
+        ensures found { IfOk result (IsFound (question_of problem.now (E.clauses handed.now) cube.now)
+            self.new) }
         ensures counts { OnOk result (min (N.adds_of net.old) adds_limit ≤ N.adds_of net.new) }
     {
         let mut left = rest;

@@ -35,7 +35,8 @@ impl State {
         requires empty { N.literals_of net.old ≡ [] }
         requires over { All (IsOver problem.now.points) cube.now }
         ensures points { N.points_of net.new ≡ N.points_of net.old }
-        ensures found { IfOk result (IsFound (question_of problem.now (E.clauses handed.now) cube.now) self.new) }
+        ensures found { IfOk result (IsFound (question_of problem.now (E.clauses handed.now) cube.now)
+            self.new) }
         ensures counts { OnOk result (min (N.adds_of net.old) adds_limit ≤ N.adds_of net.new) }
     {
         if let Some(j) = self.enter(alloc, problem, handed, cube, net)? {
@@ -95,7 +96,8 @@ fn spend<N: Net>(net: &mut N, problem: &Problem, target: u64) -> Result<(), Allo
 
 // The answer with its lemmas.
 fn answer_of(division: Division, seen: usize, lemmas: Vec<Lemma>) -> Slice
-    ensures { (q : Question) → seen ≡ length q.handed → IsDivision q lemmas.items division → IsSlice q result }
+    ensures { (q : Question) → seen ≡ length q.handed → IsDivision q lemmas.items division
+        → IsSlice q result }
 {
     let batch = Batch::new(seen, lemmas);
     match division {
@@ -118,7 +120,8 @@ fn divide_cube<E: Earlier, N: Net>(
     requires few { length (E.clauses handed.now) < 2 ^ 63 }
     requires points { N.points_of net.old ≡ problem.now.points }
     requires lemmas { All (IsClauseOver problem.now.points) (E.clauses handed.now) }
-    requires proved { AreProved (question_of problem.now (E.clauses handed.now) cube.now) state.old.own.items }
+    requires proved { AreProved (question_of problem.now (E.clauses handed.now) cube.now)
+        state.old.own.items }
     requires over { All (IsOver problem.now.points) cube.now }
     ensures points { N.points_of net.new ≡ N.points_of net.old }
     ensures answer { IfOk result (IsSlice (question_of problem.now (E.clauses handed.now) cube.now)) }
@@ -132,8 +135,8 @@ fn divide_cube<E: Earlier, N: Net>(
     Ok(answer_of(division, handed.count(), state.take_own(alloc)))
 }
 
-// How many decisions a slice may make. A decision that adds nothing to the net is cheap, and a script of many formulas wants as many
-// as it has names, so that there are far more of them than adds.
+// How many decisions a slice may make. A decision that adds nothing to the net is cheap, and a script of many
+// formulas wants as many as it has names, so that there are far more of them than adds.
 fn decisions_of(budget: u64) -> u64 {
     budget.saturating_mul(100).saturating_add(100_000)
 }
@@ -175,8 +178,8 @@ fn run<E: Earlier, N: Net>(
     }
 }
 
-/// What one worker keeps from slice to slice of one problem: what it has seen of clauses, activities and phases. Kept or not,
-/// and whatever a searcher was used for before, a slice answers by the same contract.
+/// What one worker keeps from slice to slice of one problem: what it has seen of clauses, activities and
+/// phases. Kept or not, and whatever a searcher was used for before, a slice answers by the same contract.
 #[derive(Drop)]
 pub struct Searcher {
     state: State,
@@ -228,10 +231,10 @@ impl Searcher {
     }
 }
 
-/// A slice of search for a schedule of a problem under a cube: up to so many adds to the net, which has the problem's
-/// points and no literal, and has none afterwards. A `Split` comes only where the count of adds has risen by the budget.
-/// The lemmas are each refuted over the problem, the handed lemmas and those before it, whatever the search's choices are.
-/// The one error is want of memory.
+/// A slice of search for a schedule of a problem under a cube: up to so many adds to the net, which has the
+/// problem's points and no literal, and has none afterwards. A `Split` comes only where the count of adds has
+/// risen by the budget. The lemmas are each refuted over the problem, the handed lemmas and those before it,
+/// whatever the search's choices are. The one error is want of memory.
 pub fn slice<E: Earlier, N: Net>(
     alloc: Global,
     problem: &Problem,

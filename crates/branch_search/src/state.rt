@@ -1,7 +1,9 @@
 //! The trail of a search, beside a net that has some of its literals, and the lemmas learned so far.
-ghost use Rattle.std.specs.Prelude.{◌≡◌, ◌<◌, ◌≤◌, ◌+◌, ◌++◌, ◌∷◌, [], List, length, take, min, true, OnOk, IfOk};
+ghost use Rattle.std.specs.Prelude.{◌≡◌, ◌<◌, ◌≤◌, ◌+◌, ◌++◌, ◌∷◌, [], List, length, take, min, true, OnOk};
+ghost use Rattle.std.specs.Prelude.{IfOk};
 ghost use Rattle.branch_search.specs.Trails.{on_trail, Stands};
-ghost use Rattle.branch_search.specs.Search.{question_of, level_at, start_of, in_net_of, IsState, IsAfter, IsNetAfter};
+ghost use Rattle.branch_search.specs.Search.{question_of, level_at, start_of, in_net_of, IsState, IsAfter};
+ghost use Rattle.branch_search.specs.Search.{IsNetAfter};
 ghost use Rattle.branch_search.specs.Search.{adds_limit};
 
 use crate::entry::{Conflict, Entry, Level, Reason};
@@ -39,7 +41,8 @@ pub struct State {
     pub decisions: u64,
 }
 
-// Whether the guide has the same first literal for the clause of the lemma with this number, or has forgotten it.
+// Whether the guide has the same first literal for the clause of the lemma with this number, or has forgotten
+// it.
 fn has_clause(guide: &Guide, j: usize, clause: &[Literal]) -> bool {
     match guide.number_at(search_guide::Source::Lemma(j), 0) {
         Some(number) => guide.literal(number) == clause.first().copied(),
@@ -101,8 +104,8 @@ impl State {
         true
     }
 
-    /// Before another slice: no literal stands on the trail, and there are no own lemmas. The guide stays, where the lemmas
-    /// that it knows are the first of those that are handed.
+    /// Before another slice: no literal stands on the trail, and there are no own lemmas. The guide stays,
+    /// where the lemmas that it knows are the first of those that are handed.
     pub fn renew<E: Earlier>(
         &mut self,
         alloc: Global,
@@ -174,8 +177,8 @@ impl State {
         requires state { IsState (question_of problem.now (E.clauses handed.now) cube.now) self.now
             (N.literals_of net.old) }
         ensures points { N.points_of net.new ≡ N.points_of net.old }
-        ensures after { IfOk result (IsAfter (question_of problem.now (E.clauses handed.now) cube.now) self.now
-            (N.literals_of net.new)) }
+        ensures after { IfOk result (IsAfter (question_of problem.now (E.clauses handed.now) cube.now)
+            self.now (N.literals_of net.new)) }
         ensures counts { OnOk result (N.adds_of net.new ≡ min (N.adds_of net.old + 1) adds_limit) }
         ensures added { IfOk result (IsNetAfter (N.literals_of net.old) (on_trail self.now.entries.items k)
             (N.literals_of net.new)) }
@@ -191,7 +194,8 @@ impl State {
         ensures entries { self.new.entries.items ≡ self.old.entries.items }
         ensures own { self.new.own.items ≡ self.old.own.items }
         ensures levels { OnOk result (self.new.levels.items ≡ self.old.levels.items
-            ++ record { start = length self.old.entries.items; in_net = length (N.literals_of net.now) } ∷ []) }
+            ++ record { start = length self.old.entries.items; in_net = length (N.literals_of net.now) } ∷
+            []) }
     {
         let level = Level {
             start: self.entries.len(),

@@ -1,5 +1,5 @@
-//! Many literals of the trail into the net at once, as at a search's start: in the order of the trail a long chain might
-//! lower its points again with each literal.
+//! Many literals of the trail into the net at once, as at a search's start: in the order of the trail a long
+//! chain might lower its points again with each literal.
 ghost use Rattle.std.specs.Prelude.{◌≡◌, ◌≤◌, length, min, IfOk, OnOk};
 ghost use Rattle.branch_search.specs.Search.{question_of, IsState, IsAfter, AllStand, adds_limit};
 
@@ -48,8 +48,8 @@ impl State {
             (N.literals_of net.old) }
         ensures points { N.points_of net.new ≡ N.points_of net.old }
         ensures levels { self.new.levels.items ≡ self.old.levels.items }
-        ensures after { IfOk result (IsAfter (question_of problem.now (E.clauses handed.now) cube.now) self.new
-            (N.literals_of net.new)) }
+        ensures after { IfOk result (IsAfter (question_of problem.now (E.clauses handed.now) cube.now)
+            self.new (N.literals_of net.new)) }
         ensures counts { OnOk result (min (N.adds_of net.old) adds_limit ≤ N.adds_of net.new) }
     {
         let literals = self.literals_waiting(alloc, self.netted)?;

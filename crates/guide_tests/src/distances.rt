@@ -17,8 +17,8 @@ fn problem(alloc: Global) -> Result<Problem, AllocError> {
     Ok(Problem { points: 4, clauses })
 }
 
-/// The hits after the first and after the second literal, how long the path to the latter is, and its hit when the second
-/// literal is added once more.
+/// The hits after the first and after the second literal, how long the path to the latter is, and its hit
+/// when the second literal is added once more.
 fn hits(
     guide: &mut Guide,
     distances: &mut Distances,

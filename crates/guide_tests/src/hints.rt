@@ -23,8 +23,8 @@ fn problem(alloc: Global) -> Result<Problem, AllocError> {
     Ok(Problem { points: 5, clauses })
 }
 
-/// What follows where the first bound fails, and where it holds: there the first step of the ladder is a bound of the
-/// lemma. And how many lemmas are forgotten at once.
+/// What follows where the first bound fails, and where it holds: there the first step of the ladder is a
+/// bound of the lemma. And how many lemmas are forgotten at once.
 fn hints(guide: &mut Guide) -> Result<(Proposal, Option<Literal>, usize), AllocError> {
     let holds = guide.add_literal(FIRST)?;
     let fails = Guide::negated(holds);

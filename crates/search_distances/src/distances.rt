@@ -1,9 +1,9 @@
-//! Distances: for each pair of points the least bound on their difference that follows from the literals. They are kept
-//! from literal to literal: one more edge lowers only the entries from points that now reach its end sooner to points
-//! that are now reached sooner from its start (the incremental step of Floyd and Warshall). An entry that comes down to a
-//! bound of one of its pair's literals is a hit: that literal follows. Each hit so costs one comparison, and its path is
-//! read off the table. Searches by Dijkstra after each literal in place of the table took 2.3 times as long, and no
-//! propagation at all 4 times.
+//! Distances: for each pair of points the least bound on their difference that follows from the literals.
+//! They are kept from literal to literal: one more edge lowers only the entries from points that now reach
+//! its end sooner to points that are now reached sooner from its start (the incremental step of Floyd and
+//! Warshall). An entry that comes down to a bound of one of its pair's literals is a hit: that literal
+//! follows. Each hit so costs one comparison, and its path is read off the table. Searches by Dijkstra after
+//! each literal in place of the table took 2.3 times as long, and no propagation at all 4 times.
 //!
 //! The table is for few points, since it has an entry of 28 bytes for each pair: with 400 points, 4.5 MB.
 use crate::paths::Walk;
@@ -75,7 +75,8 @@ fn literal_of(guide: &Guide, number: usize) -> Option<(LiteralNumber, Literal)> 
     }
 }
 
-/// Gives each point of such a literal a row, and answers how many rows there are and the greatest absolute bound.
+/// Gives each point of such a literal a row, and answers how many rows there are and the greatest absolute
+/// bound.
 fn number_rows(guide: &Guide, row_of: &mut [Option<usize>]) -> (usize, u64) {
     let mut rows = 0usize;
     let mut greatest = 0;
@@ -136,8 +137,9 @@ fn pair_of(rows: usize, from: usize, to: usize) -> usize {
 }
 
 impl Distances {
-    /// The distances where no literal is in the net, over the points of the guide's literals that aren't pure. There are
-    /// none for more than 400 such points, or where a distance might leave 60 bits. The one error is want of memory.
+    /// The distances where no literal is in the net, over the points of the guide's literals that aren't
+    /// pure. There are none for more than 400 such points, or where a distance might leave 60 bits. The one
+    /// error is want of memory.
     pub fn new(alloc: Global, guide: &Guide, points: u32) -> Result<Option<Self>, AllocError> {
         let mut row_of = vec![in alloc; None; points as usize]?;
         let (rows, bound) = number_rows(guide, &mut row_of);
@@ -198,8 +200,8 @@ impl Distances {
         Some((from, to))
     }
 
-    /// The literal stands at this place of the trail, behind those that were added before, and is consistent with them. Its
-    /// hits are those that `next_hit` answers from now on. The one error is want of memory.
+    /// The literal stands at this place of the trail, behind those that were added before, and is consistent
+    /// with them. Its hits are those that `next_hit` answers from now on. The one error is want of memory.
     pub fn add(
         &mut self,
         guide: &Guide,

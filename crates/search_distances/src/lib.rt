@@ -1,6 +1,6 @@
-//! Which literals follow from those of a net, by the distances between all pairs of points. All of it is advice, as that
-//! of `search_guide`: no contract says what an answer means, and a search tests each path before it uses it. Every call is
-//! safe, and returns, for any numbers and in any order of calls.
+//! Which literals follow from those of a net, by the distances between all pairs of points. All of it is
+//! advice, as that of `search_guide`: no contract says what an answer means, and a search tests each path
+//! before it uses it. Every call is safe, and returns, for any numbers and in any order of calls.
 #![tactic(auto)]
 
 mod distances;

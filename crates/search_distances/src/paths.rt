@@ -1,6 +1,6 @@
-//! The literals of a shortest path. An entry of the table names the literal that lowered it last; before and behind that
-//! literal the path goes on as the two entries beside it say. They are taken apart with a stack of their own, so that a
-//! long path needs none of the program's.
+//! The literals of a shortest path. An entry of the table names the literal that lowered it last; before and
+//! behind that literal the path goes on as the two entries beside it say. They are taken apart with a stack
+//! of their own, so that a long path needs none of the program's.
 use crate::distances::Distances;
 use search_guide::{Guide, LiteralNumber};
 use std::alloc::{AllocError, Global};
@@ -35,9 +35,9 @@ impl Walk {
 }
 
 impl Distances {
-    /// The literals of a path that explains the one with the number, the last edge first: so its negation, followed by
-    /// them, goes around. Where the table doesn't lead from end to end, what it answers is no path. The one error is want
-    /// of memory.
+    /// The literals of a path that explains the one with the number, the last edge first: so its negation,
+    /// followed by them, goes around. Where the table doesn't lead from end to end, what it answers is no
+    /// path. The one error is want of memory.
     pub fn path(
         &mut self,
         guide: &Guide,
