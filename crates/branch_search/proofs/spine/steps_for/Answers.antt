@@ -50,4 +50,4 @@ returns g c =
     c.args.conflict.now k c.back.steps in
     c.shrink_to_fit.ensures
     ∙ closed_all inputs lemmas c.args.trail.now c.args.roles.now (length c.args.trail.now) c.args.passed.now
-      c.requires.passed c.args.conflict.now c.back.steps (subst P all c.back.invariant.written)
+    c.requires.passed c.args.conflict.now c.back.steps (subst P all c.back.invariant.written)
