@@ -12,10 +12,7 @@ fn value_of<N: Net>(net: &N, point: usize) -> Value {
 
 /// After a chain in the worse order: the values of its points. After literals of which one closes a cycle with the chain: the
 /// cycle's length, and how many literals the net has.
-fn batches<N: Net>(
-    alloc: Global,
-    net: &mut N,
-) -> Result<(Value, Value, usize, usize), AllocError>
+fn batches<N: Net>(alloc: Global, net: &mut N) -> Result<(Value, Value, usize, usize), AllocError>
     requires { N.points_of net.old ≡ 4 }
 {
     let chain = [Literal { x: 2, y: 1, c: -1 }, Literal { x: 1, y: 0, c: -2 }];

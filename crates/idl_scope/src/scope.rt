@@ -36,8 +36,10 @@ impl<'a> Model for Scope<'a> {
 
     ghost Value = { Meaning };
 
-    ghost view = { λ s. record { declared = s.names;
-        bound = definitions_of (map (λ k. k.now) s.defined.keys) s.terms.items } };
+    ghost view = { λ s. record {
+      declared = s.names;
+      bound = definitions_of (map (λ k. k.now) s.defined.keys) s.terms.items;
+    } };
 
     ghost invariant = { λ s. length s.defined.keys ≡ length s.terms.items };
 }
