@@ -1,0 +1,6 @@
+use Rattle.std.proofs.Common.{◌≡◌, ◌++◌}
+use Rattle.dtp_gen.specs.Scripts.{texts, job_bounds}
+use Rattle.dtp_gen.proofs.script.bound_all.Given as goal
+
+abbrev pub invariant-jobs : goal.invariant-jobs
+invariant-jobs l = record { written : l.out.items ≡ l.fn.out.items ++ texts l.job (job_bounds l.shop) }
