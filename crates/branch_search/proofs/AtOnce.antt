@@ -6,10 +6,10 @@ use Rattle.stn_core.specs.declared.literal.Literal.{Literal}
 use Rattle.stn_core.specs.Literal.{IsOver}
 use Rattle.refute_tree.specs.declared.lemma.Lemma.{Lemma}
 use Rattle.net_batch.specs.Batches.{IsLonger, IsBatchAdded}
-use Rattle.branch_search.specs.declared.entry.Entry.{Entry}
-use Rattle.branch_search.specs.declared.entry.Level.{Level}
-use Rattle.branch_search.specs.declared.entry.Conflict.TheVariants.{Cycle as OfCycle}
-use Rattle.branch_search.specs.Trails.{no_literal, literal_at, on_trail, AreOver, Stands}
+use Rattle.conflict_analysis.specs.declared.entry.Entry.{Entry}
+use Rattle.conflict_analysis.specs.declared.entry.Level.{Level}
+use Rattle.conflict_analysis.specs.declared.entry.Conflict.TheVariants.{Cycle as OfCycle}
+use Rattle.conflict_analysis.specs.Trails.{no_literal, literal_at, on_trail, AreOver, Stands}
 use Rattle.branch_search.specs.Search.{Question, start_of, in_net_of, AllStand, IsSearch, IsStuckSearch}
 use Rattle.branch_search.proofs.Proposals.{stands_at}
 

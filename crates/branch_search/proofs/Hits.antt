@@ -6,10 +6,10 @@ use Rattle.stn_core.specs.declared.literal.Literal.{Literal}
 use Rattle.stn_core.specs.Literal.{negation_of, IsOver}
 use Rattle.stn_core.specs.Cycle.{IsNegativeCycle}
 use Rattle.refute_tree.specs.declared.lemma.Lemma.{Lemma}
-use Rattle.branch_search.specs.declared.entry.Reason.TheVariants.{Cycle as ByCycle}
-use Rattle.branch_search.specs.declared.entry.Entry.{Entry}
-use Rattle.branch_search.specs.declared.entry.Level.{Level}
-use Rattle.branch_search.specs.Trails.{no_literal, IsByCycle, Stands}
+use Rattle.conflict_analysis.specs.declared.entry.Reason.TheVariants.{Cycle as ByCycle}
+use Rattle.conflict_analysis.specs.declared.entry.Entry.{Entry}
+use Rattle.conflict_analysis.specs.declared.entry.Level.{Level}
+use Rattle.conflict_analysis.specs.Trails.{no_literal, IsByCycle, Stands}
 use Rattle.branch_search.specs.Hits.{IsOnPath}
 use Rattle.branch_search.specs.Search.{Question, IsSearch}
 use Rattle.branch_search.proofs.States.{state_pushed}

@@ -5,15 +5,15 @@ use Rattle.std.proofs.lemmas.List.{length_push, length-take-le}
 use Rattle.stn_core.specs.declared.literal.Literal.{Literal}
 use Rattle.stn_core.specs.Literal.{negation_of}
 use Rattle.refute_tree.specs.declared.lemma.Lemma.{Lemma}
-use Rattle.branch_search.specs.declared.entry.Reason.{Reason}
-use Rattle.branch_search.specs.declared.entry.Reason.TheVariants.{Given, Decision, Clause as ByClause, Pair as ByPair, Cycle as ByCycle}
-use Rattle.branch_search.specs.declared.entry.Entry.{Entry}
-use Rattle.branch_search.specs.declared.entry.Level.{Level}
-use Rattle.branch_search.specs.declared.entry.Conflict.{Conflict}
+use Rattle.conflict_analysis.specs.declared.entry.Reason.{Reason}
+use Rattle.conflict_analysis.specs.declared.entry.Reason.TheVariants.{Given, Decision, Clause as ByClause, Pair as ByPair, Cycle as ByCycle}
+use Rattle.conflict_analysis.specs.declared.entry.Entry.{Entry}
+use Rattle.conflict_analysis.specs.declared.entry.Level.{Level}
+use Rattle.conflict_analysis.specs.declared.entry.Conflict.{Conflict}
 use Rattle.branch_search.specs.declared.propagate.Taken.{Taken}
 use Rattle.branch_search.specs.declared.propagate.Taken.TheVariants.{Pushed, Nothing, Stuck}
-use Rattle.branch_search.specs.Trails.{IsReason, IsTrail, IsFirst, IsDenial, entry_at, on_trail}
-use Rattle.branch_search.specs.Proved.{IsClauseOver, IsProved}
+use Rattle.conflict_analysis.specs.Trails.{IsReason, IsTrail, IsFirst, IsDenial, entry_at, on_trail}
+use Rattle.conflict_analysis.specs.Proved.{IsClauseOver, IsProved}
 use Rattle.branch_search.specs.Search.{Question, all_lemmas, AreProved, start_of, in_net_of, IsSearch, IsStuckSearch, IsSearchLearned, AreExcluding, IsSearchTaken, IsSearchAfter}
 use Rattle.branch_search.proofs.States.{lemma_last, state_learned, state_cut}
 

@@ -1,9 +1,3 @@
-pub mod Links
-pub mod Spines
-pub mod Written
-pub mod Passing
-pub mod Marks
-pub mod Analyzed
 pub mod Holding
 pub mod States
 pub mod Learned

@@ -7,13 +7,13 @@ use Rattle.stn_core.specs.declared.literal.Literal.{Literal}
 use Rattle.stn_core.specs.Literal.{negation_of, IsOver}
 use Rattle.stn_core.specs.Cycle.{IsNegativeCycle}
 use Rattle.refute_tree.specs.declared.lemma.Lemma.{Lemma}
-use Rattle.branch_search.specs.declared.entry.Source.{Source}
-use Rattle.branch_search.specs.declared.entry.Reason.TheVariants.{Given, Decision, Clause as ByClause, Pair as ByPair, Cycle as ByCycle}
-use Rattle.branch_search.specs.declared.entry.Entry.{Entry}
-use Rattle.branch_search.specs.declared.entry.Level.{Level}
-use Rattle.branch_search.specs.declared.entry.Conflict.TheVariants.{Clause as OfClause, Cycle as OfCycle}
-use Rattle.branch_search.specs.Trails.{no_literal, literal_at, source_clause, IsKnown, entry_at, on_trail, pair_cycle, IsByClause, IsByCycle, IsConflict, Stands}
-use Rattle.branch_search.specs.Denials.{AreDenied}
+use Rattle.conflict_analysis.specs.declared.entry.Source.{Source}
+use Rattle.conflict_analysis.specs.declared.entry.Reason.TheVariants.{Given, Decision, Clause as ByClause, Pair as ByPair, Cycle as ByCycle}
+use Rattle.conflict_analysis.specs.declared.entry.Entry.{Entry}
+use Rattle.conflict_analysis.specs.declared.entry.Level.{Level}
+use Rattle.conflict_analysis.specs.declared.entry.Conflict.TheVariants.{Clause as OfClause, Cycle as OfCycle}
+use Rattle.conflict_analysis.specs.Trails.{no_literal, literal_at, source_clause, IsKnown, entry_at, on_trail, pair_cycle, IsByClause, IsByCycle, IsConflict, Stands}
+use Rattle.conflict_analysis.specs.Denials.{AreDenied}
 use Rattle.branch_search.specs.Search.{Question, all_lemmas, start_of, IsSearch, IsStuckSearch, IsWeaker}
 use Rattle.branch_search.proofs.States.{state_pushed, state_begun, entry_last}
 
@@ -29,13 +29,6 @@ clause_stuck q own lent es seen levels literals source s a b h =
     let P : List Lemma → Type 0 = λ ls. IsConflict q.inputs (all_lemmas q.handed ls) (Stands es (length es)) (OfClause source) in
     let Q : List Entry → Type 0 = λ fs. IsConflict q.inputs (all_lemmas q.handed lent) (Stands fs (length fs)) (OfClause source) in
     record { state = s; clash = subst P a (subst Q b h) }
-
--- a clause all of whose literals are denied
-pub denied_all : (es : List Entry) (clause named : List Literal) → AreDenied es clause (length clause) → clause ≡ named → (p : ℕ) → p < length named → Stands es (length es) (negation_of (literal_at named p))
-denied_all es clause named denied same =
-    let P : List Literal → Type 0 = λ ls. (p : ℕ) → p < length ls → Stands es (length es) (negation_of (literal_at ls p)) in
-    let all : P clause = λ p lt. denied p lt (λ is. absurd (omega arith)) in
-    subst P same all
 
 -- a tighter bound, and the negation of a weaker one
 pair_negative : (tighter weaker : Literal) → IsWeaker tighter weaker → IsNegativeCycle (pair_cycle tighter weaker)
@@ -87,25 +80,6 @@ last_literal es now e grown = ap (λ (fs : List Entry). on_trail fs (length es))
 pub one_taken : (cube old new : List Literal) (i : ℕ) (l m d : Literal) → i < length cube → old ≡ take i cube → new ≡ old ++ m ∷ [] → m ≡ l → l ≡ get_or cube i d → new ≡ take (i + 1) cube
 one_taken cube old new i l m d within before grown same is =
     grown ∙ ap (λ (ls : List Literal). ls ++ m ∷ []) before ∙ ap (λ (n : Literal). take i cube ++ n ∷ []) (same ∙ is) ∙ sym (take_more cube i d within)
-
--- a clause's literals, one after the other
-pub denied_next : (es : List Entry) (clause : List Literal) (place p : ℕ) → Stands es (length es) (negation_of (literal_at clause p)) → ((i : ℕ) → i < p → i ≢ place → Stands es (length es) (negation_of (literal_at clause i))) → (i : ℕ) → i < p + 1 → i ≢ place → Stands es (length es) (negation_of (literal_at clause i))
-denied_next es clause place p here before i lt ne = elim (cases_eq i p) [
-  | inl same ↦ subst (λ (k : ℕ). Stands es (length es) (negation_of (literal_at clause k))) (sym same) here
-  | inr other ↦ before i (omega arith) ne
-]
-
-pub denied_past : (es : List Entry) (clause : List Literal) (place p : ℕ) → p ≡ place → ((i : ℕ) → i < p → i ≢ place → Stands es (length es) (negation_of (literal_at clause i))) → (i : ℕ) → i < p + 1 → i ≢ place → Stands es (length es) (negation_of (literal_at clause i))
-denied_past es clause place p e before i lt ne = elim (cases_eq i p) [
-  | inl same ↦ absurd (ne (same ∙ e))
-  | inr other ↦ before i (omega arith) ne
-]
-
-pub unit_follows : (inputs lemmas : List (List Literal)) (es : List Entry) (source : Source) (place : ℕ) (clause : List Literal) → IsKnown inputs lemmas source → clause ≡ source_clause inputs lemmas source → place < length clause → AreDenied es clause place → IsByClause inputs lemmas (Stands es (length es)) (literal_at clause place) source place
-unit_follows inputs lemmas es source place clause known same within denied =
-    let P : List Literal → Type 0 = λ ls. place < length ls in
-    let R : List Literal → Type 0 = λ ls. (p : ℕ) → p < length ls → p ≢ place → Stands es (length es) (negation_of (literal_at ls p)) in
-    record { known = known; within = subst P same within; at = ap (λ (ls : List Literal). literal_at ls place) (sym same); others = subst R same denied }
 
 -- the same search, seen by other names
 pub same_parts : (q : Question) (own these : List Lemma) (es : List Entry) (levels more : List Level) (literals : List Literal) → these ≡ own → more ≡ levels → IsSearch q own es levels literals → IsSearch q these es more literals

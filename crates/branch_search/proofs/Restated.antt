@@ -6,15 +6,15 @@ use Rattle.stn_core.specs.declared.literal.Literal.{Literal}
 use Rattle.stn_core.specs.Literal.{negation_of, IsOver}
 use Rattle.stn_core.proofs.Consequences.{IsOver-negation_of}
 use Rattle.refute_tree.specs.declared.lemma.Lemma.{Lemma}
-use Rattle.branch_search.specs.declared.entry.Source.{Source}
-use Rattle.branch_search.specs.declared.entry.Reason.{Reason}
-use Rattle.branch_search.specs.declared.entry.Reason.TheVariants.{Given, Decision, Clause as ByClause, Pair as ByPair, Cycle as ByCycle}
-use Rattle.branch_search.specs.declared.entry.Entry.{Entry}
-use Rattle.branch_search.specs.declared.entry.Level.{Level}
-use Rattle.branch_search.specs.declared.entry.Conflict.{Conflict}
-use Rattle.branch_search.specs.declared.entry.Conflict.TheVariants.{Clause as OfClause, Cycle as OfCycle}
-use Rattle.branch_search.specs.Trails.{no_literal, literal_at, source_clause, IsByClause, IsByCycle, pair_cycle, entry_at, on_trail, Stands, IsReason, IsTrail, AreOver, IsConflict}
-use Rattle.branch_search.specs.Proved.{IsProved}
+use Rattle.conflict_analysis.specs.declared.entry.Source.{Source}
+use Rattle.conflict_analysis.specs.declared.entry.Reason.{Reason}
+use Rattle.conflict_analysis.specs.declared.entry.Reason.TheVariants.{Given, Decision, Clause as ByClause, Pair as ByPair, Cycle as ByCycle}
+use Rattle.conflict_analysis.specs.declared.entry.Entry.{Entry}
+use Rattle.conflict_analysis.specs.declared.entry.Level.{Level}
+use Rattle.conflict_analysis.specs.declared.entry.Conflict.{Conflict}
+use Rattle.conflict_analysis.specs.declared.entry.Conflict.TheVariants.{Clause as OfClause, Cycle as OfCycle}
+use Rattle.conflict_analysis.specs.Trails.{no_literal, literal_at, source_clause, IsByClause, IsByCycle, pair_cycle, entry_at, on_trail, Stands, IsReason, IsTrail, AreOver, IsConflict}
+use Rattle.conflict_analysis.specs.Proved.{IsProved}
 use Rattle.branch_search.specs.Roots.{denial_of}
 use Rattle.branch_search.specs.Search.{Question, all_lemmas, AllStand, in_net_of, start_of, IsLevel, level_at, IsSearch}
 use Rattle.branch_search.proofs.States.{length_part, reason_moved, decision_within, state_learned}

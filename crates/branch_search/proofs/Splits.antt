@@ -14,23 +14,23 @@ use Rattle.stn_core.proofs.Consequences.{denied, IsOver-negation_of}
 use Rattle.refute_tree.specs.declared.lemma.Lemma.{Lemma}
 use Rattle.refute_tree.specs.Trees.{stated}
 use Rattle.refute_tree.specs.Batches.{LemmaIsOver}
-use Rattle.branch_search.specs.declared.entry.Entry.{Entry}
-use Rattle.branch_search.specs.declared.entry.Level.{Level}
-use Rattle.branch_search.specs.declared.entry.Reason.TheVariants.{Cycle as ByCycle}
-use Rattle.branch_search.specs.declared.entry.Source.TheVariants.{Input as OfInput}
-use Rattle.branch_search.specs.declared.entry.Conflict.TheVariants.{Clause as OfClause}
+use Rattle.conflict_analysis.specs.declared.entry.Entry.{Entry}
+use Rattle.conflict_analysis.specs.declared.entry.Level.{Level}
+use Rattle.conflict_analysis.specs.declared.entry.Reason.TheVariants.{Cycle as ByCycle}
+use Rattle.conflict_analysis.specs.declared.entry.Source.TheVariants.{Input as OfInput}
+use Rattle.conflict_analysis.specs.declared.entry.Conflict.TheVariants.{Clause as OfClause}
 use Rattle.branch_search.specs.declared.divide.Live.{Live}
 use Rattle.branch_search.specs.declared.divide.Live.TheVariants.{At}
-use Rattle.branch_search.specs.Trails.{no_literal, literal_at, IsByCycle, Stands}
-use Rattle.branch_search.specs.Denials.{AreDenied}
+use Rattle.conflict_analysis.specs.Trails.{no_literal, literal_at, IsByCycle, Stands}
+use Rattle.conflict_analysis.specs.Denials.{AreDenied}
 use Rattle.branch_search.specs.Clauses.{IsFalseAt}
-use Rattle.branch_search.specs.Proved.{IsClauseOver}
+use Rattle.conflict_analysis.specs.Proved.{IsClauseOver}
 use Rattle.branch_search.specs.Search.{Question, all_lemmas, AreProved, AllStand, start_of, in_net_of, IsSearch, IsStuckSearch, IsSearchSettled}
 use Rattle.branch_search.specs.Slices.{IsModel}
 use Rattle.branch_search.specs.Divisions.{IsLive, IsLiveAt, IsSearchLiveness, HasLive, AreSearchLive, IsSplit}
-use Rattle.branch_search.proofs.Spines.{negation_twice}
+use Rattle.conflict_analysis.proofs.Spines.{negation_twice}
 use Rattle.branch_search.proofs.States.{state_pushed, state_cut, stands_grown, stands_last}
-use Rattle.branch_search.proofs.Proposals.{denied_all}
+use Rattle.conflict_analysis.proofs.Denied.{denied_all}
 
 -- the net's schedule, where no clause fails on it
 pub modelled : (points others : ℕ) (inputs given : List (List Literal)) (literals : List Literal) (values schedule : List ℤ) (found : Option ℕ) → others ≡ points → given ≡ inputs → schedule ≡ values → IsBest others literals values → MatchOption found (ProblemHolds values given) (IsFalseAt values given) → found ≡ None → IsModel points inputs schedule

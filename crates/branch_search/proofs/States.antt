@@ -16,15 +16,15 @@ use Rattle.refute_tree.specs.declared.lemma.Lemma.{Lemma}
 use Rattle.refute_tree.specs.Trees.{stated}
 use Rattle.refute_tree.specs.Batches.{LemmaIsOver}
 use Rattle.refute_tree.proofs.Moved.{joined}
-use Rattle.branch_search.specs.declared.entry.Source.{Source}
-use Rattle.branch_search.specs.declared.entry.Source.TheVariants.{Input as OfInput, Lemma as OfLemma}
-use Rattle.branch_search.specs.declared.entry.Reason.{Reason}
-use Rattle.branch_search.specs.declared.entry.Reason.TheVariants.{Given, Decision, Clause as ByClause, Pair as ByPair, Cycle as ByCycle}
-use Rattle.branch_search.specs.declared.entry.Entry.{Entry}
-use Rattle.branch_search.specs.declared.entry.Level.{Level}
-use Rattle.branch_search.specs.declared.entry.Conflict.TheVariants.{Cycle as OfCycle}
-use Rattle.branch_search.specs.Trails.{no_literal, literal_at, source_clause, IsKnown, IsByCycle, pair_cycle, entry_at, on_trail, Stands, IsReason, IsTrail, AreOver, IsConflict}
-use Rattle.branch_search.specs.Proved.{IsClauseOver, IsProved}
+use Rattle.conflict_analysis.specs.declared.entry.Source.{Source}
+use Rattle.conflict_analysis.specs.declared.entry.Source.TheVariants.{Input as OfInput, Lemma as OfLemma}
+use Rattle.conflict_analysis.specs.declared.entry.Reason.{Reason}
+use Rattle.conflict_analysis.specs.declared.entry.Reason.TheVariants.{Given, Decision, Clause as ByClause, Pair as ByPair, Cycle as ByCycle}
+use Rattle.conflict_analysis.specs.declared.entry.Entry.{Entry}
+use Rattle.conflict_analysis.specs.declared.entry.Level.{Level}
+use Rattle.conflict_analysis.specs.declared.entry.Conflict.TheVariants.{Cycle as OfCycle}
+use Rattle.conflict_analysis.specs.Trails.{no_literal, literal_at, source_clause, IsKnown, IsByCycle, pair_cycle, entry_at, on_trail, Stands, IsReason, IsTrail, AreOver, IsConflict}
+use Rattle.conflict_analysis.specs.Proved.{IsClauseOver, IsProved}
 use Rattle.branch_search.specs.Search.{Question, all_lemmas, AreProved, level_at, start_of, in_net_of, AllStand, IsLevel, IsSearch, IsStuckSearch}
 
 -- a list and its part agree on the entries of the part

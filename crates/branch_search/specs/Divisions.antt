@@ -6,8 +6,8 @@ use Rattle.stn_core.specs.Literal.{negation_of}
 use Rattle.stn_core.specs.Net.{IsConsistent}
 use Rattle.refute_tree.specs.declared.lemma.Lemma.{Lemma}
 use Rattle.refute_tree.specs.Batches.{LemmaBatch}
-use Rattle.branch_search.specs.declared.entry.Entry.{Entry}
-use Rattle.branch_search.specs.declared.entry.Level.{Level}
+use Rattle.conflict_analysis.specs.declared.entry.Entry.{Entry}
+use Rattle.conflict_analysis.specs.declared.entry.Level.{Level}
 use Rattle.branch_search.specs.declared.state.State.{State}
 use Rattle.branch_search.specs.declared.divide.Division.{Division}
 use Rattle.branch_search.specs.declared.divide.Division.TheVariants.{Model, Excluded, Split}
@@ -16,8 +16,8 @@ use Rattle.branch_search.specs.declared.divide.Live.TheVariants.{At, Nowhere}
 use Rattle.branch_search.specs.declared.answer.Slice.{Slice}
 use Rattle.branch_search.specs.declared.answer.Slice.TheVariants.{Model as AsModel, Refuted as AsRefuted}
 use Rattle.branch_search.specs.declared.answer.Slice.TheVariants.{Split as AsSplit}
-use Rattle.branch_search.specs.Trails.{literal_at}
-use Rattle.branch_search.specs.Denials.{AreDenied}
+use Rattle.conflict_analysis.specs.Trails.{literal_at}
+use Rattle.conflict_analysis.specs.Denials.{AreDenied}
 use Rattle.branch_search.specs.Search.{Question, IsSearch, AreExcluding, AreProved, adds_limit}
 use Rattle.branch_search.specs.Slices.{IsModel}
 

@@ -1,8 +1,8 @@
 -- What explains a literal that follows by distances.
 use Rattle.std.specs.Prelude.{◌≡◌, ◌⊎◌, List, length}
 use Rattle.stn_core.specs.declared.literal.Literal.{Literal}
-use Rattle.branch_search.specs.declared.entry.Entry.{Entry}
-use Rattle.branch_search.specs.Trails.{Stands}
+use Rattle.conflict_analysis.specs.declared.entry.Entry.{Entry}
+use Rattle.conflict_analysis.specs.Trails.{Stands}
 
 -- the literal is the one that is denied, or stands on the trail
 abbrev pub IsOnPath : List Entry → Literal → Literal → Type 0

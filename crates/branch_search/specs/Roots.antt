@@ -1,12 +1,12 @@
 -- What a literal's negation is in conflict with.
 use Rattle.std.specs.Prelude.{Option, Some, None}
 use Rattle.stn_core.specs.declared.literal.Literal.{Literal}
-use Rattle.branch_search.specs.declared.entry.Reason.{Reason}
-use Rattle.branch_search.specs.declared.entry.Reason.TheVariants.{Given, Decision, Clause as ByClause}
-use Rattle.branch_search.specs.declared.entry.Reason.TheVariants.{Pair as ByPair, Cycle as ByCycle}
-use Rattle.branch_search.specs.declared.entry.Conflict.{Conflict}
-use Rattle.branch_search.specs.declared.entry.Conflict.TheVariants.{Clause as OfClause, Cycle as OfCycle}
-use Rattle.branch_search.specs.Trails.{pair_cycle}
+use Rattle.conflict_analysis.specs.declared.entry.Reason.{Reason}
+use Rattle.conflict_analysis.specs.declared.entry.Reason.TheVariants.{Given, Decision, Clause as ByClause}
+use Rattle.conflict_analysis.specs.declared.entry.Reason.TheVariants.{Pair as ByPair, Cycle as ByCycle}
+use Rattle.conflict_analysis.specs.declared.entry.Conflict.{Conflict}
+use Rattle.conflict_analysis.specs.declared.entry.Conflict.TheVariants.{Clause as OfClause, Cycle as OfCycle}
+use Rattle.conflict_analysis.specs.Trails.{pair_cycle}
 
 -- the literal that has this reason can't fail where the reason's literals hold
 abbrev pub denial_of : Literal → Reason → Option Conflict

@@ -8,17 +8,17 @@ use Rattle.stn_core.specs.Answer.{IsCycleAmong}
 use Rattle.refute_tree.specs.declared.lemma.Lemma.{Lemma}
 use Rattle.refute_tree.specs.Trees.{stated}
 use Rattle.refute_tree.specs.Batches.{AreRefuted, LemmaIsOver}
-use Rattle.branch_search.specs.declared.entry.Reason.{Reason}
-use Rattle.branch_search.specs.declared.entry.Reason.TheVariants.{Decision}
-use Rattle.branch_search.specs.declared.entry.Entry.{Entry}
-use Rattle.branch_search.specs.declared.entry.Level.{Level}
-use Rattle.branch_search.specs.declared.entry.Conflict.{Conflict}
-use Rattle.branch_search.specs.declared.entry.Conflict.TheVariants.{Cycle as OfCycle}
+use Rattle.conflict_analysis.specs.declared.entry.Reason.{Reason}
+use Rattle.conflict_analysis.specs.declared.entry.Reason.TheVariants.{Decision}
+use Rattle.conflict_analysis.specs.declared.entry.Entry.{Entry}
+use Rattle.conflict_analysis.specs.declared.entry.Level.{Level}
+use Rattle.conflict_analysis.specs.declared.entry.Conflict.{Conflict}
+use Rattle.conflict_analysis.specs.declared.entry.Conflict.TheVariants.{Cycle as OfCycle}
 use Rattle.branch_search.specs.declared.state.State.{State}
 use Rattle.branch_search.specs.declared.propagate.Taken.{Taken}
 use Rattle.branch_search.specs.declared.propagate.Taken.TheVariants.{Pushed, Nothing, Stuck}
-use Rattle.branch_search.specs.Trails.{IsTrail, AreOver, entry_at, Stands, IsConflict}
-use Rattle.branch_search.specs.Proved.{IsClauseOver}
+use Rattle.conflict_analysis.specs.Trails.{IsTrail, AreOver, entry_at, Stands, IsConflict}
+use Rattle.conflict_analysis.specs.Proved.{IsClauseOver}
 
 -- what a slice is asked: a problem, the clauses of the lemmas that it is handed, and the cube
 pub record Question : Type 0 where

@@ -4,8 +4,8 @@ use Rattle.stn_core.specs.declared.literal.Literal.{Literal}
 use Rattle.stn_core.specs.Problem.{ProblemHolds}
 use Rattle.stn_core.specs.Schedule.{IsInRange}
 use Rattle.refute_tree.specs.declared.lemma.Lemma.{Lemma}
-use Rattle.branch_search.specs.declared.entry.Entry.{Entry}
-use Rattle.branch_search.specs.declared.entry.Level.{Level}
+use Rattle.conflict_analysis.specs.declared.entry.Entry.{Entry}
+use Rattle.conflict_analysis.specs.declared.entry.Level.{Level}
 use Rattle.branch_search.specs.declared.state.State.{State}
 use Rattle.branch_search.specs.declared.search.Found.{Found}
 use Rattle.branch_search.specs.declared.search.Found.TheVariants.{Model, Excluded, Spent}

@@ -4,12 +4,9 @@ ghost use Rattle.std.specs.Prelude.{IfOk, OnOk};
 ghost use Rattle.refute_tree.specs.Trees.{stated};
 ghost use Rattle.branch_search.specs.Search.{question_of, IsState, IsStuck, IsLearned, IsSettled, IsExcluded};
 
-use crate::analysis::analyze;
 use crate::both::Both;
-use crate::denial::open_place;
-use crate::entry::{Conflict, Level, Source};
-use crate::reading::number_of;
 use crate::state::State;
+use conflict_analysis::{Conflict, Level, Source, analyze, number_of, open_place};
 use refute_tree::{Earlier, Lemma};
 use search_guide::{Guide, LiteralNumber};
 use std::alloc::{AllocError, Global};

@@ -3,9 +3,9 @@ ghost use Rattle.std.specs.Prelude.{◌≡◌, ◌<◌, ◌≤◌, ◌+◌, ◌^
 ghost use Rattle.stn_core.specs.Literal.{IsOver};
 ghost use Rattle.branch_search.specs.Search.{question_of, IsState, IsAfter, IsTaken, IsEntered, adds_limit};
 
-use crate::entry::{Conflict, Reason, Source};
 use crate::propagate::Taken;
 use crate::state::State;
+use conflict_analysis::{Conflict, Reason, Source};
 use refute_tree::Earlier;
 use std::alloc::{AllocError, Global};
 use stn_core::{Literal, Net, Problem};

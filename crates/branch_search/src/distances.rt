@@ -1,14 +1,13 @@
 //! What follows from the trail's literals by distances between points, each with a negative cycle that shows
 //! it. The distances have no contract: each cycle is tested before it is a reason.
 ghost use Rattle.std.specs.Prelude.{◌≡◌, ◌<◌, ◌≤◌, All, length, IfOk, IfSome, OnOk};
-ghost use Rattle.branch_search.specs.Trails.{Stands, IsByCycle};
+ghost use Rattle.conflict_analysis.specs.Trails.{Stands, IsByCycle};
 ghost use Rattle.branch_search.specs.Hits.{IsOnPath};
 ghost use Rattle.branch_search.specs.Search.{question_of, IsState};
 ghost use Rattle.stn_core.specs.Literal.{negation_of};
 
-use crate::entry::{Entry, Reason};
-use crate::reading::{is_over, is_standing};
 use crate::state::State;
+use conflict_analysis::{Entry, Reason, is_over, is_standing};
 use refute_tree::Earlier;
 use search_guide::{Guide, LiteralNumber};
 use std::alloc::{AllocError, Global};

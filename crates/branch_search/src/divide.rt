@@ -2,14 +2,13 @@
 //! what to split on.
 ghost use Rattle.std.specs.Prelude.{◌≡◌, ◌<◌, ◌≤◌, ◌+◌, ◌^◌, ◌++◌, ◌∷◌, [], All, length, min, IfOk, OnOk};
 ghost use Rattle.stn_core.specs.Literal.{IsOver, negation_of};
-ghost use Rattle.branch_search.specs.declared.entry.Reason.TheVariants.{Cycle as ByCycle};
+ghost use Rattle.conflict_analysis.specs.declared.entry.Reason.TheVariants.{Cycle as ByCycle};
 ghost use Rattle.branch_search.specs.Search.{question_of, IsState, adds_limit};
 ghost use Rattle.branch_search.specs.Divisions.{IsLiveAt, IsLiveness, AreLive, IsDivision};
 
 use crate::clauses::false_clause;
-use crate::entry::{Conflict, Reason, Source};
-use crate::reading::clause_of;
 use crate::state::State;
+use conflict_analysis::{Conflict, Reason, Source, clause_of};
 use refute_tree::Earlier;
 use std::alloc::{AllocError, Global};
 use stn_core::{Added, Literal, Literals, Net, Problem, Schedule, negate};

@@ -1,5 +1,5 @@
 //! A slice of conflict-driven search for a schedule of a Disjunctive Temporal Problem, which leaves
-//! refutations.
+//! refutations. What a conflict teaches is the work of `conflict_analysis`.
 //!
 //! Source: Marques Silva and Sakallah, "GRASP: a search algorithm for propositional satisfiability", IEEE
 //! Transactions on Computers 48 (1999): trail, implication points, learned clauses; Ganzinger, Hagen,
@@ -7,28 +7,19 @@
 //! theory's own solver, which is a network here.
 #![tactic(auto)]
 
-mod analysis;
 mod answer;
 mod both;
 mod clauses;
 mod conflict;
 mod cube;
-mod denial;
 mod distances;
 mod divide;
-mod entry;
-mod marking;
 mod model;
-mod places;
 mod propagate;
-mod reading;
-mod redundancy;
 mod roots;
 mod search;
 mod slicing;
-mod spine;
 mod state;
-mod tables;
 mod waiting;
 
 pub use answer::Slice;

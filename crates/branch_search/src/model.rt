@@ -4,7 +4,7 @@ ghost use Rattle.branch_search.specs.Search.{adds_limit};
 ghost use Rattle.branch_search.specs.Slices.{IsModel};
 
 use crate::clauses::false_clause;
-use crate::reading::is_over;
+use conflict_analysis::is_over;
 use search_guide::{Guide, LiteralNumber};
 use std::alloc::{AllocError, Global};
 use stn_core::{Literal, Net, Problem, Schedule};

@@ -3,10 +3,10 @@ ghost use Rattle.std.specs.Prelude.{◌≡◌, ◌<◌, ◌≤◌, ◌+◌, ◌^
 ghost use Rattle.branch_search.specs.Search.{question_of, IsState, IsAfter, IsTaken, IsWeaker, adds_limit};
 
 use crate::both::Both;
-use crate::denial::{is_conflict, unit_of};
-use crate::entry::{Conflict, Reason, Source};
-use crate::reading::{is_over, literal_on, number_of, source_of};
 use crate::state::State;
+use conflict_analysis::{
+    Conflict, Reason, Source, is_conflict, is_over, literal_on, number_of, source_of, unit_of,
+};
 use refute_tree::Earlier;
 use search_guide::{Guide, LiteralNumber, Proposal};
 use std::alloc::{AllocError, Global};

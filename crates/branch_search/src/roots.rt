@@ -4,68 +4,14 @@ ghost use Rattle.std.specs.Prelude.{◌≡◌, ◌<◌, ◌^◌, length, IfOk, O
 ghost use Rattle.branch_search.specs.Roots.{denial_of};
 ghost use Rattle.branch_search.specs.Search.{question_of, IsState};
 
-use crate::analysis::analyze;
 use crate::both::Both;
-use crate::denial::unit_of;
-use crate::entry::{Conflict, Entry, Reason, Source};
-use crate::reading::{clause_of, denial_place, is_known, is_same, literal_on};
 use crate::state::State;
+use conflict_analysis::{Conflict, Entry, Reason, Source, analyze, is_same, literal_on, unit_of};
 use refute_tree::{Earlier, Lemma};
 use search_guide::Guide;
 use std::alloc::{AllocError, Global};
 use std::mem;
 use stn_core::{Literal, Literals, Net, Problem, negate};
-
-// Whether the cube's literal stands at the place, if there is one.
-fn is_given(entries: &[Entry], place: Option<usize>) -> bool {
-    match place {
-        Some(k) => k < entries.len() && matches!(&entries[k].reason, Reason::Given),
-        None => false,
-    }
-}
-
-// Whether the clause's literals but the one at the place are negations of the cube's.
-fn are_given(guide: &Guide, entries: &[Entry], source: Source, count: usize, place: usize) -> bool {
-    for q in 0..count {
-        if q != place && !is_given(entries, denial_place(guide, source, q)) {
-            return false;
-        }
-    }
-    true
-}
-
-// How many literals the clause has.
-fn count_of<E: Earlier>(problem: &Problem, earlier: &E, source: Source) -> usize {
-    if is_known(problem, earlier, source) {
-        clause_of(problem, earlier, source).len()
-    } else {
-        0
-    }
-}
-
-/// Whether the literal at the place follows from none, from the cube's literals by one clause, or from a
-/// tighter one, which has a lemma of its own.
-pub fn is_cited<E: Earlier>(
-    problem: &Problem,
-    earlier: &E,
-    guide: &Guide,
-    entries: &[Entry],
-    k: usize,
-) -> bool {
-    if k >= entries.len() {
-        return true;
-    }
-    match &entries[k].reason {
-        Reason::Given => true,
-        Reason::Decision => true,
-        Reason::Clause(source, place) => {
-            let count = count_of(problem, earlier, *source);
-            are_given(guide, entries, *source, count, *place)
-        }
-        Reason::Pair(_) => true,
-        Reason::Cycle(_) => false,
-    }
-}
 
 // What the literal's negation is in conflict with, where the literal follows from others.
 fn denial_conflict(alloc: Global, entry: &Entry) -> Result<Option<Conflict>, AllocError>

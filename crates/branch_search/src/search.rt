@@ -3,10 +3,9 @@ ghost use Rattle.std.specs.Prelude.{◌≡◌, ◌<◌, ◌≤◌, ◌+◌, ◌^
 ghost use Rattle.branch_search.specs.Search.{question_of, IsState, IsStuck, IsSettled, adds_limit};
 ghost use Rattle.branch_search.specs.Slices.{IsModel, IsTurn, IsFound};
 
-use crate::entry::{Conflict, Reason};
 use crate::model::try_model;
-use crate::reading::is_over;
 use crate::state::State;
+use conflict_analysis::{Conflict, Reason, is_over};
 use refute_tree::Earlier;
 use search_guide::LiteralNumber;
 use std::alloc::{AllocError, Global};

@@ -1,7 +1,7 @@
 //! A slice.
 ghost use Rattle.std.specs.Prelude.{◌≡◌, ◌<◌, ◌≤◌, ◌+◌, ◌^◌, [], All, length, min, IfOk, OnOk};
 ghost use Rattle.stn_core.specs.Literal.{IsOver};
-ghost use Rattle.branch_search.specs.Proved.{IsClauseOver};
+ghost use Rattle.conflict_analysis.specs.Proved.{IsClauseOver};
 ghost use Rattle.branch_search.specs.Search.{Question, question_of, IsState, AreProved, adds_limit};
 ghost use Rattle.branch_search.specs.Slices.{IsFound};
 ghost use Rattle.branch_search.specs.Divisions.{IsDivision, IsSlice, HasSpent};

@@ -1,14 +1,12 @@
 //! The trail of a search, beside a net that has some of its literals, and the lemmas learned so far.
 ghost use Rattle.std.specs.Prelude.{◌≡◌, ◌<◌, ◌≤◌, ◌+◌, ◌++◌, ◌∷◌, [], List, length, take, min, true, OnOk};
 ghost use Rattle.std.specs.Prelude.{IfOk};
-ghost use Rattle.branch_search.specs.Trails.{on_trail, Stands};
+ghost use Rattle.conflict_analysis.specs.Trails.{on_trail, Stands};
 ghost use Rattle.branch_search.specs.Search.{question_of, level_at, start_of, in_net_of, IsState, IsAfter};
 ghost use Rattle.branch_search.specs.Search.{IsNetAfter};
 ghost use Rattle.branch_search.specs.Search.{adds_limit};
 
-use crate::entry::{Conflict, Entry, Level, Reason};
-use crate::reading::{is_standing, literal_on};
-use crate::tables::Tables;
+use conflict_analysis::{Conflict, Entry, Level, Reason, Tables, is_standing, literal_on};
 use refute_tree::{Earlier, Lemma};
 use search_distances::Distances;
 use search_guide::{Guide, LiteralNumber};

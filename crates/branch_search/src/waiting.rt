@@ -3,9 +3,8 @@
 ghost use Rattle.std.specs.Prelude.{◌≡◌, ◌≤◌, length, min, IfOk, OnOk};
 ghost use Rattle.branch_search.specs.Search.{question_of, IsState, IsAfter, AllStand, adds_limit};
 
-use crate::entry::Conflict;
-use crate::reading::literal_on;
 use crate::state::State;
+use conflict_analysis::{Conflict, literal_on};
 use net_batch::add_all;
 use refute_tree::Earlier;
 use std::alloc::{AllocError, Global};

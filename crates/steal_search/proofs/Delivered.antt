@@ -12,7 +12,7 @@ use Rattle.refute_tree.specs.Trees.{IsDenied, stated}
 use Rattle.refute_tree.specs.Batches.{LemmaBatch, AreRefuted, LemmaIsOver}
 use Rattle.branch_search.specs.declared.answer.Slice.{Slice}
 use Rattle.branch_search.specs.declared.answer.Slice.TheVariants.{Model, Refuted, Split}
-use Rattle.branch_search.specs.Proved.{IsClauseOver}
+use Rattle.conflict_analysis.specs.Proved.{IsClauseOver}
 use Rattle.branch_search.specs.Search.{question_of, Excludes}
 use Rattle.branch_search.specs.Divisions.{IsSlice, IsSplit, IsBatch}
 use Rattle.cover_tree.proofs.Sets.{get_behind}

@@ -1,10 +1,10 @@
 use Rattle.std.proofs.Common.{refl, ◌≡◌, ◌∙◌, ap, sym, take, set, ◌+◌, List}
 use Rattle.stn_core.specs.declared.literal.Literal.{Literal}
-use Rattle.branch_search.specs.declared.entry.Entry.{Entry}
-use Rattle.branch_search.specs.declared.entry.Reason.TheVariants.{Decision}
-use Rattle.branch_search.specs.Trails.{on_trail}
+use Rattle.conflict_analysis.specs.declared.entry.Entry.{Entry}
+use Rattle.conflict_analysis.specs.declared.entry.Reason.TheVariants.{Decision}
+use Rattle.conflict_analysis.specs.Trails.{on_trail}
 use Rattle.branch_search.specs.Search.{question_of, all_lemmas}
-use Rattle.branch_search.proofs.Marks.{entry_is}
+use Rattle.conflict_analysis.proofs.Marks.{entry_is}
 use Rattle.branch_search.proofs.Learned.{trail_seen}
 use Rattle.branch_search.proofs.Restated.{prefix_trail, prefix_over, prefix_conflict, put_back, derived}
 use Rattle.refute_tree.specs.declared.lemma.Lemma.{Lemma}

@@ -1,6 +1,6 @@
 use Rattle.std.proofs.Common.{◌∙◌, ap, List}
 use Rattle.stn_core.specs.declared.literal.Literal.{Literal}
-use Rattle.branch_search.specs.Trails.{literal_at}
+use Rattle.conflict_analysis.specs.Trails.{literal_at}
 use Rattle.branch_search.specs.Search.{question_of}
 use Rattle.branch_search.proofs.Splits.{modelled, is_none, are_live, live_at, split_of}
 use Rattle.branch_search.proofs.state.State.divide.Goals as goal

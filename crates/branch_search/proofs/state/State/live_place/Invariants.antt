@@ -1,6 +1,6 @@
 use Rattle.std.proofs.Common.{◌≡◌, ◌≤◌, ◌<◌, ℕ, min, length}
 use Rattle.stn_core.specs.Literal.{negation_of}
-use Rattle.branch_search.specs.Trails.{literal_at, Stands}
+use Rattle.conflict_analysis.specs.Trails.{literal_at, Stands}
 use Rattle.branch_search.specs.Search.{question_of, IsSearch, adds_limit}
 use Rattle.branch_search.proofs.state.State.live_place.Given as goal
 

@@ -1,9 +1,0 @@
-use Rattle.std.proofs.Common.{◌≢◌, ℕ, ◌<◌, length}
-use Rattle.stn_core.specs.Literal.{negation_of}
-use Rattle.branch_search.specs.Trails.{literal_at, Stands}
-use Rattle.branch_search.proofs.denial.are_denied.Given as goal
-
-abbrev pub invariant-loop-q : goal.invariant-loop-q
-invariant-loop-q l = record {
-  denied : (i : ℕ) → i < l.q → i ≢ l.place → Stands l.entries (length l.entries) (negation_of (literal_at l.clause i));
-}

@@ -1,5 +1,0 @@
-use Rattle.branch_search.proofs.Marks.{literal_is}
-use Rattle.branch_search.proofs.reading.literal_on.Goals as goal
-
-pub returns : goal.returns
-returns c = literal_is c.args.entries.now c.args.k _ c.requires

@@ -1,0 +1,15 @@
+use Rattle.std.proofs.Common.{◌≤◌, length}
+use Rattle.conflict_analysis.specs.Trails.{IsMarked}
+use Rattle.conflict_analysis.specs.Places.{AreWaiting, ArePassed}
+use Rattle.conflict_analysis.proofs.marking.mark_back.Given as goal
+
+abbrev pub invariant-back : goal.invariant-back
+invariant-back g l = record {
+  within : l.low ≤ length l.trail;
+  marked : IsMarked l.problem.clauses (g.E.Earlier.clauses l.earlier) l.trail l.whole l.low l.fn.marks.roles.items l.marks.roles.items;
+  waiting : AreWaiting l.low l.marks.roles.items l.marks.waiting;
+  passed : ArePassed l.low (length l.trail) l.marks.roles.items l.marks.passed.items;
+}
+
+abbrev pub decreases-back : goal.decreases-back
+decreases-back g l = l.low

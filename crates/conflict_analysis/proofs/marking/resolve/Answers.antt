@@ -1,0 +1,67 @@
+use Rattle.std.proofs.Common.{refl, ◌∙◌, ap, [], ◌∷◌}
+use Rattle.stn_core.specs.declared.literal.Literal.{Literal}
+use Rattle.conflict_analysis.proofs.Marks.{clause_stands, pair_others, turned_by_clause, turned_by_pair, turned_by_cycle, reason_is, literal_is}
+use Rattle.conflict_analysis.proofs.Passing.{waiting_resolved}
+use Rattle.conflict_analysis.proofs.marking.resolve.Goals as goal
+
+pub need_denials-requires-clause-stand : goal.need_denials-requires-clause-stand
+need_denials-requires-clause-stand g c =
+    clause_stands c.args.problem.now.clauses (g.E.Earlier.clauses c.args.earlier.now) c.requires.trail.0
+    c.args.trail.now c.args.k c.in-Clause.source c.in-Clause.place _ c.requires.trail.1 c.requires.within
+    (reason_is c.args.trail.now c.args.k c.index-trail-k.result _ c.requires.within c.in-Clause.is)
+    c.clause_of-clause.ensures
+
+pub need_cycle-requires-clause-stand : goal.need_cycle-requires-clause-stand
+need_cycle-requires-clause-stand g c =
+    pair_others c.args.problem.now.clauses (g.E.Earlier.clauses c.args.earlier.now) c.requires.trail.0
+    c.args.trail.now c.args.k c.in-Pair.tighter _ _ c.requires.trail.1 c.requires.within
+    (reason_is c.args.trail.now c.args.k c.index-trail-k.result _ c.requires.within c.in-Pair.is)
+    (c.as_slice.ensures ∙ ap (λ (m : Literal). c.in-Pair.tighter ∷ m ∷ []) c.negate.ensures)
+    (literal_is c.args.trail.now c.args.k c.index-trail-k-in-Pair.result c.requires.within)
+
+pub returns-in_ok-need_denials-in-Clause-clause-turned : goal.returns-in_ok-need_denials-in-Clause-clause-turned
+returns-in_ok-need_denials-in-Clause-clause-turned g c =
+    turned_by_clause c.args.problem.now.clauses (g.E.Earlier.clauses c.args.earlier.now) c.requires.trail.0
+    c.args.trail.now c.args.whole c.args.marks.now.roles.items c.need_denials.new.marks.roles.items _ c.args.k
+    c.in-Clause.source c.in-Clause.place c.clause_of-clause.result.now c.requires.within c.requires.count
+    c.requires.trail.1
+    (reason_is c.args.trail.now c.args.k c.index-trail-k.result _ c.requires.within c.in-Clause.is)
+    c.clause_of-clause.ensures c.requires.closed c.in_ok-need_denials-in-Clause.ensures.more
+    c.in_ok-need_denials-in-Clause.ensures.used refl
+
+pub returns-in_ok-need_cycle-in-Pair-clause-turned : goal.returns-in_ok-need_cycle-in-Pair-clause-turned
+returns-in_ok-need_cycle-in-Pair-clause-turned g c =
+    turned_by_pair c.args.problem.now.clauses (g.E.Earlier.clauses c.args.earlier.now) c.requires.trail.0
+    c.args.trail.now c.args.whole c.args.marks.now.roles.items c.need_cycle.new.marks.roles.items _ c.args.k
+    c.in-Pair.tighter c.as_slice.result.now _ c.requires.within c.requires.count c.requires.trail.1
+    (reason_is c.args.trail.now c.args.k c.index-trail-k.result _ c.requires.within c.in-Pair.is)
+    (c.as_slice.ensures ∙ ap (λ (m : Literal). c.in-Pair.tighter ∷ m ∷ []) c.negate.ensures)
+    (literal_is c.args.trail.now c.args.k c.index-trail-k-in-Pair.result c.requires.within) c.requires.closed
+    c.in_ok-need_cycle-in-Pair.ensures.more c.in_ok-need_cycle-in-Pair.ensures.used refl
+
+pub returns-in_ok-need_cycle-in-Cycle-clause-turned : goal.returns-in_ok-need_cycle-in-Cycle-clause-turned
+returns-in_ok-need_cycle-in-Cycle-clause-turned g c =
+    turned_by_cycle c.args.problem.now.clauses (g.E.Earlier.clauses c.args.earlier.now) c.requires.trail.0
+    c.args.trail.now c.args.whole c.args.marks.now.roles.items c.need_cycle-in-Cycle.new.marks.roles.items _
+    c.args.k c.in-Cycle.cycle c.as_slice-in-Cycle.result.now _ c.requires.within c.requires.count
+    c.requires.trail.1
+    (reason_is c.args.trail.now c.args.k c.index-trail-k.result _ c.requires.within c.in-Cycle.is)
+    c.as_slice-in-Cycle.ensures
+    (literal_is c.args.trail.now c.args.k c.index-trail-k-in-Cycle.result c.requires.within) c.requires.closed
+    c.in_ok-need_cycle-in-Cycle.ensures.more
+    c.in_ok-need_cycle-in-Cycle.ensures.used refl
+
+pub returns-in_ok-need_denials-in-Clause-clause-waiting : goal.returns-in_ok-need_denials-in-Clause-clause-waiting
+returns-in_ok-need_denials-in-Clause-clause-waiting g c =
+    waiting_resolved _ _ _ _ _ c.args.k c.in_ok-need_denials-in-Clause.ensures.waiting
+    (c.in_ok-need_denials-in-Clause.ensures.more.used c.args.k c.requires.used) refl
+
+pub returns-in_ok-need_cycle-in-Pair-clause-waiting : goal.returns-in_ok-need_cycle-in-Pair-clause-waiting
+returns-in_ok-need_cycle-in-Pair-clause-waiting g c =
+    waiting_resolved _ _ _ _ _ c.args.k c.in_ok-need_cycle-in-Pair.ensures.waiting
+    (c.in_ok-need_cycle-in-Pair.ensures.more.used c.args.k c.requires.used) refl
+
+pub returns-in_ok-need_cycle-in-Cycle-clause-waiting : goal.returns-in_ok-need_cycle-in-Cycle-clause-waiting
+returns-in_ok-need_cycle-in-Cycle-clause-waiting g c =
+    waiting_resolved _ _ _ _ _ c.args.k c.in_ok-need_cycle-in-Cycle.ensures.waiting
+    (c.in_ok-need_cycle-in-Cycle.ensures.more.used c.args.k c.requires.used) refl

@@ -1,0 +1,180 @@
+//! From a conflict to a learned clause with its tree.
+ghost use Rattle.std.specs.Prelude.{◌≡◌, ◌≤◌, ℕ, List, [], length, All, IfOk};
+ghost use Rattle.stn_core.specs.declared.literal.Literal.{Literal as Bound};
+ghost use Rattle.conflict_analysis.specs.declared.entry.Role.TheVariants.{Unused};
+ghost use Rattle.conflict_analysis.specs.Trails.{IsTrail, IsConflict, Stands, IsDenial, AreOver, KeepsAll};
+ghost use Rattle.conflict_analysis.specs.Trails.{DeniesKept};
+ghost use Rattle.conflict_analysis.specs.Trails.{role_at};
+ghost use Rattle.conflict_analysis.specs.Places.{ArePassed};
+ghost use Rattle.conflict_analysis.specs.Proved.{IsProved};
+
+use crate::citing::is_cited;
+use crate::entry::{Conflict, Entry, Level, Reason, Role};
+use crate::marking::{Marks, mark_back, need_conflict};
+use crate::places::Places;
+use crate::reading::named;
+use crate::redundancy::Redundancy;
+use crate::spine::steps_for;
+use crate::tables::{Tables, Unmarked, unmark};
+use refute_tree::{Earlier, Lemma};
+use search_guide::Guide;
+use std::alloc::{AllocError, Global};
+use std::mem;
+use stn_core::{Clause, Literal, Problem, negate};
+
+// The negations of the literals that are kept.
+fn kept_clause(
+    alloc: Global,
+    trail: &[Entry],
+    roles: &[Role],
+    passed: &[usize],
+) -> Result<Vec<Literal>, AllocError>
+    requires roles { length trail.now ≤ length roles.now }
+    requires passed { ArePassed 0 (length trail.now) roles.now passed.now }
+    ensures kept { IfOk result (λ clause. KeepsAll trail.now roles.now (length trail.now) clause.items) }
+    ensures denied { IfOk result (λ clause. All (DeniesKept trail.now roles.now) clause.items) }
+{
+    let mut clause = Vec::new(alloc);
+    for i in 0..passed.len() {
+        let k = passed[i];
+        if let Role::Kept = roles[k] {
+            clause.push(negate(trail[k].literal))?;
+        }
+    }
+    Ok(clause)
+}
+
+// Below which place the root's literals stand.
+fn root_end(trail: &[Entry], levels: &[Level]) -> usize {
+    match levels.first() {
+        Some(level) => level.start,
+        None => trail.len(),
+    }
+}
+
+// Before a way back: no literal is used.
+fn begin(
+    alloc: Global,
+    trail: &[Entry],
+    levels: &[Level],
+    tables: &mut Tables,
+) -> Result<Marks, AllocError>
+    ensures count { IfOk result (λ marks. length trail.now ≤ length marks.roles.items) }
+    ensures clean { IfOk result (λ marks. (j : ℕ) → role_at marks.roles.items j ≡ Unused) }
+    ensures waiting { IfOk result (λ marks. marks.waiting ≡ []) }
+    ensures passed { IfOk result (λ marks. marks.passed.items ≡ []) }
+{
+    let unmarked = mem::replace(&mut tables.unmarked, Unmarked::new(alloc));
+    let mut redundancy = mem::replace(&mut tables.redundancy, Redundancy::new(alloc));
+    redundancy.begin(trail.len())?;
+    Ok(Marks {
+        roles: unmarked.into_roles(trail.len())?,
+        waiting: Places::new(alloc),
+        passed: Vec::new(alloc),
+        start: trail.len(),
+        open: 0,
+        root: root_end(trail, levels),
+        redundancy,
+    })
+}
+
+fn is_resolved(marks: &Marks, k: usize) -> bool {
+    matches!(marks.roles.get(k), Some(Role::Resolved))
+}
+
+fn bump_reason(entry: &Entry, guide: &mut Guide) {
+    if let Reason::Clause(source, _) = &entry.reason {
+        guide.bump_clause(named(*source));
+    }
+}
+
+// The literals on which the conflict rests are more active than they were, but those that it rests on for the
+// sake of fewer literals in the clause. So are the clauses up to the implication point.
+fn bump_used(trail: &[Entry], marks: &Marks, guide: &mut Guide, conflict: &Conflict) {
+    if let Conflict::Clause(source) = conflict {
+        guide.bump_clause(named(*source));
+    }
+    for k in &marks.passed {
+        if *k < marks.root || trail.len() <= *k {
+            return;
+        }
+        if !marks.redundancy.is_inner(*k) {
+            guide.bump(trail[*k].number);
+        }
+        if marks.start <= *k && is_resolved(marks, *k) {
+            bump_reason(&trail[*k], guide);
+        }
+    }
+}
+
+// Where the root's literals stand on which the conflict rests, and which no lemma states: the first place
+// first.
+fn wanted_roots<E: Earlier>(
+    problem: &Problem,
+    earlier: &E,
+    trail: &[Entry],
+    marks: &Marks,
+    guide: &Guide,
+    wanted: &mut Vec<usize>,
+) -> Result<(), AllocError> {
+    for k in marks.passed.iter().rev() {
+        if marks.root <= *k {
+            return Ok(());
+        }
+        if !is_cited(problem, earlier, guide, trail, *k) {
+            wanted.push(*k)?;
+        }
+    }
+    Ok(())
+}
+
+/// The clause that a conflict teaches, with its tree: the negations of some of the trail's literals. The one
+/// error is want of memory.
+///
+/// With `whole` the literals are negations of decided ones and of the cube's. Else it is the clause of the
+/// first unique implication point of the last level on which the conflict rests, and to `wanted` come the
+/// places of the root's literals whose reasons are in the steps and could be cited.
+pub fn analyze<E: Earlier>(
+    alloc: Global,
+    problem: &Problem,
+    earlier: &E,
+    trail: &[Entry],
+    levels: &[Level],
+    guide: &mut Guide,
+    tables: &mut Tables,
+    whole: bool,
+    conflict: &Conflict,
+    wanted: &mut Vec<usize>,
+) -> Result<Lemma, AllocError>
+    requires trail { (cube : List Bound)
+        × IsTrail problem.now.clauses (E.clauses earlier.now) cube trail.now }
+    requires over { AreOver problem.now.points trail.now }
+    requires conflict { IsConflict problem.now.clauses (E.clauses earlier.now)
+        (Stands trail.now (length trail.now)) conflict.now }
+    ensures proved { IfOk result (IsProved problem.now.points problem.now.clauses (E.clauses earlier.now)) }
+    ensures denials { IfOk result (λ lemma. All (IsDenial trail.now whole) lemma.clause) }
+{
+    let mut marks = begin(alloc, trail, levels, tables)?;
+    need_conflict(problem, earlier, trail, &mut marks, guide, conflict)?;
+    mark_back(problem, earlier, trail, levels, &mut marks, guide, whole)?;
+    if !whole {
+        bump_used(trail, &marks, guide, conflict);
+        wanted_roots(problem, earlier, trail, &marks, guide, wanted)?;
+    }
+    let clause = kept_clause(alloc, trail, &marks.roles, &marks.passed)?;
+    let steps = steps_for(
+        alloc,
+        problem,
+        earlier,
+        trail,
+        &marks.roles,
+        &marks.passed,
+        conflict,
+    )?;
+    tables.unmarked = unmark(marks.roles, &marks.passed);
+    tables.redundancy = marks.redundancy;
+    Ok(Lemma {
+        clause: Clause::new(clause),
+        steps,
+    })
+}

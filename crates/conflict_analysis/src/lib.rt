@@ -1,0 +1,27 @@
+//! From a conflict on the trail of a search to a learned clause with the tree that refutes it.
+//!
+//! A [`Conflict`] is a clause whose literals are all denied on the trail, or a negative cycle of the trail's
+//! literals. [`analyze`] goes back over the literals that it rests on, each by its [`Reason`], and states what
+//! is left as a lemma. What a guide proposes is tested before it is believed: [`unit_of`], [`is_conflict`].
+//!
+//! Source: Marques Silva and Sakallah, "GRASP: a search algorithm for propositional satisfiability", IEEE
+//! Transactions on Computers 48 (1999): reasons, implication points, learned clauses.
+#![tactic(auto)]
+
+mod analysis;
+mod citing;
+mod denial;
+mod entry;
+mod marking;
+mod places;
+mod reading;
+mod redundancy;
+mod spine;
+mod tables;
+
+pub use analysis::analyze;
+pub use citing::is_cited;
+pub use denial::{is_conflict, open_place, unit_of};
+pub use entry::{Conflict, Entry, Level, Reason, Source};
+pub use reading::{clause_of, is_over, is_same, is_standing, literal_on, number_of, source_of};
+pub use tables::Tables;

@@ -1,0 +1,361 @@
+//! Which literals of the trail a conflict rests on.
+ghost use Rattle.std.specs.Prelude.{◌≡◌, ◌≢◌, ◌<◌, ◌≤◌, ◌⊎◌, ℕ, List, length, OnOk};
+ghost use Rattle.stn_core.specs.declared.literal.Literal.{Literal as Bound};
+ghost use Rattle.stn_core.specs.Literal.{negation_of};
+ghost use Rattle.conflict_analysis.specs.Trails.{literal_at, Stands, StandsUsed, IsMarkedMore, IsTrail, IsClosed};
+ghost use Rattle.conflict_analysis.specs.Trails.{role_at, IsUsed, IsConflict, IsTurned, IsMarked};
+ghost use Rattle.conflict_analysis.specs.Places.{AreWaiting, KeepsWaiting, ArePassed};
+
+use crate::entry::{Conflict, Entry, Level, Reason, Role, Source};
+use crate::places::Places;
+use crate::reading::{clause_of, denial_guess, is_same, literal_place, place_of};
+use crate::redundancy::Redundancy;
+use refute_tree::Earlier;
+use search_guide::Guide;
+use std::alloc::AllocError;
+use stn_core::{Literal, Problem, negate};
+
+/// The roles of the trail's literals, and what the way back over them keeps in mind.
+#[derive(Drop)]
+pub struct Marks {
+    pub roles: Vec<Role>,
+    /// the places of the used literals that weren't passed
+    pub waiting: Places,
+    /// those of the others, from the last on
+    pub passed: Vec<usize>,
+    /// from which place on all kept literals but one are resolved
+    pub start: usize,
+    /// how many are kept from there on and weren't passed
+    pub open: usize,
+    /// below which place the root's literals stand, which are all resolved
+    pub root: usize,
+    /// which of the kept literals follow from others
+    pub redundancy: Redundancy,
+}
+
+// The conflict rests on a literal that stands below the place.
+fn need(
+    trail: &[Entry],
+    marks: &mut Marks,
+    literal: Literal,
+    below: usize,
+    guess: Option<usize>,
+) -> Result<(), AllocError>
+    requires count { length trail.now ≤ length marks.old.roles.items }
+    requires within { below ≤ length trail.now }
+    requires stands { Stands trail.now below literal }
+    ensures more { OnOk result (IsMarkedMore below marks.old.roles.items marks.new.roles.items) }
+    ensures waiting { OnOk result (KeepsWaiting marks.old.roles.items marks.old.waiting
+        marks.new.roles.items marks.new.waiting) }
+    ensures passed { OnOk result (marks.new.passed.items ≡ marks.old.passed.items) }
+    ensures used { OnOk result (StandsUsed trail.now marks.new.roles.items below literal) }
+{
+    let k = place_of(trail, literal, below, guess);
+    if let Role::Unused = marks.roles[k] {
+        marks.waiting.push(k)?;
+        marks.roles[k] = Role::Kept;
+        if marks.start <= k {
+            marks.open = marks.open.saturating_add(1);
+        }
+    }
+    Ok(())
+}
+
+// It rests on the negations of the clause's literals but the one at the place.
+fn need_denials(
+    trail: &[Entry],
+    marks: &mut Marks,
+    guide: &Guide,
+    source: Source,
+    clause: &[Literal],
+    place: usize,
+    below: usize,
+) -> Result<(), AllocError>
+    requires count { length trail.now ≤ length marks.old.roles.items }
+    requires within { below ≤ length trail.now }
+    requires stand { (q : ℕ) → q < length clause.now → q ≢ place
+        → Stands trail.now below (negation_of (literal_at clause.now q)) }
+    ensures more { OnOk result (IsMarkedMore below marks.old.roles.items marks.new.roles.items) }
+    ensures waiting { OnOk result (KeepsWaiting marks.old.roles.items marks.old.waiting
+        marks.new.roles.items marks.new.waiting) }
+    ensures passed { OnOk result (marks.new.passed.items ≡ marks.old.passed.items) }
+    ensures used { OnOk result ((q : ℕ) → q < length clause.now → q ≢ place
+        → StandsUsed trail.now marks.new.roles.items below (negation_of (literal_at clause.now q))) }
+{
+    for q in 0..clause.len() {
+        if q != place {
+            let guess = denial_guess(guide, source, q, clause[q]);
+            need(trail, marks, negate(clause[q]), below, guess)?;
+        }
+    }
+    Ok(())
+}
+
+// It rests on the cycle's literals but the negation of this one.
+fn need_cycle(
+    trail: &[Entry],
+    marks: &mut Marks,
+    guide: &Guide,
+    cycle: &[Literal],
+    literal: Literal,
+    below: usize,
+) -> Result<(), AllocError>
+    requires count { length trail.now ≤ length marks.old.roles.items }
+    requires within { below ≤ length trail.now }
+    requires stand { (q : ℕ) → q < length cycle.now
+        → (literal_at cycle.now q ≡ negation_of literal) ⊎ Stands trail.now below (literal_at cycle.now q) }
+    ensures more { OnOk result (IsMarkedMore below marks.old.roles.items marks.new.roles.items) }
+    ensures waiting { OnOk result (KeepsWaiting marks.old.roles.items marks.old.waiting
+        marks.new.roles.items marks.new.waiting) }
+    ensures passed { OnOk result (marks.new.passed.items ≡ marks.old.passed.items) }
+    ensures used { OnOk result ((q : ℕ) → q < length cycle.now
+        → (literal_at cycle.now q ≡ negation_of literal)
+        ⊎ StandsUsed trail.now marks.new.roles.items below (literal_at cycle.now q)) }
+{
+    let denied = negate(literal);
+    for q in 0..cycle.len() {
+        if !is_same(cycle[q], denied) {
+            let guess = literal_place(guide, cycle[q]);
+            need(trail, marks, cycle[q], below, guess)?;
+        }
+    }
+    Ok(())
+}
+
+// It rests on all of the cycle's literals.
+fn need_all(
+    trail: &[Entry],
+    marks: &mut Marks,
+    guide: &Guide,
+    cycle: &[Literal],
+    below: usize,
+) -> Result<(), AllocError>
+    requires count { length trail.now ≤ length marks.old.roles.items }
+    requires within { below ≤ length trail.now }
+    requires stand { (q : ℕ) → q < length cycle.now → Stands trail.now below (literal_at cycle.now q) }
+    ensures more { OnOk result (IsMarkedMore below marks.old.roles.items marks.new.roles.items) }
+    ensures waiting { OnOk result (KeepsWaiting marks.old.roles.items marks.old.waiting
+        marks.new.roles.items marks.new.waiting) }
+    ensures passed { OnOk result (marks.new.passed.items ≡ marks.old.passed.items) }
+    ensures used { OnOk result ((q : ℕ) → q < length cycle.now
+        → StandsUsed trail.now marks.new.roles.items below (literal_at cycle.now q)) }
+{
+    for q in 0..cycle.len() {
+        let guess = literal_place(guide, cycle[q]);
+        need(trail, marks, cycle[q], below, guess)?;
+    }
+    Ok(())
+}
+
+/// The literals on which a conflict rests at once.
+pub fn need_conflict<E: Earlier>(
+    problem: &Problem,
+    earlier: &E,
+    trail: &[Entry],
+    marks: &mut Marks,
+    guide: &Guide,
+    conflict: &Conflict,
+) -> Result<(), AllocError>
+    requires count { length trail.now ≤ length marks.old.roles.items }
+    requires conflict { IsConflict problem.now.clauses (E.clauses earlier.now)
+        (Stands trail.now (length trail.now)) conflict.now }
+    ensures more { OnOk result (IsMarkedMore (length trail.now) marks.old.roles.items marks.new.roles.items) }
+    ensures waiting { OnOk result (KeepsWaiting marks.old.roles.items marks.old.waiting
+        marks.new.roles.items marks.new.waiting) }
+    ensures passed { OnOk result (marks.new.passed.items ≡ marks.old.passed.items) }
+    ensures used { OnOk result (IsConflict problem.now.clauses (E.clauses earlier.now)
+        (StandsUsed trail.now marks.new.roles.items (length trail.now)) conflict.now) }
+{
+    let below = trail.len();
+    match conflict {
+        Conflict::Clause(source) => {
+            let clause = clause_of(problem, earlier, *source);
+            need_denials(trail, marks, guide, *source, clause, clause.len(), below)?;
+        }
+        Conflict::Cycle(cycle) => need_all(trail, marks, guide, cycle.as_slice(), below)?,
+    }
+    Ok(())
+}
+
+// Instead of the literal at the place the conflict rests on what that follows from, if it does.
+fn resolve<E: Earlier>(
+    problem: &Problem,
+    earlier: &E,
+    trail: &[Entry],
+    marks: &mut Marks,
+    guide: &Guide,
+    k: usize,
+    whole: bool,
+) -> Result<(), AllocError>
+    requires count { length trail.now ≤ length marks.old.roles.items }
+    requires within { k < length trail.now }
+    requires trail { (cube : List Bound)
+        × IsTrail problem.now.clauses (E.clauses earlier.now) cube trail.now }
+    requires closed { IsClosed problem.now.clauses (E.clauses earlier.now) trail.now marks.old.roles.items }
+    requires used { IsUsed (role_at marks.old.roles.items k) }
+    ensures turned { OnOk result (IsTurned problem.now.clauses (E.clauses earlier.now) trail.now whole k
+        marks.old.roles.items marks.new.roles.items) }
+    ensures waiting { OnOk result (KeepsWaiting marks.old.roles.items marks.old.waiting
+        marks.new.roles.items marks.new.waiting) }
+    ensures passed { OnOk result (marks.new.passed.items ≡ marks.old.passed.items) }
+{
+    match &trail[k].reason {
+        Reason::Given => {}
+        Reason::Decision => {}
+        Reason::Clause(source, place) => {
+            let clause = clause_of(problem, earlier, *source);
+            need_denials(trail, marks, guide, *source, clause, *place, k)?;
+            marks.roles[k] = Role::Resolved;
+        }
+        Reason::Pair(tighter) => {
+            let literal = trail[k].literal;
+            let cycle = [*tighter, negate(literal)];
+            need_cycle(trail, marks, guide, cycle.as_slice(), literal, k)?;
+            marks.roles[k] = Role::Resolved;
+        }
+        Reason::Cycle(cycle) => {
+            need_cycle(trail, marks, guide, cycle.as_slice(), trail[k].literal, k)?;
+            marks.roles[k] = Role::Resolved;
+        }
+    }
+    Ok(())
+}
+
+// Where the level of the literal at the place begins.
+fn level_start(levels: &[Level], k: usize) -> usize {
+    for level in levels.iter().rev() {
+        if level.start <= k {
+            return level.start;
+        }
+    }
+    0
+}
+
+// The way back starts with the literal at the place, the last that the conflict rests on: what stands on its
+// level.
+fn begin_at(marks: &mut Marks, levels: &[Level], k: usize)
+    ensures roles { marks.new.roles.items ≡ marks.old.roles.items }
+    ensures waiting { marks.new.waiting ≡ marks.old.waiting }
+    ensures passed { marks.new.passed.items ≡ marks.old.passed.items }
+{
+    marks.start = level_start(levels, k);
+    marks.open = marks.waiting.count_from(marks.start).saturating_add(1);
+}
+
+// Whether the literal at the place, which stands below the last level, can be resolved without a literal more
+// in the learned clause. Any body is right.
+fn is_redundant(
+    trail: &[Entry],
+    marks: &mut Marks,
+    guide: &Guide,
+    k: usize,
+) -> Result<bool, AllocError>
+    ensures roles { marks.new.roles.items ≡ marks.old.roles.items }
+    ensures waiting { marks.new.waiting ≡ marks.old.waiting }
+    ensures passed { marks.new.passed.items ≡ marks.old.passed.items }
+{
+    if marks.redundancy.has_no_level() {
+        for place in marks.waiting.as_slice() {
+            if let Some(entry) = trail.get(*place) {
+                marks.redundancy.add_level(guide, entry);
+            }
+        }
+        if let Some(entry) = trail.get(k) {
+            marks.redundancy.add_level(guide, entry);
+        }
+    }
+    marks
+        .redundancy
+        .is_redundant(trail, &marks.roles, marks.root, guide, k)
+}
+
+// Whether to resolve a literal that the conflict rests on. Any body is right.
+//
+// The first unique implication point: of the literals on the last level all but one are resolved. So are the
+// root's, which need no place in the clause, and those that follow from others.
+fn is_to_resolve(
+    trail: &[Entry],
+    levels: &[Level],
+    marks: &mut Marks,
+    guide: &Guide,
+    k: usize,
+) -> Result<bool, AllocError>
+    ensures roles { marks.new.roles.items ≡ marks.old.roles.items }
+    ensures waiting { marks.new.waiting ≡ marks.old.waiting }
+    ensures passed { marks.new.passed.items ≡ marks.old.passed.items }
+{
+    if marks.passed.is_empty() {
+        begin_at(marks, levels, k);
+    }
+    if marks.start <= k {
+        let others = marks.open > 1;
+        marks.open = marks.open.saturating_sub(1);
+        return Ok(others);
+    }
+    if k < marks.root {
+        return Ok(true);
+    }
+    is_redundant(trail, marks, guide, k)
+}
+
+// A turn of the way back over the trail.
+fn turn<E: Earlier>(
+    problem: &Problem,
+    earlier: &E,
+    trail: &[Entry],
+    levels: &[Level],
+    marks: &mut Marks,
+    guide: &Guide,
+    k: usize,
+    whole: bool,
+) -> Result<(), AllocError>
+    requires count { length trail.now ≤ length marks.old.roles.items }
+    requires within { k < length trail.now }
+    requires trail { (cube : List Bound)
+        × IsTrail problem.now.clauses (E.clauses earlier.now) cube trail.now }
+    requires closed { IsClosed problem.now.clauses (E.clauses earlier.now) trail.now marks.old.roles.items }
+    ensures turned { OnOk result (IsTurned problem.now.clauses (E.clauses earlier.now) trail.now whole k
+        marks.old.roles.items marks.new.roles.items) }
+    ensures waiting { OnOk result (KeepsWaiting marks.old.roles.items marks.old.waiting
+        marks.new.roles.items marks.new.waiting) }
+    ensures passed { OnOk result (marks.new.passed.items ≡ marks.old.passed.items) }
+{
+    if let Role::Kept = marks.roles[k] {
+        let resolves = is_to_resolve(trail, levels, marks, guide, k)?;
+        if whole || resolves {
+            resolve(problem, earlier, trail, marks, guide, k, whole)?;
+        }
+    }
+    Ok(())
+}
+
+/// Goes back over the places on which the conflict rests.
+pub fn mark_back<E: Earlier>(
+    problem: &Problem,
+    earlier: &E,
+    trail: &[Entry],
+    levels: &[Level],
+    marks: &mut Marks,
+    guide: &Guide,
+    whole: bool,
+) -> Result<(), AllocError>
+    requires count { length trail.now ≤ length marks.old.roles.items }
+    requires trail { (cube : List Bound)
+        × IsTrail problem.now.clauses (E.clauses earlier.now) cube trail.now }
+    requires closed { IsClosed problem.now.clauses (E.clauses earlier.now) trail.now marks.old.roles.items }
+    requires waiting { AreWaiting (length trail.now) marks.old.roles.items marks.old.waiting }
+    requires passed { ArePassed (length trail.now) (length trail.now) marks.old.roles.items
+        marks.old.passed.items }
+    ensures marked { OnOk result (IsMarked problem.now.clauses (E.clauses earlier.now) trail.now whole 0
+        marks.old.roles.items marks.new.roles.items) }
+    ensures passed { OnOk result (ArePassed 0 (length trail.now) marks.new.roles.items
+        marks.new.passed.items) }
+{
+    let mut low = trail.len();
+    'back: while let Some(k) = marks.waiting.next_below(low) {
+        low = k;
+        turn(problem, earlier, trail, levels, marks, guide, k, whole)?;
+        marks.passed.push(k)?;
+    }
+    Ok(())
+}
