@@ -1,12 +1,13 @@
 -- Places among the marked ones.
-use Rattle.std.proofs.Common.{arith, inl, inr, ◌≡◌, ◌<◌, ◌≤◌, ◌+◌, ℕ, zero, suc, Bool, true, false, List, [], ◌∷◌, ◌++◌, length, map, refl, sym, ap, subst, ◌∙◌, get_or}
+use Rattle.std.proofs.Common.{arith, inl, inr, ◌≡◌, ◌<◌, ◌≤◌, ◌+◌, ◌-◌, ℕ, zero, suc, Bool, true, false, List, [], ◌∷◌, ◌++◌, length, map, refl, sym, ap, subst, ◌∙◌, get_or}
+use Rattle.std.specs.Prelude.{nat_lt, if◌then◌else◌}
 use Rattle.std.proofs.lemmas.Bool.{cases_lt}
 use Rattle.refute_tree.specs.declared.step.Step.{Step}
 use Rattle.refute_tree.specs.declared.step.Step.TheVariants.{Cycle, Input, Lemma as Earlier, Clash, Either}
 use Rattle.refute_tree.specs.declared.lemma.Lemma.{Lemma}
 use Rattle.trim_lemmas.specs.declared.places.Places.{Places}
-use Rattle.trim_lemmas.specs.Trimming.{place, renumbered_step, renumbered}
-use Rattle.trim_lemmas.specs.Marks.{ArePlaces, step_by, lemma_by}
+use Rattle.trim_lemmas.specs.Trimming.{place, renumbered_number, renumbered_step, renumbered}
+use Rattle.trim_lemmas.specs.Marks.{ArePlaces, number_by, step_by, lemma_by}
 
 pub place_zero : (bs : List Bool) → place bs 0 ≡ 0
 place_zero [] = refl
@@ -66,36 +67,41 @@ get_front [] ys j lt = absurd (omega arith)
 get_front (x ∷ xs) ys zero lt = refl
 get_front (x ∷ xs) ys (suc j) lt = get_front xs ys j (omega arith)
 
-pub are_places : (bs : List Bool) (before : List ℕ) (count : ℕ) → length before ≡ length bs → ((j : ℕ) → j < length bs → get_or before j 0 ≡ place bs j) → count ≡ place bs (length bs)
-    → (j : ℕ) → get_or before j count ≡ place bs j
-are_places bs before count long each all j = elim (cases_lt j (length bs)) [
-  | inl lt ↦ get_within before j count 0 (omega (arith, long)) ∙ each j lt
-  | inr ge ↦ get_beyond before j count (omega (arith, long)) ∙ (all ∙ sym (place_past bs j ge))
+pub are_places : (seen : ℕ) (bs : List Bool) (numbers : List ℕ) (end : ℕ) → length numbers ≡ length bs → ((j : ℕ) → j < length bs → get_or numbers j 0 ≡ seen + place bs j) → end ≡ seen + place bs (length bs)
+    → (j : ℕ) → get_or numbers j end ≡ seen + place bs j
+are_places seen bs numbers end long each all j = elim (cases_lt j (length bs)) [
+  | inl lt ↦ get_within numbers j end 0 (omega (arith, long)) ∙ each j lt
+  | inr ge ↦ get_beyond numbers j end (omega (arith, long)) ∙ (all ∙ ap (λ n. seen + n) (sym (place_past bs j ge)))
 ]
 
 -- a turn of the loop that makes the table
-pub get_pushed : (bs : List Bool) (before : List ℕ) (i count : ℕ) → length before ≡ i → count ≡ place bs i → ((j : ℕ) → j < i → get_or before j 0 ≡ place bs j)
-    → (j : ℕ) → j < i + 1 → get_or (before ++ count ∷ []) j 0 ≡ place bs j
-get_pushed bs before i count long all each j lt = elim (cases_lt j i) [
-  | inl below ↦ get_front before (count ∷ []) j (omega (arith, long)) ∙ each j below
-  | inr above ↦ (let same : j ≡ i = omega arith in get_at before count j (omega (arith, long)) ∙ (all ∙ ap (place bs) (sym same)))
+pub get_pushed : (seen : ℕ) (bs : List Bool) (numbers : List ℕ) (i end : ℕ) → length numbers ≡ i → end ≡ seen + place bs i → ((j : ℕ) → j < i → get_or numbers j 0 ≡ seen + place bs j)
+    → (j : ℕ) → j < i + 1 → get_or (numbers ++ end ∷ []) j 0 ≡ seen + place bs j
+get_pushed seen bs numbers i end long all each j lt = elim (cases_lt j i) [
+  | inl below ↦ get_front numbers (end ∷ []) j (omega (arith, long)) ∙ each j below
+  | inr above ↦ (let same : j ≡ i = omega arith in get_at numbers end j (omega (arith, long)) ∙ (all ∙ ap (λ n. seen + place bs n) (sym same)))
 ]
 
 -- what the table renumbers is renumbered by the places
-module _ (bs : List Bool) (places : Places) (h : ArePlaces bs places) where
-  step_same : (s : Step) → step_by places s ≡ renumbered_step bs s
+module _ (seen : ℕ) (bs : List Bool) (places : Places) (h : ArePlaces seen bs places) where
+  number_same : (j : ℕ) → number_by places j ≡ renumbered_number seen bs j
+  number_same j =
+      ap (λ (n : ℕ). if nat_lt j n then j else get_or places.numbers.items (j - n) places.end) h.0
+      ∙ ap (λ (n : ℕ). if nat_lt j seen then j else n) (h.1 (j - seen))
+
+  step_same : (s : Step) → step_by places s ≡ renumbered_step seen bs s
   step_same (Cycle cycle) = refl
   step_same (Input i) = refl
-  step_same (Earlier j) = ap Earlier (h j)
+  step_same (Earlier j) = ap Earlier (number_same j)
   step_same (Clash i) = refl
   step_same (Either l) = refl
 
-  steps_same : (steps : List Step) → map (step_by places) steps ≡ map (renumbered_step bs) steps
+  steps_same : (steps : List Step) → map (step_by places) steps ≡ map (renumbered_step seen bs) steps
   steps_same [] = refl
-  steps_same (s ∷ steps) = ap (λ t. t ∷ map (step_by places) steps) (step_same s) ∙ ap (λ ts. renumbered_step bs s ∷ ts) (steps_same steps)
+  steps_same (s ∷ steps) = ap (λ t. t ∷ map (step_by places) steps) (step_same s) ∙ ap (λ ts. renumbered_step seen bs s ∷ ts) (steps_same steps)
 
-  pub lemmas_same : (lemmas : List Lemma) → map (lemma_by places) lemmas ≡ map (renumbered bs) lemmas
+  pub lemmas_same : (lemmas : List Lemma) → map (lemma_by places) lemmas ≡ map (renumbered seen bs) lemmas
   lemmas_same [] = refl
   lemmas_same (lemma ∷ lemmas) =
       ap (λ (steps : List Step). record { clause = lemma.clause; steps = steps } ∷ map (lemma_by places) lemmas) (steps_same lemma.steps)
-      ∙ ap (λ ls. renumbered bs lemma ∷ ls) (lemmas_same lemmas)
+      ∙ ap (λ ls. renumbered seen bs lemma ∷ ls) (lemmas_same lemmas)

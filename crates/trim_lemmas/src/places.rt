@@ -1,46 +1,52 @@
 //! The numbers of the lemmas that are kept, among one another.
-ghost use Rattle.std.specs.Prelude.{◌≡◌, ◌∷◌, [], ◌++◌, map, slice_index_or, IfOk, OnOk};
+ghost use Rattle.std.specs.Prelude.{◌≡◌, ◌<◌, ◌+◌, ◌^◌, ◌∷◌, [], ◌++◌, length, map, IfOk, OnOk};
 ghost use Rattle.refute_tree.specs.Views.{step_seen};
-ghost use Rattle.trim_lemmas.specs.Marks.{ArePlaces, step_by};
+ghost use Rattle.trim_lemmas.specs.Marks.{ArePlaces, number_by, step_by};
 
 use refute_tree::{Reader, StepView, Steps};
 use std::alloc::{AllocError, Global};
 
-/// For each lemma how many needed ones stand before it.
+/// For each lemma of a list its number when only the needed ones are kept.
 #[derive(Drop)]
 pub struct Places {
-    pub before: Vec<usize>,
-    /// How many are needed.
-    pub count: usize,
+    /// References below it are to lemmas before the list, and stay.
+    pub seen: usize,
+    pub numbers: Vec<usize>,
+    /// The number behind the last needed one.
+    pub end: usize,
 }
 
 impl Places {
-    pub fn new(alloc: Global, needed: &[bool]) -> Result<Places, AllocError>
-        ensures { IfOk result (ArePlaces needed.now) }
+    pub fn new(alloc: Global, seen: usize, needed: &[bool]) -> Result<Places, AllocError>
+        requires { seen + length needed.now < 2 ^ 64 }
+        ensures { IfOk result (ArePlaces seen needed.now) }
     {
-        let mut before = Vec::with_capacity(alloc, needed.len())?;
-        let mut count = 0;
+        let mut numbers = Vec::with_capacity(alloc, needed.len())?;
+        let mut end = seen;
         for is_needed in needed {
-            before.push(count)?;
+            numbers.push(end)?;
             if *is_needed {
-                count += 1;
+                end += 1;
             }
         }
-        Ok(Places { before, count })
+        Ok(Places { seen, numbers, end })
     }
 
-    // How many needed lemmas stand before the one of this number, which may be past the last.
-    fn at(&self, j: usize) -> usize
-        ensures { result ≡ slice_index_or self.now.before.items j self.now.count }
+    // What a reference is then, which may be past the last lemma.
+    fn number(&self, j: usize) -> usize
+        ensures { result ≡ number_by self.now j }
     {
-        self.before.get(j).copied().unwrap_or(self.count)
+        if j < self.seen {
+            return j;
+        }
+        self.numbers.get(j - self.seen).copied().unwrap_or(self.end)
     }
 
     fn push_step(&self, step: StepView<'_>, steps: &mut Steps) -> Result<(), AllocError>
         ensures { OnOk result (steps.new ≡ steps.old ++ step_by self.now (step_seen step.entry) ∷ []) }
     {
         match step {
-            StepView::Lemma(j) => steps.push_lemma(self.at(j)),
+            StepView::Lemma(j) => steps.push_lemma(self.number(j)),
             _ => steps.push(step),
         }
     }

@@ -1,13 +1,14 @@
-//! What the last lemma doesn't need goes, and the others are numbered anew.
-ghost use Rattle.std.specs.Prelude.{◌≡◌, length, map, IfOk, OnOk};
+//! What nothing needs goes, and the other lemmas are numbered anew.
+ghost use Rattle.std.specs.Prelude.{◌≡◌, ◌<◌, ◌+◌, ◌^◌, length, map, IfOk, OnOk};
 ghost use Rattle.std.specs.List.{items_where_true};
 ghost use Rattle.std.specs.Vec.{vec_len};
-ghost use Rattle.trim_lemmas.specs.Trimming.{IsTrimmed, StaysRefutation, StaysOver, last_clause};
+ghost use Rattle.trim_lemmas.specs.Trimming.{shortened, IsTrimmed, StaysRefutation, StaysOver, last_clause};
+ghost use Rattle.trim_lemmas.specs.Trimming.{IsTrimmedBatch, StaysRefuted, StaysStated};
 ghost use Rattle.trim_lemmas.specs.Marks.{lemma_by};
 
-use crate::marking::needed_lemmas;
+use crate::marking::{needed_by, needed_lemmas};
 use crate::places::Places;
-use refute_tree::{Lemma, Refutation};
+use refute_tree::{Batch, Lemma, Refutation};
 use std::alloc::{AllocError, Global};
 
 // Keeps the needed lemmas, in their order.
@@ -34,6 +35,23 @@ fn renumber(alloc: Global, lemmas: &mut [Lemma], places: &Places) -> Result<(), 
     Ok(())
 }
 
+// Keeps the needed lemmas, numbered anew.
+fn shorten(
+    alloc: Global,
+    seen: usize,
+    mut lemmas: Vec<Lemma>,
+    needed: &[bool],
+) -> Result<Vec<Lemma>, AllocError>
+    requires each { length needed.now ≡ vec_len lemmas }
+    requires fits { seen + vec_len lemmas < 2 ^ 64 }
+    ensures { IfOk result (λ shorter. shorter.items ≡ shortened seen needed.now lemmas.items) }
+{
+    let places = Places::new(alloc, seen, needed)?;
+    keep(&mut lemmas, needed);
+    renumber(alloc, lemmas.as_mut_slice(), &places)?;
+    Ok(lemmas)
+}
+
 /// The lemmas that the last one needs, numbered anew: what refuted a problem refutes it.
 ///
 /// It takes time in the steps that are kept and in the count of the lemmas. Beside a mark and a word for each lemma
@@ -44,10 +62,41 @@ pub fn trimmed(alloc: Global, refutation: Refutation) -> Result<Refutation, Allo
     ensures over { IfOk result (StaysOver refutation) }
     ensures last { IfOk result (λ shorter. last_clause shorter ≡ last_clause refutation) }
 {
-    let mut lemmas = refutation.into_vec();
+    let lemmas = refutation.into_vec();
     let needed = needed_lemmas(alloc, lemmas.as_slice())?;
-    let places = Places::new(alloc, needed.as_slice())?;
-    keep(&mut lemmas, needed.as_slice());
-    renumber(alloc, lemmas.as_mut_slice(), &places)?;
-    Ok(Refutation::new(lemmas))
+    let shorter = shorten(alloc, 0, lemmas, needed.as_slice())?;
+    Ok(Refutation::new(shorter))
+}
+
+/// What is left of a batch.
+#[derive(Drop)]
+pub struct TrimmedBatch {
+    pub batch: Batch,
+    /// For each lemma that there was whether it is left.
+    pub needed: Vec<bool>,
+}
+
+/// The lemmas of a batch that the wanted ones need, numbered anew. References to lemmas before the batch stay.
+///
+/// Time and memory are as with [`trimmed`].
+pub fn trimmed_batch(
+    alloc: Global,
+    batch: Batch,
+    wanted: Vec<bool>,
+) -> Result<TrimmedBatch, AllocError>
+    requires each { length wanted.items ≡ length batch.lemmas }
+    requires fits { batch.seen + length batch.lemmas < 2 ^ 64 }
+    ensures trimmed { IfOk result (λ left. IsTrimmedBatch wanted.items batch left.needed.items left.batch) }
+    ensures refuted { IfOk result (λ left. StaysRefuted batch left.batch) }
+    ensures over { IfOk result (λ left. StaysOver batch.lemmas left.batch.lemmas) }
+    ensures clauses { IfOk result (λ left. StaysStated left.needed.items batch.lemmas left.batch.lemmas) }
+{
+    let seen = batch.seen();
+    let lemmas = batch.into_lemmas();
+    let needed = needed_by(seen, lemmas.as_slice(), wanted);
+    let shorter = shorten(alloc, seen, lemmas, needed.as_slice())?;
+    Ok(TrimmedBatch {
+        batch: Batch::new(seen, shorter),
+        needed,
+    })
 }

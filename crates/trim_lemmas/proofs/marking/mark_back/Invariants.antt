@@ -4,7 +4,7 @@ use Rattle.trim_lemmas.proofs.marking.mark_back.Given as goal
 
 abbrev pub invariant-back : goal.invariant-back
 invariant-back l = record {
-  same : swept l.number l.lemmas l.needed ≡ swept (length l.lemmas) l.lemmas l.fn.needed;
+  same : swept l.seen l.number l.lemmas l.needed ≡ swept l.seen (length l.lemmas) l.lemmas l.fn.needed;
   room : length l.needed ≡ length l.lemmas;
   within : l.number ≤ length l.lemmas;
 }

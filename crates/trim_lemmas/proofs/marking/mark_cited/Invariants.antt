@@ -4,7 +4,7 @@ use Rattle.trim_lemmas.proofs.marking.mark_cited.Given as goal
 
 abbrev pub invariant-loop-step : goal.invariant-loop-step
 invariant-loop-step l = record {
-  same : marked l.number l.reader l.needed ≡ marked l.number l.fn.reader l.fn.needed;
+  same : marked l.seen l.number l.reader l.needed ≡ marked l.seen l.number l.fn.reader l.fn.needed;
   room : l.number ≤ length l.needed;
 }
 

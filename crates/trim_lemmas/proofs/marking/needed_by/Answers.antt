@@ -1,0 +1,17 @@
+use Rattle.std.proofs.Common.{◌≡◌, Bool, List, length, subst, sym, ap, ◌∙◌}
+use Rattle.std.proofs.lemmas.List.{with_items_is}
+use Rattle.trim_lemmas.specs.Trimming.{AreNeeded, IsWanted}
+use Rattle.trim_lemmas.specs.Marks.{swept}
+use Rattle.trim_lemmas.proofs.Marked.{swept_right, length_first}
+use Rattle.trim_lemmas.proofs.marking.needed_by.Goals as goal
+
+pub returns : goal.returns
+returns c =
+    let lemmas = c.args.lemmas.now in
+    let seen = c.args.seen in
+    let marks = c.args.marks.items in
+    let made : c.mark_back.new.needed ≡ swept seen (length lemmas) lemmas marks =
+    c.mark_back.ensures ∙ ap (λ (bs : List Bool). swept seen (length lemmas) lemmas bs) c.as_mut_slice.ensures.value in
+    let long : length c.mark_back.new.needed ≡ c.args.marks.len =
+    ap length made ∙ length_first seen lemmas marks c.requires ∙ sym c.requires ∙ sym c.args.marks.ok.0 in
+    subst (AreNeeded (IsWanted marks) seen lemmas) (sym (with_items_is c.args.marks c.mark_back.new.needed long ∙ made)) (swept_right seen lemmas marks c.requires)
