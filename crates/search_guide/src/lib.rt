@@ -7,6 +7,7 @@
 mod activities;
 mod assignment;
 mod clauses;
+mod closing;
 mod forgetting;
 mod guide;
 mod ladders;
