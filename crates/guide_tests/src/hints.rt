@@ -1,7 +1,7 @@
 use search_guide::{Guide, Proposal, Source};
 use std::alloc::{AllocError, Global};
 use std::test::Fail;
-use stn_core::{Clause, Clauses, Literal, Problem};
+use stn_core::{Clause, Clauses, Literal, Problem, negate};
 
 const FIRST: Literal = Literal { x: 1, y: 2, c: 3 };
 
@@ -48,5 +48,27 @@ fn first_hints(rt: HostRuntime) -> Result<(), Fail> {
     let mut guide = Guide::new(alloc, &problem(alloc)?)?;
     let found = hints(&mut guide)?;
     assert_eq!(rt; found, (Proposal::Unit(Source::Input(0), 1), Some(NEXT), 0));
+    Ok(())
+}
+
+/// The first decision for a problem whose last clause has this bound on points 1 and 3, where a tighter one
+/// follows from its other literal.
+fn first_decision(alloc: Global) -> Result<Option<Literal>, AllocError> {
+    let behind = Literal { x: 3, y: 2, c: 1 };
+    let bound = Literal { x: 1, y: 3, c: 3 };
+    let first = Clause::new([FIRST, behind].to_vec(alloc)?);
+    let last = Clause::new([negate(behind), bound].to_vec(alloc)?);
+    let clauses = Clauses::new(vec![in alloc; first, last]?);
+    let mut guide = Guide::new(alloc, &Problem { points: 4, clauses })?;
+    match guide.choose(&[0; 4]) {
+        Some(number) => Ok(guide.literal(number)),
+        None => Ok(None),
+    }
+}
+
+#[test]
+fn decides_against_what_both_literals_bring_about(rt: HostRuntime) -> Result<(), Fail> {
+    let against = Literal { x: 3, y: 1, c: -4 };
+    assert_eq!(rt; first_decision(rt.alloc())?, Some(against));
     Ok(())
 }

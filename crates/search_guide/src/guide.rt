@@ -1,12 +1,12 @@
 use crate::activities::Activities;
 use crate::assignment::{Assignment, Truth};
 use crate::clauses::{Clauses, Source};
-use crate::closing::Closing;
 use crate::forgetting::Forgetting;
 use crate::ladders::Ladders;
 use crate::numbers::{LiteralNumber, Numbers, narrow, negated};
 use crate::patience::Patience;
 use crate::phases::{Phases, holds_on};
+use crate::probing::Probing;
 use crate::restarts::Restarts;
 use crate::watches::{Proposal, Watches};
 use std::alloc::{AllocError, Global};
@@ -18,18 +18,21 @@ use stn_core::{Literal, Problem, Value};
 #[derive(Drop)]
 pub struct Guide {
     alloc: Global,
-    numbers: Numbers,
-    clauses: Clauses,
-    assignment: Assignment,
+    pub(crate) numbers: Numbers,
+    pub(crate) clauses: Clauses,
+    pub(crate) assignment: Assignment,
     ladders: Ladders,
     watches: Watches,
     activities: Activities,
-    phases: Phases,
+    pub(crate) phases: Phases,
     restarts: Restarts,
     forgetting: Forgetting,
     /// the clause of the problem from which the next look for a model goes on
     pointer: usize,
     patience: Patience,
+    /// how many literals of the trail stand above the root
+    pub(crate) above_root: usize,
+    pub(crate) probing: Probing,
 }
 
 /// Numbers the literals, and puts the problem's clauses into the table.
@@ -65,6 +68,8 @@ impl Guide {
             forgetting: Forgetting::new(alloc),
             pointer: 0,
             patience: Patience::new(),
+            above_root: 0,
+            probing: Probing::new(alloc, problem.points)?,
         };
         for _atom in 0..guide.numbers.len() {
             guide.push_atom()?;
@@ -160,13 +165,25 @@ impl Guide {
     /// The literal stands on the trail now.
     pub fn set(&mut self, number: LiteralNumber, place: usize, level: usize) {
         self.assignment.set(number, place, level);
+        if level > 0 {
+            self.above_root = self.above_root.saturating_add(1);
+        }
     }
 
     /// The literal leaves the trail.
     pub fn unset(&mut self, number: LiteralNumber) {
+        if self.assignment.level(number) > 0 {
+            self.above_root = self.above_root.saturating_sub(1);
+        }
         self.assignment.unset(number);
-        self.phases.save(number);
+        if !self.probing.is_under_way() {
+            self.phases.save(number);
+        }
         self.activities.reopen(number);
+    }
+
+    pub(crate) fn truth(&self, number: LiteralNumber) -> Truth {
+        self.assignment.truth(number)
     }
 
     /// Where the literal stands on the trail.
@@ -200,6 +217,9 @@ impl Guide {
 
     /// The open literal to decide, or nothing where all are on the trail. The values are the net's schedule.
     pub fn choose(&mut self, values: &[Value]) -> Option<LiteralNumber> {
+        if let Some(number) = self.probe() {
+            return Some(number);
+        }
         for _turn in 0..self.literals() {
             let number = self.activities.top()?.wrapping_mul(2);
             if self.assignment.truth(number) == Truth::Open {
@@ -256,7 +276,9 @@ impl Guide {
 
     /// The literal took part in a conflict.
     pub fn bump(&mut self, number: LiteralNumber) {
-        self.activities.bump(number);
+        if !self.probing.is_under_way() {
+            self.activities.bump(number);
+        }
     }
 
     /// The clause took part in a conflict.
@@ -269,6 +291,9 @@ impl Guide {
 
     /// What took part in earlier conflicts counts less from now on.
     pub fn decay(&mut self) {
+        if self.probing.is_under_way() {
+            return;
+        }
         self.activities.decay();
         self.forgetting.decay();
     }
@@ -276,8 +301,10 @@ impl Guide {
     /// The level to jump back to from a conflict, whose learned clause has these literals, all denied: the
     /// second greatest of their levels, or 0 for one literal.
     pub fn after_conflict(&mut self, clause: &[LiteralNumber]) -> usize {
-        self.restarts.count_conflict();
-        self.forgetting.count_conflict();
+        if !self.probing.is_under_way() {
+            self.restarts.count_conflict();
+            self.forgetting.count_conflict();
+        }
         let mut greatest = 0;
         let mut second = 0;
         for number in clause {
@@ -310,21 +337,5 @@ impl Guide {
         self.clauses.keep_lemmas(&kept);
         self.watches.drop_forgotten(&self.clauses);
         Ok(dropped)
-    }
-
-    /// How many lemmas it knows.
-    pub fn lemmas(&self) -> usize {
-        self.clauses.lemmas()
-    }
-
-    /// Of the lemmas from this number on those that aren't kept are gone, which are to be forgotten ones, and
-    /// the numbers of the others close up. The one error is want of memory.
-    pub fn close_up(&mut self, first: usize, kept: &[bool]) -> Result<(), AllocError> {
-        let inputs = self.clauses.inputs();
-        let closing = Closing::new(self.alloc, inputs.saturating_add(first), kept)?;
-        self.clauses.close_up(&closing);
-        self.watches.close_up(&closing);
-        self.forgetting.close_up(inputs, &closing);
-        Ok(())
     }
 }

@@ -7,13 +7,14 @@
 mod activities;
 mod assignment;
 mod clauses;
-mod closing;
+mod common;
 mod forgetting;
 mod guide;
 mod ladders;
 mod numbers;
 mod patience;
 mod phases;
+mod probing;
 mod restarts;
 mod watches;
 

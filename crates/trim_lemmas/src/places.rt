@@ -59,7 +59,6 @@ impl Places {
         while let Some(step) = reader.next() {
             self.push_step(step, &mut steps)?;
         }
-        steps.shrink_to_fit();
         Ok(steps)
     }
 }
