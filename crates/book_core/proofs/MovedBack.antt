@@ -1,5 +1,5 @@
 -- A batch that was moved, and is moved back.
-use Rattle.std.proofs.Common.{arith, ◌≡◌, ℕ, ◌<◌, ◌≤◌, ◌+◌, ◌-◌, ◌^◌, inl, inr, List, [], ◌∷◌, length, map, Bool, true, false, All, refl, sym, ap, ◌∙◌, subst}
+use Rattle.std.proofs.Common.{arith, ◌≡◌, ℕ, ◌<◌, ◌≤◌, ◌+◌, ◌-◌, inl, inr, List, [], ◌∷◌, length, map, Bool, true, false, All, refl, sym, ap, ◌∙◌, subst}
 use Rattle.std.specs.Prelude.{nat_lt, if◌then◌else◌}
 use Rattle.std.proofs.lemmas.Bool.{cases_lt}
 use Rattle.std.proofs.lemmas.Bool.Decides.{nat_tests}
@@ -8,6 +8,7 @@ use Rattle.std.proofs.lemmas.List.Elements.{All-map, All-weaker}
 use Rattle.refute_tree.specs.declared.step.Step.{Step}
 use Rattle.refute_tree.specs.declared.step.Step.TheVariants.{Cycle, Input, Lemma as Earlier, Clash, Either}
 use Rattle.refute_tree.specs.declared.lemma.Lemma.{Lemma}
+use Rattle.refute_tree.specs.Limits.{lemmas_limit}
 use Rattle.refute_tree.specs.Moves.{moved_number, moved_step}
 use Rattle.refute_tree.specs.Batches.{LemmaBatch, moved, moved_lemma, RefersBelow, LemmaRefersBelow}
 use Rattle.book_core.specs.Handed.{handed_in, IsMovable}
@@ -68,7 +69,7 @@ pub moved_back : (batch : LemmaBatch) (base : ℕ) (published : List Lemma) → 
 moved_back batch base published le e =
     ap (λ (ls : List Lemma). handed_in batch.seen base ls) e ∙ ap (λ (ls : List Lemma). record { seen = batch.seen; lemmas = ls }) (lemmas_back batch.seen base le batch.lemmas)
 
-pub movable : (batch : LemmaBatch) (base : ℕ) (published : List Lemma) → batch.seen ≤ base → All (LemmaRefersBelow (batch.seen + length batch.lemmas)) batch.lemmas → base + length batch.lemmas < 2 ^ 64 → published ≡ (moved base batch).lemmas → IsMovable batch.seen base published
+pub movable : (batch : LemmaBatch) (base : ℕ) (published : List Lemma) → batch.seen ≤ base → All (LemmaRefersBelow (batch.seen + length batch.lemmas)) batch.lemmas → base + length batch.lemmas ≤ lemmas_limit → published ≡ (moved base batch).lemmas → IsMovable batch.seen base published
 movable batch base published le below small e =
     let n : ℕ = length batch.lemmas in
     let count : length published ≡ n = ap (λ (ls : List Lemma). length ls) e ∙ length-map batch.lemmas (moved_lemma batch.seen base) in

@@ -1,5 +1,6 @@
 //! The parts of a delivery: what takes memory comes first, and what changes the book takes none.
 ghost use Rattle.std.specs.Prelude.{◌≡◌, ◌+◌, ◌<◌, ◌≤◌, ◌^◌, ◌++◌, ℕ, length, vec_len, vec_capacity, IfOk, OnOk, OnErr, All, Some};
+ghost use Rattle.refute_tree.specs.Limits.{lemmas_limit};
 ghost use Rattle.refute_tree.specs.Moves.{moved_number};
 ghost use Rattle.refute_tree.specs.Batches.{moved, LemmaRefersBelow};
 ghost use Rattle.cover_tree.specs.declared.node.Node.TheVariants.{Held};
@@ -12,7 +13,7 @@ ghost use Rattle.book_core.specs.Prepared.{given_schedule};
 use crate::event::Outcome;
 use crate::handed::HandedBatch;
 use cover_tree::Cover;
-use refute_tree::{Batch, Lemma};
+use refute_tree::{Batch, LEMMAS_LIMIT, Lemma};
 use std::alloc::{AllocError, Global};
 use std::sync::Arc;
 use stn_core::Schedule;
@@ -36,10 +37,10 @@ pub(crate) fn prepare(
     requires below { All (LemmaRefersBelow (batch.now.seen + length batch.now.lemmas)) batch.now.lemmas }
     ensures lemmas { IfOk result (λ p. lemmas_of p.shared.items ≡ (moved base batch.now).lemmas) }
     ensures handed { IfOk result (λ p. p.handed ≡ batch.now) }
-    ensures fits { IfOk result (λ p. base + length batch.now.lemmas < 2 ^ 64) }
+    ensures fits { IfOk result (λ p. base + length batch.now.lemmas ≤ lemmas_limit) }
     ensures schedule { IfOk result (λ p. p.schedule ≡ given_schedule outcome.now) }
 {
-    if batch.lemmas().len() > usize::MAX - base {
+    if base.saturating_add(batch.lemmas().len()) > LEMMAS_LIMIT {
         return Err(AllocError);
     }
     let mut moved = batch.copy()?;

@@ -81,5 +81,10 @@ fn references_are_moved(rt: HostRuntime) -> Result<(), Fail> {
     steps.move_lemmas(2, 5);
     steps.truncate(2);
     assert_eq!(rt; weigh(&steps), 1001 * 3 + 1005);
+    let mut large = Steps::new(rt.alloc());
+    large.push_lemma(1)?;
+    large.push_lemma((1 << 33) + 2)?;
+    large.move_lemmas(1 << 33, 5);
+    assert_eq!(rt; weigh(&large), 1001 * 3 + 1007);
     Ok(())
 }

@@ -6,7 +6,7 @@ use Rattle.stn_core.specs.Literal.{literal_at}
 use Rattle.refute_tree.specs.declared.step.Step.{Step}
 use Rattle.refute_tree.specs.declared.step.Step.TheVariants.{Cycle, Input, Lemma as Earlier, Clash, Either}
 use Rattle.refute_tree.specs.declared.kind.Kind.{Kind}
-use Rattle.refute_tree.specs.declared.kind.Kind.TheVariants.{Cycle as CycleKind, Pair as PairKind, Input as InputKind, LargeInput as LargeInputKind, Lemma as LemmaKind, Clash as ClashKind, LargeClash as LargeClashKind, Either as EitherKind}
+use Rattle.refute_tree.specs.declared.kind.Kind.TheVariants.{Cycle as CycleKind, Pair as PairKind, Input as InputKind, LargeInput as LargeInputKind, Lemma as LemmaKind, LargeLemma as LargeLemmaKind, Clash as ClashKind, LargeClash as LargeClashKind, Either as EitherKind}
 use Rattle.refute_tree.specs.Store.{small_by, large_by, literals_by, first_number, used_small, used_large, used_literals, IsWhole, pair_of, step_by, steps_by}
 
 pub first_number-append : (ns ms : List ℕ) → 0 < length ns → first_number (ns ++ ms) ≡ first_number ns
@@ -23,6 +23,7 @@ literals_by-append PairKind ns ms h = refl
 literals_by-append InputKind ns ms h = refl
 literals_by-append LargeInputKind ns ms h = refl
 literals_by-append LemmaKind ns ms h = refl
+literals_by-append LargeLemmaKind ns ms h = refl
 literals_by-append ClashKind ns ms h = refl
 literals_by-append LargeClashKind ns ms h = refl
 literals_by-append EitherKind ns ms h = refl
@@ -33,7 +34,8 @@ step_by-append CycleKind small small' large large' ls ks a b c =
 step_by-append PairKind small small' large large' ls ks a b c = ap (λ (l : Literal). Cycle (pair_of l)) (literal_at-append ls ks (omega arith))
 step_by-append InputKind small small' large large' ls ks a b c = ap Input (first_number-append small small' (omega arith))
 step_by-append LargeInputKind small small' large large' ls ks a b c = ap Input (first_number-append large large' (omega arith))
-step_by-append LemmaKind small small' large large' ls ks a b c = ap Earlier (first_number-append large large' (omega arith))
+step_by-append LemmaKind small small' large large' ls ks a b c = ap Earlier (first_number-append small small' (omega arith))
+step_by-append LargeLemmaKind small small' large large' ls ks a b c = ap Earlier (first_number-append large large' (omega arith))
 step_by-append ClashKind small small' large large' ls ks a b c = ap Clash (first_number-append small small' (omega arith))
 step_by-append LargeClashKind small small' large large' ls ks a b c = ap Clash (first_number-append large large' (omega arith))
 step_by-append EitherKind small small' large large' ls ks a b c = ap Either (literal_at-append ls ks (omega arith))

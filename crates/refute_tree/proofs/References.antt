@@ -1,5 +1,5 @@
 -- Refuted lemmas refer to those before them.
-use Rattle.std.proofs.Common.{arith, ◌≡◌, ℕ, zero, suc, ◌<◌, ◌≤◌, ◌+◌, ◌-◌, ◌^◌, List, [], ◌∷◌, ◌++◌, length, Some, All, length-append, subst, sym}
+use Rattle.std.proofs.Common.{arith, ◌≡◌, ℕ, zero, suc, ◌<◌, ◌≤◌, ◌+◌, List, [], ◌∷◌, ◌++◌, length, Some, All, length-append, subst, sym}
 use Rattle.std.specs.Prelude.{slice_get}
 use Rattle.std.proofs.lemmas.List.Elements.{All-nil, All-cons, All-weaker}
 use Rattle.stn_core.specs.declared.literal.Literal.{Literal}
@@ -7,6 +7,7 @@ use Rattle.refute_tree.specs.declared.step.Step.{Step}
 use Rattle.refute_tree.specs.declared.step.Step.TheVariants.{Cycle, Input, Lemma as Earlier, Clash, Either}
 use Rattle.refute_tree.specs.declared.lemma.Lemma.{Lemma}
 use Rattle.refute_tree.specs.Trees.{clause_of, Tree, Forest, leaf, clash, cases, none, more}
+use Rattle.refute_tree.specs.Limits.{lemmas_limit}
 use Rattle.refute_tree.specs.Moves.{MovesWithin}
 use Rattle.refute_tree.specs.Batches.{LemmaBatch, AreRefuted, RefersBelow, LemmaRefersBelow, LemmaMovesWithin}
 
@@ -53,23 +54,23 @@ all_below points clauses earlier (lemma ∷ lemmas) h =
     (lemma_below_more (length earlier) n (omega arith) lemma one)
     (All-weaker (LemmaRefersBelow (length (earlier ++ lemma.clause ∷ []) + length lemmas)) (LemmaRefersBelow n) (lemma_below_more (length (earlier ++ lemma.clause ∷ []) + length lemmas) n (omega (arith, length-append earlier (lemma.clause ∷ [])))) lemmas rest)
 
-step_within : (seen base count : ℕ) → base + count < 2 ^ 64 → (s : Step) → RefersBelow (seen + count) s → MovesWithin seen base s
+step_within : (seen base count : ℕ) → base + count ≤ lemmas_limit → (s : Step) → RefersBelow (seen + count) s → MovesWithin seen base s
 step_within seen base count fits (Cycle cycle) h = tt
 step_within seen base count fits (Input i) h = tt
 step_within seen base count fits (Earlier j) h = λ le. omega arith
 step_within seen base count fits (Clash i) h = tt
 step_within seen base count fits (Either l) h = tt
 
--- references to a batch's own lemmas and those before it move to numbers of the machine
-pub lemmas_within : (seen base : ℕ) (lemmas : List Lemma) → base + length lemmas < 2 ^ 64 → All (LemmaRefersBelow (seen + length lemmas)) lemmas → All (LemmaMovesWithin seen base) lemmas
+-- references to a batch's own lemmas and those before it move to numbers within the limit
+pub lemmas_within : (seen base : ℕ) (lemmas : List Lemma) → base + length lemmas ≤ lemmas_limit → All (LemmaRefersBelow (seen + length lemmas)) lemmas → All (LemmaMovesWithin seen base) lemmas
 lemmas_within seen base lemmas fits h =
     All-weaker (LemmaRefersBelow (seen + length lemmas)) (LemmaMovesWithin seen base)
     (λ lemma b. All-weaker (RefersBelow (seen + length lemmas)) (MovesWithin seen base) (step_within seen base (length lemmas) fits) lemma.steps b)
     lemmas h
 
 -- the same of a shown batch, and the list that is moved
-pub list_within : (base : ℕ) (shown : LemmaBatch) (seen : ℕ) (inner given : List Lemma) → record { seen = seen; lemmas = inner } ≡ shown → given ≡ inner → base + length shown.lemmas < 2 ^ 64 → All (LemmaRefersBelow (shown.seen + length shown.lemmas)) shown.lemmas → All (LemmaMovesWithin seen base) given
+pub list_within : (base : ℕ) (shown : LemmaBatch) (seen : ℕ) (inner given : List Lemma) → record { seen = seen; lemmas = inner } ≡ shown → given ≡ inner → base + length shown.lemmas ≤ lemmas_limit → All (LemmaRefersBelow (shown.seen + length shown.lemmas)) shown.lemmas → All (LemmaMovesWithin seen base) given
 list_within base shown seen inner given view is fits below =
-    let small = subst (λ (b : LemmaBatch). base + length b.lemmas < 2 ^ 64) (sym view) fits in
+    let small = subst (λ (b : LemmaBatch). base + length b.lemmas ≤ lemmas_limit) (sym view) fits in
     let refer = subst (λ (b : LemmaBatch). All (LemmaRefersBelow (b.seen + length b.lemmas)) b.lemmas) (sym view) below in
     subst (All (LemmaMovesWithin seen base)) (sym is) (lemmas_within seen base inner small refer)

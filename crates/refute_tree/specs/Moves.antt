@@ -1,10 +1,11 @@
 -- Steps whose references to lemmas are moved.
-use Rattle.std.specs.Prelude.{◌≡◌, ℕ, ◌+◌, ◌-◌, ◌<◌, ◌≤◌, ◌^◌, List, [], ◌∷◌, ◌++◌, nat_lt, if◌then◌else◌, take, drop}
+use Rattle.std.specs.Prelude.{◌≡◌, ℕ, ◌+◌, ◌-◌, ◌<◌, ◌≤◌, Bool, true, false, List, [], ◌∷◌, ◌++◌, nat_lt, if◌then◌else◌, take, drop}
 use Rattle.refute_tree.specs.declared.step.Step.{Step}
 use Rattle.refute_tree.specs.declared.step.Step.TheVariants.{Lemma as Earlier}
 use Rattle.refute_tree.specs.declared.kind.Kind.{Kind}
-use Rattle.refute_tree.specs.declared.kind.Kind.TheVariants.{Lemma as LemmaKind}
-use Rattle.refute_tree.specs.Store.{large_by, first_number}
+use Rattle.refute_tree.specs.declared.kind.Kind.TheVariants.{Lemma as LemmaKind, LargeLemma as LargeLemmaKind}
+use Rattle.refute_tree.specs.Limits.{lemmas_limit}
+use Rattle.refute_tree.specs.Store.{first_number}
 
 -- a number below `seen` stays, and the others follow the first `base` lemmas
 abbrev pub moved_number : ℕ → ℕ → ℕ → ℕ
@@ -14,32 +15,48 @@ abbrev pub moved_step : ℕ → ℕ → Step → Step
 moved_step seen base (Earlier j) = Earlier (moved_number seen base j)
 moved_step seen base step = step
 
--- what a reference moves to is a number of the machine
+-- what a reference moves to is within the limit
 abbrev pub NumberMovesWithin : ℕ → ℕ → ℕ → Type 0
-NumberMovesWithin seen base j = seen ≤ j → (j - seen) + base < 2 ^ 64
+NumberMovesWithin seen base j = seen ≤ j → (j - seen) + base < lemmas_limit
 
 abbrev pub MovesWithin : ℕ → ℕ → Step → Type 0
 MovesWithin seen base (Earlier j) = NumberMovesWithin seen base j
 MovesWithin seen base step = Unit {0}
 
--- the same of the numbers of a store
-abbrev pub moved_part : ℕ → ℕ → Kind → List ℕ → List ℕ
-moved_part seen base LemmaKind large = moved_number seen base (first_number large) ∷ []
-moved_part seen base kind large = take (large_by kind) large
+-- ---- the same of the numbers of a store
 
-abbrev pub moved_numbers : ℕ → ℕ → List Kind → List ℕ → List ℕ
-moved_numbers seen base [] large = large
-moved_numbers seen base (kind ∷ kinds) large = moved_part seen base kind large ++ moved_numbers seen base kinds (drop (large_by kind) large)
+-- the kinds that name a lemma by a small number, and by a large one
+abbrev pub is_lemma : Kind → Bool
+is_lemma LemmaKind = true
+is_lemma kind = false
 
-abbrev pub PartMovesWithin : ℕ → ℕ → Kind → List ℕ → Type 0
-PartMovesWithin seen base LemmaKind large = NumberMovesWithin seen base (first_number large)
-PartMovesWithin seen base kind large = Unit {0}
+abbrev pub is_large_lemma : Kind → Bool
+is_large_lemma LargeLemmaKind = true
+is_large_lemma kind = false
 
-abbrev pub NumbersMoveWithin : ℕ → ℕ → List Kind → List ℕ → Type 0
-NumbersMoveWithin seen base [] large = Unit {0}
-NumbersMoveWithin seen base (kind ∷ kinds) large = PartMovesWithin seen base kind large × NumbersMoveWithin seen base kinds (drop (large_by kind) large)
+-- of one of the lists of numbers: a kind has `by kind` of them, and the first is a lemma's where `names kind` says so
+abbrev pub moved_part : ℕ → ℕ → ℕ → Bool → List ℕ → List ℕ
+moved_part seen base count true numbers = moved_number seen base (first_number numbers) ∷ []
+moved_part seen base count false numbers = take count numbers
 
--- the part of a kind that begins at the place is moved
-abbrev pub HasMovedPart : ℕ → ℕ → Kind → ℕ → List ℕ → List ℕ → Type 0
-HasMovedPart seen base kind at before after =
-    after ≡ take at before ++ (moved_part seen base kind (drop at before) ++ drop (large_by kind) (drop at before))
+abbrev pub moved_numbers : (Kind → ℕ) → (Kind → Bool) → ℕ → ℕ → List Kind → List ℕ → List ℕ
+moved_numbers by names seen base [] numbers = numbers
+moved_numbers by names seen base (kind ∷ kinds) numbers =
+    moved_part seen base (by kind) (names kind) numbers
+    ++ moved_numbers by names seen base kinds (drop (by kind) numbers)
+
+abbrev pub PartMovesWithin : ℕ → ℕ → Bool → List ℕ → Type 0
+PartMovesWithin seen base true numbers = NumberMovesWithin seen base (first_number numbers)
+PartMovesWithin seen base false numbers = Unit {0}
+
+abbrev pub NumbersMoveWithin : (Kind → ℕ) → (Kind → Bool) → ℕ → ℕ → List Kind → List ℕ → Type 0
+NumbersMoveWithin by names seen base [] numbers = Unit {0}
+NumbersMoveWithin by names seen base (kind ∷ kinds) numbers =
+    PartMovesWithin seen base (names kind) numbers
+    × NumbersMoveWithin by names seen base kinds (drop (by kind) numbers)
+
+-- the part of so many numbers that begins at the place is moved
+abbrev pub HasMovedPart : ℕ → ℕ → ℕ → Bool → ℕ → List ℕ → List ℕ → Type 0
+HasMovedPart seen base count named at before after =
+    after
+    ≡ take at before ++ (moved_part seen base count named (drop at before) ++ drop count (drop at before))

@@ -7,11 +7,12 @@ use Rattle.stn_core.specs.Literal.{negation_of, literal_at}
 use Rattle.refute_tree.specs.declared.step.Step.{Step}
 use Rattle.refute_tree.specs.declared.step.Step.TheVariants.{Cycle, Input, Lemma as Earlier, Clash, Either}
 use Rattle.refute_tree.specs.declared.kind.Kind.{Kind}
-use Rattle.refute_tree.specs.declared.kind.Kind.TheVariants.{Cycle as CycleKind, Pair as PairKind, Input as InputKind, LargeInput as LargeInputKind, Lemma as LemmaKind, Clash as ClashKind, LargeClash as LargeClashKind, Either as EitherKind}
+use Rattle.refute_tree.specs.declared.kind.Kind.TheVariants.{Cycle as CycleKind, Pair as PairKind, Input as InputKind, LargeInput as LargeInputKind, Lemma as LemmaKind, LargeLemma as LargeLemmaKind, Clash as ClashKind, LargeClash as LargeClashKind, Either as EitherKind}
 
 -- how many small numbers stand for a step of the kind
 abbrev pub small_by : Kind → ℕ
 small_by InputKind = 1
+small_by LemmaKind = 1
 small_by ClashKind = 1
 small_by kind = 0
 
@@ -19,7 +20,7 @@ small_by kind = 0
 abbrev pub large_by : Kind → ℕ
 large_by CycleKind = 1
 large_by LargeInputKind = 1
-large_by LemmaKind = 1
+large_by LargeLemmaKind = 1
 large_by LargeClashKind = 1
 large_by kind = 0
 
@@ -62,7 +63,8 @@ step_by CycleKind small large literals = Cycle (take (first_number large) litera
 step_by PairKind small large literals = Cycle (pair_of (literal_at literals 0))
 step_by InputKind small large literals = Input (first_number small)
 step_by LargeInputKind small large literals = Input (first_number large)
-step_by LemmaKind small large literals = Earlier (first_number large)
+step_by LemmaKind small large literals = Earlier (first_number small)
+step_by LargeLemmaKind small large literals = Earlier (first_number large)
 step_by ClashKind small large literals = Clash (first_number small)
 step_by LargeClashKind small large literals = Clash (first_number large)
 step_by EitherKind small large literals = Either (literal_at literals 0)
@@ -77,5 +79,6 @@ steps_by (kind ∷ kinds) small large literals =
 -- the two kinds of the same steps, with a small number and with a large one
 abbrev pub AreNumberKinds : Kind → Kind → Type 0
 AreNumberKinds InputKind LargeInputKind = Unit {0}
+AreNumberKinds LemmaKind LargeLemmaKind = Unit {0}
 AreNumberKinds ClashKind LargeClashKind = Unit {0}
 AreNumberKinds kind large_kind = ⊥

@@ -1,5 +1,6 @@
 //! Lemmas that a search made over the first lemmas of a list, to be put at the list's end.
-ghost use Rattle.std.specs.Prelude.{◌≡◌, ◌<◌, ◌+◌, ◌^◌, length, map, All, IfOk};
+ghost use Rattle.std.specs.Prelude.{◌≡◌, ◌<◌, ◌≤◌, ◌+◌, ◌^◌, length, map, All, IfOk};
+ghost use Rattle.refute_tree.specs.Limits.{lemmas_limit};
 ghost use Rattle.refute_tree.specs.Moves.{moved_number, MovesWithin};
 ghost use Rattle.refute_tree.specs.Batches.{moved, moved_lemma, LemmaRefersBelow, LemmaMovesWithin};
 
@@ -54,7 +55,7 @@ impl Batch {
     /// count of the batch's steps.
     pub fn move_to(&mut self, base: usize)
         requires below { All (LemmaRefersBelow (self.old.seen + length self.old.lemmas)) self.old.lemmas }
-        requires fits { base + length self.old.lemmas < 2 ^ 64 }
+        requires fits { base + length self.old.lemmas ≤ lemmas_limit }
         ensures { self.new ≡ moved base self.old }
     {
         move_each(self.lemmas.as_mut_slice(), self.seen, base);

@@ -11,8 +11,9 @@ pub enum Kind {
     /// An input step with a number below 2^32.
     Input,
     LargeInput,
-    /// All numbers of lemmas are large, so that they can be moved where they stand.
+    /// A cited lemma with a number below 2^32.
     Lemma,
+    LargeLemma,
     /// A clash with a number below 2^32.
     Clash,
     LargeClash,
@@ -24,9 +25,9 @@ pub fn small_by(kind: Kind) -> usize
     ensures { result ≡ small_by kind }
 {
     match kind {
-        Kind::Input | Kind::Clash => 1,
-        Kind::Cycle | Kind::Pair | Kind::LargeInput => 0,
-        Kind::Lemma | Kind::LargeClash | Kind::Either => 0,
+        Kind::Input | Kind::Lemma | Kind::Clash => 1,
+        Kind::LargeInput | Kind::LargeLemma | Kind::LargeClash => 0,
+        Kind::Cycle | Kind::Pair | Kind::Either => 0,
     }
 }
 
@@ -35,8 +36,9 @@ pub fn large_by(kind: Kind) -> usize
     ensures { result ≡ large_by kind }
 {
     match kind {
-        Kind::Cycle | Kind::LargeInput | Kind::Lemma | Kind::LargeClash => 1,
-        Kind::Pair | Kind::Input | Kind::Clash | Kind::Either => 0,
+        Kind::Cycle | Kind::LargeInput | Kind::LargeLemma | Kind::LargeClash => 1,
+        Kind::Input | Kind::Lemma | Kind::Clash => 0,
+        Kind::Pair | Kind::Either => 0,
     }
 }
 
@@ -48,7 +50,7 @@ pub fn literals_by(kind: Kind, large: &[usize], at: usize) -> usize
     match kind {
         Kind::Cycle => large[at],
         Kind::Pair | Kind::Either => 1,
-        Kind::Input | Kind::LargeInput | Kind::Lemma => 0,
-        Kind::Clash | Kind::LargeClash => 0,
+        Kind::Input | Kind::Lemma | Kind::Clash => 0,
+        Kind::LargeInput | Kind::LargeLemma | Kind::LargeClash => 0,
     }
 }

@@ -1,9 +1,10 @@
 ghost use Rattle.std.specs.Prelude.{◌≡◌, ◌≤◌, ◌+◌, length, drop};
 ghost use Rattle.refute_tree.specs.Moves.{moved_number, moved_numbers, HasMovedPart};
 ghost use Rattle.refute_tree.specs.Moves.{NumberMovesWithin, PartMovesWithin, NumbersMoveWithin};
-ghost use Rattle.refute_tree.specs.Store.{large_by, used_large};
+ghost use Rattle.refute_tree.specs.Moves.{is_lemma, is_large_lemma};
+ghost use Rattle.refute_tree.specs.Store.{small_by, large_by, used_small, used_large};
 
-use crate::kind::{Kind, large_by};
+use crate::kind::{Kind, large_by, small_by};
 
 fn moved_number(j: usize, seen: usize, base: usize) -> usize
     requires { NumberMovesWithin seen base j }
@@ -12,28 +13,58 @@ fn moved_number(j: usize, seen: usize, base: usize) -> usize
     if j < seen { j } else { j - seen + base }
 }
 
-// Moves the number of the lemma that a step of this kind names, whose large numbers begin at the place.
-fn move_part(kind: Kind, large: &mut [usize], at: usize, seen: usize, base: usize)
-    requires room { at + large_by kind ≤ length large.old }
-    requires within { PartMovesWithin seen base kind (drop at large.old) }
-    ensures { HasMovedPart seen base kind at large.old large.new }
+fn moved_small(j: u32, seen: usize, base: usize) -> u32
+    requires { NumberMovesWithin seen base j }
+    ensures { result ≡ moved_number seen base j }
+{
+    moved_number(j as usize, seen, base) as u32
+}
+
+// Moves the number of the lemma that a step of this kind names, whose numbers begin at these places.
+fn move_part(
+    kind: Kind,
+    small: &mut [u32],
+    small_at: usize,
+    large: &mut [usize],
+    large_at: usize,
+    seen: usize,
+    base: usize,
+)
+    requires small_room { small_at + small_by kind ≤ length small.old }
+    requires large_room { large_at + large_by kind ≤ length large.old }
+    requires small_within { PartMovesWithin seen base (is_lemma kind) (drop small_at small.old) }
+    requires large_within { PartMovesWithin seen base (is_large_lemma kind) (drop large_at large.old) }
+    ensures small { HasMovedPart seen base (small_by kind) (is_lemma kind) small_at small.old small.new }
+    ensures large { HasMovedPart seen base (large_by kind) (is_large_lemma kind) large_at large.old large.new }
 {
     match kind {
-        Kind::Lemma => large[at] = moved_number(large[at], seen, base),
-        Kind::Cycle | Kind::Pair | Kind::Input | Kind::LargeInput => {}
-        Kind::Clash | Kind::LargeClash | Kind::Either => {}
+        Kind::Lemma => small[small_at] = moved_small(small[small_at], seen, base),
+        Kind::LargeLemma => large[large_at] = moved_number(large[large_at], seen, base),
+        Kind::Input | Kind::LargeInput | Kind::Clash | Kind::LargeClash => {}
+        Kind::Cycle | Kind::Pair | Kind::Either => {}
     }
 }
 
 /// Moves the numbers of the lemmas that steps of these kinds name.
-pub fn move_numbers(kinds: &[Kind], large: &mut [usize], seen: usize, base: usize)
-    requires whole { used_large kinds.now ≡ length large.old }
-    requires within { NumbersMoveWithin seen base kinds.now large.old }
-    ensures { large.new ≡ moved_numbers seen base kinds.now large.old }
+pub fn move_numbers(
+    kinds: &[Kind],
+    small: &mut [u32],
+    large: &mut [usize],
+    seen: usize,
+    base: usize,
+)
+    requires small_whole { used_small kinds.now ≡ length small.old }
+    requires large_whole { used_large kinds.now ≡ length large.old }
+    requires small_within { NumbersMoveWithin small_by is_lemma seen base kinds.now small.old }
+    requires large_within { NumbersMoveWithin large_by is_large_lemma seen base kinds.now large.old }
+    ensures small { small.new ≡ moved_numbers small_by is_lemma seen base kinds.now small.old }
+    ensures large { large.new ≡ moved_numbers large_by is_large_lemma seen base kinds.now large.old }
 {
-    let mut at = 0;
+    let mut small_at = 0;
+    let mut large_at = 0;
     for kind in kinds {
-        move_part(*kind, large, at, seen, base);
-        at += large_by(*kind);
+        move_part(*kind, small, small_at, large, large_at, seen, base);
+        small_at += small_by(*kind);
+        large_at += large_by(*kind);
     }
 }

@@ -16,7 +16,7 @@ use stn_core::{Literal, negate};
 /// A list of steps, without memory of its own for each.
 ///
 /// A step takes a byte, and beside it: `Either`, or a literal and its negation, 16; another cycle 8, and 16 for each
-/// literal; `Input` and `Clash` with a number below 2^32 take 4, and with another 8; `Lemma` takes 8.
+/// literal; `Input`, `Lemma` and `Clash` with a number below 2^32 take 4, and with another 8.
 #[derive(Drop)]
 pub struct Steps {
     lists: Lists,
@@ -138,7 +138,7 @@ impl Steps {
         ensures ok { OnOk result (self.new ≡ self.old ++ Cited j ∷ []) }
         ensures err { OnErr result (self.new ≡ self.old) }
     {
-        self.add(Kind::Lemma, [].as_slice(), [j].as_slice(), [].as_slice())
+        self.add_number(j, Kind::Lemma, Kind::LargeLemma)
     }
 
     /// Adds a clash with a clause of the problem; without memory, the list is as before.
@@ -236,6 +236,7 @@ impl Steps {
     {
         move_numbers(
             self.lists.kinds.as_slice(),
+            self.lists.small.as_mut_slice(),
             self.lists.large.as_mut_slice(),
             seen,
             base,

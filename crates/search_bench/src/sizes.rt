@@ -19,7 +19,7 @@ fn bytes_of_step(step: StepView<'_>) -> usize {
         StepView::Either(_) => LITERAL + 1,
         StepView::Input(_) => 5,
         StepView::Clash(_) => 5,
-        StepView::Lemma(_) => 9,
+        StepView::Lemma(_) => 5,
     }
 }
 

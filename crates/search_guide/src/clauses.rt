@@ -1,6 +1,7 @@
 //! The clauses as numbers of literals, one after the other in one table: first the problem's, then the
 //! lemmas. Their order within a clause stays as it was given, so that a place tells a search which literal is
 //! meant; the two places that are watched stand beside it.
+use crate::closing::Closing;
 use crate::numbers::{LiteralNumber, narrow};
 use std::alloc::{AllocError, Global};
 
@@ -44,6 +45,28 @@ impl Clauses {
 
     pub fn inputs(&self) -> usize {
         self.inputs
+    }
+
+    /// How many lemmas there are.
+    pub fn lemmas(&self) -> usize {
+        self.spans.len().saturating_sub(self.inputs)
+    }
+
+    /// The clauses that don't stay are gone, and the indices of the others close up. Those that go have no
+    /// literals.
+    pub fn close_up(&mut self, closing: &Closing) {
+        let mut kept = 0usize;
+        for clause in 0..self.spans.len() {
+            if closing.place(narrow(clause)).is_none() {
+                continue;
+            }
+            let span = self.spans.get(clause).copied();
+            if let (Some(span), Some(slot)) = (span, self.spans.get_mut(kept)) {
+                *slot = span;
+            }
+            kept = kept.saturating_add(1);
+        }
+        self.spans.truncate(kept);
     }
 
     pub fn source(&self, clause: u32) -> Source {

@@ -6,6 +6,7 @@
 //! may be the reason of a literal of the trail.
 use crate::assignment::{Assignment, Truth};
 use crate::clauses::Clauses;
+use crate::closing::Closing;
 use crate::numbers::LiteralNumber;
 use std::alloc::{AllocError, Global};
 
@@ -143,6 +144,23 @@ impl Forgetting {
         if self.increment > LARGE {
             self.scale();
         }
+    }
+
+    /// The clauses have other indices, of which the problem's are the first so many.
+    pub fn close_up(&mut self, inputs: usize, closing: &Closing) {
+        let mut kept = 0usize;
+        for lemma in 0..self.merits.len() {
+            let clause = crate::numbers::narrow(inputs.saturating_add(lemma));
+            if closing.place(clause).is_none() {
+                continue;
+            }
+            let merit = self.merits.get(lemma).copied();
+            if let (Some(merit), Some(slot)) = (merit, self.merits.get_mut(kept)) {
+                *slot = merit;
+            }
+            kept = kept.saturating_add(1);
+        }
+        self.merits.truncate(kept);
     }
 
     /// Whether it is time; if so, the next wait begins.

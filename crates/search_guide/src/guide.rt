@@ -1,6 +1,7 @@
 use crate::activities::Activities;
 use crate::assignment::{Assignment, Truth};
 use crate::clauses::{Clauses, Source};
+use crate::closing::Closing;
 use crate::forgetting::Forgetting;
 use crate::ladders::Ladders;
 use crate::numbers::{LiteralNumber, Numbers, narrow, negated};
@@ -337,5 +338,21 @@ impl Guide {
         self.clauses.keep_lemmas(&kept);
         self.watches.drop_forgotten(&self.clauses);
         Ok(dropped)
+    }
+
+    /// How many lemmas it knows.
+    pub fn lemmas(&self) -> usize {
+        self.clauses.lemmas()
+    }
+
+    /// Of the lemmas from this number on those that aren't kept are gone, which are to be forgotten ones, and
+    /// the numbers of the others close up. The one error is want of memory.
+    pub fn close_up(&mut self, first: usize, kept: &[bool]) -> Result<(), AllocError> {
+        let inputs = self.clauses.inputs();
+        let closing = Closing::new(self.alloc, inputs.saturating_add(first), kept)?;
+        self.clauses.close_up(&closing);
+        self.watches.close_up(&closing);
+        self.forgetting.close_up(inputs, &closing);
+        Ok(())
     }
 }

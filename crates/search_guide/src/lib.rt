@@ -7,6 +7,7 @@
 mod activities;
 mod assignment;
 mod clauses;
+mod closing;
 mod common;
 mod forgetting;
 mod guide;

@@ -8,6 +8,7 @@
 //! Coming back from a branch costs nothing: the watches stay where they are.
 use crate::assignment::{Assignment, Truth};
 use crate::clauses::{Clauses, Source};
+use crate::closing::Closing;
 use crate::ladders::Ladders;
 use crate::numbers::{LiteralNumber, narrow, negated};
 use std::alloc::{AllocError, Global};
@@ -275,6 +276,30 @@ impl Watches {
                 .retain(|watch| !clauses.literals(watch.clause).is_empty());
         }
     }
+
+    /// The clauses have other indices, and those that don't stay are out of the lists.
+    pub fn close_up(&mut self, closing: &Closing) {
+        self.end();
+        for lists in self.lists.iter_mut() {
+            close_list(&mut lists.pairs, closing);
+            close_list(&mut lists.longer, closing);
+        }
+    }
+}
+
+fn close_list(list: &mut Vec<Watch>, closing: &Closing) {
+    let mut kept = 0usize;
+    let watches = list.as_mut_slice();
+    for place in 0..watches.len() {
+        let Some(watch) = watches.get(place).copied() else {
+            break;
+        };
+        if let Some(clause) = closing.place(watch.clause) {
+            let blocker = watch.blocker;
+            kept = keep(watches, kept, Watch { clause, blocker });
+        }
+    }
+    list.truncate(kept);
 }
 
 /// The watch stands next behind those that stay, of which there is one more then.

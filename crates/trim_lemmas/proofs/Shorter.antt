@@ -292,9 +292,9 @@ as_trimmed lemmas given final made needed lent is are same short e = record {
   kept = e ∙ short ∙ ap (λ (bs : List Bool). shortened 0 bs given) same ∙ ap (shortened 0 needed) is;
 }
 
-pub as_trimmed_batch : (wanted : List Bool) (batch left : LemmaBatch) (seen : ℕ) (given lent shorter : List Lemma) (needed marks : List Bool) → seen ≡ batch.seen → given ≡ batch.lemmas → lent ≡ given → AreNeeded (IsWanted wanted) seen lent needed → marks ≡ needed
-    → shorter ≡ shortened seen marks given → left.seen ≡ seen → left.lemmas ≡ shorter → IsTrimmedBatch wanted batch needed left
-as_trimmed_batch wanted batch left seen given lent shorter needed marks is_seen is_given same are is_marks short at lemmas = record {
+pub as_trimmed_batch : (wanted : List Bool) (batch left : LemmaBatch) (seen : ℕ) (given lent made : List Lemma) (needed marks : List Bool) → seen ≡ batch.seen → given ≡ batch.lemmas → lent ≡ given → AreNeeded (IsWanted wanted) seen lent needed → marks ≡ needed
+    → made ≡ shortened seen marks given → left.seen ≡ seen → left.lemmas ≡ made → IsTrimmedBatch wanted batch needed left
+as_trimmed_batch wanted batch left seen given lent made needed marks is_seen is_given same are is_marks short at lemmas = record {
   are = subst (λ (n : ℕ). AreNeeded (IsWanted wanted) n batch.lemmas needed) is_seen (subst (λ (ls : List Lemma). AreNeeded (IsWanted wanted) seen ls needed) (same ∙ is_given) are);
   seen = at ∙ is_seen;
   kept = lemmas ∙ short ∙ ap (λ (bs : List Bool). shortened seen bs given) is_marks ∙ ap (λ (ls : List Lemma). shortened seen needed ls) is_given ∙ ap (λ (n : ℕ). shortened n needed batch.lemmas) is_seen;

@@ -59,6 +59,7 @@ impl Places {
         while let Some(step) = reader.next() {
             self.push_step(step, &mut steps)?;
         }
+        steps.shrink_to_fit();
         Ok(steps)
     }
 }

@@ -1,9 +1,9 @@
 //! What nothing needs goes, and the other lemmas are numbered anew.
-ghost use Rattle.std.specs.Prelude.{◌≡◌, ◌<◌, ◌+◌, ◌^◌, length, map, IfOk, OnOk};
+ghost use Rattle.std.specs.Prelude.{◌≡◌, ◌<◌, ◌≤◌, ◌+◌, ◌^◌, length, map, IfOk, OnOk};
 ghost use Rattle.std.specs.List.{items_where_true};
 ghost use Rattle.std.specs.Vec.{vec_len};
 ghost use Rattle.trim_lemmas.specs.Trimming.{shortened, IsTrimmed, StaysRefutation, StaysOver, last_clause};
-ghost use Rattle.trim_lemmas.specs.Trimming.{IsTrimmedBatch, StaysRefuted, StaysStated};
+ghost use Rattle.trim_lemmas.specs.Trimming.{place, IsTrimmedBatch, StaysRefuted, StaysStated};
 ghost use Rattle.trim_lemmas.specs.Marks.{lemma_by};
 
 use crate::marking::{needed_by, needed_lemmas};
@@ -74,6 +74,22 @@ pub struct TrimmedBatch {
     pub batch: Batch,
     /// For each lemma that there was whether it is left.
     pub needed: Vec<bool>,
+}
+
+impl TrimmedBatch {
+    /// The number among those that are left of the lemma that had this number, if it is left.
+    pub fn place(&self, j: usize) -> usize
+        requires { j ≤ length self.now.needed.items }
+        ensures { result ≡ place self.now.needed.items j }
+    {
+        let mut count = 0;
+        for k in 0..j {
+            if self.needed[k] {
+                count += 1;
+            }
+        }
+        count
+    }
 }
 
 /// The lemmas of a batch that the wanted ones need, numbered anew. References to lemmas before the batch stay.

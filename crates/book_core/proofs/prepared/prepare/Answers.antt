@@ -1,5 +1,6 @@
-use Rattle.std.proofs.Common.{arith, ◌≡◌, ◌+◌, ◌<◌, ◌^◌, ◌∙◌, ap, sym, subst, ℕ, List, length}
+use Rattle.std.proofs.Common.{arith, ◌≡◌, ◌+◌, ◌≤◌, ◌∙◌, ap, sym, subst, ℕ, List, length}
 use Rattle.refute_tree.specs.declared.lemma.Lemma.{Lemma as Stated}
+use Rattle.refute_tree.specs.Limits.{lemmas_limit}
 use Rattle.refute_tree.specs.Batches.{LemmaBatch, moved}
 use Rattle.book_core.specs.Shared.{lemmas_of}
 use Rattle.book_core.specs.Handed.{handed_in, IsMovable}
@@ -11,7 +12,7 @@ new-handed-requires c =
     let published : lemmas_of c.in_ok-share_again.field-0.items ≡ (moved c.args.base c.args.batch.now).lemmas =
     c.in_ok-share_again.ensures ∙ (ap lemmas_of c.as_slice.ensures.value ∙ (c.in_ok-shared.ensures ∙ (c.into_lemmas.ensures ∙ ap (λ (b : LemmaBatch). b.lemmas) (c.move_to.ensures ∙ ap (moved c.args.base) c.in_ok-moved.ensures)))) in
     let count : length c.lemmas.result.now ≡ length c.args.batch.now.lemmas = ap (λ (ls : List Stated). length ls) c.lemmas.ensures in
-    let small : c.args.base + length c.args.batch.now.lemmas < 2 ^ 64 = omega (arith, count, c.if-lemmas-base.false, c.ranges.base.fits) in
+    let small : c.args.base + length c.args.batch.now.lemmas ≤ lemmas_limit = omega (arith, count) in
     subst (λ (n : ℕ). IsMovable n c.args.base (lemmas_of c.in_ok-share_again.field-0.items)) (sym c.seen.ensures)
     (movable c.args.batch.now c.args.base (lemmas_of c.in_ok-share_again.field-0.items) c.requires.seen c.requires.below small published)
 
