@@ -1,13 +1,14 @@
 -- The marks of the nodes so far are their truth.
-use Rattle.std.proofs.Common.{sym, ap, subst, arith, ◌∙◌, ◌≡◌, ◌<◌, ◌≤◌, ℕ, List, length, take, get_or, Bool, false, Some, ℤ, get_or-take}
+use Rattle.std.proofs.Common.{sym, ap, subst, arith, ◌∙◌, ◌≡◌, ◌<◌, ◌≤◌, ℕ, List, length, take, get_or, Bool, false, Some, ℤ, get_or-take, ◌+◌, ◌++◌, ◌∷◌, []}
 use Rattle.std.specs.Prelude.{slice_get, option_map}
+use Rattle.std.proofs.lemmas.Grind.{common_steps}
 use Rattle.std.proofs.lemmas.List.{length-take-le, length-map}
 use Rattle.std.proofs.lemmas.Option.{slice_get-map, slice_get-get_or, get_or_from_slice_get}
 use Rattle.stn_core.specs.declared.literal.Literal.{Literal}
 use Rattle.idl_node.specs.declared.node.Node.{Node}
 use Rattle.idl_node.specs.Nodes.{NodeValue, node_value, shown, always}
 use Rattle.idl_node.specs.Tables.{IsNodeOf, IsTableOf}
-use Rattle.idl_node.specs.Truth.{node_truth, truth}
+use Rattle.idl_node.specs.Truth.{node_truth, truth, AreTruths}
 use Rattle.idl_node.proofs.Truths.{node_truth-agree, truth-node}
 
 module _ (all : List Node) (table : List NodeValue) (same : shown all ≡ table) (i : ℕ) (node : Node) (within : i < length table) (is : node ≡ get_or all i node) where
@@ -30,3 +31,11 @@ module _ (all : List Node) (table : List NodeValue) (same : shown all ≡ table)
         (subst (λ (n : NodeValue). IsNodeOf Good table i n) node_at (over i within))
         ∙ ap (node_truth values (truth table values)) (sym node_at)
         ∙ sym (truth-node Good table values over i within)
+
+-- one mark more
+pub truths_pushed : (nodes : List NodeValue) (values : List ℤ) (marks now : List Bool) (holds : Bool) → length marks < length nodes → AreTruths nodes values marks → holds ≡ truth nodes values (length marks) → now ≡ marks ++ holds ∷ []
+    → AreTruths nodes values now
+truths_pushed nodes values marks now holds room h is e = record {
+  within = grind (arith, common_steps, e, room);
+  each = λ k b. grind (arith, common_steps, e, is, h.each k);
+}

@@ -1,5 +1,5 @@
 -- The truth of a node on values of the time points.
-use Rattle.std.specs.Prelude.{ℕ, zero, suc, List, [], ◌∷◌, map, Bool, true, false, not, ◌&&◌, ◌||◌, slice_index_or, ℤ, pos, ◌-ℤ◌, int_le}
+use Rattle.std.specs.Prelude.{◌≡◌, ◌≤◌, ◌<◌, ℕ, zero, suc, List, [], ◌∷◌, length, map, Bool, true, false, not, ◌&&◌, ◌||◌, slice_index_or, ℤ, pos, ◌-ℤ◌, int_le}
 use Rattle.std.specs.List.{list_all, list_any}
 use Rattle.stn_core.specs.declared.literal.Literal.{Literal}
 use Rattle.stn_core.specs.declared.named.NamedValue.{NamedValue}
@@ -27,6 +27,11 @@ truth_within (suc depth) nodes values k = node_truth values (λ j. truth_within 
 -- the truth of node k; the members of a node have smaller numbers, so that k + 1 levels are enough
 unfoldable pub truth : List NodeValue → List ℤ → ℕ → Bool
 truth nodes values k = truth_within (suc k) nodes values k
+
+-- these tell the truth of the table's first nodes, as many as they are
+pub record AreTruths (nodes : List NodeValue) (values : List ℤ) (marks : List Bool) : Type 0 where
+  pub within : length marks ≤ length nodes
+  pub each : (k : ℕ) → k < length marks → slice_index_or marks k false ≡ truth nodes values k
 
 -- the value of a name's time point: of an Int name its value, of a Bool name 0 where it is true, else 1
 abbrev pub point_value : NamedValue → ℤ

@@ -19,4 +19,4 @@ pub use limits::NODES_LIMIT;
 pub use node::Node;
 pub use nodes::Nodes;
 pub use sort::Sort;
-pub use truth::{eval, point_value};
+pub use truth::{eval, eval_on, point_value};

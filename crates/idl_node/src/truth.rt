@@ -1,13 +1,14 @@
 //! The truth of a node.
-ghost use Rattle.std.specs.Prelude.{◌≡◌, ◌<◌, ◌≤◌, ◌+◌, ℕ, List, length, slice_index_or, false};
+ghost use Rattle.std.specs.Prelude.{◌≡◌, ◌<◌, ◌≤◌, ◌+◌, ℕ, List, length, slice_index_or, false, IfOk};
 ghost use Rattle.std.specs.List.{AllByRecursion, list_all, list_any};
 ghost use Rattle.idl_node.specs.Nodes.{NodeValue, node_value};
 ghost use Rattle.idl_node.specs.Tables.{IsTableOver, IsNodeOf};
-ghost use Rattle.idl_node.specs.Truth.{point_values, literal_truth, node_truth, truth};
+ghost use Rattle.idl_node.specs.Truth.{point_values, literal_truth, node_truth, truth, AreTruths};
 ghost use Rattle.stn_core.specs.Literal.{IsOver, value_at};
 
 use crate::node::Node;
 use crate::nodes::Nodes;
+use std::alloc::AllocError;
 use stn_core::{Literal, NamedValue, NamedValues, Value};
 
 /// The value of a time point: 0 of the zero point, and then each name's. An Int name's is its number; a Bool name's is 0 where
@@ -98,4 +99,29 @@ pub fn eval(nodes: &Nodes, number: u32, values: &NamedValues, marks: &mut [bool]
         marks[i] = value;
     }
     marks[number as usize]
+}
+
+/// Whether the node is true where the names have these values. `marks` tells the truth of the table's first nodes, as many as
+/// there are marks, and then, where there were fewer, of all nodes up to this one: so it takes time of the order of the nodes that
+/// it tells anew, and their members.
+pub fn eval_on(
+    nodes: &Nodes,
+    number: u32,
+    values: &NamedValues,
+    marks: &mut Vec<bool>,
+) -> Result<bool, AllocError>
+    requires table { IsTableOver (length values.now + 1) nodes.now }
+    requires number { number < length nodes.now }
+    requires marks { AreTruths nodes.now (point_values values.now) marks.old.items }
+    ensures truth { IfOk result (λ holds. holds ≡ truth nodes.now (point_values values.now) number) }
+    ensures marks { AreTruths nodes.now (point_values values.now) marks.new.items }
+{
+    let slice = nodes.as_slice();
+    let last = number as usize;
+    'nodes: while marks.len() <= last {
+        let i = marks.len();
+        let value = node_holds(&slice[i], values, &marks[..i]);
+        marks.push(value)?;
+    }
+    Ok(marks[last])
 }
