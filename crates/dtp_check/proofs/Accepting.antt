@@ -88,10 +88,10 @@ closed_ends script place le closed =
 
 -- ---- what was written of the commands
 
-abbrev FollowsBy : Held → ℕ → List Sexpr → Ending → Output → Result Step Refusal → Type 0
-FollowsBy held k xs ending out r = (reply : Reply) × RepliesBy Certificate held r reply × GoesOn k reply xs ending out (λ kept next rest. Follows Certificate kept next (k + 1) xs ending rest)
+abbrev FollowsBy : Held → ℕ → Sexpr → List Sexpr → Ending → Output → Result Step Refusal → Type 0
+FollowsBy held k x xs ending out r = (reply : Reply) × RepliesBy Certificate held x r reply × GoesOn k reply xs ending out (λ kept next rest. Follows Certificate kept next (k + 1) xs ending rest)
 
-follows_is : (held : Held) (s : State) (k : ℕ) (x : Sexpr) (xs : List Sexpr) (ending : Ending) (out : Output) → Follows Certificate held s k (x ∷ xs) ending out → FollowsBy held k xs ending out (after s x)
+follows_is : (held : Held) (s : State) (k : ℕ) (x : Sexpr) (xs : List Sexpr) (ending : Ending) (out : Output) → Follows Certificate held s k (x ∷ xs) ending out → FollowsBy held k x xs ending out (after s x)
 unfolding Follows
 follows_is held s k x xs ending out h = h
 
@@ -219,7 +219,7 @@ module _ (one : OneOutcome) (on : ListReadsOn) (within : ListIsWithin) (flaw : F
     status_behind : (out : Output) (text : List ℕ) (found : List Entry) (rest : Output) → out ≡ behind text found rest → out.status ≡ 0 → rest.status ≡ 0
     status_behind out text found rest e status = sym (ap (λ (o : Output). o.status) e) ∙ status
 
-    split_effect : (effect : Effect) (held : Held) (next : State) → after s x ≡ Ok (step_of next effect) → (reply : Reply) → Answers Certificate held next effect reply → (xs ys : List Sexpr) (ending : Ending) (out : Output) → out.status ≡ 0 → GoesOnAs reply xs ending out
+    split_effect : (effect : Effect) (held : Held) (next : State) → after s x ≡ Ok (step_of next effect) → (reply : Reply) → Answers Certificate held next x effect reply → (xs ys : List Sexpr) (ending : Ending) (out : Output) → out.status ≡ 0 → GoesOnAs reply xs ending out
         → IsWholeBehind ys (is_exit x) → Others xs ys ending → IsSplit script place s k (x ∷ xs) out.text
     split_effect (Tell notice) held next e reply answers xs ys ending out status goes is others =
         let step = step_of next (Tell notice) in
@@ -240,7 +240,7 @@ module _ (one : OneOutcome) (on : ListReadsOn) (within : ListIsWithin) (flaw : F
         let left : (ys ≡ []) × IsClosedGap (drop mid script) = subst (IsWholeBehind ys) ((only s x step e).0 refl) is in
         split_exit next e xs out.text w.0.0 (ap (λ (o : Output). o.text) w.1) left.1
 
-    split_by : (r : Result Step Refusal) → after s x ≡ r → (held : Held) (xs ys : List Sexpr) (ending : Ending) (out : Output) → out.status ≡ 0 → FollowsBy held k xs ending out r → IsWholeBehind ys (is_exit x) → Others xs ys ending
+    split_by : (r : Result Step Refusal) → after s x ≡ r → (held : Held) (xs ys : List Sexpr) (ending : Ending) (out : Output) → out.status ≡ 0 → FollowsBy held k x xs ending out r → IsWholeBehind ys (is_exit x) → Others xs ys ending
         → IsSplit script place s k (x ∷ xs) out.text
     split_by (Err why) e held xs ys ending out status (reply, is_error, goes) is others =
         let w = goes_as reply (error (kind_of why)) xs ending out is_error goes in

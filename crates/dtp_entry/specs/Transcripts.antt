@@ -2,23 +2,25 @@
 -- Source: SMT-LIB 2.6, section 4.1 (responses, and the error behavior `immediate-exit`), section 4.2.1 (`exit`) and section
 -- 4.2.5 (`check-sat`).
 use Rattle.std.specs.Prelude.{◌≡◌, ℕ, ◌+◌, List, [], ◌∷◌, ◌++◌, ◌⊎◌, true, false, if◌then◌else◌, Option, Some, None, Result, Ok, Err}
-use Rattle.smt_sexpr.specs.Tree.{Sexpr}
+use Rattle.smt_sexpr.specs.Tree.{Sexpr, Items}
 use Rattle.smt_sexpr.specs.Commands.{Commands, Ending, ended, stopped, unread, EndsAs}
 use Rattle.smt_script.specs.declared.state.Effect.{Effect}
 use Rattle.smt_script.specs.declared.state.Effect.TheVariants.{CheckSat, Exit, Tell}
 use Rattle.smt_script.specs.declared.state.Notice.{Notice}
-use Rattle.smt_script.specs.declared.state.Notice.TheVariants.{Success, Unsupported}
+use Rattle.smt_script.specs.declared.state.Notice.TheVariants.{Success, Unsupported, Model, Values, Proof, Inform, Echo}
+use Rattle.smt_script.specs.Commands.{asked_terms, echoed_text}
 use Rattle.smt_script.specs.declared.state.Satisfiability.{Satisfiability}
 use Rattle.smt_script.specs.declared.state.Satisfiability.TheVariants as verdict
 use Rattle.smt_script.specs.declared.error.Refusal.{Refusal}
-use Rattle.smt_script.specs.States.{State, Step, start_state, after, settled}
+use Rattle.smt_script.specs.States.{State, Step, start_state, after, levels_of, settled}
 use Rattle.smt_answer.specs.Kinds.{kind_of, kind_of_unreadable}
-use Rattle.smt_answer.specs.Texts.{verdict_line, success_line, unsupported_line, error_line}
+use Rattle.smt_answer.specs.Texts.{verdict_line, success_line, unsupported_line, model_lines, values_line, information_line, echo_line, error_line}
 use Rattle.smt_answer.specs.declared.kind.Kind.{Kind}
 use Rattle.cert_text.specs.declared.entry.Entry.{Entry}
 use Rattle.cert_text.specs.declared.entry.Entry.TheVariants.{Sat, Unsat}
 use Rattle.cert_text.specs.Form.{header_sexpr, entry_sexpr, end_sexpr, line_of}
-use Rattle.idl_term.specs.Contexts.{Context, IsSatisfiable}
+use Rattle.idl_term.specs.Contexts.{Context, environment, IsSatisfiable}
+use Rattle.idl_term.specs.Values.{value}
 use Rattle.dtp_entry.specs.declared.report.Report.{Report}
 use Rattle.dtp_entry.specs.declared.report.Report.TheVariants.{Verdicts, Certificate}
 use Rattle.dtp_entry.specs.Entries.{IsEntryOf, verdict_of}
@@ -45,11 +47,29 @@ decision_line Certificate entry = line_of (entry_sexpr entry)
 abbrev pub Held : Type 0
 Held = Option Entry
 
--- what is told of a command that asks for no decision, in the state behind it; `success` where that is to be printed
-abbrev pub told : Report → Held → State → Notice → List ℕ
-told Verdicts held s Success = if s.print_success then success_line else []
-told Verdicts held s Unsupported = unsupported_line
-told Certificate held s notice = []
+-- behind a `sat` the mode holds the schedule, and behind an `unsat` the refutation
+abbrev pub told_model : Held → State → List ℕ
+told_model (Some (Sat schedule)) s = model_lines s.context.declared schedule
+told_model _ s = []
+
+abbrev pub told_values : Held → State → Items → List ℕ
+told_values (Some (Sat schedule)) s terms = values_line (value (environment s.context schedule)) terms
+told_values _ s terms = []
+
+abbrev pub told_proof : Held → List ℕ
+told_proof (Some (Unsat lemmas)) = line_of (entry_sexpr (Unsat lemmas))
+told_proof _ = []
+
+-- what is told of command x, which asks for no decision, in the state behind it; `success` where that is to be printed
+abbrev pub told : Report → Held → State → Sexpr → Notice → List ℕ
+told Verdicts held s x Success = if s.print_success then success_line else []
+told Verdicts held s x Unsupported = unsupported_line
+told Verdicts held s x Model = told_model held s
+told Verdicts held s x Values = told_values held s (asked_terms x)
+told Verdicts held s x Proof = told_proof held
+told Verdicts held s x (Inform information) = information_line information (levels_of s)
+told Verdicts held s x Echo = echo_line (echoed_text x)
+told Certificate held s x notice = []
 
 -- ---- a command
 
@@ -84,22 +104,22 @@ checked report s entry = record {
   state = settled (verdict_of entry) s;
 }
 
--- the answer to an effect, in the state behind the command
-abbrev pub Answers : Report → Held → State → Effect → Reply → Type 0
-Answers report held s CheckSat reply =
+-- the answer to an effect of command x, in the state behind it
+abbrev pub Answers : Report → Held → State → Sexpr → Effect → Reply → Type 0
+Answers report held s x CheckSat reply =
     (entry : Entry) × Decides s.context entry × (reply ≡ answered (checked report s entry))
-Answers report held s (Tell notice) reply =
-    reply ≡ answered (record { text = told report held s notice; found = []; held = held; state = s })
-Answers report held s Exit reply = reply ≡ last (closing report)
+Answers report held s x (Tell notice) reply =
+    reply ≡ answered (record { text = told report held s x notice; found = []; held = held; state = s })
+Answers report held s x Exit reply = reply ≡ last (closing report)
 
--- the answer by what a command leads to
-abbrev pub RepliesBy : Report → Held → Result Step Refusal → Reply → Type 0
-RepliesBy report held (Ok step) reply = Answers report held step.state step.effect reply
-RepliesBy report held (Err why) reply = reply ≡ error (kind_of why)
+-- the answer by what command x leads to
+abbrev pub RepliesBy : Report → Held → Sexpr → Result Step Refusal → Reply → Type 0
+RepliesBy report held x (Ok step) reply = Answers report held step.state x step.effect reply
+RepliesBy report held x (Err why) reply = reply ≡ error (kind_of why)
 
 -- the answer to a command in a state
 abbrev pub Replies : Report → Held → State → Sexpr → Reply → Type 0
-Replies report held s x reply = RepliesBy report held (after s x) reply
+Replies report held s x reply = RepliesBy report held x (after s x) reply
 
 -- ---- a script
 

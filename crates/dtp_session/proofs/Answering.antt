@@ -1,40 +1,104 @@
 -- The piece that answers a command.
-use Rattle.std.proofs.Common.{refl, sym, ap, subst, ◌∙◌, ◌≡◌, List, ℕ, [], ◌++◌, Bool, Result, Ok, Err}
-use Rattle.std.specs.Prelude.{if◌then◌else◌, OnOk}
+use Rattle.std.proofs.Common.{refl, sym, ap, subst, inl, inr, ◌∙◌, ◌≡◌, ◌⊎◌, List, ℕ, [], ◌++◌, Bool, Option, Some, Result, Ok, Err}
 use Rattle.smt_sexpr.specs.Tree.{Sexpr}
+use Rattle.cert_text.specs.declared.entry.Entry.{Entry}
+use Rattle.cert_text.specs.declared.entry.Entry.TheVariants.{Sat, Unsat}
+use Rattle.cert_text.specs.Form.{entry_sexpr, line_of}
+use Rattle.idl_term.specs.Contexts.{Context}
+use Rattle.refute_tree.specs.declared.lemma.Lemma.{Lemma}
 use Rattle.smt_answer.specs.declared.kind.Kind.{Kind}
 use Rattle.smt_answer.specs.Kinds.{kind_of}
-use Rattle.smt_answer.specs.Texts.{success_line}
 use Rattle.smt_script.specs.declared.error.Refusal.{Refusal as Why}
 use Rattle.smt_script.specs.declared.state.Effect.{Effect}
 use Rattle.smt_script.specs.declared.state.Effect.TheVariants.{CheckSat, Tell}
-use Rattle.smt_script.specs.declared.state.Notice.{Notice as Told}
-use Rattle.smt_script.specs.declared.state.Notice.TheVariants.{Success, Unsupported}
+use Rattle.smt_script.specs.declared.state.Mode.{Mode}
+use Rattle.smt_script.specs.declared.state.Mode.TheVariants as mode
+use Rattle.smt_script.specs.declared.state.Notice.{Notice}
+use Rattle.smt_script.specs.declared.state.Notice.TheVariants as notice
 use Rattle.smt_script.specs.Kept.{Kept, Steps}
-use Rattle.smt_script.specs.States.{State, Step, start_state, after}
+use Rattle.smt_script.specs.Laws.{StepMade, ModeIsKept, ModelNeedsSat, ValuesNeedSat, ProofNeedsUnsat}
+use Rattle.smt_script.specs.States.{State, Step, after}
 use Rattle.dtp_entry.specs.declared.report.Report.{Report}
 use Rattle.dtp_entry.specs.declared.report.Report.TheVariants.{Verdicts, Certificate}
 use Rattle.dtp_entry.specs.Standing.{Stands}
-use Rattle.dtp_entry.specs.Transcripts.{Held, closing, told, decision_line, checked, Answered, Reply, answered, last, error, Answers, RepliesBy, Replies}
+use Rattle.dtp_entry.proofs.Standing.{stands_after}
+use Rattle.dtp_entry.specs.Transcripts.{Held, closing, told, told_proof, decision_line, checked, Answered, Reply, answered, last, error, Answers, RepliesBy, Replies}
 use Rattle.dtp_session.specs.declared.piece.Piece.{Piece}
-use Rattle.dtp_session.specs.declared.piece.Piece.TheVariants.{Opening, Decision, Notice, Closing, Error}
+use Rattle.dtp_session.specs.declared.piece.Piece.TheVariants.{Opening, Decision, Proof, Told, Closing, Error}
 use Rattle.dtp_session.specs.declared.session.Session.{Session}
-use Rattle.dtp_session.specs.Sessions.{IsText, IsAnsweredBy, Gives, IsChecked}
+use Rattle.dtp_session.specs.Sessions.{IsText, ShowsVerdict, Holds, MayTell, KeepsVerdict, IsAnsweredBy, Gives, IsChecked}
+
+-- ---- behind a command
+
+shows_by : (m n : Mode) (c d : Context) (held : Held) (marks : List Bool) → m ≡ n → c ≡ d → ShowsVerdict n d held marks → ShowsVerdict m c held marks
+shows_by m n c d held marks e f h =
+    subst (λ (k : Mode). ShowsVerdict k c held marks) (sym e) (subst (λ (k : Context). ShowsVerdict n k held marks) (sym f) h)
+
+shows_nothing : (m : Mode) (c : Context) (held : Held) (marks : List Bool) → m ≡ mode.Nothing → ShowsVerdict m c held marks
+shows_nothing m c held marks e = subst (λ (k : Mode). ShowsVerdict k c held marks) (sym e) tt
+
+shows_kept : (s next : State) (held : Held) (marks : List Bool) → (next.mode ≡ mode.Nothing) ⊎ ((next.mode ≡ s.mode) × (next.context ≡ s.context)) → ShowsVerdict s.mode s.context held marks → ShowsVerdict next.mode next.context held marks
+shows_kept s next held marks (inl e) h = shows_nothing next.mode next.context held marks e
+shows_kept s next held marks (inr (e, f)) h = shows_by next.mode s.mode next.context s.context held marks e f h
+
+module _ (s : State) (x : Sexpr) (effect : Effect) (kept : Kept) (h : Steps s x effect kept) where
+  pub shows_after : ModeIsKept → (held : Held) (marks : List Bool) → ShowsVerdict s.mode s.context held marks → ShowsVerdict h.state.mode h.state.context held marks
+  shows_after law held marks shows = shows_kept s h.state held marks (law s x (record { state = h.state; effect = effect }) h.leads) shows
+
+  pub holds_after : StepMade → ModeIsKept → (p q : Session) → q.state ≡ kept → q.held ≡ p.held → q.marks ≡ p.marks → Holds p s → Holds q h.state
+  holds_after made law p q state held marks holds = record {
+    stands = subst (λ (k : Kept). Stands k h.state) (sym state) (stands_after made s x effect kept h holds.stands.made);
+    shows = rw (held, marks) (shows_after law p.held p.marks.items holds.shows);
+  }
+
+  pub may_after : ModelNeedsSat → ValuesNeedSat → ProofNeedsUnsat → MayTell h.state x effect
+  may_after model values proof = record {
+    model = model s x (record { state = h.state; effect = effect }) h.leads;
+    values = values s x (record { state = h.state; effect = effect }) h.leads;
+    proof = proof s x (record { state = h.state; effect = effect }) h.leads;
+  }
+
+-- text and marks aside, the session is as before
+pub holds_kept : (p q : Session) (s : State) → KeepsVerdict p q → q.marks ≡ p.marks → Holds p s → Holds q s
+holds_kept p q s keeps marks holds = record {
+  stands = subst (λ (k : Kept). Stands k s) (sym keeps.state) holds.stands;
+  shows = rw (keeps.held, marks) holds.shows;
+}
 
 -- ---- an effect
 
-pub tell_gives : (p : Session) (s : State) (effect : Effect) (notice : Told) → effect ≡ Tell notice → Stands p.state s
-    → (a : Answered) × Answers p.report p.held s effect (answered a) × IsAnsweredBy p (Notice notice) a
-tell_gives p s effect notice e stands =
-    let a : Answered = record { text = told p.report p.held s notice; found = []; held = p.held; state = s } in
-    (a, subst (λ (f : Effect). Answers p.report p.held s f (answered a)) (sym e) refl, record { stands = stands; held = refl; text = λ text h. h s stands.stands.print_success })
+pub told_gives : (report : Report) (held : Held) (q : Session) (s : State) (x : Sexpr) (told_of : Notice) → Holds q s → q.held ≡ held → q.text.items ≡ told report held s x told_of
+    → Gives report q (Answers report held s x (Tell told_of)) Told
+told_gives report held q s x told_of holds same is =
+    let a : Answered = record { text = told report held s x told_of; found = []; held = held; state = s } in
+    (a, refl, record { stands = holds; held = same; text = λ text h. h ∙ is })
 
-pub check_gives : (report : Report) (held : Held) (q : Session) (s : State) (effect : Effect) → effect ≡ CheckSat → q.report ≡ report → IsChecked q s
-    → (a : Answered) × Answers report held s effect (answered a) × IsAnsweredBy q Decision a
-check_gives report held q s effect e same h =
+proof_line_is : (held : Held) (lemmas : List Lemma) (text : List ℕ) → held ≡ Some (Unsat lemmas) → text ≡ line_of (entry_sexpr (Unsat lemmas)) → text ≡ told_proof held
+proof_line_is held lemmas text e is = is ∙ sym (ap told_proof e)
+
+shown_lemmas : (m : Mode) (c : Context) (held : Held) (marks : List Bool) → m ≡ mode.Unsat → ShowsVerdict m c held marks → (lemmas : List Lemma) × (held ≡ Some (Unsat lemmas))
+shown_lemmas m c held marks e h = subst (λ (k : Mode). ShowsVerdict k c held marks) e h
+
+pub proof_gives : (report : Report) (held : Held) (q : Session) (s : State) (x : Sexpr) → report ≡ Verdicts → Holds q s → q.held ≡ held → s.mode ≡ mode.Unsat
+    → Gives report q (Answers report held s x (Tell notice.Proof)) Proof
+proof_gives report held q s x verdicts holds same unsat =
+    let shown = shown_lemmas s.mode s.context q.held q.marks.items unsat holds.shows in
+    let a : Answered = record { text = told report held s x notice.Proof; found = []; held = held; state = s } in (
+      a,
+      refl,
+      record {
+        stands = holds;
+        held = same;
+        text = λ text h. proof_line_is q.held shown.0 text shown.1 (h (Unsat shown.0) shown.1) ∙ ap told_proof same ∙ ap (λ (r : Report). told r held s x notice.Proof) (sym verdicts);
+      },
+    )
+
+pub check_gives : (report : Report) (held : Held) (q : Session) (s : State) (x : Sexpr) (effect : Effect) → effect ≡ CheckSat → q.report ≡ report → IsChecked q s
+    → (a : Answered) × Answers report held s x effect (answered a) × IsAnsweredBy q Decision a
+check_gives report held q s x effect e same h =
     let a : Answered = checked report s h.entry in (
       a,
-      subst (λ (f : Effect). Answers report held s f (answered a)) (sym e) (h.entry, h.decides, refl),
+      subst (λ (f : Effect). Answers report held s x f (answered a)) (sym e) (h.entry, h.decides, refl),
       record { stands = h.stands; held = h.held; text = λ text w. w h.entry h.held ∙ ap (λ (r : Report). decision_line r h.entry) same },
     )
 
@@ -45,44 +109,19 @@ gives_map report q A B f Closing h = f (last (closing report)) h
 gives_map report q A B f (Error kind) h = f (error kind) h
 gives_map report q A B f Opening (a, h, by) = (a, f (answered a) h, by)
 gives_map report q A B f Decision (a, h, by) = (a, f (answered a) h, by)
-gives_map report q A B f (Notice notice) (a, h, by) = (a, f (answered a) h, by)
+gives_map report q A B f Proof (a, h, by) = (a, f (answered a) h, by)
+gives_map report q A B f Told (a, h, by) = (a, f (answered a) h, by)
 
-replies_by : (report : Report) (held : Held) (s : State) (x : Sexpr) (effect : Effect) (kept : Kept) (h : Steps s x effect kept) (reply : Reply) → Answers report held h.state effect reply → Replies report held s x reply
-replies_by report held s x effect kept h reply a = subst (λ (found : Result Step Why). RepliesBy report held found reply) (sym h.leads) a
+pub effect_gives : (report : Report) (held : Held) (q : Session) (s : State) (x : Sexpr) (effect other : Effect) (piece : Piece) → effect ≡ other → Gives report q (Answers report held s x other) piece → Gives report q (Answers report held s x effect) piece
+effect_gives report held q s x effect other piece e g = subst (λ (f : Effect). Gives report q (Answers report held s x f) piece) (sym e) g
+
+replies_by : (report : Report) (held : Held) (s : State) (x : Sexpr) (effect : Effect) (kept : Kept) (h : Steps s x effect kept) (reply : Reply) → Answers report held h.state x effect reply → Replies report held s x reply
+replies_by report held s x effect kept h reply a = subst (λ (found : Result Step Why). RepliesBy report held x found reply) (sym h.leads) a
 
 pub carried_gives : (report : Report) (held : Held) (q : Session) (s : State) (x : Sexpr) (effect : Effect) (kept : Kept) (h : Steps s x effect kept) (piece : Piece)
-    → Gives report q (Answers report held h.state effect) piece → Gives report q (Replies report held s x) piece
+    → Gives report q (Answers report held h.state x effect) piece → Gives report q (Replies report held s x) piece
 carried_gives report held q s x effect kept h piece g =
-    gives_map report q (Answers report held h.state effect) (Replies report held s x) (λ reply a. replies_by report held s x effect kept h reply a) piece g
+    gives_map report q (Answers report held h.state x effect) (Replies report held s x) (λ reply a. replies_by report held s x effect kept h reply a) piece g
 
 pub refusal_gives : (report : Report) (held : Held) (s : State) (x : Sexpr) (why : Why) (kind : Kind) → after s x ≡ Err why → kind ≡ kind_of why → Replies report held s x (error kind)
-refusal_gives report held s x why kind leads e = subst (λ (found : Result Step Why). RepliesBy report held found (error kind)) (sym leads) (ap error e)
-
--- ---- the text of a notice
-
-told_by : (report : Report) (held : Held) (s t : State) (notice : Told) → s.print_success ≡ t.print_success → told report held s notice ≡ told report held t notice
-told_by Verdicts held s t Success e = ap (λ (b : Bool). if b then success_line else []) e
-told_by Verdicts held s t Unsupported e = refl
-told_by Certificate held s t notice e = refl
-
-on_ok_map : {A E : Type 0} (r : Result A E) (P Q : Type 0) → (P → Q) → OnOk r P → OnOk r Q
-on_ok_map (Ok x) P Q f h = f h
-on_ok_map (Err e) P Q f h = tt
-
--- the text of a notice rests on nothing that the session doesn't keep
-abbrev pub IsTold : Report → Bool → Told → List ℕ → List ℕ → Type 0
-IsTold report print_success notice before now = (held : Held) (s : State) → print_success ≡ s.print_success → now ≡ before ++ told report held s notice
-
-abbrev pub IsAppended : Session → Piece → List ℕ → List ℕ → Type 0
-IsAppended p piece before now = (added : List ℕ) × IsText p piece added × (now ≡ before ++ added)
-
-notice_appended : (p : Session) (piece : Piece) (notice : Told) (print_success : Bool) (before now : List ℕ) → piece ≡ Notice notice → print_success ≡ p.state.print_success → IsTold p.report print_success notice before now → IsAppended p piece before now
-notice_appended p piece notice print_success before now e same h =
-    let s : State = record start_state { print_success = p.state.print_success } in
-    let added = told p.report p.held s notice in
-    subst (λ (z : Piece). IsAppended p z before now) (sym e) (added, λ t is. told_by p.report p.held s t notice is, h p.held s same)
-
-pub notice_told : {A E : Type 0} (r : Result A E) (p : Session) (piece : Piece) (notice : Told) (print_success : Bool) (before now : List ℕ) → piece ≡ Notice notice → print_success ≡ p.state.print_success
-    → OnOk r (IsTold p.report print_success notice before now) → OnOk r (IsAppended p piece before now)
-notice_told r p piece notice print_success before now e same h =
-    on_ok_map r (IsTold p.report print_success notice before now) (IsAppended p piece before now) (notice_appended p piece notice print_success before now e same) h
+refusal_gives report held s x why kind leads e = subst (λ (found : Result Step Why). RepliesBy report held x found (error kind)) (sym leads) (ap error e)

@@ -5,3 +5,4 @@ pub mod Solving
 pub mod Transcribing
 pub mod Verdicts
 pub mod Telling
+pub mod Saying

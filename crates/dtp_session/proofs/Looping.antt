@@ -7,20 +7,19 @@ use Rattle.cert_text.specs.declared.entry.Entry.{Entry}
 use Rattle.smt_answer.specs.declared.kind.Kind.{Kind}
 use Rattle.smt_script.specs.States.{State, start_state}
 use Rattle.dtp_entry.specs.declared.report.Report.{Report}
-use Rattle.dtp_entry.specs.Standing.{Stands}
 use Rattle.dtp_entry.specs.Transcripts.{Held, opening, Output, behind, TranscribesFrom, TranscribesPartFrom, IsOutput, IsReport, IsReportPart}
 use Rattle.dtp_entry.specs.Written.{Writes, IsFront, IsPartOf, HasFault}
 use Rattle.dtp_entry.proofs.Written.{appends_nothing}
 use Rattle.dtp_session.specs.declared.piece.Piece.{Piece}
-use Rattle.dtp_session.specs.declared.piece.Piece.TheVariants.{Opening, Decision, Notice, Closing, Error}
+use Rattle.dtp_session.specs.declared.piece.Piece.TheVariants.{Opening, Decision, Proof, Told, Closing, Error}
 use Rattle.dtp_session.specs.declared.session.Session.{Session}
-use Rattle.dtp_session.specs.Sessions.{IsText, IsStart, From, PartFrom, IsGoing, Ends, GoesOn, Leads, IsNext}
+use Rattle.dtp_session.specs.Sessions.{IsText, Holds, IsStart, From, PartFrom, IsGoing, Ends, GoesOn, Leads, IsNext}
 use Rattle.dtp_session.proofs.Transcribing.{nothing_yet}
 
 -- what was written goes on to what is written of the whole script
 pub record IsSoFar (report : Report) (script : List ℕ) (p : Session) (before now : Option (List ℕ)) : Type 0 where
   pub s : State
-  pub stands : Stands p.state s
+  pub stands : Holds p s
   pub written : List ℕ
   pub found : List Entry
   pub adds : Appends before now written
@@ -78,7 +77,7 @@ module _ (report : Report) (script : List ℕ) (p q : Session) (before now after
       let k : q.command + 1 ≡ p.command + 1 = ap (λ (n : ℕ). n + 1) e in
       record {
         s = g.next;
-        stands = g.stands;
+        stands = record { stands = g.stands.stands; shows = g.stands.shows };
         written = h.written ++ text;
         found = h.found ++ g.found;
         adds = Appends-trans before now after h.written text h.adds adds;
@@ -91,7 +90,8 @@ module _ (report : Report) (script : List ℕ) (p q : Session) (before now after
   pub next_going : (piece : Piece) → IsGoing piece → Leads p q h.s piece → GoesOn p q h.s piece
   next_going Opening going g = g
   next_going Decision going g = g
-  next_going (Notice notice) going g = g
+  next_going Proof going g = g
+  next_going Told going g = g
   next_going Closing going g = absurd going
   next_going (Error kind) going g = absurd going
 
@@ -126,7 +126,8 @@ nothing_more report script p before now h =
 pub is_going : (piece : Piece) → (piece ≡ Closing → ⊥) → ((kind : Kind) → piece ≡ Error kind → ⊥) → IsGoing piece
 is_going Opening f g = tt
 is_going Decision f g = tt
-is_going (Notice notice) f g = tt
+is_going Proof f g = tt
+is_going Told f g = tt
 is_going Closing f g = f refl
 is_going (Error kind) f g = g kind refl
 

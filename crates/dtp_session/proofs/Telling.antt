@@ -1,13 +1,14 @@
--- The line of the decision that is held.
+-- The lines that are made of what is held.
 use Rattle.std.proofs.Common.{arith, inl, inr, refl, sym, ap, subst, ◌∙◌, ◌≡◌, ℕ, List, [], Option, Some, None, Result, Ok}
 use Rattle.std.proofs.lemmas.Result.{on_ok_weaker, on_err_weaker}
 use Rattle.cert_text.specs.declared.entry.Entry.{Entry}
+use Rattle.cert_text.specs.Form.{entry_sexpr, line_of}
 use Rattle.dtp_entry.specs.declared.error.SessionError.{SessionError}
 use Rattle.dtp_entry.specs.Transcripts.{decision_line}
 use Rattle.dtp_entry.specs.Written.{Writes, IsPartOf, WritesOne}
 use Rattle.dtp_entry.proofs.Written.{appends_nothing}
 use Rattle.dtp_session.specs.declared.piece.Piece.{Piece}
-use Rattle.dtp_session.specs.declared.piece.Piece.TheVariants.{Decision}
+use Rattle.dtp_session.specs.declared.piece.Piece.TheVariants.{Decision, Proof}
 use Rattle.dtp_session.specs.declared.session.Session.{Session}
 use Rattle.dtp_session.specs.Sessions.{IsText}
 
@@ -31,13 +32,29 @@ decision_told p entry before now faults_before faults_now r held h =
     (λ text is other e. (let same : entry ≡ other = (let both : Some entry ≡ Some other = sym held ∙ e in cc) in is ∙ ap (decision_line p.report) same))
     before now faults_before faults_now r h
 
-pub nothing_told : (p : Session) (now : Option (List ℕ)) (faults : ℕ) → p.held ≡ None → WritesOne (IsText p Decision) now now faults faults (Ok tt)
-nothing_told p now faults none = record {
-  whole = ([], appends_nothing now, λ other e. (let both : None ≡ Some other = sym none ∙ e in absurd (cc)));
+pub proof_told : (p : Session) (entry : Entry) (before now : Option (List ℕ)) (faults_before faults_now : ℕ) (r : Result (Unit {0}) SessionError) → p.held ≡ Some entry
+    → WritesOne (λ text. text ≡ line_of (entry_sexpr entry)) before now faults_before faults_now r → WritesOne (IsText p Proof) before now faults_before faults_now r
+proof_told p entry before now faults_before faults_now r held h =
+    writes_too (λ text. text ≡ line_of (entry_sexpr entry)) (IsText p Proof)
+    (λ text is other e. (let same : entry ≡ other = (let both : Some entry ≡ Some other = sym held ∙ e in cc) in is ∙ ap (λ (found : Entry). line_of (entry_sexpr found)) same))
+    before now faults_before faults_now r h
+
+nothing_held : (p : Session) (entry : Entry) → p.held ≡ None → p.held ≡ Some entry → ⊥
+nothing_held p entry none e = let both : None ≡ Some entry = sym none ∙ e in cc
+
+pub nothing_told : (p : Session) (piece : Piece) (now : Option (List ℕ)) (faults : ℕ) → IsText p piece [] → WritesOne (IsText p piece) now now faults faults (Ok tt)
+nothing_told p piece now faults says = record {
+  whole = ([], appends_nothing now, says);
   part = tt;
   fault = record { rose = λ e. absurd (cc); quiet = λ ne. refl; later = omega arith };
 }
 
-pub decision_as : (p : Session) (piece : Piece) (before now : Option (List ℕ)) (faults_before faults_now : ℕ) (r : Result (Unit {0}) SessionError) → piece ≡ Decision
-    → WritesOne (IsText p Decision) before now faults_before faults_now r → WritesOne (IsText p piece) before now faults_before faults_now r
-decision_as p piece before now faults_before faults_now r e h = subst (λ (z : Piece). WritesOne (IsText p z) before now faults_before faults_now r) (sym e) h
+pub no_decision : (p : Session) → p.held ≡ None → IsText p Decision []
+no_decision p none = λ entry e. absurd (nothing_held p entry none e)
+
+pub no_proof : (p : Session) → p.held ≡ None → IsText p Proof []
+no_proof p none = λ entry e. absurd (nothing_held p entry none e)
+
+pub piece_as : (p : Session) (piece other : Piece) (before now : Option (List ℕ)) (faults_before faults_now : ℕ) (r : Result (Unit {0}) SessionError) → piece ≡ other
+    → WritesOne (IsText p other) before now faults_before faults_now r → WritesOne (IsText p piece) before now faults_before faults_now r
+piece_as p piece other before now faults_before faults_now r e h = subst (λ (z : Piece). WritesOne (IsText p z) before now faults_before faults_now r) (sym e) h

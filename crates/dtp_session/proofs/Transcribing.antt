@@ -16,7 +16,7 @@ use Rattle.dtp_entry.specs.declared.report.Report.{Report}
 use Rattle.dtp_entry.specs.Transcripts.{Held, closing, Answered, answered, last, error, Replies, Output, done, refused, behind, Closes, Follows, FollowsPart, TranscribesFrom, TranscribesPartFrom}
 use Rattle.dtp_entry.specs.Written.{IsFront}
 use Rattle.dtp_session.specs.declared.piece.Piece.{Piece}
-use Rattle.dtp_session.specs.declared.piece.Piece.TheVariants.{Opening, Decision, Notice, Closing, Error}
+use Rattle.dtp_session.specs.declared.piece.Piece.TheVariants.{Opening, Decision, Proof, Told, Closing, Error}
 use Rattle.dtp_session.specs.declared.session.Session.{Session}
 use Rattle.dtp_session.specs.Sessions.{IsText, From, PartFrom, IsAnsweredBy, Gives, GoesOn, IsNext}
 
@@ -154,7 +154,8 @@ module _ (p q : Session) (s : State) (lexed : Lexing) (lexer : q.lexer ≡ lexed
     }
     command_next Opening (a, h, by) = record { cut = going_cut Opening a h by; leads = going_next Opening a h by }
     command_next Decision (a, h, by) = record { cut = going_cut Decision a h by; leads = going_next Decision a h by }
-    command_next (Notice notice) (a, h, by) = record { cut = going_cut (Notice notice) a h by; leads = going_next (Notice notice) a h by }
+    command_next Proof (a, h, by) = record { cut = going_cut Proof a h by; leads = going_next Proof a h by }
+    command_next Told (a, h, by) = record { cut = going_cut Told a h by; leads = going_next Told a h by }
 
   pub end_next : (after : ℕ) → Outcomes p.lexer.bytes p.lexer.place finished after → IsNext p q s Closing
   end_next after h = record {

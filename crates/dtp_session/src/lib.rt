@@ -11,6 +11,7 @@
 
 mod decision;
 mod gate;
+mod notices;
 mod options;
 mod piece;
 mod session;

@@ -1,10 +1,9 @@
 //! The pieces of what is written.
-ghost use Rattle.std.specs.Prelude.{◌≡◌, ◌≢◌, ◌++◌, ℕ, List, IfOk, OnOk};
-ghost use Rattle.smt_script.specs.States.{State as Meaning};
-ghost use Rattle.dtp_entry.specs.Transcripts.{Held, decision_line, told};
+ghost use Rattle.std.specs.Prelude.{◌≡◌, ◌≢◌, ◌++◌, List, ℕ, IfOk, OnOk};
+ghost use Rattle.dtp_entry.specs.Transcripts.{decision_line};
 ghost use Rattle.dtp_entry.specs.Written.{WritesOne};
 ghost use Rattle.dtp_entry.specs.declared.report.Report.TheVariants.{Verdicts};
-ghost use Rattle.dtp_session.specs.declared.piece.Piece.TheVariants.{Decision};
+ghost use Rattle.dtp_session.specs.declared.piece.Piece.TheVariants.{Decision, Proof, Told};
 ghost use Rattle.dtp_session.specs.Sessions.{IsText};
 
 use crate::session::Session;
@@ -12,8 +11,7 @@ use cert_stream::write_entry;
 use cert_text::{Entry, write_end, write_header};
 use dtp_entry::{Report, SessionError, write_text};
 use dtp_io::Sink;
-use smt_answer::{Kind, error_text, success_text, unsupported_text, verdict_text};
-use smt_script::Notice;
+use smt_answer::{Kind, error_text, verdict_text};
 use std::alloc::{AllocError, Global};
 
 /// A piece of what is written of a script.
@@ -23,8 +21,10 @@ pub enum Piece {
     Opening,
     /// The line of a check-sat, by the entry that is held.
     Decision,
-    /// What is told of a command that asks for no decision.
-    Notice(Notice),
+    /// The line of the entry that is held.
+    Proof,
+    /// The text that the session has made.
+    Told,
     /// What stands behind the last answer of a script without an error.
     Closing,
     /// The line of an error.
@@ -60,27 +60,12 @@ fn write_line<K: Sink>(
     }
 }
 
-/// Appends what is told of a command that asks for no decision.
-fn append_notice(
-    report: Report,
-    print_success: bool,
-    notice: Notice,
-    text: &mut Vec<u8>,
-) -> Result<(), AllocError>
-    ensures { OnOk result ((held : Held) (s : Meaning) → print_success ≡ s.print_success
-        → text.new.items ≡ text.old.items ++ told report held s notice) }
-{
-    match (report, notice) {
-        (Report::Verdicts, Notice::Success) if print_success => success_text(text),
-        (Report::Verdicts, Notice::Unsupported) => unsupported_text(text),
-        _ => Ok(()),
-    }
-}
-
 impl<'a> Session<'a> {
-    /// Appends a piece that isn't a decision.
+    /// Appends a piece that isn't made of what is held or of the session's text.
     fn append(&self, piece: Piece, text: &mut Vec<u8>) -> Result<(), AllocError>
-        requires { piece ≢ Decision }
+        requires decision { piece ≢ Decision }
+        requires proof { piece ≢ Proof }
+        requires told { piece ≢ Told }
         ensures { OnOk result ((added : List ℕ) × IsText self.now piece added
             × (text.new.items ≡ text.old.items ++ added)) }
     {
@@ -89,13 +74,7 @@ impl<'a> Session<'a> {
                 Report::Verdicts => Ok(()),
                 Report::Certificate => write_header(text),
             },
-            Piece::Decision => Ok(()),
-            Piece::Notice(notice) => append_notice(
-                self.report,
-                self.state.print_success(),
-                notice,
-                text,
-            ),
+            Piece::Decision | Piece::Proof | Piece::Told => Ok(()),
             Piece::Closing => match self.report {
                 Report::Verdicts => Ok(()),
                 Report::Certificate => write_end(text),
@@ -104,23 +83,27 @@ impl<'a> Session<'a> {
         }
     }
 
-    /// The text of a piece that isn't a decision.
-    fn text(&self, piece: Piece) -> Result<Vec<u8>, AllocError>
-        requires { piece ≢ Decision }
+    fn write_text_of<K: Sink>(&self, piece: Piece, sink: &mut K) -> Result<(), SessionError>
+        requires decision { piece ≢ Decision }
+        requires proof { piece ≢ Proof }
+        requires told { piece ≢ Told }
+        ensures { WritesOne (IsText self.now piece) (K.holds sink.old) (K.holds sink.new)
+            (K.faults sink.old) (K.faults sink.new) result }
+    {
+        let text = self.text_of(piece)?;
+        write_text(sink, &text)
+    }
+
+    /// The text of a piece that isn't made of what is held or of the session's text.
+    fn text_of(&self, piece: Piece) -> Result<Vec<u8>, AllocError>
+        requires decision { piece ≢ Decision }
+        requires proof { piece ≢ Proof }
+        requires told { piece ≢ Told }
         ensures { IfOk result (λ text. IsText self.now piece text.items) }
     {
         let mut text = Vec::new(self.alloc);
         self.append(piece, &mut text)?;
         Ok(text)
-    }
-
-    fn write_text_of<K: Sink>(&self, piece: Piece, sink: &mut K) -> Result<(), SessionError>
-        requires { piece ≢ Decision }
-        ensures { WritesOne (IsText self.now piece) (K.holds sink.old) (K.holds sink.new)
-            (K.faults sink.old) (K.faults sink.new) result }
-    {
-        let text = self.text(piece)?;
-        write_text(sink, &text)
     }
 
     fn write_decision<K: Sink>(&self, sink: &mut K) -> Result<(), SessionError>
@@ -133,6 +116,24 @@ impl<'a> Session<'a> {
         }
     }
 
+    /// Writes the entry that is held, lemma by lemma.
+    fn write_proof<K: Sink>(&self, sink: &mut K) -> Result<(), SessionError>
+        ensures { WritesOne (IsText self.now Proof) (K.holds sink.old) (K.holds sink.new)
+            (K.faults sink.old) (K.faults sink.new) result }
+    {
+        match &self.held {
+            Some(entry) => write_entry(self.alloc, entry, sink),
+            None => Ok(()),
+        }
+    }
+
+    fn write_told<K: Sink>(&self, sink: &mut K) -> Result<(), SessionError>
+        ensures { WritesOne (IsText self.now Told) (K.holds sink.old) (K.holds sink.new)
+            (K.faults sink.old) (K.faults sink.new) result }
+    {
+        write_text(sink, &self.text)
+    }
+
     /// Writes a piece.
     pub fn write<K: Sink>(&self, piece: Piece, sink: &mut K) -> Result<(), SessionError>
         ensures { WritesOne (IsText self.now piece) (K.holds sink.old) (K.holds sink.new)
@@ -140,6 +141,8 @@ impl<'a> Session<'a> {
     {
         match piece {
             Piece::Decision => self.write_decision(sink),
+            Piece::Proof => self.write_proof(sink),
+            Piece::Told => self.write_told(sink),
             _ => self.write_text_of(piece, sink),
         }
     }

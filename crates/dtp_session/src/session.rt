@@ -4,10 +4,9 @@ ghost use Rattle.dtp_io.specs.Faults.{Rose};
 ghost use Rattle.smt_sexpr.specs.Tree.{Sexpr};
 ghost use Rattle.smt_sexpr.specs.Table.{Means, HasMeaning};
 ghost use Rattle.smt_script.specs.States.{State as Meaning};
-ghost use Rattle.dtp_entry.specs.Standing.{Stands};
 ghost use Rattle.dtp_entry.specs.Transcripts.{Answers, Replies, IsReport, IsReportPart};
 ghost use Rattle.dtp_entry.specs.Written.{Writes};
-ghost use Rattle.dtp_session.specs.Sessions.{IsReady, IsStart, KeepsReading, KeepsScript, Gives, IsChecked, IsGoing, IsNext};
+ghost use Rattle.dtp_session.specs.Sessions.{Holds, MayTell, IsReady, IsStart, KeepsReading, KeepsScript, Gives, IsChecked, IsGoing, IsNext};
 ghost use Rattle.dtp_session.specs.Ends.{status_of};
 
 use crate::decision::decide;
@@ -39,6 +38,10 @@ pub struct Session<'a> {
     pub state: State<'a>,
     /// What the mode holds: the entry that decided the last check-sat.
     pub held: Option<Entry>,
+    /// The truth of the table's first nodes on a schedule that is held, of as many as values were asked for.
+    pub marks: Vec<bool>,
+    /// What is told of the last command.
+    pub text: Vec<u8>,
     /// The number of the next command, from 1.
     pub command: u64,
 }
@@ -68,6 +71,8 @@ impl<'a> Session<'a> {
             sexprs: Sexprs::new(alloc, bytes),
             state: State::new(alloc),
             held: None,
+            marks: Vec::new(alloc),
+            text: Vec::new(alloc),
             command: 1,
         }
     }
@@ -99,7 +104,7 @@ impl<'a> Session<'a> {
     /// Reads the next command, and carries it out: the piece that answers it, or the last one.
     fn next_piece(&mut self) -> Result<Piece, AllocError>
         requires { IsReady self.old }
-        ensures next { IfOk result (λ piece. (s : Meaning) → Stands self.old.state s
+        ensures next { IfOk result (λ piece. (s : Meaning) → Holds self.old s
             → IsNext self.old self.new s piece) }
         ensures fresh { IfOk result (λ piece. IsGoing piece → self.new.lexer.failed ≡ None) }
         ensures forward { IfOk result (λ piece. IsGoing piece → self.old.lexer.place < self.new.lexer.place) }
@@ -121,16 +126,17 @@ impl<'a> Session<'a> {
     /// Carries out a command, and gives the piece that answers it.
     fn carry_out(&mut self, id: SexprId) -> Result<Piece, AllocError>
         requires meaning { HasMeaning self.old.sexprs id }
-        requires stands { (s : Meaning) × Stands self.old.state s }
+        requires stands { (s : Meaning) × Holds self.old s }
         ensures gives { IfOk result (λ piece. (s : Meaning) (x : Sexpr)
-            → Stands self.old.state s → Means self.old.sexprs id x
+            → Holds self.old s → Means self.old.sexprs id x
             → Gives self.old.report self.new (Replies self.old.report self.old.held s x) piece) }
         ensures keeps { KeepsReading self.old self.new }
     {
         smt_script::state_law();
+        smt_script::mode_law();
         match self.state.step(&self.sexprs, id) {
             Ok(effect) => {
-                let piece = self.answer_effect(effect)?;
+                let piece = self.answer_effect(id, effect)?;
                 Ok(piece)
             }
             Err(ScriptError::Refused(why)) => Ok(Piece::Error(kind_of(why))),
@@ -138,11 +144,13 @@ impl<'a> Session<'a> {
         }
     }
 
-    /// The piece that answers an effect.
-    fn answer_effect(&mut self, effect: Effect) -> Result<Piece, AllocError>
-        requires { (s : Meaning) × Stands self.old.state s }
-        ensures gives { IfOk result (λ piece. (s : Meaning) → Stands self.old.state s
-            → Gives self.old.report self.new (Answers self.old.report self.old.held s effect) piece) }
+    /// The piece that answers an effect of the command.
+    fn answer_effect(&mut self, id: SexprId, effect: Effect) -> Result<Piece, AllocError>
+        requires { (s : Meaning) × (x : Sexpr) × Holds self.old s × Means self.old.sexprs id x
+            × MayTell s x effect }
+        ensures gives { IfOk result (λ piece. (s : Meaning) (x : Sexpr) → Holds self.old s
+            → Means self.old.sexprs id x → MayTell s x effect
+            → Gives self.old.report self.new (Answers self.old.report self.old.held s x effect) piece) }
         ensures keeps { KeepsReading self.old self.new }
     {
         match effect {
@@ -150,19 +158,23 @@ impl<'a> Session<'a> {
                 self.check()?;
                 Ok(Piece::Decision)
             }
-            Effect::Tell(notice) => Ok(Piece::Notice(notice)),
+            Effect::Tell(notice) => {
+                let piece = self.tell(id, notice)?;
+                Ok(piece)
+            }
             Effect::Exit => Ok(Piece::Closing),
         }
     }
 
     /// Decides the assertions, and holds what was found in place of what was held before.
     fn check(&mut self) -> Result<(), AllocError>
-        requires { (s : Meaning) × Stands self.old.state s }
-        ensures checked { OnOk result ((s : Meaning) → Stands self.old.state s → IsChecked self.new s) }
+        requires { (s : Meaning) × Holds self.old s }
+        ensures checked { OnOk result ((s : Meaning) → Holds self.old s → IsChecked self.new s) }
         ensures keeps { KeepsReading self.old self.new }
     {
         smt_script::state_law();
         self.held = None;
+        self.marks.clear();
         let entry = decide(self.alloc, &self.state, u64::from(self.options.slice))?;
         self.state.settle(verdict_of(&entry));
         self.held = Some(entry);

@@ -9,3 +9,9 @@ five old a b c d e o p q r s f g h i j =
     ∙ append_assoc ((old ++ a) ++ b) c (d ++ e)
     ∙ append_assoc (old ++ a) b (c ++ (d ++ e))
     ∙ append_assoc old a (b ++ (c ++ (d ++ e)))
+
+pub three : (old a b c o p q : List ℕ) → o ≡ old ++ a → p ≡ o ++ b → q ≡ p ++ c → q ≡ old ++ (a ++ (b ++ c))
+three old a b c o p q f g h =
+    h ∙ ap (λ (t : List ℕ). t ++ c) (g ∙ ap (λ (t : List ℕ). t ++ b) f)
+    ∙ append_assoc (old ++ a) b c
+    ∙ append_assoc old a (b ++ c)

@@ -8,7 +8,7 @@ use Rattle.idl_term.specs.declared.error.TermRefusal.TheVariants as term
 use Rattle.smt_script.specs.declared.error.Refusal.{Refusal}
 use Rattle.smt_script.specs.declared.error.Refusal.TheVariants as script
 use Rattle.smt_answer.specs.declared.kind.Kind.{Kind}
-use Rattle.smt_answer.specs.declared.kind.Kind.TheVariants.{BadByte, UnclosedString, UnclosedQuotedSymbol, LeadingZero, UnclosedList, StrayClose, UnknownCommand, IllFormedCommand, LogicNotSupported, AlreadyDeclared, TooManyNames, TooManyLevels, PopBelowTheBottom, UnknownSymbol, IllFormedTerm, WrongCount, WrongSort, NotADifference, BoundTooLarge, TooLarge, LeftOut, NotYet}
+use Rattle.smt_answer.specs.declared.kind.Kind.TheVariants.{BadByte, UnclosedString, UnclosedQuotedSymbol, LeadingZero, UnclosedList, StrayClose, UnknownCommand, IllFormedCommand, LogicNotSupported, AlreadyDeclared, TooManyNames, TooManyLevels, PopBelowTheBottom, NoModel, NoProof, UnknownSymbol, IllFormedTerm, WrongCount, WrongSort, NotADifference, BoundTooLarge, TooLarge, LeftOut}
 use Rattle.smt_answer.specs.declared.kind.LeftOut.TheVariants as left_out
 
 abbrev pub lexical_kind : LexErrorKind → Kind
@@ -41,6 +41,7 @@ kind_of script.AlreadyDeclared = AlreadyDeclared
 kind_of script.TooManyNames = TooManyNames
 kind_of script.TooManyLevels = TooManyLevels
 kind_of script.PopBelowTheBottom = PopBelowTheBottom
+kind_of script.NoModel = NoModel
+kind_of script.NoProof = NoProof
 kind_of (script.LeftOut c) = LeftOut (left_out.Command c)
 kind_of (script.Term why) = kind_of_term why
-kind_of script.NotYet = NotYet

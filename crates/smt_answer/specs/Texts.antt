@@ -1,12 +1,23 @@
 -- The texts of the answers. Each is a line (SMT-LIB 2.6, section 3.9: `success`, `unsupported`, `sat`, `unsat`, and `(error text)`
 -- in general). What stands in the text of an error is this project's choice.
-use Rattle.std.specs.Prelude.{ℕ, List, ◌++◌, codes, decimal, Bool, true, false}
+use Rattle.std.specs.Prelude.{ℕ, suc, ℤ, pos, negsuc, List, [], ◌∷◌, ◌++◌, codes, decimal, Bool, true, false}
+use Rattle.smt_lex.specs.declared.token.TokenKind.TheVariants.{Symbol}
+use Rattle.smt_sexpr.specs.Tree.{Sexpr, Items, none, more}
+use Rattle.smt_sexpr.specs.Printing.{text_of, written}
+use Rattle.stn_core.specs.declared.named.NamedValue.{NamedValue}
+use Rattle.idl_node.specs.declared.sort.Sort.{Sort}
+use Rattle.idl_node.specs.declared.sort.Sort.TheVariants as sort
+use Rattle.idl_term.specs.Contexts.{value_of_named}
+use Rattle.idl_term.specs.Scopes.{Declaration}
+use Rattle.idl_term.specs.Values.{Value, whole, truth, nothing}
+use Rattle.smt_script.specs.declared.information.Information.{Information}
+use Rattle.smt_script.specs.declared.information.Information.TheVariants.{Name, Version, Authors, ErrorBehavior, AssertionStackLevels}
 use Rattle.idl_term.specs.declared.error.LeftOutTerm.{LeftOutTerm}
 use Rattle.idl_term.specs.declared.error.LeftOutTerm.TheVariants as term
 use Rattle.smt_script.specs.declared.error.LeftOutCommand.{LeftOutCommand}
 use Rattle.smt_script.specs.declared.error.LeftOutCommand.TheVariants as command
 use Rattle.smt_answer.specs.declared.kind.Kind.{Kind}
-use Rattle.smt_answer.specs.declared.kind.Kind.TheVariants.{BadByte, UnclosedString, UnclosedQuotedSymbol, LeadingZero, UnclosedList, StrayClose, UnknownCommand, IllFormedCommand, LogicNotSupported, AlreadyDeclared, TooManyNames, TooManyLevels, PopBelowTheBottom, UnknownSymbol, IllFormedTerm, WrongCount, WrongSort, NotADifference, BoundTooLarge, TooLarge, LeftOut, NotYet}
+use Rattle.smt_answer.specs.declared.kind.Kind.TheVariants.{BadByte, UnclosedString, UnclosedQuotedSymbol, LeadingZero, UnclosedList, StrayClose, UnknownCommand, IllFormedCommand, LogicNotSupported, AlreadyDeclared, TooManyNames, TooManyLevels, PopBelowTheBottom, NoModel, NoProof, UnknownSymbol, IllFormedTerm, WrongCount, WrongSort, NotADifference, BoundTooLarge, TooLarge, LeftOut}
 use Rattle.smt_answer.specs.declared.kind.LeftOut.{LeftOut as Construct}
 use Rattle.smt_answer.specs.declared.kind.LeftOut.TheVariants as left_out
 
@@ -68,6 +79,8 @@ fixed_text AlreadyDeclared = codes "already declared"
 fixed_text TooManyNames = codes "too many names"
 fixed_text TooManyLevels = codes "too many levels"
 fixed_text PopBelowTheBottom = codes "pop below the bottom"
+fixed_text NoModel = codes "no model"
+fixed_text NoProof = codes "no proof"
 fixed_text UnknownSymbol = codes "unknown symbol"
 fixed_text IllFormedTerm = codes "ill-formed term"
 fixed_text WrongCount = codes "wrong count of arguments"
@@ -76,7 +89,6 @@ fixed_text NotADifference = codes "not a difference"
 fixed_text BoundTooLarge = codes "bound too large"
 fixed_text TooLarge = codes "too large"
 fixed_text (LeftOut c) = codes "left out: "
-fixed_text NotYet = codes "not yet"
 
 abbrev pub kind_text : Kind → List ℕ
 kind_text (LeftOut c) = fixed_text (LeftOut c) ++ left_out_text c
@@ -85,3 +97,73 @@ kind_text kind = fixed_text kind
 -- the commands are counted from 1 over all that are read
 unfoldable pub error_line : ℕ → Kind → List ℕ
 error_line command kind = codes "(error \"command " ++ (decimal command ++ (codes ": " ++ (kind_text kind ++ codes "\")\n")))
+
+-- ---- models and values (SMT-LIB 2.6, sections 4.1.7 and 4.2.6)
+
+-- a numeral, or `(- n)` below 0
+abbrev pub number_text : ℤ → List ℕ
+number_text (pos n) = decimal n
+number_text (negsuc n) = codes "(- " ++ (decimal (suc n) ++ codes ")")
+
+abbrev pub truth_text : Bool → List ℕ
+truth_text true = codes "true"
+truth_text false = codes "false"
+
+-- a term that is accepted has a value
+abbrev pub value_text : Value → List ℕ
+value_text (whole n) = number_text n
+value_text (truth b) = truth_text b
+value_text nothing = []
+
+abbrev pub sort_text : Sort → List ℕ
+sort_text sort.Int = codes "Int"
+sort_text sort.Bool = codes "Bool"
+
+-- what stands before a name's value; names are written as symbols are
+abbrev pub signature_text : Declaration → List ℕ
+signature_text d =
+    codes "  (define-fun " ++ (written Symbol d.name ++ (codes " () " ++ (sort_text d.sort ++ codes " ")))
+
+-- a name with its value
+abbrev pub definition_line : Declaration → NamedValue → List ℕ
+definition_line d v = signature_text d ++ (value_text (value_of_named v) ++ codes ")\n")
+
+abbrev pub definition_lines : List Declaration → List NamedValue → List ℕ
+definition_lines (d ∷ names) (v ∷ values) = definition_line d v ++ definition_lines names values
+definition_lines _ _ = []
+
+-- the names with their values, in order of declaration, a line of each
+abbrev pub model_lines : List Declaration → List NamedValue → List ℕ
+model_lines names values = codes "(\n" ++ (definition_lines names values ++ codes ")\n")
+
+-- a term, as s-expressions are written, with its value
+abbrev pub pair_text : Sexpr → Value → List ℕ
+pair_text t v = codes "(" ++ (text_of t ++ (codes " " ++ (value_text v ++ codes ")")))
+
+-- the pairs behind another, each behind a space, and what ends the line
+abbrev pub pairs_behind : (Sexpr → Value) → Items → List ℕ
+pairs_behind value_of none = codes ")\n"
+pairs_behind value_of (more t ts) = codes " " ++ (pair_text t (value_of t) ++ pairs_behind value_of ts)
+
+abbrev pub pairs_text : (Sexpr → Value) → Items → List ℕ
+pairs_text value_of none = codes ")\n"
+pairs_text value_of (more t ts) = pair_text t (value_of t) ++ pairs_behind value_of ts
+
+-- the terms with their values, in order
+abbrev pub values_line : (Sexpr → Value) → Items → List ℕ
+values_line value_of ts = codes "(" ++ pairs_text value_of ts
+
+-- ---- information and echoes
+
+-- so many levels are above the bottom
+abbrev pub information_line : Information → ℕ → List ℕ
+information_line Name levels = codes "(:name \"dtp\")\n"
+information_line Version levels = codes "(:version \"1\")\n"
+information_line Authors levels = codes "(:authors \"dtp\")\n"
+information_line ErrorBehavior levels = codes "(:error-behavior immediate-exit)\n"
+information_line AssertionStackLevels levels =
+    codes "(:assertion-stack-levels " ++ (decimal levels ++ codes ")\n")
+
+-- a text in its quotation marks
+abbrev pub echo_line : List ℕ → List ℕ
+echo_line text = text ++ codes "\n"

@@ -35,6 +35,8 @@ pub enum Kind {
     TooManyNames,
     TooManyLevels,
     PopBelowTheBottom,
+    NoModel,
+    NoProof,
     UnknownSymbol,
     IllFormedTerm,
     WrongCount,
@@ -43,8 +45,6 @@ pub enum Kind {
     BoundTooLarge,
     TooLarge,
     LeftOut(LeftOut),
-    /// A command that isn't there yet.
-    NotYet,
 }
 
 impl From<TermRefusal> for Kind {
@@ -82,9 +82,10 @@ impl From<Refusal> for Kind {
             Refusal::TooManyNames => Kind::TooManyNames,
             Refusal::TooManyLevels => Kind::TooManyLevels,
             Refusal::PopBelowTheBottom => Kind::PopBelowTheBottom,
+            Refusal::NoModel => Kind::NoModel,
+            Refusal::NoProof => Kind::NoProof,
             Refusal::LeftOut(construct) => Kind::LeftOut(LeftOut::Command(construct)),
             Refusal::Term(why) => Kind::from(why),
-            Refusal::NotYet => Kind::NotYet,
         }
     }
 }

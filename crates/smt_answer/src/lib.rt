@@ -3,6 +3,10 @@
 
 mod kind;
 mod text;
+mod values;
 
 pub use kind::{Kind, LeftOut, kind_of_unreadable};
-pub use text::{error_text, kind_text, success_text, unsupported_text, verdict_text};
+pub use text::{
+    echo_text, error_text, info_text, kind_text, success_text, unsupported_text, verdict_text,
+};
+pub use values::{model_text, values_text};

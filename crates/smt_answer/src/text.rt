@@ -1,13 +1,14 @@
 //! The texts of answers, appended to what is there. After an error what is there is as before.
 ghost use Rattle.std.specs.Prelude.{◌≡◌, ◌++◌, ◌<◌, ◌^◌, codes, take, OnOk, OnErr, IfOk};
 ghost use Rattle.std.specs.Vec.{vec_len};
-ghost use Rattle.smt_answer.specs.Texts.{fixed_text, kind_text, left_out_text, term_text, command_text, error_line, verdict_line, success_line, unsupported_line};
+ghost use Rattle.smt_answer.specs.Texts.{fixed_text, kind_text, left_out_text, term_text, command_text, error_line, verdict_line, success_line, unsupported_line, information_line, echo_line};
+ghost use Rattle.smt_script.specs.declared.information.Information.TheVariants.{AssertionStackLevels};
 
 use crate::kind::{Kind, LeftOut};
 use bstr::ByteVec;
 use idl_term::LeftOutTerm;
 use itoa::Buffer;
-use smt_script::LeftOutCommand;
+use smt_script::{Information, LeftOutCommand};
 use std::alloc::AllocError;
 
 /// What the error's line names of what is left out of terms.
@@ -75,6 +76,8 @@ fn fixed_text(kind: Kind) -> &'static str
         Kind::TooManyNames => "too many names",
         Kind::TooManyLevels => "too many levels",
         Kind::PopBelowTheBottom => "pop below the bottom",
+        Kind::NoModel => "no model",
+        Kind::NoProof => "no proof",
         Kind::UnknownSymbol => "unknown symbol",
         Kind::IllFormedTerm => "ill-formed term",
         Kind::WrongCount => "wrong count of arguments",
@@ -83,7 +86,6 @@ fn fixed_text(kind: Kind) -> &'static str
         Kind::BoundTooLarge => "bound too large",
         Kind::TooLarge => "too large",
         Kind::LeftOut(_) => "left out: ",
-        Kind::NotYet => "not yet",
     }
 }
 
@@ -161,4 +163,65 @@ pub fn unsupported_text(out: &mut Vec<u8>) -> Result<(), AllocError>
     ensures err { OnErr result (out.new.items ≡ out.old.items) }
 {
     out.push_str(b"unsupported\n")
+}
+
+/// Appends what `get-info` is answered, where so many levels are above the bottom.
+pub fn info_text(
+    information: Information,
+    levels: usize,
+    out: &mut Vec<u8>,
+) -> Result<(), AllocError>
+    ensures ok { OnOk result (out.new.items ≡ out.old.items ++ information_line information levels) }
+    ensures err { OnErr result (out.new.items ≡ out.old.items) }
+{
+    match information {
+        Information::Name => out.push_str(b"(:name \"dtp\")\n"),
+        Information::Version => out.push_str(b"(:version \"1\")\n"),
+        Information::Authors => out.push_str(b"(:authors \"dtp\")\n"),
+        Information::ErrorBehavior => out.push_str(b"(:error-behavior immediate-exit)\n"),
+        Information::AssertionStackLevels => levels_text(levels, out),
+    }
+}
+
+fn write_levels(levels: usize, out: &mut Vec<u8>) -> Result<(), AllocError>
+    ensures ok { OnOk result (out.new.items
+        ≡ out.old.items ++ information_line AssertionStackLevels levels) }
+    ensures front { take (vec_len out.old) out.new.items ≡ out.old.items }
+{
+    let mut buffer = Buffer::new();
+    out.push_str(b"(:assertion-stack-levels ")?;
+    out.push_str(buffer.format(levels).as_bytes())?;
+    out.push_str(b")\n")?;
+    Ok(())
+}
+
+fn levels_text(levels: usize, out: &mut Vec<u8>) -> Result<(), AllocError>
+    ensures ok { OnOk result (out.new.items
+        ≡ out.old.items ++ information_line AssertionStackLevels levels) }
+    ensures err { OnErr result (out.new.items ≡ out.old.items) }
+{
+    let before = out.len();
+    match write_levels(levels, out) {
+        Ok(()) => Ok(()),
+        Err(error) => {
+            out.truncate(before);
+            Err(error)
+        }
+    }
+}
+
+/// Appends what `echo` is answered: the text, which stands in its quotation marks.
+pub fn echo_text(text: &[u8], out: &mut Vec<u8>) -> Result<(), AllocError>
+    ensures ok { OnOk result (out.new.items ≡ out.old.items ++ echo_line text.now) }
+    ensures err { OnErr result (out.new.items ≡ out.old.items) }
+{
+    let before = out.len();
+    out.push_str(text)?;
+    match out.push_str(b"\n") {
+        Ok(()) => Ok(()),
+        Err(error) => {
+            out.truncate(before);
+            Err(error)
+        }
+    }
 }

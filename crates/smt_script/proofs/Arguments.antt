@@ -4,7 +4,7 @@ use Rattle.std.specs.Prelude.{IfSome, IsNone}
 use Rattle.smt_sexpr.specs.Tree.{Sexpr, Items, list, none, more, symbol_of}
 use Rattle.smt_sexpr.specs.Table.{Table, MeansEach}
 use Rattle.smt_sexpr.proofs.Shapes.{begun}
-use Rattle.smt_script.specs.Commands.{declaring, defining, with_name, function_command, definition_command, annotation_in, annotated, annotation_command, assertion_by, assertion_command, asserting}
+use Rattle.smt_script.specs.Commands.{declaring, defining, with_name, function_command, definition_command, annotation_in, annotated, annotation_command, assertion_by, assertion_command, asserting, values_of, values_command, asking_values}
 use Rattle.smt_script.specs.Attributes.{Named, named_in}
 use Rattle.smt_script.specs.Shapes.{AnnotationIs, CountIs}
 
@@ -58,3 +58,14 @@ annotation_from t x ids (Some items) e h = record { items = items; means = h; is
 
 pub annotation_of : (t : Table) (x : Sexpr) (ids : Bor (List ℕ)) → AnnotationIs t (annotation_in x) (Some ids) → IsAnnotated t x ids.now
 annotation_of t x ids h = annotation_from t x ids (annotation_in x) refl h
+
+-- ---- the terms of a `get-value`
+
+values_by : (xs items : Items) (first x : Sexpr) (others : Items) → xs ≡ more first none → first ≡ list items → items ≡ more x others → values_command xs ≡ Ok (asking_values items)
+values_by xs items first x others is listed begins =
+    ap values_command (is ∙ ap (λ (y : Sexpr). more y none) listed) ∙ ap values_of begins ∙ ap (λ (terms : Items). Ok (asking_values terms)) (sym begins)
+
+pub values_is : (t : Table) (ids : List ℕ) (xs items : Items) (first : Sexpr) → xs ≡ more first none → first ≡ list items → MeansEach t ids items → 1 ≤ length ids → values_command xs ≡ Ok (asking_values items)
+values_is t ids xs items first is listed means some =
+    let p = begun t ids items means some in
+    values_by xs items first p.first p.others is listed p.is

@@ -14,12 +14,16 @@ use Rattle.smt_script.specs.declared.error.Refusal.{Refusal}
 use Rattle.smt_script.specs.declared.error.Refusal.TheVariants.{AlreadyDeclared, LogicNotSupported, TooManyNames, TooManyLevels, PopBelowTheBottom}
 use Rattle.smt_script.specs.declared.state.Effect.TheVariants.{CheckSat, Exit, Tell}
 use Rattle.smt_script.specs.declared.state.Notice.{Notice}
-use Rattle.smt_script.specs.declared.state.Notice.TheVariants.{Success, Unsupported}
+use Rattle.smt_script.specs.declared.state.Notice.TheVariants.{Success, Unsupported, Model, Values, Proof, Inform, Echo}
 use Rattle.smt_script.specs.Commands
 use Rattle.smt_script.specs.Commands.{Command, command_of, is_exiting, is_exit}
 use Rattle.smt_script.specs.Limits.{levels_limit}
 use Rattle.smt_script.specs.Options.{OptionEffect, printing_success, no_effect, not_supported, ill_formed_value, option_effect}
-use Rattle.smt_script.specs.States.{State, Step, after_option, is_taken, sort_of, after_declaration, is_of_sort, defined_by, after_definition, asserted_by, named_by, levels_of, after_by, after}
+use Rattle.smt_script.specs.Informing.{information_of}
+use Rattle.smt_script.specs.declared.information.Information.{Information}
+use Rattle.smt_script.specs.declared.state.Mode.{Mode}
+use Rattle.smt_script.specs.declared.state.Mode.TheVariants as mode
+use Rattle.smt_script.specs.States.{State, Step, with_model, with_proof, telling, valued_by, informed_by, after_values, terms_refusal, after_option, is_taken, sort_of, after_declaration, is_of_sort, defined_by, after_definition, asserted_by, named_by, levels_of, after_by, after}
 
 told_apart : (notice : Notice) → Tell notice ≢ Exit
 told_apart notice e = absurd cc
@@ -79,6 +83,24 @@ named_stays : (s : State) (term : Sexpr) (name : List ℕ) (found : Result Made 
 named_stays s term name (Err why) = tt
 named_stays s term name (Ok made) = named_stays_as s term name made made.is refl
 
+model_stays : (m : Mode) (found : Result Step Refusal) → Stays found → Stays (with_model m found)
+model_stays mode.Sat found h = h
+model_stays mode.Unsat found h = tt
+model_stays mode.Nothing found h = tt
+
+proof_stays : (m : Mode) (found : Result Step Refusal) → Stays found → Stays (with_proof m found)
+proof_stays mode.Unsat found h = h
+proof_stays mode.Sat found h = tt
+proof_stays mode.Nothing found h = tt
+
+valued_stays : (s : State) (found : Option TermRefusal) → Stays (valued_by s found)
+valued_stays s (Some why) = tt
+valued_stays s None = told_apart Values
+
+informed_stays : (s : State) (found : Option Information) → Stays (informed_by s found)
+informed_stays s (Some information) = told_apart (Inform information)
+informed_stays s None = told_apart Unsupported
+
 exit_by : (s : State) (found : Result Command Refusal) (step : Step) → after_by s found ≡ Ok step → step.effect ≡ Exit → is_exiting found ≡ true
 exit_by s (Err why) step e f = absurd cc
 exit_by s (Ok Commands.exiting) step e f = refl
@@ -92,6 +114,11 @@ exit_by s (Ok (Commands.naming term name)) step e f = absurd (stays _ step (name
 exit_by s (Ok (Commands.pushing n)) step e f = absurd (stays _ step (stays_if (nat_le (levels_of s + n) levels_limit) _ TooManyLevels (told_apart Success)) e f)
 exit_by s (Ok (Commands.popping n)) step e f = absurd (stays _ step (stays_if (nat_le n (levels_of s)) _ PopBelowTheBottom (told_apart Success)) e f)
 exit_by s (Ok Commands.checking) step e f = absurd (stays _ step check_apart e f)
+exit_by s (Ok Commands.asking_model) step e f = absurd (stays _ step (model_stays s.mode (telling s Model) (told_apart Model)) e f)
+exit_by s (Ok (Commands.asking_values terms)) step e f = absurd (stays _ step (model_stays s.mode (valued_by s (terms_refusal (scope_of s.context) s.context.nodes terms)) (valued_stays s _)) e f)
+exit_by s (Ok Commands.asking_proof) step e f = absurd (stays _ step (proof_stays s.mode (telling s Proof) (told_apart Proof)) e f)
+exit_by s (Ok (Commands.asking_information keyword)) step e f = absurd (stays _ step (informed_stays s (information_of keyword)) e f)
+exit_by s (Ok (Commands.echoing text)) step e f = absurd (stays _ step (told_apart Echo) e f)
 exit_by s (Ok Commands.resetting_assertions) step e f = absurd (stays _ step (told_apart Success) e f)
 exit_by s (Ok Commands.resetting) step e f = absurd (stays _ step (told_apart Success) e f)
 exit_by s (Ok Commands.unsupported) step e f = absurd (stays _ step (told_apart Unsupported) e f)
@@ -108,6 +135,11 @@ exits_by s (Ok (Commands.naming term name)) step e f = absurd cc
 exits_by s (Ok (Commands.pushing n)) step e f = absurd cc
 exits_by s (Ok (Commands.popping n)) step e f = absurd cc
 exits_by s (Ok Commands.checking) step e f = absurd cc
+exits_by s (Ok Commands.asking_model) step e f = absurd cc
+exits_by s (Ok (Commands.asking_values terms)) step e f = absurd cc
+exits_by s (Ok Commands.asking_proof) step e f = absurd cc
+exits_by s (Ok (Commands.asking_information keyword)) step e f = absurd cc
+exits_by s (Ok (Commands.echoing text)) step e f = absurd cc
 exits_by s (Ok Commands.resetting_assertions) step e f = absurd cc
 exits_by s (Ok Commands.resetting) step e f = absurd cc
 exits_by s (Ok Commands.unsupported) step e f = absurd cc

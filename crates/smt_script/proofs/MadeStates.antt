@@ -17,7 +17,11 @@ use Rattle.smt_script.specs.Commands
 use Rattle.smt_script.specs.Commands.{Command, command_of}
 use Rattle.smt_script.specs.Limits.{levels_limit}
 use Rattle.smt_script.specs.Options.{OptionEffect, printing_success, no_effect, not_supported, ill_formed_value, option_effect}
-use Rattle.smt_script.specs.States.{State, Step, start_state, carried_out, is_of_sort, is_taken, sort_of, after_logic, after_option, after_declaration, defined_by, after_definition, asserted_by, named_by, after_push, popped, after_pop, after_command, after_by, after, settled, IsMadeState}
+use Rattle.smt_script.specs.States.{State, Step, start_state, carried_out, is_of_sort, is_taken, sort_of, with_model, with_proof, telling, valued_by, terms_refusal, informed_by, after_values, after_logic, after_option, after_declaration, defined_by, after_definition, asserted_by, named_by, after_push, popped, after_pop, after_command, after_by, after, settled, IsMadeState}
+use Rattle.smt_script.specs.Informing.{information_of}
+use Rattle.smt_script.specs.declared.information.Information.{Information}
+use Rattle.smt_script.specs.declared.state.Mode.{Mode}
+use Rattle.smt_script.specs.declared.state.Notice.{Notice}
 use Rattle.smt_script.specs.declared.error.Refusal.{Refusal}
 use Rattle.smt_script.specs.declared.state.Effect.{Effect}
 use Rattle.smt_script.specs.declared.state.Mode.TheVariants as mode
@@ -124,6 +128,27 @@ module _ (s : State) (h : IsMadeState s) where
       (λ e. leads_to (popped s n) _ (record { context = one_of_all (length s.below - n) s.context s.below h.context h.below; below = all_taken (length s.below - n) s.below h.below }))
       (λ e. refuses _)
 
+  telling_made : (notice : Notice) → LeadsWell (telling s notice)
+  telling_made notice = leads_to s _ h
+
+  model_made : (m : Mode) (found : Result Step Refusal) → LeadsWell found → LeadsWell (with_model m found)
+  model_made mode.Sat found well = well
+  model_made mode.Unsat found well = refuses _
+  model_made mode.Nothing found well = refuses _
+
+  proof_made : (m : Mode) (found : Result Step Refusal) → LeadsWell found → LeadsWell (with_proof m found)
+  proof_made mode.Unsat found well = well
+  proof_made mode.Sat found well = refuses _
+  proof_made mode.Nothing found well = refuses _
+
+  valued_made : (found : Option TermRefusal) → LeadsWell (valued_by s found)
+  valued_made (Some why) = refuses _
+  valued_made None = leads_to s _ h
+
+  informed_made : (found : Option Information) → LeadsWell (informed_by s found)
+  informed_made (Some information) = leads_to s _ h
+  informed_made None = leads_to s _ h
+
   command_made : (command : Command) → LeadsWell (after_command s command)
   command_made (Commands.setting_logic logic) = logic_made logic
   command_made (Commands.setting_option keyword v) = option_made (option_effect keyword v)
@@ -135,6 +160,11 @@ module _ (s : State) (h : IsMadeState s) where
   command_made (Commands.pushing n) = push_made n
   command_made (Commands.popping n) = pop_made n
   command_made Commands.checking = leads_to s _ h
+  command_made Commands.asking_model = model_made s.mode _ (telling_made _)
+  command_made (Commands.asking_values terms) = model_made s.mode _ (valued_made _)
+  command_made Commands.asking_proof = proof_made s.mode _ (telling_made _)
+  command_made (Commands.asking_information keyword) = informed_made (information_of keyword)
+  command_made (Commands.echoing text) = telling_made _
   command_made Commands.resetting_assertions = leads_to _ _ (record { context = start; below = tt })
   command_made Commands.resetting = leads_to start_state _ (record { context = start; below = tt })
   command_made Commands.exiting = leads_to s _ h

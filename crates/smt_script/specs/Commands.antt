@@ -1,15 +1,16 @@
 -- What a command asks for (SMT-LIB 2.6, section 3.9). First its name is looked at, then its shape.
-use Rattle.std.specs.Prelude.{ℕ, List, codes, Bool, true, false, if◌then◌else◌, Option, None, Some, Result, Ok, Err}
+use Rattle.std.specs.Prelude.{ℕ, List, [], codes, Bool, true, false, if◌then◌else◌, Option, None, Some, Result, Ok, Err}
 use Rattle.std.specs.Str.{bytes_eq}
 use Rattle.smt_lex.specs.Numbers.{value_of}
-use Rattle.smt_sexpr.specs.Tree.{Sexpr, Items, list, none, more, symbol_of, keyword_of, numeral_of}
+use Rattle.smt_lex.specs.declared.token.TokenKind.TheVariants.{Text}
+use Rattle.smt_sexpr.specs.Tree.{Sexpr, Items, leaf, list, none, more, symbol_of, keyword_of, numeral_of}
 use Rattle.smt_sexpr.specs.Shapes.{headed_of}
 use Rattle.smt_script.specs.declared.command_name.CommandName.{CommandName}
 use Rattle.smt_script.specs.declared.command_name.CommandName.TheVariants as name
 use Rattle.smt_script.specs.declared.error.LeftOutCommand.{LeftOutCommand}
 use Rattle.smt_script.specs.declared.error.LeftOutCommand.TheVariants as left_out
 use Rattle.smt_script.specs.declared.error.Refusal.{Refusal}
-use Rattle.smt_script.specs.declared.error.Refusal.TheVariants.{UnknownCommand, IllFormedCommand, LeftOut, NotYet}
+use Rattle.smt_script.specs.declared.error.Refusal.TheVariants.{UnknownCommand, IllFormedCommand, LeftOut}
 use Rattle.smt_script.specs.Attributes.{Named, unnamed, named, named_in}
 
 pub data Command : Type 0 where
@@ -31,6 +32,15 @@ pub data Command : Type 0 where
   pushing : (count : ℕ) → Command
   popping : (count : ℕ) → Command
   checking : Command
+  -- (get-model), (get-proof)
+  asking_model : Command
+  asking_proof : Command
+  -- (get-value (t ..))
+  asking_values : (terms : Items) → Command
+  -- (get-info k)
+  asking_information : (keyword : List ℕ) → Command
+  -- (echo text), the text in its quotation marks
+  echoing : (text : List ℕ) → Command
   -- (reset-assertions), (reset)
   resetting_assertions : Command
   resetting : Command
@@ -188,6 +198,25 @@ level_command make none = Ok (make 1)
 level_command make (more n none) = with_count (numeral_of n) make
 level_command make _ = ill_formed
 
+-- (t ..), with one or more terms
+abbrev pub values_of : Items → Result Command Refusal
+values_of none = ill_formed
+values_of (more t ts) = Ok (asking_values (more t ts))
+
+abbrev pub values_command : Items → Result Command Refusal
+values_command (more (list terms) none) = values_of terms
+values_command _ = ill_formed
+
+-- k
+abbrev pub information_command : Items → Result Command Refusal
+information_command (more k none) = with_keyword (keyword_of k) (λ keyword. asking_information keyword)
+information_command _ = ill_formed
+
+-- a text
+abbrev pub echo_command : Items → Result Command Refusal
+echo_command (more (leaf Text text) none) = Ok (echoing text)
+echo_command _ = ill_formed
+
 -- ---- commands
 
 abbrev pub command_by : CommandName → Items → Result Command Refusal
@@ -201,11 +230,14 @@ command_by name.Assert arguments = assertion_command arguments
 command_by name.Push arguments = level_command pushing arguments
 command_by name.Pop arguments = level_command popping arguments
 command_by name.CheckSat arguments = alone checking arguments
+command_by name.GetModel arguments = alone asking_model arguments
+command_by name.GetValue arguments = values_command arguments
+command_by name.GetProof arguments = alone asking_proof arguments
+command_by name.GetInfo arguments = information_command arguments
+command_by name.Echo arguments = echo_command arguments
 command_by name.ResetAssertions arguments = alone resetting_assertions arguments
 command_by name.Reset arguments = alone resetting arguments
 command_by name.Exit arguments = alone exiting arguments
--- models, values, proofs, information and echoes aren't there yet
-command_by _ arguments = Err NotYet
 
 abbrev pub without_name : List ℕ → Result Command Refusal
 without_name text =
@@ -236,3 +268,28 @@ is_exiting _ = false
 -- the command `(exit)`
 abbrev pub is_exit : Sexpr → Bool
 is_exit x = is_exiting (command_of x)
+
+-- what is asked for, of a command that asks for it, and else nothing: the terms of a `get-value`, and the text of an `echo`
+abbrev pub terms_in : Result Command Refusal → Items
+terms_in (Ok (asking_values terms)) = terms
+terms_in _ = none
+
+abbrev pub text_in : Result Command Refusal → List ℕ
+text_in (Ok (echoing text)) = text
+text_in _ = []
+
+abbrev pub asked_terms : Sexpr → Items
+asked_terms x = terms_in (command_of x)
+
+abbrev pub echoed_text : Sexpr → List ℕ
+echoed_text x = text_in (command_of x)
+
+abbrev pub is_asking : Result Command Refusal → Bool
+is_asking (Ok asking_model) = true
+is_asking (Ok (asking_values terms)) = true
+is_asking (Ok asking_proof) = true
+is_asking _ = false
+
+-- the command asks for a model, for values or for a proof
+abbrev pub asks_verdict : Sexpr → Bool
+asks_verdict x = is_asking (command_of x)

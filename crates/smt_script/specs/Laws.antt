@@ -1,9 +1,13 @@
 -- What holds of the commands and states of every script.
-use Rattle.std.specs.Prelude.{◌≡◌, ◌↔◌, Ok, true}
+use Rattle.std.specs.Prelude.{◌≡◌, ◌↔◌, ◌⊎◌, Ok, None, true, false, Bool}
 use Rattle.smt_sexpr.specs.Tree.{Sexpr}
-use Rattle.smt_script.specs.Commands.{is_exit}
-use Rattle.smt_script.specs.States.{State, start_state, Step, IsMadeState, after, settled}
-use Rattle.smt_script.specs.declared.state.Effect.TheVariants.{Exit}
+use Rattle.idl_term.specs.Contexts.{scope_of}
+use Rattle.smt_script.specs.Commands.{is_exit, asked_terms, asks_verdict}
+use Rattle.smt_script.specs.States.{State, start_state, Step, IsMadeState, after, terms_refusal, settled}
+use Rattle.smt_script.specs.declared.state.Effect.{Effect}
+use Rattle.smt_script.specs.declared.state.Effect.TheVariants.{Exit, Tell}
+use Rattle.smt_script.specs.declared.state.Mode.TheVariants as mode
+use Rattle.smt_script.specs.declared.state.Notice.TheVariants.{Model, Values, Proof}
 use Rattle.smt_script.specs.declared.state.Satisfiability.{Satisfiability}
 
 -- What is active came about by declarations, definitions and assertions: at the start, behind each command, and behind
@@ -27,3 +31,32 @@ OnlyExitEnds =
 abbrev pub ExitIsCarriedOut : Type 0
 ExitIsCarriedOut =
     (s : State) (x : Sexpr) → is_exit x ≡ true → after s x ≡ Ok (record { state = s; effect = Exit })
+
+-- a command sets the mode to none, or it leaves mode and context as they are
+abbrev pub ModeIsKept : Type 0
+ModeIsKept =
+    (s : State) (x : Sexpr) (step : Step) → after s x ≡ Ok step
+    → (step.state.mode ≡ mode.Nothing) ⊎ ((step.state.mode ≡ s.mode) × (step.state.context ≡ s.context))
+
+-- a model is told behind a `sat` alone, and so are values, of terms that are all accepted; a proof is told behind an `unsat` alone
+abbrev pub ModelNeedsSat : Type 0
+ModelNeedsSat =
+    (s : State) (x : Sexpr) (step : Step) → after s x ≡ Ok step → step.effect ≡ Tell Model
+    → step.state.mode ≡ mode.Sat
+
+abbrev pub ValuesNeedSat : Type 0
+ValuesNeedSat =
+    (s : State) (x : Sexpr) (step : Step) → after s x ≡ Ok step → step.effect ≡ Tell Values
+    → (step.state.mode ≡ mode.Sat)
+    × (terms_refusal (scope_of step.state.context) step.state.context.nodes (asked_terms x) ≡ None)
+
+abbrev pub ProofNeedsUnsat : Type 0
+ProofNeedsUnsat =
+    (s : State) (x : Sexpr) (step : Step) → after s x ≡ Ok step → step.effect ≡ Tell Proof
+    → step.state.mode ≡ mode.Unsat
+
+-- these are told of a command that asks for them, and of no other
+abbrev pub AskedIsTold : Type 0
+AskedIsTold =
+    (s : State) (x : Sexpr) (step : Step) → after s x ≡ Ok step → asks_verdict x ≡ false
+    → ¬ ((step.effect ≡ Tell Model) ⊎ ((step.effect ≡ Tell Values) ⊎ (step.effect ≡ Tell Proof)))

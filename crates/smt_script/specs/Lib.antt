@@ -1,6 +1,7 @@
 pub mod Limits
 pub mod Commands
 pub mod Options
+pub mod Informing
 pub mod Attributes
 pub mod States
 pub mod Kept

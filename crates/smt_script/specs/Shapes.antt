@@ -15,7 +15,7 @@ use Rattle.idl_term.specs.declared.error.TermRefusal.TheVariants.{WrongSort}
 use Rattle.idl_term.specs.declared.error.TermError.{TermError}
 use Rattle.idl_term.specs.declared.error.TermError.TheVariants as term
 use Rattle.smt_script.specs.Attributes.{Named, unnamed, named}
-use Rattle.smt_script.specs.Commands.{Command, setting_logic, setting_option, informing, declaring, defining, asserting, naming, pushing, popping, checking, resetting_assertions, resetting, exiting, unsupported, function_command, definition_command}
+use Rattle.smt_script.specs.Commands.{Command, setting_logic, setting_option, informing, declaring, defining, asserting, naming, pushing, popping, checking, asking_model, asking_values, asking_proof, asking_information, echoing, resetting_assertions, resetting, exiting, unsupported, function_command, definition_command}
 use Rattle.smt_script.specs.Kept.{Kept, StandsFor}
 use Rattle.smt_script.specs.Options
 use Rattle.smt_script.specs.States.{State, Step, is_of_sort}
@@ -23,7 +23,7 @@ use Rattle.smt_script.specs.declared.attribute.Attributes.{Attributes as Attribu
 use Rattle.smt_script.specs.declared.attribute.Awaited.{Awaited}
 use Rattle.smt_script.specs.declared.attribute.Awaited.TheVariants as awaited
 use Rattle.smt_script.specs.declared.command.Request.{Request}
-use Rattle.smt_script.specs.declared.command.Request.TheVariants.{SetLogic, SetOption, SetInfo, Declare, Define, Assert, AssertNamed, Push, Pop, CheckSat, ResetAssertions, Reset, Exit, Unsupported}
+use Rattle.smt_script.specs.declared.command.Request.TheVariants.{SetLogic, SetOption, SetInfo, Declare, Define, Assert, AssertNamed, Push, Pop, CheckSat, Model, Values, Proof, Information, Echo, ResetAssertions, Reset, Exit, Unsupported}
 use Rattle.smt_script.specs.declared.command.Signature.{Signature}
 use Rattle.smt_script.specs.declared.error.Refusal.{Refusal}
 use Rattle.smt_script.specs.declared.error.Refusal.TheVariants.{IllFormedCommand, LeftOut, Term}
@@ -159,6 +159,11 @@ CommandIs t (AssertNamed id name) meant = (x : Sexpr) × Means t id x × (meant 
 CommandIs t (Push count) meant = (n : ℕ) × CountIs count n × (meant ≡ Ok (pushing n))
 CommandIs t (Pop count) meant = (n : ℕ) × CountIs count n × (meant ≡ Ok (popping n))
 CommandIs t CheckSat meant = meant ≡ Ok checking
+CommandIs t Model meant = meant ≡ Ok asking_model
+CommandIs t (Values id) meant = (terms : Items) × Means t id (list terms) × (meant ≡ Ok (asking_values terms))
+CommandIs t Proof meant = meant ≡ Ok asking_proof
+CommandIs t (Information keyword) meant = meant ≡ Ok (asking_information keyword.now)
+CommandIs t (Echo text) meant = meant ≡ Ok (echoing text.now)
 CommandIs t ResetAssertions meant = meant ≡ Ok resetting_assertions
 CommandIs t Reset meant = meant ≡ Ok resetting
 CommandIs t Exit meant = meant ≡ Ok exiting
@@ -217,6 +222,12 @@ abbrev pub FormulaIs : List NodeValue → Result Made Refusal → Result ℕ Scr
 FormulaIs now made (Ok root) = made ≡ Ok (record { nodes = now; is = formula root })
 FormulaIs now made (Err (Refused why)) = made ≡ Err why
 FormulaIs now made (Err OutOfMemory) = Unit {0}
+
+-- the terms are accepted, or this is the first refusal of one
+abbrev pub IsTested : Option TermRefusal → Result (Unit {0}) ScriptError → Type 0
+IsTested found (Ok done) = found ≡ None
+IsTested found (Err (Refused why)) = option_map Term found ≡ Some why
+IsTested found (Err OutOfMemory) = Unit {0}
 
 -- the request is that of `(exit)`
 abbrev pub asks_exit : Result Request Refusal → Bool

@@ -11,7 +11,8 @@ use Rattle.idl_term.specs.Contexts.{Context, start_context, scope_of, with_decla
 use Rattle.idl_term.specs.Limits.{names_limit}
 use Rattle.idl_term.specs.Lowered.{lowered}
 use Rattle.idl_term.specs.Operators.{is_reserved}
-use Rattle.idl_term.specs.Scopes.{LoweredTerm, formula, numeric, is_known}
+use Rattle.idl_node.specs.Nodes.{NodeValue}
+use Rattle.idl_term.specs.Scopes.{LoweredTerm, formula, numeric, Scope, is_known}
 use Rattle.idl_term.specs.declared.error.TermRefusal.{TermRefusal}
 use Rattle.idl_term.specs.declared.error.TermRefusal.TheVariants.{WrongSort}
 use Rattle.smt_script.specs.Commands
@@ -20,10 +21,13 @@ use Rattle.smt_script.specs.Limits.{levels_limit}
 use Rattle.smt_script.specs.Options.{OptionEffect, printing_success, no_effect, not_supported, ill_formed_value, option_effect}
 use Rattle.smt_script.specs.declared.error.LeftOutCommand.TheVariants.{Parameters, Sort as SortLeftOut}
 use Rattle.smt_script.specs.declared.error.Refusal.{Refusal}
-use Rattle.smt_script.specs.declared.error.Refusal.TheVariants.{IllFormedCommand, LogicNotSupported, AlreadyDeclared, TooManyNames, TooManyLevels, PopBelowTheBottom, LeftOut, Term}
+use Rattle.smt_script.specs.declared.error.Refusal.TheVariants.{IllFormedCommand, LogicNotSupported, AlreadyDeclared, TooManyNames, TooManyLevels, PopBelowTheBottom, NoModel, NoProof, LeftOut, Term}
 use Rattle.smt_script.specs.declared.state.Effect.{Effect}
 use Rattle.smt_script.specs.declared.state.Effect.TheVariants.{CheckSat, Exit, Tell}
-use Rattle.smt_script.specs.declared.state.Notice.TheVariants.{Success, Unsupported}
+use Rattle.smt_script.specs.Informing.{information_of}
+use Rattle.smt_script.specs.declared.information.Information.{Information}
+use Rattle.smt_script.specs.declared.state.Notice.{Notice}
+use Rattle.smt_script.specs.declared.state.Notice.TheVariants.{Success, Unsupported, Model, Values, Proof, Inform, Echo}
 use Rattle.smt_script.specs.declared.state.Mode.{Mode}
 use Rattle.smt_script.specs.declared.state.Mode.TheVariants as mode
 use Rattle.smt_script.specs.declared.state.Satisfiability.{Satisfiability}
@@ -153,6 +157,41 @@ popped s n = record s {
 abbrev pub after_pop : State → ℕ → Result Step Refusal
 after_pop s n = if nat_le n (levels_of s) then carried_out (popped s n) else Err PopBelowTheBottom
 
+-- ---- questions
+
+-- an answer, which leaves the state as it is
+abbrev pub telling : State → Notice → Result Step Refusal
+telling s notice = Ok (record { state = s; effect = Tell notice })
+
+-- models and values are there behind a `sat`, proofs behind an `unsat`, where nothing was changed since
+abbrev pub with_model : Mode → Result Step Refusal → Result Step Refusal
+with_model mode.Sat step = step
+with_model _ step = Err NoModel
+
+abbrev pub with_proof : Mode → Result Step Refusal → Result Step Refusal
+with_proof mode.Unsat step = step
+with_proof _ step = Err NoProof
+
+-- the first refusal of the terms, each of which is read over this table
+abbrev pub first_refusal : Result Made TermRefusal → Option TermRefusal → Option TermRefusal
+first_refusal (Err why) others = Some why
+first_refusal (Ok made) others = others
+
+abbrev pub terms_refusal : Scope → List NodeValue → Items → Option TermRefusal
+terms_refusal scope nodes none = None
+terms_refusal scope nodes (more t ts) = first_refusal (lowered scope nodes t) (terms_refusal scope nodes ts)
+
+abbrev pub valued_by : State → Option TermRefusal → Result Step Refusal
+valued_by s (Some why) = Err (Term why)
+valued_by s None = telling s Values
+
+abbrev pub after_values : State → Items → Result Step Refusal
+after_values s terms = with_model s.mode (valued_by s (terms_refusal (scope_of s.context) s.context.nodes terms))
+
+abbrev pub informed_by : State → Option Information → Result Step Refusal
+informed_by s (Some information) = telling s (Inform information)
+informed_by s None = telling s Unsupported
+
 -- ---- commands
 
 abbrev pub after_command : State → Command → Result Step Refusal
@@ -167,6 +206,11 @@ after_command s (Commands.naming term name) = after_naming s name term
 after_command s (Commands.pushing n) = after_push s n
 after_command s (Commands.popping n) = after_pop s n
 after_command s Commands.checking = Ok (record { state = s; effect = CheckSat })
+after_command s Commands.asking_model = with_model s.mode (telling s Model)
+after_command s (Commands.asking_values terms) = after_values s terms
+after_command s Commands.asking_proof = with_proof s.mode (telling s Proof)
+after_command s (Commands.asking_information keyword) = informed_by s (information_of keyword)
+after_command s (Commands.echoing text) = telling s Echo
 -- options stay
 after_command s Commands.resetting_assertions =
     carried_out (record start_state { print_success = s.print_success })

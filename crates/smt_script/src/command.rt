@@ -2,14 +2,14 @@
 ghost use Rattle.std.specs.Prelude.{◌≡◌, Ok, ℕ};
 ghost use Rattle.smt_sexpr.specs.Tree.{Sexpr, Items};
 ghost use Rattle.smt_sexpr.specs.Table.{Table, Means, MeansEach, HasMeaning};
-ghost use Rattle.smt_script.specs.Commands.{Command, alone, logic_command, option_command, info_command, constant_command, function_command, definition_command, annotation_in, annotation_command, assertion_command, level_command, command_by, without_name, command_of};
+ghost use Rattle.smt_script.specs.Commands.{Command, alone, logic_command, option_command, info_command, constant_command, function_command, definition_command, annotation_in, annotation_command, assertion_command, level_command, values_command, information_command, echo_command, command_by, without_name, command_of};
 ghost use Rattle.smt_script.specs.Shapes.{SignatureIs, AnnotationIs, CommandIs, LevelsAre, RequestIs, AsksFor};
 ghost use Rattle.smt_sexpr.specs.Shapes.{HaveMeaning};
 
 use crate::attribute::named_in;
 use crate::command_name::{CommandName, command_name, is_unsupported, left_out_of};
 use crate::error::Refusal;
-use smt_lex::numeral_value;
+use smt_lex::{TokenKind, numeral_value};
 use smt_sexpr::{SexprId, Sexprs};
 
 /// The name and the sort of a new function.
@@ -36,6 +36,14 @@ pub enum Request<'a> {
     Push(Option<u64>),
     Pop(Option<u64>),
     CheckSat,
+    Model,
+    /// The list of the terms.
+    Values(SexprId),
+    Proof,
+    /// A keyword.
+    Information(&'a [u8]),
+    /// A text in its quotation marks.
+    Echo(&'a [u8]),
     ResetAssertions,
     Reset,
     Exit,
@@ -226,6 +234,51 @@ fn levels(sexprs: &Sexprs, arguments: &[SexprId]) -> Result<Option<u64>, Refusal
     }
 }
 
+/// `(get-value (t ..))`, behind its name.
+fn values_command<'a>(sexprs: &Sexprs<'a>, arguments: &[SexprId]) -> Result<Request<'a>, Refusal>
+    requires { HaveMeaning sexprs.now arguments.now }
+    ensures { AsksFor sexprs.now arguments.now values_command result }
+{
+    match arguments {
+        [terms] => match sexprs.items(*terms) {
+            Some(items) if !items.is_empty() => Ok(Request::Values(*terms)),
+            _ => Err(Refusal::IllFormedCommand),
+        },
+        _ => Err(Refusal::IllFormedCommand),
+    }
+}
+
+/// `(get-info k)`, behind its name.
+fn information_command<'a>(
+    sexprs: &Sexprs<'a>,
+    arguments: &[SexprId],
+) -> Result<Request<'a>, Refusal>
+    requires { HaveMeaning sexprs.now arguments.now }
+    ensures { AsksFor sexprs.now arguments.now information_command result }
+{
+    match arguments {
+        [kind] => match sexprs.keyword(*kind) {
+            Some(text) => Ok(Request::Information(text)),
+            None => Err(Refusal::IllFormedCommand),
+        },
+        _ => Err(Refusal::IllFormedCommand),
+    }
+}
+
+/// `(echo text)`, behind its name.
+fn echo_command<'a>(sexprs: &Sexprs<'a>, arguments: &[SexprId]) -> Result<Request<'a>, Refusal>
+    requires { HaveMeaning sexprs.now arguments.now }
+    ensures { AsksFor sexprs.now arguments.now echo_command result }
+{
+    match arguments {
+        [text] => match sexprs.leaf(*text) {
+            Some((TokenKind::Text, text)) => Ok(Request::Echo(text)),
+            _ => Err(Refusal::IllFormedCommand),
+        },
+        _ => Err(Refusal::IllFormedCommand),
+    }
+}
+
 /// A command that there is, by what follows its name.
 fn command_by<'a>(
     sexprs: &Sexprs<'a>,
@@ -252,10 +305,14 @@ fn command_by<'a>(
             Ok(Request::Pop(count))
         }
         CommandName::CheckSat => alone(Request::CheckSat, arguments),
+        CommandName::GetModel => alone(Request::Model, arguments),
+        CommandName::GetValue => values_command(sexprs, arguments),
+        CommandName::GetProof => alone(Request::Proof, arguments),
+        CommandName::GetInfo => information_command(sexprs, arguments),
+        CommandName::Echo => echo_command(sexprs, arguments),
         CommandName::ResetAssertions => alone(Request::ResetAssertions, arguments),
         CommandName::Reset => alone(Request::Reset, arguments),
         CommandName::Exit => alone(Request::Exit, arguments),
-        _ => Err(Refusal::NotYet),
     }
 }
 

@@ -29,10 +29,12 @@ pub enum Refusal {
     /// More than 65,536 levels.
     TooManyLevels,
     PopBelowTheBottom,
+    /// The last verdict isn't `sat`, or something was changed since.
+    NoModel,
+    /// The last verdict isn't `unsat`, or something was changed since.
+    NoProof,
     LeftOut(LeftOutCommand),
     Term(TermRefusal),
-    /// A command that isn't there yet.
-    NotYet,
 }
 
 /// Why a command isn't carried out.

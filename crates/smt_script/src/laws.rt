@@ -1,5 +1,5 @@
 //! Laws of the definitions alone.
-ghost use Rattle.smt_script.specs.Laws.{StartMade, StepMade, SettledMade, OnlyExitEnds, ExitIsCarriedOut};
+ghost use Rattle.smt_script.specs.Laws.{StartMade, StepMade, SettledMade, OnlyExitEnds, ExitIsCarriedOut, ModeIsKept, ModelNeedsSat, ValuesNeedSat, ProofNeedsUnsat, AskedIsTold};
 
 /// What is active in a state came about by declarations, definitions and assertions: at the start, after each command, and
 /// after each verdict.
@@ -13,4 +13,13 @@ pub fn state_law()
 pub fn exit_law()
     ensures alone { OnlyExitEnds }
     ensures always { ExitIsCarriedOut }
+{}
+
+/// What a verdict was given on stays as long as its mode, and what is asked of a verdict is told in its mode alone.
+pub fn mode_law()
+    ensures kept { ModeIsKept }
+    ensures model { ModelNeedsSat }
+    ensures values { ValuesNeedSat }
+    ensures proof { ProofNeedsUnsat }
+    ensures asked { AskedIsTold }
 {}

@@ -1,12 +1,14 @@
 //! The commands of scripts, and the state that they lead to (SMT-LIB 2.6, section 4).
 #![tactic(auto)]
 
+mod asked;
 mod attribute;
 mod command;
 mod command_name;
 mod error;
 mod examples;
 mod exit;
+mod information;
 mod laws;
 mod limits;
 mod lowering;
@@ -16,11 +18,13 @@ mod state;
 mod taken;
 mod value;
 
+pub use asked::{asked_terms, echoed_text};
 pub use command_name::CommandName;
 pub use error::{LeftOutCommand, Refusal, ScriptError};
 pub use examples::{worked_commands, worked_names};
 pub use exit::is_exit;
-pub use laws::{exit_law, state_law};
+pub use information::Information;
+pub use laws::{exit_law, mode_law, state_law};
 pub use limits::LEVELS_LIMIT;
 pub use state::{Effect, Level, Mode, Notice, Satisfiability, State};
 pub use value::TermValue;

@@ -1,12 +1,13 @@
 //! Terms of the sort that a command wants.
 ghost use Rattle.std.specs.Prelude.{◌≡◌, ◌≤◌, length, take, OnErr};
-ghost use Rattle.smt_sexpr.specs.Tree.{Sexpr};
-ghost use Rattle.smt_sexpr.specs.Table.{Means, HasMeaning};
+ghost use Rattle.smt_sexpr.specs.Tree.{Sexpr, Items};
+ghost use Rattle.smt_sexpr.specs.Table.{Means, MeansEach, HasMeaning};
+ghost use Rattle.smt_sexpr.specs.Shapes.{HaveMeaning};
 ghost use Rattle.idl_term.specs.Limits.{names_limit};
 ghost use Rattle.idl_term.specs.Lowered.{lowered};
 ghost use Rattle.idl_term.specs.Scopes.{shown_term};
-ghost use Rattle.smt_script.specs.States.{is_of_sort};
-ghost use Rattle.smt_script.specs.Shapes.{only_of_sort, only_formula, TermIs, FormulaIs};
+ghost use Rattle.smt_script.specs.States.{is_of_sort, terms_refusal};
+ghost use Rattle.smt_script.specs.Shapes.{only_of_sort, only_formula, TermIs, FormulaIs, IsTested};
 
 use crate::error::{Refusal, ScriptError};
 use idl_node::{Nodes, Sort};
@@ -72,4 +73,26 @@ pub fn lower_formula<'a>(
             Err(ScriptError::Refused(Refusal::Term(TermRefusal::WrongSort)))
         }
     }
+}
+
+/// Whether each of the terms may stand here: each is read over the table as it is, which stays so.
+pub fn test_terms<'a>(
+    alloc: Global,
+    sexprs: &Sexprs<'a>,
+    terms: &[SexprId],
+    scope: &Scope<'a>,
+    nodes: &mut Nodes,
+) -> Result<(), ScriptError>
+    requires meaning { HaveMeaning sexprs.now terms.now }
+    requires few { length scope.now.declared ≤ names_limit }
+    ensures tested { (ts : Items) → MeansEach sexprs.now terms.now ts
+        → IsTested (terms_refusal scope.now nodes.old ts) result }
+    ensures same { nodes.new ≡ nodes.old }
+{
+    let before = nodes.len();
+    for term in terms {
+        lower(alloc, sexprs, *term, scope, nodes)?;
+        nodes.cut(before);
+    }
+    Ok(())
 }

@@ -1,8 +1,9 @@
 //! The state after the commands.
 ghost use Rattle.std.specs.Prelude.{◌≡◌, ◌≤◌, ◌<◌, ℕ, length, [], false, Some, slice_get, IfOk, OnErr, Err, Option, Result};
-ghost use Rattle.smt_sexpr.specs.Tree.{Sexpr, Items};
+ghost use Rattle.smt_sexpr.specs.Tree.{Sexpr, Items, list};
 ghost use Rattle.smt_sexpr.specs.Table.{Means, HasMeaning};
 ghost use Rattle.stn_core.specs.Named.{AreWithinLimit};
+ghost use Rattle.idl_node.specs.Truth.{point_values, AreTruths};
 ghost use Rattle.idl_term.specs.Contexts.{IsScheduleFor, environment, scope_of};
 ghost use Rattle.idl_term.specs.Limits.{names_limit};
 ghost use Rattle.idl_term.specs.Lowered.{lowered};
@@ -11,20 +12,24 @@ ghost use Rattle.smt_script.specs.Commands.{Command};
 ghost use Rattle.smt_script.specs.Kept.{StandsFor, Steps, nothing_kept, cut_to};
 ghost use Rattle.smt_script.specs.Options.{option_effect};
 ghost use Rattle.smt_script.specs.Shapes.{ValueIs, HasValue, IsSignature, HasSignature, CountIs, CommandIs, Agrees, Carries};
-ghost use Rattle.smt_script.specs.States.{State as Meaning, start_state, after_logic, after_option, sort_of, after_declaration, after_definition, after_assertion, after_naming, after_push, after_pop, after_by, after, settled, IsMadeState};
+ghost use Rattle.smt_script.specs.States.{State as Meaning, start_state, after_logic, after_option, sort_of, after_declaration, after_definition, after_assertion, after_naming, after_push, after_pop, with_model, with_proof, telling, after_values, informed_by, after_by, after, settled, IsMadeState};
+ghost use Rattle.smt_script.specs.Informing.{information_of};
+ghost use Rattle.smt_script.specs.declared.state.Notice.TheVariants.{Model, Proof};
 ghost use Rattle.smt_script.specs.TermValues.{IsAccepted, IsRefused, IsValue};
 ghost use Rattle.smt_script.specs.declared.error.Refusal.{Refusal as Why};
 ghost use Rattle.smt_script.specs.declared.state.Level.{Level as Before};
 
+use crate::asked::items_of;
 use crate::command::{Request, Signature, request_of};
 use crate::error::{Refusal, ScriptError};
+use crate::information::{Information, information_of};
 use crate::limits::LEVELS_LIMIT;
-use crate::lowering::{lower_formula, lower_of_sort};
+use crate::lowering::{lower_formula, lower_of_sort, test_terms};
 use crate::option::{OptionEffect, option_effect};
 use crate::sorts::signature_sort;
 use crate::taken::{is_taken, refusal_when_full};
 use crate::value::{TermValue, term_value};
-use idl_node::Nodes;
+use idl_node::{Nodes, truth_law};
 use idl_scope::NAMES_LIMIT;
 use idl_term::{Lowered, Names, Scope, TermError, context_law, is_reserved, lower, lowered_law};
 use smt_sexpr::{SexprId, Sexprs};
@@ -39,6 +44,15 @@ pub enum Notice {
     Success,
     /// `unsupported`.
     Unsupported,
+    /// The values of all declared names.
+    Model,
+    /// The values of the terms that were asked for ([`crate::asked_terms`]).
+    Values,
+    /// Why the assertions have no solution.
+    Proof,
+    Inform(Information),
+    /// The text that was given ([`crate::echoed_text`]).
+    Echo,
 }
 
 /// What a command is to be answered.
@@ -354,6 +368,54 @@ impl<'a> State<'a> {
         self.clear(false);
     }
 
+    /// `get-model`.
+    fn ask_model(&self) -> Result<Effect, ScriptError>
+        ensures { (s : Meaning) → StandsFor self.now s
+            → Agrees (with_model s.mode (telling s Model)) self.now result }
+    {
+        match self.mode {
+            Mode::Sat => Ok(Effect::Tell(Notice::Model)),
+            _ => Err(ScriptError::Refused(Refusal::NoModel)),
+        }
+    }
+
+    /// `get-proof`.
+    fn ask_proof(&self) -> Result<Effect, ScriptError>
+        ensures { (s : Meaning) → StandsFor self.now s
+            → Agrees (with_proof s.mode (telling s Proof)) self.now result }
+    {
+        match self.mode {
+            Mode::Unsat => Ok(Effect::Tell(Notice::Proof)),
+            _ => Err(ScriptError::Refused(Refusal::NoProof)),
+        }
+    }
+
+    /// `get-value`: the terms are tested, and none of their nodes is kept.
+    fn ask_values(&mut self, sexprs: &Sexprs<'a>, terms: SexprId) -> Result<Effect, ScriptError>
+        requires { (ts : Items) × Means sexprs.now terms (list ts) }
+        ensures agrees { (s : Meaning) (ts : Items) → StandsFor self.old s
+            → Means sexprs.now terms (list ts) → Agrees (after_values s ts) self.new result }
+        ensures err { OnErr result (self.new ≡ self.old) }
+    {
+        let Mode::Sat = self.mode else {
+            return Err(ScriptError::Refused(Refusal::NoModel));
+        };
+        let terms = items_of(sexprs, terms);
+        test_terms(self.alloc, sexprs, terms, &self.scope, &mut self.nodes)?;
+        Ok(Effect::Tell(Notice::Values))
+    }
+
+    /// `get-info`.
+    fn ask_information(&self, keyword: &[u8]) -> Result<Effect, ScriptError>
+        ensures { (s : Meaning) → StandsFor self.now s
+            → Agrees (informed_by s (information_of keyword.now)) self.now result }
+    {
+        match information_of(keyword) {
+            Some(information) => Ok(Effect::Tell(Notice::Inform(information))),
+            None => Ok(Effect::Tell(Notice::Unsupported)),
+        }
+    }
+
     /// What a command asks for.
     fn carry_out(
         &mut self,
@@ -375,6 +437,11 @@ impl<'a> State<'a> {
             Request::Push(count) => self.push(count),
             Request::Pop(count) => self.pop(count),
             Request::CheckSat => Ok(Effect::CheckSat),
+            Request::Model => self.ask_model(),
+            Request::Values(terms) => self.ask_values(sexprs, terms),
+            Request::Proof => self.ask_proof(),
+            Request::Information(keyword) => self.ask_information(keyword),
+            Request::Echo(_) => Ok(Effect::Tell(Notice::Echo)),
             Request::ResetAssertions => {
                 self.reset_assertions();
                 Ok(SUCCESS)
@@ -413,17 +480,23 @@ impl<'a> State<'a> {
     }
 
     /// The value of a term, where the names have these values: one of its sort for each, an Int name's within
-    /// `stn_core::NAMED_VALUE_LIMIT`. The state is as before. It takes time and memory of the order of the node table and the term.
+    /// `stn_core::NAMED_VALUE_LIMIT`. The state is as before.
+    ///
+    /// `marks` tells the truth of the node table's first nodes on these values, as many as there are marks (none, at first), and
+    /// then perhaps of more of them: so the values of many terms in one state together take time of the order of the table and
+    /// the terms.
     pub fn value(
         &mut self,
         sexprs: &Sexprs<'a>,
         id: SexprId,
         values: &NamedValues,
+        marks: &mut Vec<bool>,
     ) -> Result<TermValue, TermError>
         requires meaning { HasMeaning sexprs.now id }
         requires state { (s : Meaning) × StandsFor self.old s × IsMadeState s
             × IsScheduleFor s.context values.now }
         requires within { AreWithinLimit values.now }
+        requires marks { AreTruths self.old.nodes (point_values values.now) marks.old.items }
         ensures accepted { IfOk result (λ v. (s : Meaning) (x : Sexpr)
             → StandsFor self.old s → Means sexprs.now id x → IsAccepted s x) }
         ensures ok { IfOk result (λ v. (s : Meaning) (x : Sexpr)
@@ -433,13 +506,16 @@ impl<'a> State<'a> {
             → (s : Meaning) (x : Sexpr)
             → StandsFor self.old s → Means sexprs.now id x → IsRefused s x why }
         ensures same { self.new ≡ self.old }
+        ensures marks { AreTruths self.old.nodes (point_values values.now) marks.new.items }
     {
         context_law();
         lowered_law();
+        truth_law();
         let before = self.nodes.len();
         let term = lower(self.alloc, sexprs, id, &self.scope, &mut self.nodes)?;
-        let value = term_value(self.alloc, &term, &self.nodes, values);
+        let value = term_value(&term, &self.nodes, values, marks);
         self.nodes.cut(before);
+        marks.truncate(before);
         Ok(value?)
     }
 

@@ -3,14 +3,15 @@ ghost use Rattle.std.specs.Prelude.{◌≡◌, List, IfOk};
 ghost use Rattle.stn_core.specs.Named.{AreWithinLimit};
 ghost use Rattle.idl_node.specs.Sorts.{IsAtomFor, AreOfSorts};
 ghost use Rattle.idl_node.specs.Tables.{IsTableOf};
+ghost use Rattle.idl_node.specs.Truth.{point_values, AreTruths};
 ghost use Rattle.idl_node.specs.declared.sort.Sort.{Sort};
 ghost use Rattle.idl_term.specs.Meanings.{IsTermIn, lowered_value};
 ghost use Rattle.idl_term.specs.Scopes.{shown_term};
 ghost use Rattle.smt_script.specs.TermValues.{value_shown};
 
-use idl_node::{Nodes, eval};
+use idl_node::{Nodes, eval_on};
 use idl_term::{Lowered, eval_int};
-use std::alloc::{AllocError, Global};
+use std::alloc::AllocError;
 use stn_core::{NamedValues, Value};
 
 /// The value of a term.
@@ -22,23 +23,24 @@ pub enum TermValue {
     Truth(bool),
 }
 
-/// The value of a lowered term of the table, where the names have these values. For a Bool term it takes as many bytes as
-/// the table has nodes, and time of their order.
+/// The value of a lowered term of the table, where the names have these values. `marks` tells the truth of the table's first nodes,
+/// and for a Bool term then that of all up to its own.
 pub fn term_value(
-    alloc: Global,
     term: &Lowered,
     nodes: &Nodes,
     values: &NamedValues,
+    marks: &mut Vec<bool>,
 ) -> Result<TermValue, AllocError>
     requires term { (sorts : List Sort) × AreOfSorts sorts values.now × IsTableOf (IsAtomFor sorts) nodes.now
         × IsTermIn sorts nodes.now (shown_term term.now) }
     requires within { AreWithinLimit values.now }
-    ensures { IfOk result (λ v. lowered_value nodes.now values.now (shown_term term.now) ≡ value_shown v) }
+    requires marks { AreTruths nodes.now (point_values values.now) marks.old.items }
+    ensures value { IfOk result (λ v. lowered_value nodes.now values.now (shown_term term.now) ≡ value_shown v) }
+    ensures marks { AreTruths nodes.now (point_values values.now) marks.new.items }
 {
     match term {
         Lowered::Truth(number) => {
-            let mut marks = vec![in alloc; false; nodes.len()]?;
-            let truth = eval(nodes, *number, values, &mut marks);
+            let truth = eval_on(nodes, *number, values, marks)?;
             Ok(TermValue::Truth(truth))
         }
         Lowered::Number(cases) => {

@@ -19,7 +19,7 @@ fn value<'a>(alloc: Global, state: &mut State<'a>, text: &'a [u8]) -> Result<Ter
     let mut lexer = Lexer::new(text);
     let mut sexprs = Sexprs::new(alloc, text);
     match sexprs.read_one(&mut lexer) {
-        Ok(Some(id)) => state.value(&sexprs, id, &values),
+        Ok(Some(id)) => state.value(&sexprs, id, &values, &mut Vec::new(alloc)),
         _ => Err(TermError::OutOfMemory),
     }
 }

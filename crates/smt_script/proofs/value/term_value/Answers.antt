@@ -5,8 +5,8 @@ use Rattle.idl_scope.specs.declared.lowered.Lowered.{Lowered}
 use Rattle.idl_term.proofs.Evaluating.{case_valued, table_valued}
 use Rattle.smt_script.proofs.value.term_value.Goals as goal
 
-pub eval-truth-requires-clause-table : goal.eval-truth-requires-clause-table
-eval-truth-requires-clause-table c = table_valued c.requires.term.0 c.args.values.now c.requires.term.1 c.args.nodes.now c.requires.term.2
+pub eval_on-requires-clause-table : goal.eval_on-requires-clause-table
+eval_on-requires-clause-table c = table_valued c.requires.term.0 c.args.values.now c.requires.term.1 c.args.nodes.now c.requires.term.2
 
 pub eval_int-number-requires : goal.eval_int-number-requires
 eval_int-number-requires c =

@@ -11,7 +11,7 @@ returns-in_ok-piece-in-Ok-Some-clause-next c = λ s stands.
     let bytes : c.read_one.new.self.bytes ≡ p.lexer.bytes = c.read_one.ensures.grows.bytes ∙ ap (λ (t : Table). t.bytes) c.clear.ensures ∙ c.requires.same in
     let f = found_one c.read_one.new.self p.lexer.bytes p.lexer.place c.in-Ok-Some.id c.read_one.new.lexer.place c.in-Ok-Some.field-0 bytes c.in-Ok-Some.field-0-is (c.in-Ok-Some.ensures.finds c.requires.fresh) in
     let keeps = c.in_ok-piece-in-Ok-Some.ensures.keeps in
-    command_next p c.carry_out.new.self s c.read_one.new.lexer keeps.lexer c.read_one.ensures.bytes keeps.report keeps.command f.x f.spells c.in_ok-piece-in-Ok-Some.piece (c.in_ok-piece-in-Ok-Some.ensures.gives s f.x stands f.means)
+    command_next p c.carry_out.new.self s c.read_one.new.lexer keeps.lexer c.read_one.ensures.bytes keeps.report keeps.command f.x f.spells c.in_ok-piece-in-Ok-Some.piece (c.in_ok-piece-in-Ok-Some.ensures.gives s f.x (record { stands = stands.stands; shows = stands.shows }) f.means)
 
 pub returns-in-Ok-None-clause-next : goal.returns-in-Ok-None-clause-next
 returns-in-Ok-None-clause-next c = λ s stands.

@@ -7,3 +7,8 @@ pub returns-in-SetOption-clause-agrees : goal.returns-in-SetOption-clause-agrees
 returns-in-SetOption-clause-agrees c = λ s meant stands is.
     let h = subst (λ (r : Request). CommandIs c.args.sexprs.now r meant) c.in-SetOption.is is in
     rw h.2 (c.set_option.ensures.agrees s h.0 stands h.1)
+
+pub returns-in-Values-clause-agrees : goal.returns-in-Values-clause-agrees
+returns-in-Values-clause-agrees c = λ s meant stands is.
+    let h = subst (λ (r : Request). CommandIs c.args.sexprs.now r meant) c.in-Values.is is in
+    rw h.2 (c.ask_values.ensures.agrees s h.0 stands h.1)

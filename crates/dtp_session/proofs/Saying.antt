@@ -1,0 +1,146 @@
+-- What is told of a command, by what the session keeps.
+use Rattle.std.proofs.Common.{refl, sym, ap, subst, arith, ◌∙◌, ◌≡◌, ◌<◌, ◌≤◌, ◌+◌, List, ℕ, [], ◌∷◌, ◌++◌, length, drop, get_or, Bool, Option, Some, None, Result, Ok, Err}
+use Rattle.std.proofs.lemmas.List.{drop_all, append-nil}
+use Rattle.smt_sexpr.specs.Tree.{Sexpr, Items, none, more}
+use Rattle.smt_sexpr.specs.Table.{Table, Means, MeansEach, HasMeaning}
+use Rattle.smt_sexpr.proofs.Shapes.{next_of, none_of}
+use Rattle.stn_core.specs.declared.named.NamedValue.{NamedValue}
+use Rattle.stn_core.specs.Named.{AreWithinLimit}
+use Rattle.cert_text.specs.declared.entry.Entry.{Entry}
+use Rattle.cert_text.specs.declared.entry.Entry.TheVariants.{Sat, Unsat}
+use Rattle.idl_node.specs.Nodes.{NodeValue}
+use Rattle.idl_node.specs.Truth.{point_values, AreTruths}
+use Rattle.idl_term.specs.Applied.{Made}
+use Rattle.idl_term.specs.Contexts.{Context, IsScheduleFor, environment, scope_of}
+use Rattle.idl_term.specs.Lowered.{lowered}
+use Rattle.idl_term.specs.Scopes.{Scope, Declaration}
+use Rattle.idl_term.specs.Values.{Value, value}
+use Rattle.idl_term.specs.declared.error.TermRefusal.{TermRefusal}
+use Rattle.idl_term.proofs.Evaluating.{values_count}
+use Rattle.smt_answer.specs.Answers.{AreAnswers}
+use Rattle.smt_answer.specs.Texts.{information_line, model_lines, values_line}
+use Rattle.smt_script.specs.Commands.{asked_terms}
+use Rattle.smt_script.specs.Kept.{Kept}
+use Rattle.smt_script.specs.States.{State, first_refusal, terms_refusal}
+use Rattle.smt_script.specs.TermValues.{value_shown, IsValue}
+use Rattle.smt_script.specs.declared.information.Information.{Information}
+use Rattle.smt_script.specs.declared.state.Mode.{Mode}
+use Rattle.smt_script.specs.declared.state.Mode.TheVariants as mode
+use Rattle.smt_script.specs.declared.state.Notice.{Notice}
+use Rattle.smt_script.specs.declared.state.Notice.TheVariants as notice
+use Rattle.smt_script.specs.declared.value.TermValue.{TermValue}
+use Rattle.smt_script.proofs.Levels.{levels_count}
+use Rattle.dtp_entry.specs.Standing.{Stands}
+use Rattle.dtp_entry.specs.Transcripts.{Held, told, told_model, told_values}
+use Rattle.dtp_entry.specs.declared.report.Report.TheVariants.{Verdicts}
+use Rattle.dtp_entry.proofs.Verdicts.{sorts_count}
+use Rattle.dtp_session.specs.declared.session.Session.{Session}
+use Rattle.dtp_session.specs.Sessions.{ShowsVerdict, Holds}
+
+-- ---- information
+
+pub inform_is : (held : Held) (s : State) (x : Sexpr) (n : Notice) (information : Information) (kept : Kept) (levels : ℕ) (old now : List ℕ) → n ≡ notice.Inform information → Stands kept s → levels ≡ length kept.levels → old ≡ []
+    → now ≡ old ++ information_line information levels → now ≡ told Verdicts held s x n
+inform_is held s x n information kept levels old now is stands counted empty e =
+    let count : levels ≡ length s.below = counted ∙ levels_count kept kept.levels s.below stands.stands.levels in
+    e ∙ ap (λ (t : List ℕ). t ++ information_line information levels) empty
+    ∙ ap (information_line information) count ∙ ap (told Verdicts held s x) (sym is)
+
+-- ---- a schedule that is held
+
+pub shown_schedule : (m : Mode) (c : Context) (held : Held) (marks : List Bool) → m ≡ mode.Sat → ShowsVerdict m c held marks
+    → (schedule : List NamedValue) × (held ≡ Some (Sat schedule)) × IsScheduleFor c schedule × AreWithinLimit schedule × AreTruths c.nodes (point_values schedule) marks
+shown_schedule m c held marks e h = subst (λ (k : Mode). ShowsVerdict k c held marks) e h
+
+same_schedule : (a b : List NamedValue) → ◌≡◌ {A = Held} (Some (Sat a)) (Some (Sat b)) → a ≡ b
+same_schedule a b e = cc
+
+-- the values that are held are the schedule
+pub record IsShown (c : Context) (values : List NamedValue) (marks : List Bool) : Type 0 where
+  pub fits : IsScheduleFor c values
+  pub within : AreWithinLimit values
+  pub truths : AreTruths c.nodes (point_values values) marks
+
+pub values_shown : (p : Session) (s : State) (values : List NamedValue) → Holds p s → s.mode ≡ mode.Sat → p.held ≡ Some (Sat values) → IsShown s.context values p.marks.items
+values_shown p s values holds sat e =
+    let w = shown_schedule s.mode s.context p.held p.marks.items sat holds.shows in
+    let same : w.0 ≡ values = same_schedule w.0 values (sym w.1 ∙ e) in
+    subst (λ (vs : List NamedValue). IsShown s.context vs p.marks.items) same (record { fits = w.2; within = w.3; truths = w.4 })
+
+pub nothing_else : (p : Session) (s : State) → Holds p s → s.mode ≡ mode.Sat → ((values : List NamedValue) → p.held ≡ Some (Sat values) → ⊥) → ⊥
+nothing_else p s holds sat h =
+    let w = shown_schedule s.mode s.context p.held p.marks.items sat holds.shows in
+    h w.0 w.1
+
+-- as many values as names
+pub values_counted : (kept : Kept) (s : State) (values : List NamedValue) → Stands kept s → IsScheduleFor s.context values → length values ≡ length kept.scope.declared
+values_counted kept s values stands fits =
+    values_count _ values fits ∙ sorts_count s.context.declared ∙ ap (λ (scope : Scope). length scope.declared) (sym stands.stands.scope)
+
+pub model_is : (kept : Kept) (held : Held) (s : State) (values : List NamedValue) (names : List Declaration) (old now : List ℕ) → Stands kept s → held ≡ Some (Sat values) → names ≡ kept.scope.declared → old ≡ []
+    → now ≡ old ++ model_lines names values → now ≡ told_model held s
+model_is kept held s values names old now stands e same empty is =
+    let declared : names ≡ s.context.declared = same ∙ ap (λ (scope : Scope). scope.declared) stands.stands.scope in
+    is ∙ ap (λ (t : List ℕ). t ++ model_lines names values) empty ∙ ap (λ (ds : List Declaration). model_lines ds values) declared
+    ∙ sym (ap (λ (h : Held). told_model h s) e)
+
+pub values_are : (held : Held) (s : State) (values : List NamedValue) (terms : Items) (old now : List ℕ) → held ≡ Some (Sat values) → old ≡ []
+    → now ≡ old ++ values_line (value (environment s.context values)) terms → now ≡ told_values held s terms
+values_are held s values terms old now e empty is =
+    is ∙ ap (λ (t : List ℕ). t ++ values_line (value (environment s.context values)) terms) empty ∙ sym (ap (λ (h : Held). told_values h s terms) e)
+
+-- ---- terms that were tested
+
+first_accepted : (scope : Scope) (nodes : List NodeValue) (x : Sexpr) (others : Items) (found : Result Made TermRefusal) → lowered scope nodes x ≡ found → terms_refusal scope nodes (more x others) ≡ None
+    → (made : Made) × (lowered scope nodes x ≡ Ok made) × (terms_refusal scope nodes others ≡ None)
+first_accepted scope nodes x others (Err why) e free =
+    absurd (let same : Some why ≡ None = sym (ap (λ (f : Result Made TermRefusal). first_refusal f (terms_refusal scope nodes others)) e) ∙ free in cc)
+first_accepted scope nodes x others (Ok made) e free =
+    (made, e, sym (ap (λ (f : Result Made TermRefusal). first_refusal f (terms_refusal scope nodes others)) e) ∙ free)
+
+module _ (t : Table) (ids : List ℕ) (scope : Scope) (nodes : List NodeValue) where
+  -- the terms from i on are accepted
+  abbrev pub AreTestedFrom : ℕ → Type 0
+  AreTestedFrom i = (rest : Items) × MeansEach t (drop i ids) rest × (terms_refusal scope nodes rest ≡ None)
+
+  pub record IsTestedNext (i : ℕ) : Type 0 where
+    pub term : Sexpr
+    pub means : Means t (get_or ids i 0) term
+    pub made : (made : Made) × (lowered scope nodes term ≡ Ok made)
+    pub behind : AreTestedFrom (i + 1)
+
+  pub tested_next : (i : ℕ) → i < length ids → AreTestedFrom i → IsTestedNext i
+  tested_next i within h =
+      let n = next_of t ids i h.0 within h.1 in
+      let w = first_accepted scope nodes n.first n.others (lowered scope nodes n.first) refl (sym (ap (terms_refusal scope nodes) n.is) ∙ h.2) in
+      record { term = n.first; means = n.first_means; made = (w.0, w.1); behind = (n.others, n.means, w.2) }
+
+module _ (t : Table) (ids : List ℕ) (value_of : Sexpr → Value) where
+  -- the terms before i have these values
+  abbrev pub AreAnsweredTo : List TermValue → ℕ → Type 0
+  AreAnsweredTo answers i =
+      (ts : Items) → MeansEach t ids ts → (rest : Items) × MeansEach t (drop i ids) rest
+      × ((others : List TermValue) → AreAnswers value_of rest others → AreAnswers value_of ts (answers ++ others))
+
+  pub answered_none : AreAnsweredTo [] 0
+  answered_none ts means = (ts, means, λ others h. h)
+
+  one_more : (answers others : List TermValue) (v : TermValue) → (answers ++ v ∷ []) ++ others ≡ answers ++ v ∷ others
+  one_more [] others v = refl
+  one_more (a ∷ answers) others v = ap (λ (vs : List TermValue). a ∷ vs) (one_more answers others v)
+
+  pub answered_more : (answers now : List TermValue) (v : TermValue) (i : ℕ) → AreAnsweredTo answers i → i < length ids → now ≡ answers ++ v ∷ [] → ((x : Sexpr) → Means t (get_or ids i 0) x → value_of x ≡ value_shown v) → AreAnsweredTo now (i + 1)
+  answered_more answers now v i h within e says ts means =
+      let so_far = h ts means in
+      let n = next_of t ids i so_far.0 within so_far.1 in (
+        n.others,
+        n.means,
+        λ others all. subst (AreAnswers value_of ts) (sym (ap (λ (vs : List TermValue). vs ++ others) e ∙ one_more answers others v))
+            (so_far.2 (v ∷ others) (subst (λ (r : Items). AreAnswers value_of r (v ∷ others)) (sym n.is) (says n.first n.first_means, all))),
+      )
+
+  pub answered_all : (answers : List TermValue) (i : ℕ) → AreAnsweredTo answers i → length ids ≤ i → (ts : Items) → MeansEach t ids ts → AreAnswers value_of ts answers
+  answered_all answers i h end ts means =
+      let so_far = h ts means in
+      let last : so_far.0 ≡ none = none_of t ids i so_far.0 (drop_all i ids end) so_far.1 in
+      subst (AreAnswers value_of ts) (append-nil answers) (so_far.2 [] (subst (λ (r : Items). AreAnswers value_of r []) (sym last) tt))
