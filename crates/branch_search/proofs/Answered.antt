@@ -1,8 +1,13 @@
 -- A slice's answer, over plain lists.
-use Rattle.std.proofs.Common.{arith, ◌≡◌, ℕ, ◌≤◌, ◌+◌, min, List, length, All, ℤ, subst, sym}
+use Rattle.std.proofs.Common.{arith, ◌≡◌, ℕ, ◌<◌, ◌≤◌, ◌+◌, min, Bool, true, false, List, length, All, Contains, Option, Some, get_or, ℤ, subst, sym, ap, ◌∙◌}
+use Rattle.std.specs.Prelude.{slice_get}
+use Rattle.std.proofs.lemmas.Option.{slice_get_within}
 use Rattle.stn_core.specs.declared.literal.Literal.{Literal}
+use Rattle.stn_core.specs.Literal.{negation_of}
 use Rattle.refute_tree.specs.declared.lemma.Lemma.{Lemma}
-use Rattle.refute_tree.specs.Batches.{LemmaBatch}
+use Rattle.refute_tree.specs.Batches.{LemmaBatch, AreRefuted}
+use Rattle.trim_lemmas.specs.declared.trimming.TrimmedBatch.{TrimmedBatch}
+use Rattle.trim_lemmas.specs.Trimming.{root, place, IsTrimmedBatch, StaysRefuted, StaysOver, StaysStated}
 use Rattle.branch_search.specs.declared.divide.Division.{Division}
 use Rattle.branch_search.specs.declared.divide.Division.TheVariants.{Model, Excluded, Split}
 use Rattle.branch_search.specs.declared.search.Found.{Found}
@@ -11,36 +16,67 @@ use Rattle.branch_search.specs.declared.answer.Slice.{Slice}
 use Rattle.branch_search.specs.declared.answer.Slice.TheVariants.{Model as AsModel, Refuted as AsRefuted, Split as AsSplit}
 use Rattle.branch_search.specs.Search.{Question, AreProved, AreExcluding, adds_limit}
 use Rattle.branch_search.specs.Slices.{IsModel, AreFound}
-use Rattle.branch_search.specs.Divisions.{IsDivision, IsBatch, IsSlice, IsSplit, HasSpent}
+use Rattle.branch_search.specs.Divisions.{IsDivision, IsBatch, IsSlice, IsSplit, HasSpent, excluding}
+use Rattle.branch_search.specs.Deliveries.{IsLeft, IsOfKind}
 
-module _ (q : Question) (batch : LemmaBatch) (seen : ℕ) (own : List Lemma) (is_seen : batch.seen ≡ seen) (is_own : batch.lemmas ≡ own) (count : seen ≡ length q.handed) where
-  batch_of : AreProved q own → IsBatch q batch
-  batch_of proved = record { seen = subst (λ (n : ℕ). n ≡ length q.handed) (sym is_seen) count; proved = subst (AreProved q) (sym is_own) proved }
+pub found_model : (q : Question) (own : List Lemma) (found : Found) (schedule : List ℤ) → found ≡ FoundModel schedule → AreFound q own found → IsDivision q own (Model schedule)
+found_model q own found schedule e h = subst (AreFound q own) e h
 
-  pub answered_model : (division : Division) (schedule : List ℤ) → division ≡ Model schedule → IsDivision q own division → IsSlice q (AsModel schedule batch)
+pub found_excluded : (q : Question) (own : List Lemma) (found : Found) (j : ℕ) → found ≡ FoundExcluded j → AreFound q own found → IsDivision q own (Excluded j)
+found_excluded q own found j e h = subst (AreFound q own) e h
+
+-- ---- what is left of the lemmas
+
+pub left_by : (seen : ℕ) (given own : List Lemma) (found : Option ℕ) (batch : LemmaBatch) (wanted : List Bool) (left : TrimmedBatch) → given ≡ own → batch.seen ≡ seen → batch.lemmas ≡ given
+    → IsTrimmedBatch wanted batch left.needed.items left.batch → StaysRefuted batch left.batch → StaysOver batch.lemmas left.batch.lemmas → StaysStated left.needed.items batch.lemmas left.batch.lemmas
+    → ((j : ℕ) → j < length given → found ≡ Some j → get_or wanted j false ≡ true) → IsLeft seen own found left
+left_by seen given own found batch wanted left same at lemmas t refuted over stated kept =
+    let is = lemmas ∙ same in
+    record {
+      seen_same = t.seen ∙ at;
+      each = t.are.one_each ∙ ap (length {A = Lemma}) is;
+      refuted = λ points clauses earlier count h. refuted points clauses earlier (count ∙ sym at) (subst (AreRefuted points clauses earlier) (sym is) h);
+      over = subst (λ (ls : List Lemma). StaysOver ls left.batch.lemmas) is over;
+      stated = subst (λ (ls : List Lemma). StaysStated left.needed.items ls left.batch.lemmas) is stated;
+      found_too = λ j lt e. (let h = t.are.right j in
+          let a = ap (length {A = Lemma}) same in
+          let b = ap (length {A = Lemma}) lemmas in
+          h.1 (root (omega (arith, lt, a, b)) (kept j (omega (arith, lt, a)) e)));
+    }
+
+module _ (q : Question) (own : List Lemma) (seen : ℕ) (found : Option ℕ) (left : TrimmedBatch) (l : IsLeft seen own found left) (count : seen ≡ length q.handed) where
+  left_proved : AreProved q own → AreProved q left.batch.lemmas
+  left_proved p = (l.refuted q.points q.inputs q.handed (sym count) p.0, l.over q.points p.1)
+
+  left_batch : AreProved q own → IsBatch q left.batch
+  left_batch p = record { seen = l.seen_same ∙ count; proved = left_proved p }
+
+  pub answered_model : (division : Division) (schedule : List ℤ) → division ≡ Model schedule → IsDivision q own division → IsSlice q (AsModel schedule left.batch)
   answered_model division schedule e h =
       let there : IsDivision q own (Model schedule) = subst (IsDivision q own) e h in
-      (there.0, batch_of there.1)
+      (there.0, left_batch there.1)
 
-  pub answered_refuted : (division : Division) (j : ℕ) → division ≡ Excluded j → IsDivision q own division → IsSlice q (AsRefuted batch j)
-  answered_refuted division j e h =
+  pub answered_refuted : (division : Division) (j k : ℕ) → division ≡ Excluded j → found ≡ excluding division → k ≡ place left.needed.items j → IsDivision q own division → IsSlice q (AsRefuted left.batch k)
+  answered_refuted division j k e is at h =
       let there : IsDivision q own (Excluded j) = subst (IsDivision q own) e h in
-      (subst (λ (ls : List Lemma). AreExcluding q ls j) (sym is_own) there, batch_of there.2)
+      let lemma = there.1 in
+      let other = l.stated j lemma.0 lemma.1 (l.found_too j there.0 (is ∙ ap excluding e)) in
+      let proved = left_proved there.2 in
+      let Denies : List Literal → Type 0 = λ c. All (λ (m : Literal). (n : Literal) × Contains q.cube n × (m ≡ negation_of n)) c in
+      let here : AreExcluding q left.batch.lemmas (place left.needed.items j) =
+      (slice_get_within left.batch.lemmas (place left.needed.items j) other.0 other.1, (other.0, other.1, subst Denies (sym other.2) lemma.2), proved) in
+      (subst (λ (n : ℕ). AreExcluding q left.batch.lemmas n) (sym at) here, left_batch there.2)
 
-  pub answered_split : (division : Division) (l : Literal) → division ≡ Split l → IsDivision q own division → IsSlice q (AsSplit l batch)
-  answered_split division l e h =
-      let there : IsDivision q own (Split l) = subst (IsDivision q own) e h in
-      (there.0, batch_of there.1)
+  pub answered_split : (division : Division) (m : Literal) → division ≡ Split m → IsDivision q own division → IsSlice q (AsSplit m left.batch)
+  answered_split division m e h =
+      let there : IsDivision q own (Split m) = subst (IsDivision q own) e h in
+      (there.0, left_batch there.1)
 
-  pub found_model : (found : Found) (schedule : List ℤ) → found ≡ FoundModel schedule → AreFound q own found → IsSlice q (AsModel schedule batch)
-  found_model found schedule e h =
-      let there : AreFound q own (FoundModel schedule) = subst (AreFound q own) e h in
-      (there.0, batch_of there.1)
-
-  pub found_refuted : (found : Found) (j : ℕ) → found ≡ FoundExcluded j → AreFound q own found → IsSlice q (AsRefuted batch j)
-  found_refuted found j e h =
-      let there : AreFound q own (FoundExcluded j) = subst (AreFound q own) e h in
-      (subst (λ (ls : List Lemma). AreExcluding q ls j) (sym is_own) there, batch_of there.2)
+-- the lemma that excludes the cube has a place
+pub excluded_within : (q : Question) (own : List Lemma) (division : Division) (j count : ℕ) → division ≡ Excluded j → IsDivision q own division → count ≡ length own → j ≤ count
+excluded_within q own division j count e h same =
+    let there : IsDivision q own (Excluded j) = subst (IsDivision q own) e h in
+    omega (arith, there.0, same)
 
 pub found_spent : (q : Question) (own : List Lemma) (found : Found) → found ≡ Spent → AreFound q own found → AreProved q own
 found_spent q own found e h = subst (AreFound q own) e h
@@ -50,3 +86,14 @@ pub has_spent : (before budget target after : ℕ) (slice : Slice) → target �
 has_spent before budget target after (AsModel schedule batch) e le = tt
 has_spent before budget target after (AsRefuted batch j) e le = tt
 has_spent before budget target after (AsSplit l batch) e le = omega arith
+
+-- of a model and of an excluded cube nothing is owed
+pub model_spent : (before budget after : ℕ) (schedule : List ℤ) (slice : Slice) → IsOfKind (Model schedule) slice → HasSpent before budget after slice
+model_spent before budget after schedule (AsModel values batch) h = tt
+model_spent before budget after schedule (AsRefuted batch k) h = tt
+model_spent before budget after schedule (AsSplit l batch) h = absurd cc
+
+pub excluded_spent : (before budget after j : ℕ) (slice : Slice) → IsOfKind (Excluded j) slice → HasSpent before budget after slice
+excluded_spent before budget after j (AsModel values batch) h = tt
+excluded_spent before budget after j (AsRefuted batch k) h = tt
+excluded_spent before budget after j (AsSplit l batch) h = absurd cc

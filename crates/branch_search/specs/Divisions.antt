@@ -44,6 +44,12 @@ IsDivision q own (Model schedule) = IsModel q.points q.inputs schedule × ArePro
 IsDivision q own (Excluded j) = AreExcluding q own j
 IsDivision q own (Split l) = IsSplit q l × AreProved q own
 
+-- the number of the lemma that excludes the cube
+abbrev pub excluding : Division → Option ℕ
+excluding (Model schedule) = None
+excluding (Excluded j) = Some j
+excluding (Split l) = None
+
 -- the clause has a live literal, or a lemma excludes the cube
 abbrev pub IsSearchLiveness : Question → List Lemma → List Entry → List Level → List Literal → ℕ → Live
     → Type 0

@@ -2,6 +2,7 @@ pub mod Search
 pub mod Hits
 pub mod Slices
 pub mod Divisions
+pub mod Deliveries
 pub mod Clauses
 pub mod Roots
 pub use Rattle.stn_core.specs.Limits

@@ -12,6 +12,7 @@ mod both;
 mod clauses;
 mod conflict;
 mod cube;
+mod delivery;
 mod distances;
 mod divide;
 mod model;

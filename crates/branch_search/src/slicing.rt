@@ -2,7 +2,7 @@
 ghost use Rattle.std.specs.Prelude.{◌≡◌, ◌<◌, ◌≤◌, ◌+◌, ◌^◌, [], All, length, min, IfOk, OnOk};
 ghost use Rattle.stn_core.specs.Literal.{IsOver};
 ghost use Rattle.conflict_analysis.specs.Proved.{IsClauseOver};
-ghost use Rattle.branch_search.specs.Search.{Question, question_of, IsState, AreProved, adds_limit};
+ghost use Rattle.branch_search.specs.Search.{question_of, IsState, AreProved, adds_limit};
 ghost use Rattle.branch_search.specs.Slices.{IsFound};
 ghost use Rattle.branch_search.specs.Divisions.{IsDivision, IsSlice, HasSpent};
 
@@ -10,7 +10,7 @@ use crate::answer::Slice;
 use crate::divide::Division;
 use crate::search::{Found, Rest};
 use crate::state::State;
-use refute_tree::{Batch, Earlier, Lemma};
+use refute_tree::Earlier;
 use search_distances::Distances;
 use search_guide::Guide;
 use std::alloc::{AllocError, Global};
@@ -94,19 +94,6 @@ fn spend<N: Net>(net: &mut N, problem: &Problem, target: u64) -> Result<(), Allo
     Ok(())
 }
 
-// The answer with its lemmas.
-fn answer_of(division: Division, seen: usize, lemmas: Vec<Lemma>) -> Slice
-    ensures { (q : Question) → seen ≡ length q.handed → IsDivision q lemmas.items division
-        → IsSlice q result }
-{
-    let batch = Batch::new(seen, lemmas);
-    match division {
-        Division::Model(schedule) => Slice::Model(schedule, batch),
-        Division::Excluded(j) => Slice::Refuted(batch, j),
-        Division::Split(literal) => Slice::Split(literal, batch),
-    }
-}
-
 // Where the search found nothing within its budget: the net is emptied, and the cube entered alone.
 fn divide_cube<E: Earlier, N: Net>(
     alloc: Global,
@@ -132,7 +119,8 @@ fn divide_cube<E: Earlier, N: Net>(
     net.retract(Mark { length: 0 });
     state.clear();
     let division = state.finish(alloc, problem, handed, cube, net)?;
-    Ok(answer_of(division, handed.count(), state.take_own(alloc)))
+    let slice = state.deliver(alloc, problem, handed, cube, division)?;
+    Ok(slice)
 }
 
 // How many decisions a slice may make. A decision that adds nothing to the net is cheap, and a script of many
@@ -167,12 +155,14 @@ fn run<E: Earlier, N: Net>(
     state.renew(alloc, problem, handed)?;
     match state.begin(alloc, problem, handed, cube, net, rest)? {
         Found::Model(schedule) => {
-            let batch = Batch::new(handed.count(), state.take_own(alloc));
-            Ok(Slice::Model(schedule, batch))
+            let division = Division::Model(schedule);
+            let slice = state.deliver(alloc, problem, handed, cube, division)?;
+            Ok(slice)
         }
         Found::Excluded(j) => {
-            let batch = Batch::new(handed.count(), state.take_own(alloc));
-            Ok(Slice::Refuted(batch, j))
+            let division = Division::Excluded(j);
+            let slice = state.deliver(alloc, problem, handed, cube, division)?;
+            Ok(slice)
         }
         Found::Spent => divide_cube(alloc, state, problem, handed, cube, net, target),
     }

@@ -1,0 +1,112 @@
+//! What a slice delivers: of its lemmas those that the search hasn't forgotten, and those that these cite.
+ghost use Rattle.std.specs.Prelude.{◌≡◌, ◌<◌, ◌+◌, ◌^◌, ℕ, length, Some, true, false, slice_index_or, IfOk};
+ghost use Rattle.branch_search.specs.Search.{question_of};
+ghost use Rattle.branch_search.specs.Divisions.{IsDivision, IsSlice, excluding};
+ghost use Rattle.branch_search.specs.Deliveries.{IsLeft, IsOfKind};
+
+use crate::answer::Slice;
+use crate::divide::Division;
+use crate::state::State;
+use refute_tree::{Batch, Earlier};
+use search_guide::{Guide, Source};
+use std::alloc::{AllocError, Global};
+use stn_core::{Literal, Problem};
+use trim_lemmas::{TrimmedBatch, trimmed_batch};
+
+// The lemma that excludes the cube, if one does.
+fn excluding(division: &Division) -> Option<usize>
+    ensures { result ≡ excluding division.now }
+{
+    match division {
+        Division::Model(_) => None,
+        Division::Excluded(j) => Some(*j),
+        Division::Split(_) => None,
+    }
+}
+
+// Whether the own lemma with the number j is wanted for itself.
+fn is_wanted(guide: &Guide, seen: usize, found: Option<usize>, j: usize) -> bool
+    ensures { found ≡ Some j → result ≡ true }
+{
+    if found == Some(j) {
+        return true;
+    }
+    !guide
+        .numbers_of(Source::Lemma(seen.saturating_add(j)))
+        .is_empty()
+}
+
+// For each of so many own lemmas whether it is wanted for itself.
+fn wanted_lemmas(
+    alloc: Global,
+    guide: &Guide,
+    seen: usize,
+    found: Option<usize>,
+    count: usize,
+) -> Result<Vec<bool>, AllocError>
+    ensures each { IfOk result (λ wanted. length wanted.items ≡ count) }
+    ensures found { IfOk result (λ wanted. (j : ℕ) → j < count → found ≡ Some j
+        → slice_index_or wanted.items j false ≡ true) }
+{
+    let mut wanted = Vec::with_capacity(alloc, count)?;
+    for j in 0..count {
+        wanted.push(is_wanted(guide, seen, found, j))?;
+    }
+    Ok(wanted)
+}
+
+impl State {
+    // The own lemmas, which leave the state, without those that nothing needs. So many were handed.
+    fn take_wanted(
+        &mut self,
+        alloc: Global,
+        seen: usize,
+        found: Option<usize>,
+    ) -> Result<TrimmedBatch, AllocError>
+        requires fits { seen + length self.old.own.items < 2 ^ 64 }
+        ensures left { IfOk result (IsLeft seen self.old.own.items found) }
+    {
+        let own = self.take_own(alloc);
+        let wanted = wanted_lemmas(alloc, &self.guide, seen, found, own.len())?;
+        let left = trimmed_batch(alloc, Batch::new(seen, own), wanted)?;
+        Ok(left)
+    }
+
+    // The hints' numbers of lemmas close up, so that the next slice goes on with them.
+    fn close_up(&mut self, seen: usize, needed: &[bool]) -> Result<(), AllocError> {
+        if self.guide.lemmas() == seen.saturating_add(needed.len()) {
+            self.guide.close_up(seen, needed)?;
+        }
+        self.known = self.guide.lemmas();
+        Ok(())
+    }
+
+    /// The slice's answer, with those of the own lemmas that the search hasn't forgotten, and with what these
+    /// cite.
+    pub fn deliver<E: Earlier>(
+        &mut self,
+        alloc: Global,
+        problem: &Problem,
+        handed: &E,
+        cube: &[Literal],
+        division: Division,
+    ) -> Result<Slice, AllocError>
+        requires few { length (E.clauses handed.now) < 2 ^ 63 }
+        requires division { IsDivision (question_of problem.now (E.clauses handed.now) cube.now)
+            self.old.own.items division }
+        ensures answer { IfOk result (IsSlice (question_of problem.now (E.clauses handed.now) cube.now)) }
+        ensures kind { IfOk result (IsOfKind division) }
+    {
+        let seen = handed.count();
+        let left = self.take_wanted(alloc, seen, excluding(&division))?;
+        self.close_up(seen, &left.needed)?;
+        match division {
+            Division::Model(schedule) => Ok(Slice::Model(schedule, left.batch)),
+            Division::Excluded(j) => {
+                let place = left.place(j);
+                Ok(Slice::Refuted(left.batch, place))
+            }
+            Division::Split(literal) => Ok(Slice::Split(literal, left.batch)),
+        }
+    }
+}
