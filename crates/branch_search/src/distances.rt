@@ -134,9 +134,10 @@ impl State {
         }
     }
 
-    /// Whether no literal of the trail is still to go into the distances.
+    /// Whether no literal of the trail is still to go into the distances: all are in them, or none is open
+    /// that could follow.
     pub fn is_measured(&self) -> bool {
-        self.distances.is_none() || self.measured >= self.entries.len()
+        self.distances.is_none() || self.measured >= self.entries.len() || self.guide.is_full()
     }
 
     /// The next literal of the trail into the distances, and then all that follows by them on the trail.

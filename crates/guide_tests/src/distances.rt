@@ -26,7 +26,7 @@ fn hits(
     let first = guide.add_literal(FIRST)?;
     let second = guide.add_literal(SECOND)?;
     guide.set(first, 0, 0);
-    guide.set(second, 1, 0);
+    guide.set(second, 1, 1);
     distances.add(guide, first, 0)?;
     let none = distances.next_hit(guide);
     distances.add(guide, second, 1)?;

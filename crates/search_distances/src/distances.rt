@@ -5,7 +5,8 @@
 //! follows. Each hit so costs one comparison, and its path is read off the table. Searches by Dijkstra after
 //! each literal in place of the table took 2.3 times as long, and no propagation at all 4 times.
 //!
-//! The table is for few points, since it has an entry of 28 bytes for each pair: with 400 points, 4.5 MB.
+//! The table has an entry of 28 bytes for each pair, 28 MB for 1,000 points. Beyond 400 points it still pays:
+//! open shops and random problems that took over 15 s without it take 1 to 7 s.
 use crate::paths::Walk;
 use crate::rungs::{Rung, Rungs};
 use search_guide::{Guide, LiteralNumber};
@@ -13,7 +14,7 @@ use std::alloc::{AllocError, Global};
 use stn_core::Literal;
 
 /// At most so many rows, and an absolute value of distances below this.
-const ROWS_LIMIT: usize = 400;
+const ROWS_LIMIT: usize = 1_000;
 
 const DISTANCE_LIMIT: u64 = 1 << 60;
 
@@ -23,8 +24,8 @@ const FAR: i64 = 1 << 61;
 /// An entry as it was before a literal lowered it.
 #[derive(Clone, Copy)]
 struct Change {
-    pair: usize,
     distance: i64,
+    pair: u32,
     by: LiteralNumber,
 }
 
@@ -55,8 +56,11 @@ pub struct Distances {
     /// the greatest bound of a literal on the pair
     greatest: Vec<i64>,
     rungs: Rungs,
+    /// the changes since the first literal that was decided, and those literals that made some
     changes: Vec<Change>,
     steps: Vec<Step>,
+    /// whether literals of the root lowered entries, which can't be taken back one by one
+    has_root: bool,
     hits: Vec<usize>,
     next_hit: usize,
     forward: Vec<Reach>,
@@ -136,6 +140,18 @@ fn pair_of(rows: usize, from: usize, to: usize) -> usize {
     from.wrapping_mul(rows).wrapping_add(to)
 }
 
+/// No distance but those from rows to themselves.
+fn start(distances: &mut [i64], rows: usize) {
+    for distance in distances.iter_mut() {
+        *distance = FAR;
+    }
+    for row in 0..rows {
+        if let Some(distance) = distances.get_mut(pair_of(rows, row, row)) {
+            *distance = 0;
+        }
+    }
+}
+
 impl Distances {
     /// The distances where no literal is in the net, over the points of the guide's literals that aren't
     /// pure. There are none for more than 400 such points, or where a distance might leave 60 bits. The one
@@ -151,11 +167,7 @@ impl Distances {
         let mut greatest = vec![in alloc; i64::MIN; pairs]?;
         let rungs = read_rungs(alloc, guide, &row_of, rows, &mut greatest)?;
         let mut distances = vec![in alloc; FAR; pairs]?;
-        for row in 0..rows {
-            if let Some(distance) = distances.get_mut(pair_of(rows, row, row)) {
-                *distance = 0;
-            }
-        }
+        start(&mut distances, rows);
         Ok(Some(Distances {
             row_of,
             rows,
@@ -165,6 +177,7 @@ impl Distances {
             rungs: Rungs::start(alloc, pairs, rungs)?,
             changes: Vec::new(alloc),
             steps: Vec::new(alloc),
+            has_root: false,
             hits: Vec::new(alloc),
             next_hit: 0,
             forward: Vec::new(alloc),
@@ -219,15 +232,20 @@ impl Distances {
         if self.distance(from, to) <= literal.c {
             return Ok(());
         }
-        self.steps.push(Step {
-            place,
-            changes: self.changes.len(),
-        })?;
+        let is_root = guide.level(number) == Some(0);
+        if is_root {
+            self.has_root = true;
+        } else {
+            self.steps.push(Step {
+                place,
+                changes: self.changes.len(),
+            })?;
+        }
         self.reach_forward(from, to, literal.c)?;
         self.reach_backward(from, to, literal.c)?;
         for k in 0..self.backward.len() {
             if let Some(reach) = self.backward.get(k).copied() {
-                self.lower_row(reach, number)?;
+                self.lower_row(reach, number, is_root)?;
             }
         }
         Ok(())
@@ -259,7 +277,12 @@ impl Distances {
     }
 
     /// Lowers the entries from one row.
-    fn lower_row(&mut self, start: Reach, number: LiteralNumber) -> Result<(), AllocError> {
+    fn lower_row(
+        &mut self,
+        start: Reach,
+        number: LiteralNumber,
+        is_root: bool,
+    ) -> Result<(), AllocError> {
         let first = pair_of(self.rows, start.row, 0);
         for reach in &self.forward {
             let pair = first.wrapping_add(reach.row);
@@ -268,14 +291,19 @@ impl Distances {
             else {
                 continue;
             };
+            let Ok(changed) = u32::try_from(pair) else {
+                continue;
+            };
             if distance >= *entry {
                 continue;
             }
-            self.changes.push(Change {
-                pair,
-                distance: *entry,
-                by: *by,
-            })?;
+            if !is_root {
+                self.changes.push(Change {
+                    distance: *entry,
+                    pair: changed,
+                    by: *by,
+                })?;
+            }
             *entry = distance;
             *by = number;
             if let Some(greatest) = self.greatest.get(pair) {
@@ -302,9 +330,17 @@ impl Distances {
         None
     }
 
-    /// The literals at this place of the trail and beyond leave it. It takes no memory.
+    /// The literals at this place of the trail and beyond leave it: all, or those from one that was decided on.
+    /// It takes no memory.
     pub fn retract(&mut self, place: usize) {
         self.hits.truncate(0);
+        if place == 0 && self.has_root {
+            self.has_root = false;
+            self.changes.truncate(0);
+            self.steps.truncate(0);
+            start(&mut self.distances, self.rows);
+            return;
+        }
         for _step in 0..self.steps.len() {
             match self.steps.last().copied() {
                 Some(step) if step.place >= place => {
@@ -322,10 +358,11 @@ impl Distances {
             let Some(change) = self.changes.pop() else {
                 return;
             };
-            if let Some(entry) = self.distances.get_mut(change.pair) {
+            let pair = change.pair as usize;
+            if let Some(entry) = self.distances.get_mut(pair) {
                 *entry = change.distance;
             }
-            if let Some(by) = self.by.get_mut(change.pair) {
+            if let Some(by) = self.by.get_mut(pair) {
                 *by = change.by;
             }
         }

@@ -31,7 +31,8 @@ pub struct Guide {
     /// the clause of the problem from which the next look for a model goes on
     pointer: usize,
     patience: Patience,
-    /// how many literals of the trail stand above the root
+    /// how many literals stand on the trail, and how many of them above the root
+    set: usize,
     pub(crate) above_root: usize,
     pub(crate) probing: Probing,
 }
@@ -69,6 +70,7 @@ impl Guide {
             forgetting: Forgetting::new(alloc),
             pointer: 0,
             patience: Patience::new(),
+            set: 0,
             above_root: 0,
             probing: Probing::new(alloc, problem.points)?,
         };
@@ -166,13 +168,20 @@ impl Guide {
     /// The literal stands on the trail now.
     pub fn set(&mut self, number: LiteralNumber, place: usize, level: usize) {
         self.assignment.set(number, place, level);
+        self.set = self.set.saturating_add(1);
         if level > 0 {
             self.above_root = self.above_root.saturating_add(1);
         }
     }
 
+    /// Whether all literals, or their negations, stand on the trail.
+    pub fn is_full(&self) -> bool {
+        self.set >= self.numbers.len()
+    }
+
     /// The literal leaves the trail.
     pub fn unset(&mut self, number: LiteralNumber) {
+        self.set = self.set.saturating_sub(1);
         if self.assignment.level(number) > 0 {
             self.above_root = self.above_root.saturating_sub(1);
         }
