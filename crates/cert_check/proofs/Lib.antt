@@ -7,3 +7,4 @@ pub mod Steps
 pub mod FirstFalse
 pub mod Places
 pub mod FirstFlaws
+pub mod Tested

@@ -1,7 +1,7 @@
 ghost use Rattle.std.specs.Prelude.{◌≡◌, ◌<◌, [], length, map, slice_get, Some, None, Ok, Err, IfOk, OnOk, IfErr};
 ghost use Rattle.std.specs.List.{list_all};
 ghost use Rattle.stn_core.specs.Literal.{negation_of};
-ghost use Rattle.refute_tree.specs.Views.{step_seen};
+ghost use Rattle.refute_tree.specs.Views.{literals_of, step_seen};
 ghost use Rattle.cert_check.specs.declared.flaw.FlawKind.TheVariants.{NoSuchClause};
 ghost use Rattle.cert_check.specs.Tests.{is_assumed, is_on_points};
 ghost use Rattle.cert_check.specs.Flaws.{opened_by_cycle, opened_by_clash};
@@ -9,8 +9,7 @@ ghost use Rattle.cert_check.specs.Walks.{clause_in, OpensCases, IsFlawedBy};
 
 use crate::assumptions::Assumptions;
 use crate::flaw::FlawKind;
-use neg_cycle::is_cycle;
-use refute_tree::{Earlier, StepView};
+use refute_tree::{Cycle, Earlier, StepView};
 use stn_core::{Literal, Problem, negate};
 
 /// The clause whose cases are read, borrowed from the problem or from an earlier lemma, or the literal of an `Either`
@@ -59,10 +58,15 @@ pub fn are_on_points(points: u32, literals: &[Literal]) -> bool
         .all(|literal| is_on_points(points, *literal))
 }
 
-fn are_assumed(assumed: &Assumptions, literals: &[Literal]) -> bool
-    ensures { result ≡ list_all (is_assumed assumed.now) literals.now }
+fn are_assumed(assumed: &Assumptions, cycle: Cycle<'_>) -> bool
+    ensures { result ≡ list_all (is_assumed assumed.now) (literals_of cycle.entry) }
 {
-    literals.iter().all(|literal| assumed.contains(*literal))
+    for place in 0..cycle.len() {
+        if !assumed.contains(cycle.at(place)) {
+            return false;
+        }
+    }
+    true
 }
 
 /// Whether the negations of the literals are all assumed.
@@ -78,14 +82,14 @@ fn are_denied(assumed: &Assumptions, literals: &[Literal]) -> bool
 }
 
 /// A leaf: its literals are all assumed, and a negative cycle.
-fn check_leaf(assumed: &Assumptions, cycle: &[Literal]) -> Result<(), FlawKind>
-    ensures ok { OnOk result (opened_by_cycle assumed.now cycle.now ≡ Ok []) }
-    ensures flaw { IfErr result (λ kind. opened_by_cycle assumed.now cycle.now ≡ Err kind) }
+fn check_leaf(assumed: &Assumptions, cycle: Cycle<'_>) -> Result<(), FlawKind>
+    ensures ok { OnOk result (opened_by_cycle assumed.now (literals_of cycle.entry) ≡ Ok []) }
+    ensures flaw { IfErr result (λ kind. opened_by_cycle assumed.now (literals_of cycle.entry) ≡ Err kind) }
 {
     if !are_assumed(assumed, cycle) {
         return Err(FlawKind::NotAssumed);
     }
-    if !is_cycle(cycle) {
+    if !cycle.is_negative() {
         return Err(FlawKind::NotACycle);
     }
     Ok(())
@@ -133,7 +137,8 @@ pub fn cases_of_step<'a, E: Earlier>(
             Ok(Cases::Clause(&[]))
         }
         StepView::Pair(literal) => {
-            check_leaf(assumed, [literal, negate(literal)].as_slice())?;
+            let pair = [literal, negate(literal)];
+            check_leaf(assumed, Cycle::Literals(pair.as_slice()))?;
             Ok(Cases::Clause(&[]))
         }
         StepView::Clash(i) => {

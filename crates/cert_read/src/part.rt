@@ -11,7 +11,7 @@ ghost use Rattle.cert_read.specs.Shapes.{Lacks};
 use crate::error::PartError;
 use crate::number::{index, number, point, whole};
 use cert_text::Entry;
-use refute_tree::{Lemma, Refutation, Step, StepView, Steps};
+use refute_tree::{Cycle, Lemma, Refutation, Step, StepView, Steps};
 use smt_sexpr::{SexprId, Sexprs};
 use std::alloc::{AllocError, Global};
 use stn_core::{Clause, Literal, Literals, NamedValue, NamedValues};
@@ -136,7 +136,7 @@ fn view_of(step: &Step) -> StepView<'_>
     ensures { step_seen result ≡ step.now }
 {
     match step {
-        Step::Cycle(literals) => StepView::Cycle(literals.as_slice()),
+        Step::Cycle(literals) => StepView::Cycle(Cycle::Literals(literals.as_slice())),
         Step::Input(i) => StepView::Input(*i),
         Step::Lemma(j) => StepView::Lemma(*j),
         Step::Clash(i) => StepView::Clash(*i),

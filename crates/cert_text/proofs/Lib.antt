@@ -2,3 +2,4 @@ pub mod Numerals
 pub mod KeptFronts
 pub mod Writable
 pub mod OneEntry
+pub mod EachLiteral

@@ -5,14 +5,14 @@ ghost use Rattle.std.specs.Prelude.{◌≡◌, ◌++◌, ◌∷◌, [], map, tak
 ghost use Rattle.std.specs.Vec.{vec_len};
 ghost use Rattle.smt_sexpr.specs.Tree.{Sexpr};
 ghost use Rattle.smt_sexpr.specs.Printing.{text_of, text_behind};
-ghost use Rattle.cert_text.specs.Form.{numeral, number_of_value, clause_sexpr, step_sexpr};
-ghost use Rattle.refute_tree.specs.declared.step.Step.TheVariants.{Cycle};
-ghost use Rattle.refute_tree.specs.Views.{step_seen};
+ghost use Rattle.cert_text.specs.Form.{numeral, number_of_value, clause_sexpr, literal_sexpr, step_sexpr};
+ghost use Rattle.refute_tree.specs.declared.step.Step.TheVariants.{Cycle as CycleStep};
+ghost use Rattle.refute_tree.specs.Views.{literals_of, step_seen};
 ghost use Rattle.smt_sexpr.specs.Shapes.{items_of};
 
 use crate::number::{write_number, write_numeral};
 use bstr::ByteVec;
-use refute_tree::{Lemma, Reader, StepView};
+use refute_tree::{Cycle, Lemma, Reader, StepView};
 use std::alloc::AllocError;
 use stn_core::{Literal, NamedValue, Value, negate};
 
@@ -86,8 +86,11 @@ fn write_step(step: StepView<'_>, out: &mut Vec<u8>) -> Result<(), AllocError>
     ensures front { take (vec_len out.old) out.new.items ≡ out.old.items }
 {
     match step {
-        StepView::Cycle(literals) => write_cycle(literals, out),
-        StepView::Pair(literal) => write_cycle([literal, negate(literal)].as_slice(), out),
+        StepView::Cycle(cycle) => write_cycle(cycle, out),
+        StepView::Pair(literal) => {
+            let pair = [literal, negate(literal)];
+            write_cycle(Cycle::Literals(pair.as_slice()), out)
+        }
         StepView::Input(i) => {
             out.push_str(b"(input ")?;
             write_numeral(i as u128, out)?;
@@ -111,12 +114,25 @@ fn write_step(step: StepView<'_>, out: &mut Vec<u8>) -> Result<(), AllocError>
 }
 
 /// Appends a leaf.
-fn write_cycle(literals: &[Literal], out: &mut Vec<u8>) -> Result<(), AllocError>
-    ensures ok { OnOk result (out.new.items ≡ out.old.items ++ text_of (step_sexpr (Cycle literals.now))) }
+fn write_cycle(cycle: Cycle<'_>, out: &mut Vec<u8>) -> Result<(), AllocError>
+    ensures ok { OnOk result (out.new.items ≡ out.old.items ++ text_of (step_sexpr (CycleStep (literals_of cycle.entry)))) }
     ensures front { take (vec_len out.old) out.new.items ≡ out.old.items }
 {
     out.push_str(b"(cycle")?;
-    write_behind(literals, out)
+    write_each_behind(cycle, out)
+}
+
+/// Appends the literals of a cycle, each behind a space, and the closing parenthesis.
+fn write_each_behind(cycle: Cycle<'_>, out: &mut Vec<u8>) -> Result<(), AllocError>
+    ensures ok { OnOk result (out.new.items
+        ≡ out.old.items ++ text_behind (items_of (map literal_sexpr (literals_of cycle.entry)))) }
+    ensures front { take (vec_len out.old) out.new.items ≡ out.old.items }
+{
+    for place in 0..cycle.len() {
+        out.push_str(b" ")?;
+        cycle.at(place).write(out)?;
+    }
+    out.push_str(b")")
 }
 
 /// Appends the steps, each behind a space, and the closing parenthesis.

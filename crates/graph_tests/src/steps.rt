@@ -10,8 +10,8 @@ const SECOND: Literal = Literal { x: 5, y: 4, c: 7 };
 
 #[test]
 fn sizes(rt: HostRuntime) -> Result<(), Fail> {
-    assert_eq!(rt; mem::size_of::<Steps>(), 96);
-    assert_eq!(rt; mem::size_of::<StepView>(), 24);
+    assert_eq!(rt; mem::size_of::<Steps>(), 144);
+    assert_eq!(rt; mem::size_of::<StepView>(), 48);
     Ok(())
 }
 

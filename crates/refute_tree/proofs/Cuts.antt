@@ -1,153 +1,156 @@
--- Lists of kinds, numbers and literals, cut at a step.
+-- Lists of kinds, numbers, points, bounds and literals, cut at a step.
 use Rattle.std.proofs.Common.{ℕ, ◌≡◌, ◌+◌, ◌-◌, ◌≤◌, ◌<◌, zero, suc, take, sym, arith, List, [], ◌∷◌, length, ◌++◌, drop, ap, ◌∙◌, slice_index_or}
 use Rattle.std.proofs.lemmas.List.{length-drop, take-append-drop, take_at, drop_at, drop-drop, length-take-le}
-use Rattle.stn_core.specs.declared.literal.Literal.{Literal}
 use Rattle.refute_tree.specs.declared.step.Step.{Step}
 use Rattle.refute_tree.specs.declared.kind.Kind.{Kind}
-use Rattle.refute_tree.specs.Store.{small_by, large_by, literals_by, used_small, used_large, used_literals, IsWhole, steps_by}
-use Rattle.refute_tree.proofs.Flats.{used_small-append, used_large-append, used_literals-longer, used_literals-append, whole-append, steps_by-append, length-steps_by}
+use Rattle.refute_tree.specs.Store.{Parts, parts, together, small_by, large_by, points_by, bounds_by, literals_by, used, used_items, IsWhole, steps_by}
+use Rattle.refute_tree.proofs.Flats.{parts_same, used-append, used-more, points_by-append, bounds_by-append, literals_by-append, items-longer, items-append, whole-append, steps_by-append, length-steps_by}
 
-module _ (n : ℕ) (ks : List Kind) (small large : List ℕ) (ls : List Literal) (within : n ≤ length ks) (whole : IsWhole ks small large ls) where
-  abbrev front : List Kind
-  front = take n ks
+-- a list of numbers, cut behind so many kinds
+module _ (by : Kind → ℕ) (n : ℕ) (ks : List Kind) (ns : List ℕ) (all : used by ks ≡ length ns) where
+  abbrev cut : ℕ
+  cut = used by (take n ks)
 
-  abbrev back : List Kind
-  back = drop n ks
+  split_used : used by ks ≡ cut + used by (drop n ks)
+  split_used = sym (ap (used by) (take-append-drop n ks)) ∙ used-append by (take n ks) (drop n ks)
 
-  abbrev smalls : ℕ
-  smalls = used_small front
+  pub numbers_within : cut ≤ length ns
+  numbers_within = omega (arith, split_used, all)
 
-  abbrev larges : ℕ
-  larges = used_large front
+  pub numbers_front : cut ≡ length (take cut ns)
+  numbers_front = sym (length-take-le cut ns numbers_within)
 
-  abbrev literals : ℕ
-  literals = used_literals front large
+  pub numbers_back : used by (drop n ks) ≡ length (drop cut ns)
+  numbers_back = omega (arith, split_used, all, length-drop cut ns)
 
-  split_small : used_small ks ≡ smalls + used_small back
-  split_small = sym (ap used_small (take-append-drop n ks)) ∙ used_small-append front back
+  -- the items that the numbers count
+  module _ (items_by : Kind → List ℕ → ℕ) (same : (k : Kind) (xs ms : List ℕ) → by k ≤ length xs → items_by k (xs ++ ms) ≡ items_by k xs) {X : Type 0} (items : List X) (whole : used_items by items_by ks ns ≡ length items) where
+    abbrev used_front : ℕ
+    used_front = used_items by items_by (take n ks) ns
 
-  split_large : used_large ks ≡ larges + used_large back
-  split_large = sym (ap used_large (take-append-drop n ks)) ∙ used_large-append front back
+    same_front : used_items by items_by (take n ks) (take cut ns) ≡ used_front
+    same_front =
+        sym (items-longer by items_by same (take n ks) (take cut ns) (drop cut ns) (omega (arith, numbers_front)))
+        ∙ ap (used_items by items_by (take n ks)) (take-append-drop cut ns)
 
-  pub small_within : smalls ≤ length small
-  small_within = omega (arith, split_small, whole.small_all)
+    split_items : used_items by items_by ks ns ≡ used_front + used_items by items_by (drop n ks) (drop cut ns)
+    split_items =
+        sym (ap (λ (kinds : List Kind). used_items by items_by kinds ns) (take-append-drop n ks))
+        ∙ sym (ap (used_items by items_by (take n ks ++ drop n ks)) (take-append-drop cut ns))
+        ∙ items-append by items_by same (take n ks) (drop n ks) (take cut ns) (drop cut ns) numbers_front
+        ∙ ap (λ m. m + used_items by items_by (drop n ks) (drop cut ns)) same_front
 
-  pub large_within : larges ≤ length large
-  large_within = omega (arith, split_large, whole.large_all)
+    pub items_within : used_front ≤ length items
+    items_within = omega (arith, split_items, whole)
 
-  front_large : length (take larges large) ≡ larges
-  front_large = length-take-le larges large large_within
+    pub items_front : used_items by items_by (take n ks) (take cut ns) ≡ length (take used_front items)
+    items_front = same_front ∙ sym (length-take-le used_front items items_within)
 
-  same_literals : used_literals front (take larges large) ≡ literals
-  same_literals =
-      sym (used_literals-longer front (take larges large) (drop larges large) (omega (arith, front_large)))
-      ∙ ap (used_literals front) (take-append-drop larges large)
+    pub items_back : used_items by items_by (drop n ks) (drop cut ns) ≡ length (drop used_front items)
+    items_back = omega (arith, split_items, whole, length-drop used_front items)
 
-  split_literals : used_literals ks large ≡ literals + used_literals back (drop larges large)
-  split_literals =
-      sym (ap (λ (kinds : List Kind). used_literals kinds large) (take-append-drop n ks))
-      ∙ sym (ap (used_literals (front ++ back)) (take-append-drop larges large))
-      ∙ used_literals-append front back (take larges large) (drop larges large) (sym front_large)
-      ∙ ap (λ m. m + used_literals back (drop larges large)) same_literals
+-- the parts of the first so many kinds, and those behind them
+abbrev pub front_of : ℕ → List Kind → Parts → Parts
+front_of n ks p =
+    parts (take (used small_by (take n ks)) p.small) (take (used large_by (take n ks)) p.large)
+    (take (used_items small_by points_by (take n ks) p.small) p.points)
+    (take (used_items small_by bounds_by (take n ks) p.small) p.bounds)
+    (take (used_items large_by literals_by (take n ks) p.large) p.literals)
 
-  pub literals_within : literals ≤ length ls
-  literals_within = omega (arith, split_literals, whole.literals_all)
+abbrev pub back_of : ℕ → List Kind → Parts → Parts
+back_of n ks p =
+    parts (drop (used small_by (take n ks)) p.small) (drop (used large_by (take n ks)) p.large)
+    (drop (used_items small_by points_by (take n ks) p.small) p.points)
+    (drop (used_items small_by bounds_by (take n ks) p.small) p.bounds)
+    (drop (used_items large_by literals_by (take n ks) p.large) p.literals)
 
-  pub front_whole : IsWhole front (take smalls small) (take larges large) (take literals ls)
+module _ (n : ℕ) (ks : List Kind) (p : Parts) (within : n ≤ length ks) (whole : IsWhole ks p) where
+  pub front_whole : IsWhole (take n ks) (front_of n ks p)
   front_whole = record {
-    small_all = sym (length-take-le smalls small small_within);
-    large_all = sym front_large;
-    literals_all = same_literals ∙ sym (length-take-le literals ls literals_within);
+    small_all = numbers_front small_by n ks p.small whole.small_all;
+    large_all = numbers_front large_by n ks p.large whole.large_all;
+    points_all = items_front small_by n ks p.small whole.small_all points_by points_by-append p.points whole.points_all;
+    bounds_all = items_front small_by n ks p.small whole.small_all bounds_by bounds_by-append p.bounds whole.bounds_all;
+    literals_all = items_front large_by n ks p.large whole.large_all literals_by literals_by-append p.literals whole.literals_all;
   }
 
-  pub back_whole : IsWhole back (drop smalls small) (drop larges large) (drop literals ls)
+  pub back_whole : IsWhole (drop n ks) (back_of n ks p)
   back_whole = record {
-    small_all = omega (arith, split_small, whole.small_all, length-drop smalls small);
-    large_all = omega (arith, split_large, whole.large_all, length-drop larges large);
-    literals_all = omega (arith, split_literals, whole.literals_all, length-drop literals ls);
+    small_all = numbers_back small_by n ks p.small whole.small_all;
+    large_all = numbers_back large_by n ks p.large whole.large_all;
+    points_all = items_back small_by n ks p.small whole.small_all points_by points_by-append p.points whole.points_all;
+    bounds_all = items_back small_by n ks p.small whole.small_all bounds_by bounds_by-append p.bounds whole.bounds_all;
+    literals_all = items_back large_by n ks p.large whole.large_all literals_by literals_by-append p.literals whole.literals_all;
   }
 
-  split_steps : steps_by front (take smalls small) (take larges large) (take literals ls) ++ steps_by back (drop smalls small) (drop larges large) (drop literals ls) ≡ steps_by ks small large ls
+  both : together (front_of n ks p) (back_of n ks p) ≡ p
+  both =
+      parts_same _ _ _ _ _ _ _ _ _ _
+      (take-append-drop (used small_by (take n ks)) p.small)
+      (take-append-drop (used large_by (take n ks)) p.large)
+      (take-append-drop (used_items small_by points_by (take n ks) p.small) p.points)
+      (take-append-drop (used_items small_by bounds_by (take n ks) p.small) p.bounds)
+      (take-append-drop (used_items large_by literals_by (take n ks) p.large) p.literals)
+
+  split_steps : steps_by (take n ks) (front_of n ks p) ++ steps_by (drop n ks) (back_of n ks p) ≡ steps_by ks p
   split_steps =
-      sym (steps_by-append front back (take smalls small) (drop smalls small) (take larges large) (drop larges large) (take literals ls) (drop literals ls) front_whole)
-      ∙ ap (λ (kinds : List Kind). steps_by kinds (take smalls small ++ drop smalls small) (take larges large ++ drop larges large) (take literals ls ++ drop literals ls)) (take-append-drop n ks)
-      ∙ ap (λ xs. steps_by ks xs (take larges large ++ drop larges large) (take literals ls ++ drop literals ls)) (take-append-drop smalls small)
-      ∙ ap (λ xs. steps_by ks small xs (take literals ls ++ drop literals ls)) (take-append-drop larges large)
-      ∙ ap (steps_by ks small large) (take-append-drop literals ls)
+      sym (steps_by-append (take n ks) (drop n ks) (front_of n ks p) (back_of n ks p) front_whole)
+      ∙ ap (λ (kinds : List Kind). steps_by kinds (together (front_of n ks p) (back_of n ks p))) (take-append-drop n ks)
+      ∙ ap (steps_by ks) both
 
-  front_length : length (steps_by front (take smalls small) (take larges large) (take literals ls)) ≡ n
-  front_length = length-steps_by front (take smalls small) (take larges large) (take literals ls) ∙ length-take-le n ks within
+  front_length : length (steps_by (take n ks) (front_of n ks p)) ≡ n
+  front_length = length-steps_by (take n ks) (front_of n ks p) ∙ length-take-le n ks within
 
-  pub front_steps : steps_by front (take smalls small) (take larges large) (take literals ls) ≡ take n (steps_by ks small large ls)
+  pub front_steps : steps_by (take n ks) (front_of n ks p) ≡ take n (steps_by ks p)
   front_steps = sym (take_at _ _ n front_length) ∙ ap (take n) split_steps
 
-  pub back_steps : steps_by back (drop smalls small) (drop larges large) (drop literals ls) ≡ drop n (steps_by ks small large ls)
+  pub back_steps : steps_by (drop n ks) (back_of n ks p) ≡ drop n (steps_by ks p)
   back_steps = sym (drop_at _ _ n front_length) ∙ ap (drop n) split_steps
 
 -- without the steps from one place up to another
-module _ (low high : ℕ) (ks : List Kind) (small large : List ℕ) (ls : List Literal) (order : low ≤ high) (within : high ≤ length ks) (whole : IsWhole ks small large ls) where
-  abbrev less : ℕ
-  less = used_literals (take low ks) large
-
-  abbrev more : ℕ
-  more = used_literals (take high ks) large
-
+module _ (low high : ℕ) (ks : List Kind) (p : Parts) (order : low ≤ high) (within : high ≤ length ks) (whole : IsWhole ks p) where
   low_within : low ≤ length ks
   low_within = omega (arith, order, within)
 
-  pub removed_whole : IsWhole (take low ks ++ drop high ks) (take (used_small (take low ks)) small ++ drop (used_small (take high ks)) small) (take (used_large (take low ks)) large ++ drop (used_large (take high ks)) large) (take less ls ++ drop more ls)
-  removed_whole = whole-append (take low ks) (drop high ks) _ _ _ _ _ _ (front_whole low ks small large ls low_within whole) (back_whole high ks small large ls within whole)
+  pub removed_whole : IsWhole (take low ks ++ drop high ks) (together (front_of low ks p) (back_of high ks p))
+  removed_whole = whole-append (take low ks) (drop high ks) (front_of low ks p) (back_of high ks p) (front_whole low ks p low_within whole) (back_whole high ks p within whole)
 
-  pub removed_steps : steps_by (take low ks ++ drop high ks) (take (used_small (take low ks)) small ++ drop (used_small (take high ks)) small) (take (used_large (take low ks)) large ++ drop (used_large (take high ks)) large) (take less ls ++ drop more ls) ≡ take low (steps_by ks small large ls) ++ drop high (steps_by ks small large ls)
+  pub removed_steps : steps_by (take low ks ++ drop high ks) (together (front_of low ks p) (back_of high ks p)) ≡ take low (steps_by ks p) ++ drop high (steps_by ks p)
   removed_steps =
-      steps_by-append (take low ks) (drop high ks) _ _ _ _ _ _ (front_whole low ks small large ls low_within whole)
-      ∙ ap (λ (ss : List Step). ss ++ steps_by (drop high ks) (drop (used_small (take high ks)) small) (drop (used_large (take high ks)) large) (drop more ls)) (front_steps low ks small large ls low_within whole)
-      ∙ ap (λ (ss : List Step). take low (steps_by ks small large ls) ++ ss) (back_steps high ks small large ls within whole)
+      steps_by-append (take low ks) (drop high ks) (front_of low ks p) (back_of high ks p) (front_whole low ks p low_within whole)
+      ∙ ap (λ (ss : List Step). ss ++ steps_by (drop high ks) (back_of high ks p)) (front_steps low ks p low_within whole)
+      ∙ ap (λ (ss : List Step). take low (steps_by ks p) ++ ss) (back_steps high ks p within whole)
 
--- one kind more
-pub used_small-more : (k : ℕ) (ks : List Kind) (d : Kind) → k < length ks → used_small (take (suc k) ks) ≡ used_small (take k ks) + small_by (slice_index_or ks k d)
-used_small-more k [] d h = absurd (omega arith)
-used_small-more zero (m ∷ ks) d h = omega arith
-used_small-more (suc k) (m ∷ ks) d h = omega (arith, used_small-more k ks d (omega arith))
+module _ (by : Kind → ℕ) where
+  pub used-ordered : (low high : ℕ) (ks : List Kind) → low ≤ high → used by (take low ks) ≤ used by (take high ks)
+  used-ordered zero high ks h = omega arith
+  used-ordered (suc low) zero ks h = absurd (omega arith)
+  used-ordered (suc low) (suc high) [] h = omega arith
+  used-ordered (suc low) (suc high) (k ∷ ks) h = omega (arith, used-ordered low high ks (omega arith))
 
-pub used_large-more : (k : ℕ) (ks : List Kind) (d : Kind) → k < length ks → used_large (take (suc k) ks) ≡ used_large (take k ks) + large_by (slice_index_or ks k d)
-used_large-more k [] d h = absurd (omega arith)
-used_large-more zero (m ∷ ks) d h = omega arith
-used_large-more (suc k) (m ∷ ks) d h = omega (arith, used_large-more k ks d (omega arith))
+  module _ (items_by : Kind → List ℕ → ℕ) where
+    pub items-ordered : (low high : ℕ) (ks : List Kind) (ns : List ℕ) → low ≤ high → used_items by items_by (take low ks) ns ≤ used_items by items_by (take high ks) ns
+    items-ordered zero high ks ns h = omega arith
+    items-ordered (suc low) zero ks ns h = absurd (omega arith)
+    items-ordered (suc low) (suc high) [] ns h = omega arith
+    items-ordered (suc low) (suc high) (k ∷ ks) ns h = omega (arith, items-ordered low high ks (drop (by k) ns) (omega arith))
 
-pub used_literals-more : (k : ℕ) (ks : List Kind) (large : List ℕ) (d : Kind) → k < length ks → used_literals (take (suc k) ks) large ≡ used_literals (take k ks) large + literals_by (slice_index_or ks k d) (drop (used_large (take k ks)) large)
-used_literals-more k [] large d h = absurd (omega arith)
-used_literals-more zero (m ∷ ks) large d h = omega arith
-used_literals-more (suc k) (m ∷ ks) large d h =
-    omega (arith, used_literals-more k ks (drop (large_by m) large) d (omega arith), ap (literals_by (slice_index_or ks k d)) (drop-drop (used_large (take k ks)) (large_by m) large))
+    items-more : (n : ℕ) (ks : List Kind) (ns : List ℕ) (d : Kind) → n < length ks → used_items by items_by (take (suc n) ks) ns ≡ used_items by items_by (take n ks) ns + items_by (slice_index_or ks n d) (drop (used by (take n ks)) ns)
+    items-more n [] ns d h = absurd (omega arith)
+    items-more zero (m ∷ ks) ns d h = omega arith
+    items-more (suc n) (m ∷ ks) ns d h =
+        omega (arith, items-more n ks (drop (by m) ns) d (omega arith), ap (items_by (slice_index_or ks n d)) (drop-drop (used by (take n ks)) (by m) ns))
 
--- one kind less
-module _ (k : ℕ) (ks : List Kind) (d : Kind) (some : 0 < k) (within : k ≤ length ks) where
-  before : suc (k - 1) ≡ k
-  before = omega arith
+  -- one kind less
+  module _ (k : ℕ) (ks : List Kind) (d : Kind) (some : 0 < k) (within : k ≤ length ks) where
+    last_one : suc (k - 1) ≡ k
+    last_one = omega arith
 
-  pub used_small-before : used_small (take k ks) ≡ used_small (take (k - 1) ks) + small_by (slice_index_or ks (k - 1) d)
-  used_small-before = sym (ap (λ n. used_small (take n ks)) before) ∙ used_small-more (k - 1) ks d (omega arith)
+    pub used-before : used by (take k ks) ≡ used by (take (k - 1) ks) + by (slice_index_or ks (k - 1) d)
+    used-before = sym (ap (λ n. used by (take n ks)) last_one) ∙ used-more by (k - 1) ks d (omega arith)
 
-  pub used_large-before : used_large (take k ks) ≡ used_large (take (k - 1) ks) + large_by (slice_index_or ks (k - 1) d)
-  used_large-before = sym (ap (λ n. used_large (take n ks)) before) ∙ used_large-more (k - 1) ks d (omega arith)
-
-  pub used_literals-before : (a : ℕ) (large : List ℕ) → a ≡ used_large (take (k - 1) ks) → used_literals (take k ks) large ≡ used_literals (take (k - 1) ks) large + literals_by (slice_index_or ks (k - 1) d) (drop a large)
-  used_literals-before a large e =
-      sym (ap (λ n. used_literals (take n ks) large) before)
-      ∙ used_literals-more (k - 1) ks large d (omega arith)
-      ∙ ap (λ n. used_literals (take (k - 1) ks) large + literals_by (slice_index_or ks (k - 1) d) (drop n large)) (sym e)
-
--- the counts grow
-pub record AreOrdered (low high : ℕ) (ks : List Kind) (large : List ℕ) : Type 0 where
-  pub small : used_small (take low ks) ≤ used_small (take high ks)
-  pub large_order : used_large (take low ks) ≤ used_large (take high ks)
-  pub literals_order : used_literals (take low ks) large ≤ used_literals (take high ks) large
-
-pub used-ordered : (low high : ℕ) (ks : List Kind) (large : List ℕ) → low ≤ high → AreOrdered low high ks large
-used-ordered zero high ks large h = record { small = omega arith; large_order = omega arith; literals_order = omega arith }
-used-ordered (suc low) zero ks large h = absurd (omega arith)
-used-ordered (suc low) (suc high) [] large h = record { small = omega arith; large_order = omega arith; literals_order = omega arith }
-used-ordered (suc low) (suc high) (k ∷ ks) large h =
-    let rest = used-ordered low high ks (drop (large_by k) large) (omega arith) in
-    record { small = omega (arith, rest.small); large_order = omega (arith, rest.large_order); literals_order = omega (arith, rest.literals_order) }
+    pub items-before : (items_by : Kind → List ℕ → ℕ) (a : ℕ) (ns : List ℕ) → a ≡ used by (take (k - 1) ks) → used_items by items_by (take k ks) ns ≡ used_items by items_by (take (k - 1) ks) ns + items_by (slice_index_or ks (k - 1) d) (drop a ns)
+    items-before items_by a ns e =
+        sym (ap (λ n. used_items by items_by (take n ks) ns) last_one)
+        ∙ items-more items_by (k - 1) ks ns d (omega arith)
+        ∙ ap (λ n. used_items by items_by (take (k - 1) ks) ns + items_by (slice_index_or ks (k - 1) d) (drop n ns)) (sym e)

@@ -1,13 +1,23 @@
--- Lists of kinds, numbers and literals, and their appends.
-use Rattle.std.proofs.Common.{ℕ, ◌≡◌, ◌+◌, ◌≤◌, ◌<◌, suc, take, arith, List, [], ◌∷◌, length, ◌++◌, drop, ap, ◌∙◌, refl}
+-- Lists of kinds, numbers, points, bounds and literals, and their appends.
+use Rattle.std.proofs.Common.{ℕ, ℤ, ◌≡◌, ◌+◌, ◌≤◌, ◌<◌, zero, suc, take, arith, List, [], ◌∷◌, length, ◌++◌, drop, ap, ◌∙◌, refl, slice_index_or}
 use Rattle.std.proofs.lemmas.List.{drop-append-le, length-append, length-drop, take-append-le}
 use Rattle.stn_core.specs.declared.literal.Literal.{Literal}
 use Rattle.stn_core.specs.Literal.{literal_at}
 use Rattle.refute_tree.specs.declared.step.Step.{Step}
 use Rattle.refute_tree.specs.declared.step.Step.TheVariants.{Cycle, Input, Lemma as Earlier, Clash, Either}
 use Rattle.refute_tree.specs.declared.kind.Kind.{Kind}
-use Rattle.refute_tree.specs.declared.kind.Kind.TheVariants.{Cycle as CycleKind, Pair as PairKind, Input as InputKind, LargeInput as LargeInputKind, Lemma as LemmaKind, LargeLemma as LargeLemmaKind, Clash as ClashKind, LargeClash as LargeClashKind, Either as EitherKind}
-use Rattle.refute_tree.specs.Store.{small_by, large_by, literals_by, first_number, used_small, used_large, used_literals, IsWhole, pair_of, step_by, steps_by}
+use Rattle.refute_tree.specs.declared.kind.Kind.TheVariants.{Path as PathKind, Cycle as CycleKind, Pair as PairKind, LargePair as LargePairKind, Input as InputKind, LargeInput as LargeInputKind, Lemma as LemmaKind, LargeLemma as LargeLemmaKind, Clash as ClashKind, LargeClash as LargeClashKind, Either as EitherKind, LargeEither as LargeEitherKind}
+use Rattle.refute_tree.specs.Paths.{path_of, narrow_literal}
+use Rattle.refute_tree.specs.Store.{Parts, parts, together, small_by, large_by, points_by, bounds_by, literals_by, first_number, first_path, used, used_items, IsWhole, pair_of, step_by, behind, steps_by}
+
+-- equal parts
+pub parts_same : (s s' l l' p p' : List ℕ) (b b' : List ℤ) (ls ls' : List Literal) → s ≡ s' → l ≡ l' → p ≡ p' → b ≡ b' → ls ≡ ls' → parts s l p b ls ≡ parts s' l' p' b' ls'
+parts_same s s' l l' p p' b b' ls ls' d e f g h =
+    ap (λ (xs : List ℕ). parts xs l p b ls) d
+    ∙ ap (λ (xs : List ℕ). parts s' xs p b ls) e
+    ∙ ap (λ (xs : List ℕ). parts s' l' xs b ls) f
+    ∙ ap (λ (xs : List ℤ). parts s' l' p' xs ls) g
+    ∙ ap (λ (xs : List Literal). parts s' l' p' b' xs) h
 
 pub first_number-append : (ns ms : List ℕ) → 0 < length ns → first_number (ns ++ ms) ≡ first_number ns
 first_number-append [] ms h = absurd (omega arith)
@@ -17,9 +27,45 @@ literal_at-append : (ls ks : List Literal) → 0 < length ls → literal_at (ls 
 literal_at-append [] ks h = absurd (omega arith)
 literal_at-append (l ∷ ls) ks h = refl
 
+narrow-append : (ps qs : List ℕ) (bs cs : List ℤ) → 2 ≤ length ps → 1 ≤ length bs → narrow_literal (ps ++ qs) (bs ++ cs) ≡ narrow_literal ps bs
+narrow-append [] qs bs cs h k = absurd (omega arith)
+narrow-append (x ∷ []) qs bs cs h k = absurd (omega arith)
+narrow-append (x ∷ y ∷ ps) qs [] cs h k = absurd (omega arith)
+narrow-append (x ∷ y ∷ ps) qs (b ∷ bs) cs h k = refl
+
+pub points_by-append : (kind : Kind) (ns ms : List ℕ) → small_by kind ≤ length ns → points_by kind (ns ++ ms) ≡ points_by kind ns
+points_by-append PathKind ns ms h = ap (λ n. n + 1) (first_number-append ns ms (omega arith))
+points_by-append CycleKind ns ms h = refl
+points_by-append PairKind ns ms h = refl
+points_by-append LargePairKind ns ms h = refl
+points_by-append InputKind ns ms h = refl
+points_by-append LargeInputKind ns ms h = refl
+points_by-append LemmaKind ns ms h = refl
+points_by-append LargeLemmaKind ns ms h = refl
+points_by-append ClashKind ns ms h = refl
+points_by-append LargeClashKind ns ms h = refl
+points_by-append EitherKind ns ms h = refl
+points_by-append LargeEitherKind ns ms h = refl
+
+pub bounds_by-append : (kind : Kind) (ns ms : List ℕ) → small_by kind ≤ length ns → bounds_by kind (ns ++ ms) ≡ bounds_by kind ns
+bounds_by-append PathKind ns ms h = first_number-append ns ms (omega arith)
+bounds_by-append CycleKind ns ms h = refl
+bounds_by-append PairKind ns ms h = refl
+bounds_by-append LargePairKind ns ms h = refl
+bounds_by-append InputKind ns ms h = refl
+bounds_by-append LargeInputKind ns ms h = refl
+bounds_by-append LemmaKind ns ms h = refl
+bounds_by-append LargeLemmaKind ns ms h = refl
+bounds_by-append ClashKind ns ms h = refl
+bounds_by-append LargeClashKind ns ms h = refl
+bounds_by-append EitherKind ns ms h = refl
+bounds_by-append LargeEitherKind ns ms h = refl
+
 pub literals_by-append : (kind : Kind) (ns ms : List ℕ) → large_by kind ≤ length ns → literals_by kind (ns ++ ms) ≡ literals_by kind ns
+literals_by-append PathKind ns ms h = refl
 literals_by-append CycleKind ns ms h = first_number-append ns ms (omega arith)
 literals_by-append PairKind ns ms h = refl
+literals_by-append LargePairKind ns ms h = refl
 literals_by-append InputKind ns ms h = refl
 literals_by-append LargeInputKind ns ms h = refl
 literals_by-append LemmaKind ns ms h = refl
@@ -27,85 +73,121 @@ literals_by-append LargeLemmaKind ns ms h = refl
 literals_by-append ClashKind ns ms h = refl
 literals_by-append LargeClashKind ns ms h = refl
 literals_by-append EitherKind ns ms h = refl
+literals_by-append LargeEitherKind ns ms h = refl
 
-step_by-append : (kind : Kind) (small small' large large' : List ℕ) (ls ks : List Literal) → small_by kind ≤ length small → large_by kind ≤ length large → literals_by kind large ≤ length ls → step_by kind (small ++ small') (large ++ large') (ls ++ ks) ≡ step_by kind small large ls
-step_by-append CycleKind small small' large large' ls ks a b c =
-    ap (λ n. Cycle (take n (ls ++ ks))) (first_number-append large large' (omega arith)) ∙ ap Cycle (take-append-le (first_number large) ls ks c)
-step_by-append PairKind small small' large large' ls ks a b c = ap (λ (l : Literal). Cycle (pair_of l)) (literal_at-append ls ks (omega arith))
-step_by-append InputKind small small' large large' ls ks a b c = ap Input (first_number-append small small' (omega arith))
-step_by-append LargeInputKind small small' large large' ls ks a b c = ap Input (first_number-append large large' (omega arith))
-step_by-append LemmaKind small small' large large' ls ks a b c = ap Earlier (first_number-append small small' (omega arith))
-step_by-append LargeLemmaKind small small' large large' ls ks a b c = ap Earlier (first_number-append large large' (omega arith))
-step_by-append ClashKind small small' large large' ls ks a b c = ap Clash (first_number-append small small' (omega arith))
-step_by-append LargeClashKind small small' large large' ls ks a b c = ap Clash (first_number-append large large' (omega arith))
-step_by-append EitherKind small small' large large' ls ks a b c = ap Either (literal_at-append ls ks (omega arith))
+-- what the first kind has is there
+pub record HasRoom (k : Kind) (p : Parts) : Type 0 where
+  pub small_in : small_by k ≤ length p.small
+  pub large_in : large_by k ≤ length p.large
+  pub points_in : points_by k p.small ≤ length p.points
+  pub bounds_in : bounds_by k p.small ≤ length p.bounds
+  pub literals_in : literals_by k p.large ≤ length p.literals
 
-pub used_small-append : (ks ms : List Kind) → used_small (ks ++ ms) ≡ used_small ks + used_small ms
-used_small-append [] ms = omega arith
-used_small-append (k ∷ ks) ms = omega (arith, used_small-append ks ms)
+path-append : (p q : Parts) → HasRoom PathKind p → first_path (p.small ++ q.small) (p.points ++ q.points) (p.bounds ++ q.bounds) ≡ first_path p.small p.points p.bounds
+path-append p q h =
+    let n = first_number p.small in
+    ap (λ m. path_of (take (m + 1) (p.points ++ q.points)) (take m (p.bounds ++ q.bounds))) (first_number-append p.small q.small (omega (arith, h.small_in)))
+    ∙ ap (λ (xs : List ℕ). path_of xs (take n (p.bounds ++ q.bounds))) (take-append-le (n + 1) p.points q.points h.points_in)
+    ∙ ap (λ (xs : List ℤ). path_of (take (n + 1) p.points) xs) (take-append-le n p.bounds q.bounds h.bounds_in)
 
-pub used_large-append : (ks ms : List Kind) → used_large (ks ++ ms) ≡ used_large ks + used_large ms
-used_large-append [] ms = omega arith
-used_large-append (k ∷ ks) ms = omega (arith, used_large-append ks ms)
+step_by-append : (k : Kind) (p q : Parts) → HasRoom k p → step_by k (together p q) ≡ step_by k p
+step_by-append PathKind p q h = ap Cycle (path-append p q h)
+step_by-append CycleKind p q h =
+    ap (λ n. Cycle (take n (p.literals ++ q.literals))) (first_number-append p.large q.large (omega (arith, h.large_in)))
+    ∙ ap Cycle (take-append-le (first_number p.large) p.literals q.literals h.literals_in)
+step_by-append PairKind p q h = ap (λ (l : Literal). Cycle (pair_of l)) (narrow-append p.points q.points p.bounds q.bounds h.points_in h.bounds_in)
+step_by-append LargePairKind p q h = ap (λ (l : Literal). Cycle (pair_of l)) (literal_at-append p.literals q.literals (omega (arith, h.literals_in)))
+step_by-append InputKind p q h = ap Input (first_number-append p.small q.small (omega (arith, h.small_in)))
+step_by-append LargeInputKind p q h = ap Input (first_number-append p.large q.large (omega (arith, h.large_in)))
+step_by-append LemmaKind p q h = ap Earlier (first_number-append p.small q.small (omega (arith, h.small_in)))
+step_by-append LargeLemmaKind p q h = ap Earlier (first_number-append p.large q.large (omega (arith, h.large_in)))
+step_by-append ClashKind p q h = ap Clash (first_number-append p.small q.small (omega (arith, h.small_in)))
+step_by-append LargeClashKind p q h = ap Clash (first_number-append p.large q.large (omega (arith, h.large_in)))
+step_by-append EitherKind p q h = ap Either (narrow-append p.points q.points p.bounds q.bounds h.points_in h.bounds_in)
+step_by-append LargeEitherKind p q h = ap Either (literal_at-append p.literals q.literals (omega (arith, h.literals_in)))
 
--- further numbers don't count
-pub used_literals-longer : (ks : List Kind) (ns more : List ℕ) → used_large ks ≤ length ns → used_literals ks (ns ++ more) ≡ used_literals ks ns
-used_literals-longer [] ns more h = refl
-used_literals-longer (k ∷ ks) ns more h =
-    let here : large_by k ≤ length ns = omega arith in
-    let rest : used_large ks ≤ length (drop (large_by k) ns) = omega (arith, length-drop (large_by k) ns) in
-    ap (λ n. n + used_literals ks (drop (large_by k) (ns ++ more))) (literals_by-append k ns more here)
-    ∙ ap (λ xs. literals_by k ns + used_literals ks xs) (drop-append-le (large_by k) ns more here)
-    ∙ ap (λ n. literals_by k ns + n) (used_literals-longer ks (drop (large_by k) ns) more rest)
+behind-together : (k : Kind) (p q : Parts) → HasRoom k p → behind k (together p q) ≡ together (behind k p) q
+behind-together k p q h =
+    parts_same _ _ _ _ _ _ _ _ _ _
+    (drop-append-le (small_by k) p.small q.small h.small_in)
+    (drop-append-le (large_by k) p.large q.large h.large_in)
+    (ap (λ n. drop n (p.points ++ q.points)) (points_by-append k p.small q.small h.small_in) ∙ drop-append-le (points_by k p.small) p.points q.points h.points_in)
+    (ap (λ n. drop n (p.bounds ++ q.bounds)) (bounds_by-append k p.small q.small h.small_in) ∙ drop-append-le (bounds_by k p.small) p.bounds q.bounds h.bounds_in)
+    (ap (λ n. drop n (p.literals ++ q.literals)) (literals_by-append k p.large q.large h.large_in) ∙ drop-append-le (literals_by k p.large) p.literals q.literals h.literals_in)
 
-pub used_literals-append : (ks ms : List Kind) (ns more : List ℕ) → used_large ks ≡ length ns → used_literals (ks ++ ms) (ns ++ more) ≡ used_literals ks ns + used_literals ms more
-used_literals-append [] ms [] more h = omega arith
-used_literals-append [] ms (n ∷ ns) more h = absurd (omega arith)
-used_literals-append (k ∷ ks) ms ns more h =
-    let here : large_by k ≤ length ns = omega arith in
-    let rest : used_large ks ≡ length (drop (large_by k) ns) = omega (arith, length-drop (large_by k) ns) in
-    ap (λ n. n + used_literals (ks ++ ms) (drop (large_by k) (ns ++ more))) (literals_by-append k ns more here)
-    ∙ ap (λ xs. literals_by k ns + used_literals (ks ++ ms) xs) (drop-append-le (large_by k) ns more here)
-    ∙ omega (arith, used_literals-append ks ms (drop (large_by k) ns) more rest)
+-- a list of numbers, of which a step has `by` its kind
+module _ (by : Kind → ℕ) where
+  pub used-append : (ks ms : List Kind) → used by (ks ++ ms) ≡ used by ks + used by ms
+  used-append [] ms = omega arith
+  used-append (k ∷ ks) ms = omega (arith, used-append ks ms)
 
-pub whole-append : (ks ms : List Kind) (small small' large large' : List ℕ) (ls ls' : List Literal) → IsWhole ks small large ls → IsWhole ms small' large' ls' → IsWhole (ks ++ ms) (small ++ small') (large ++ large') (ls ++ ls')
-whole-append ks ms small small' large large' ls ls' h k = record {
-  small_all = omega (arith, used_small-append ks ms, length-append small small', h.small_all, k.small_all);
-  large_all = omega (arith, used_large-append ks ms, length-append large large', h.large_all, k.large_all);
-  literals_all = omega (arith, used_literals-append ks ms large large' h.large_all, length-append ls ls', h.literals_all, k.literals_all);
+  pub used-more : (n : ℕ) (ks : List Kind) (d : Kind) → n < length ks → used by (take (suc n) ks) ≡ used by (take n ks) + by (slice_index_or ks n d)
+  used-more n [] d h = absurd (omega arith)
+  used-more zero (m ∷ ks) d h = omega arith
+  used-more (suc n) (m ∷ ks) d h = omega (arith, used-more n ks d (omega arith))
+
+  -- items that are counted by the numbers
+  module _ (items_by : Kind → List ℕ → ℕ) (same : (k : Kind) (ns ms : List ℕ) → by k ≤ length ns → items_by k (ns ++ ms) ≡ items_by k ns) where
+    -- further numbers don't count
+    pub items-longer : (ks : List Kind) (ns more : List ℕ) → used by ks ≤ length ns → used_items by items_by ks (ns ++ more) ≡ used_items by items_by ks ns
+    items-longer [] ns more h = refl
+    items-longer (k ∷ ks) ns more h =
+        let here : by k ≤ length ns = omega arith in
+        let rest : used by ks ≤ length (drop (by k) ns) = omega (arith, length-drop (by k) ns) in
+        ap (λ n. n + used_items by items_by ks (drop (by k) (ns ++ more))) (same k ns more here)
+        ∙ ap (λ xs. items_by k ns + used_items by items_by ks xs) (drop-append-le (by k) ns more here)
+        ∙ ap (λ n. items_by k ns + n) (items-longer ks (drop (by k) ns) more rest)
+
+    pub items-append : (ks ms : List Kind) (ns more : List ℕ) → used by ks ≡ length ns → used_items by items_by (ks ++ ms) (ns ++ more) ≡ used_items by items_by ks ns + used_items by items_by ms more
+    items-append [] ms [] more h = omega arith
+    items-append [] ms (n ∷ ns) more h = absurd (omega arith)
+    items-append (k ∷ ks) ms ns more h =
+        let here : by k ≤ length ns = omega arith in
+        let rest : used by ks ≡ length (drop (by k) ns) = omega (arith, length-drop (by k) ns) in
+        ap (λ n. n + used_items by items_by (ks ++ ms) (drop (by k) (ns ++ more))) (same k ns more here)
+        ∙ ap (λ xs. items_by k ns + used_items by items_by (ks ++ ms) xs) (drop-append-le (by k) ns more here)
+        ∙ omega (arith, items-append ks ms (drop (by k) ns) more rest)
+
+pub whole-append : (ks ms : List Kind) (p q : Parts) → IsWhole ks p → IsWhole ms q → IsWhole (ks ++ ms) (together p q)
+whole-append ks ms p q h k = record {
+  small_all = omega (arith, used-append small_by ks ms, length-append p.small q.small, h.small_all, k.small_all);
+  large_all = omega (arith, used-append large_by ks ms, length-append p.large q.large, h.large_all, k.large_all);
+  points_all = omega (arith, items-append small_by points_by points_by-append ks ms p.small q.small h.small_all, length-append p.points q.points, h.points_all, k.points_all);
+  bounds_all = omega (arith, items-append small_by bounds_by bounds_by-append ks ms p.small q.small h.small_all, length-append p.bounds q.bounds, h.bounds_all, k.bounds_all);
+  literals_all = omega (arith, items-append large_by literals_by literals_by-append ks ms p.large q.large h.large_all, length-append p.literals q.literals, h.literals_all, k.literals_all);
 }
 
--- the first kind's part is there
-pub record HasRoom (k : Kind) (small large : List ℕ) (ls : List Literal) : Type 0 where
-  pub small_in : small_by k ≤ length small
-  pub large_in : large_by k ≤ length large
-  pub literals_in : literals_by k large ≤ length ls
-
-pub whole-room : (k : Kind) (ks : List Kind) (small large : List ℕ) (ls : List Literal) → IsWhole (k ∷ ks) small large ls → HasRoom k small large ls
-whole-room k ks small large ls h = record { small_in = omega (arith, h.small_all); large_in = omega (arith, h.large_all); literals_in = omega (arith, h.literals_all) }
-
-pub whole-rest : (k : Kind) (ks : List Kind) (small large : List ℕ) (ls : List Literal) → IsWhole (k ∷ ks) small large ls → IsWhole ks (drop (small_by k) small) (drop (large_by k) large) (drop (literals_by k large) ls)
-whole-rest k ks small large ls h = record {
-  small_all = omega (arith, h.small_all, length-drop (small_by k) small);
-  large_all = omega (arith, h.large_all, length-drop (large_by k) large);
-  literals_all = omega (arith, h.literals_all, length-drop (literals_by k large) ls);
+pub whole-room : (k : Kind) (ks : List Kind) (p : Parts) → IsWhole (k ∷ ks) p → HasRoom k p
+whole-room k ks p h = record {
+  small_in = omega (arith, h.small_all);
+  large_in = omega (arith, h.large_all);
+  points_in = omega (arith, h.points_all);
+  bounds_in = omega (arith, h.bounds_all);
+  literals_in = omega (arith, h.literals_all);
 }
 
-pub steps_by-append : (ks ms : List Kind) (small small' large large' : List ℕ) (ls ls' : List Literal) → IsWhole ks small large ls → steps_by (ks ++ ms) (small ++ small') (large ++ large') (ls ++ ls') ≡ steps_by ks small large ls ++ steps_by ms small' large' ls'
-steps_by-append [] ms [] small' [] large' [] ls' h = refl
-steps_by-append [] ms (n ∷ small) small' large large' ls ls' h = absurd (omega (arith, h.small_all))
-steps_by-append [] ms [] small' (n ∷ large) large' ls ls' h = absurd (omega (arith, h.large_all))
-steps_by-append [] ms [] small' [] large' (l ∷ ls) ls' h = absurd (omega (arith, h.literals_all))
-steps_by-append (k ∷ ks) ms small small' large large' ls ls' h =
-    let room = whole-room k ks small large ls h in
-    let left : (a b : List ℕ) → List Literal → List Step = λ a b c. steps_by (ks ++ ms) a b c in
-    ap (λ s. s ∷ left (drop (small_by k) (small ++ small')) (drop (large_by k) (large ++ large')) (drop (literals_by k (large ++ large')) (ls ++ ls'))) (step_by-append k small small' large large' ls ls' room.small_in room.large_in room.literals_in)
-    ∙ ap (λ n. step_by k small large ls ∷ left (drop (small_by k) (small ++ small')) (drop (large_by k) (large ++ large')) (drop n (ls ++ ls'))) (literals_by-append k large large' room.large_in)
-    ∙ ap (λ xs. step_by k small large ls ∷ left xs (drop (large_by k) (large ++ large')) (drop (literals_by k large) (ls ++ ls'))) (drop-append-le (small_by k) small small' room.small_in)
-    ∙ ap (λ xs. step_by k small large ls ∷ left (drop (small_by k) small ++ small') xs (drop (literals_by k large) (ls ++ ls'))) (drop-append-le (large_by k) large large' room.large_in)
-    ∙ ap (λ xs. step_by k small large ls ∷ left (drop (small_by k) small ++ small') (drop (large_by k) large ++ large') xs) (drop-append-le (literals_by k large) ls ls' room.literals_in)
-    ∙ ap (λ ss. step_by k small large ls ∷ ss) (steps_by-append ks ms (drop (small_by k) small) small' (drop (large_by k) large) large' (drop (literals_by k large) ls) ls' (whole-rest k ks small large ls h))
+pub whole-rest : (k : Kind) (ks : List Kind) (p : Parts) → IsWhole (k ∷ ks) p → IsWhole ks (behind k p)
+whole-rest k ks p h = record {
+  small_all = omega (arith, h.small_all, length-drop (small_by k) p.small);
+  large_all = omega (arith, h.large_all, length-drop (large_by k) p.large);
+  points_all = omega (arith, h.points_all, length-drop (points_by k p.small) p.points);
+  bounds_all = omega (arith, h.bounds_all, length-drop (bounds_by k p.small) p.bounds);
+  literals_all = omega (arith, h.literals_all, length-drop (literals_by k p.large) p.literals);
+}
 
-pub length-steps_by : (ks : List Kind) (small large : List ℕ) (ls : List Literal) → length (steps_by ks small large ls) ≡ length ks
-length-steps_by [] small large ls = refl
-length-steps_by (k ∷ ks) small large ls = ap suc (length-steps_by ks (drop (small_by k) small) (drop (large_by k) large) (drop (literals_by k large) ls))
+none_length : {X : Type 0} (xs ys : List X) → 0 ≡ length xs → xs ++ ys ≡ ys
+none_length [] ys h = refl
+none_length (x ∷ xs) ys h = absurd (omega arith)
+
+pub steps_by-append : (ks ms : List Kind) (p q : Parts) → IsWhole ks p → steps_by (ks ++ ms) (together p q) ≡ steps_by ks p ++ steps_by ms q
+steps_by-append [] ms p q h =
+    ap (steps_by ms) (parts_same _ _ _ _ _ _ _ _ _ _ (none_length p.small q.small h.small_all) (none_length p.large q.large h.large_all) (none_length p.points q.points h.points_all) (none_length p.bounds q.bounds h.bounds_all) (none_length p.literals q.literals h.literals_all))
+steps_by-append (k ∷ ks) ms p q h =
+    let room = whole-room k ks p h in
+    ap (λ (s : Step). s ∷ steps_by (ks ++ ms) (behind k (together p q))) (step_by-append k p q room)
+    ∙ ap (λ (r : Parts). step_by k p ∷ steps_by (ks ++ ms) r) (behind-together k p q room)
+    ∙ ap (λ (ss : List Step). step_by k p ∷ ss) (steps_by-append ks ms (behind k p) q (whole-rest k ks p h))
+
+pub length-steps_by : (ks : List Kind) (p : Parts) → length (steps_by ks p) ≡ length ks
+length-steps_by [] p = refl
+length-steps_by (k ∷ ks) p = ap suc (length-steps_by ks (behind k p))

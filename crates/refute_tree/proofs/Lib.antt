@@ -5,6 +5,8 @@ pub mod Alone
 pub mod Examples
 pub mod Flats
 pub mod Cuts
+pub mod PathParts
+pub mod Places
 pub mod Extended
 pub mod MovedNumbers
 pub mod Lengthened

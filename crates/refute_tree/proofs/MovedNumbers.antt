@@ -1,35 +1,25 @@
 -- Moved references.
-use Rattle.std.proofs.Common.{ℕ, ◌≡◌, ◌+◌, ◌≤◌, ◌<◌, ◌++◌, Bool, true, false, List, [], ◌∷◌, zero, suc, length, take, drop, map, All, ap, ◌∙◌, sym, refl, subst, arith, append_assoc, slice_index_or, slice_set, Vec}
+use Rattle.std.proofs.Common.{ℕ, ℤ, ◌≡◌, ◌+◌, ◌≤◌, ◌<◌, ◌++◌, Bool, true, false, List, [], ◌∷◌, zero, suc, length, take, drop, map, All, ap, ◌∙◌, sym, refl, subst, arith, append_assoc, slice_index_or, slice_set, Vec}
 use Rattle.std.specs.Vec.{with_items}
 use Rattle.std.proofs.lemmas.List.{take_at, drop_at, length-append, length-take-le, length-drop, take-append-drop, set_split, drop-drop, with_items_is}
 use Rattle.std.proofs.lemmas.List.Elements.{All-head, All-tail}
 use Rattle.stn_core.specs.declared.literal.Literal.{Literal}
 use Rattle.refute_tree.specs.declared.step.Step.{Step}
 use Rattle.refute_tree.specs.declared.kind.Kind.{Kind}
-use Rattle.refute_tree.specs.declared.kind.Kind.TheVariants.{Cycle as CycleKind, Pair as PairKind, Input as InputKind, LargeInput as LargeInputKind, Lemma as LemmaKind, LargeLemma as LargeLemmaKind, Clash as ClashKind, LargeClash as LargeClashKind, Either as EitherKind}
-use Rattle.refute_tree.specs.Store.{small_by, large_by, literals_by, first_number, used_small, used_large, used_literals, IsWhole, step_by, steps_by}
+use Rattle.refute_tree.specs.declared.kind.Kind.TheVariants.{Path as PathKind, Cycle as CycleKind, Pair as PairKind, LargePair as LargePairKind, Input as InputKind, LargeInput as LargeInputKind, Lemma as LemmaKind, LargeLemma as LargeLemmaKind, Clash as ClashKind, LargeClash as LargeClashKind, Either as EitherKind, LargeEither as LargeEitherKind}
+use Rattle.refute_tree.specs.Store.{Parts, parts, small_by, large_by, points_by, bounds_by, literals_by, first_number, used, used_items, IsWhole, step_by, behind, steps_by}
+use Rattle.refute_tree.proofs.Flats.{parts_same}
 use Rattle.refute_tree.specs.Moves.{moved_number, moved_step, is_lemma, is_large_lemma, moved_part, moved_numbers, HasMovedPart, MovesWithin, PartMovesWithin, NumbersMoveWithin}
-
--- how many numbers of the one list, or of the other, stand for steps of these kinds
-abbrev pub used_by : (Kind → ℕ) → List Kind → ℕ
-used_by by [] = 0
-used_by by (k ∷ ks) = by k + used_by by ks
-
-pub used_by_small : (ks : List Kind) → used_by small_by ks ≡ used_small ks
-used_by_small [] = refl
-used_by_small (k ∷ ks) = ap (λ n. small_by k + n) (used_by_small ks)
-
-pub used_by_large : (ks : List Kind) → used_by large_by ks ≡ used_large ks
-used_by_large [] = refl
-used_by_large (k ∷ ks) = ap (λ n. large_by k + n) (used_by_large ks)
 
 -- a kind that names a lemma in the list has one number there
 abbrev pub NamesByOne : (Kind → ℕ) → (Kind → Bool) → Type 0
 NamesByOne by names = (k : Kind) → names k ≡ true → by k ≡ 1
 
 pub small_by_one : NamesByOne small_by is_lemma
+small_by_one PathKind e = absurd (cc)
 small_by_one CycleKind e = absurd (cc)
 small_by_one PairKind e = absurd (cc)
+small_by_one LargePairKind e = absurd (cc)
 small_by_one InputKind e = absurd (cc)
 small_by_one LargeInputKind e = absurd (cc)
 small_by_one LemmaKind e = refl
@@ -37,10 +27,13 @@ small_by_one LargeLemmaKind e = absurd (cc)
 small_by_one ClashKind e = absurd (cc)
 small_by_one LargeClashKind e = absurd (cc)
 small_by_one EitherKind e = absurd (cc)
+small_by_one LargeEitherKind e = absurd (cc)
 
 pub large_by_one : NamesByOne large_by is_large_lemma
+large_by_one PathKind e = absurd (cc)
 large_by_one CycleKind e = absurd (cc)
 large_by_one PairKind e = absurd (cc)
+large_by_one LargePairKind e = absurd (cc)
 large_by_one InputKind e = absurd (cc)
 large_by_one LargeInputKind e = absurd (cc)
 large_by_one LemmaKind e = absurd (cc)
@@ -48,6 +41,7 @@ large_by_one LargeLemmaKind e = refl
 large_by_one ClashKind e = absurd (cc)
 large_by_one LargeClashKind e = absurd (cc)
 large_by_one EitherKind e = absurd (cc)
+large_by_one LargeEitherKind e = absurd (cc)
 
 length_by : (seen base count : ℕ) (named : Bool) (ns : List ℕ) → (named ≡ true → count ≡ 1) → count ≤ length ns → length (moved_part seen base count named ns) ≡ count
 length_by seen base count true ns one h = sym (one refl)
@@ -70,7 +64,7 @@ module _ (by : Kind → ℕ) (names : Kind → Bool) (one : NamesByOne by names)
   pub length-part : (k : Kind) (ns : List ℕ) → by k ≤ length ns → length (part_of k ns) ≡ by k
   length-part k ns h = length_by seen base (by k) (names k) ns (one k) h
 
-  pub length-moved : (ks : List Kind) (ns : List ℕ) → used_by by ks ≤ length ns → length (moved_of ks ns) ≡ length ns
+  pub length-moved : (ks : List Kind) (ns : List ℕ) → used by ks ≤ length ns → length (moved_of ks ns) ≡ length ns
   length-moved [] ns h = refl
   length-moved (k ∷ ks) ns h =
       let rest = drop (by k) ns in
@@ -80,9 +74,19 @@ module _ (by : Kind → ℕ) (names : Kind → Bool) (one : NamesByOne by names)
   pub rest_moved : (k : Kind) (ks : List Kind) (ns : List ℕ) → by k ≤ length ns → drop (by k) (moved_of (k ∷ ks) ns) ≡ moved_of ks (drop (by k) ns)
   rest_moved k ks ns h = drop_at (part_of k ns) (moved_of ks (drop (by k) ns)) (by k) (length-part k ns h)
 
+  -- items that are counted by the numbers, of which none is a lemma's
+  pub items_kept : (items_by : Kind → List ℕ → ℕ) → ((k : Kind) (ns rest : List ℕ) → by k ≤ length ns → items_by k (part_of k ns ++ rest) ≡ items_by k ns) → (ks : List Kind) (ns : List ℕ) → used by ks ≤ length ns → used_items by items_by ks (moved_of ks ns) ≡ used_items by items_by ks ns
+  items_kept items_by kept [] ns h = refl
+  items_kept items_by kept (k ∷ ks) ns h =
+      let here : by k ≤ length ns = omega arith in
+      let rest = drop (by k) ns in
+      ap (λ n. n + used_items by items_by ks (drop (by k) (moved_of (k ∷ ks) ns))) (kept k ns (moved_of ks rest) here)
+      ∙ ap (λ xs. items_by k ns + used_items by items_by ks xs) (rest_moved k ks ns here)
+      ∙ ap (λ n. items_by k ns + n) (items_kept items_by kept ks rest (omega (arith, length-drop (by k) ns)))
+
   -- one turn of the loop over the kinds
   module _ (k : Kind) (rest : List Kind) (now after whole : List ℕ) (at next : ℕ)
-      (left : at + used_by by (k ∷ rest) ≡ length now)
+      (left : at + used by (k ∷ rest) ≡ length now)
       (moved : HasMovedPart seen base (by k) (names k) at now after)
       (on : next ≡ at + by k) where
     abbrev part : List ℕ
@@ -106,7 +110,7 @@ module _ (by : Kind → ℕ) (names : Kind → Bool) (one : NamesByOne by names)
     pub turn_rest : drop next after ≡ others
     turn_rest = ap (drop next) after_is ∙ drop_at (take at now ++ part) others next front-length
 
-    pub turn_left : next + used_by by rest ≡ length after
+    pub turn_left : next + used by rest ≡ length after
     turn_left = omega (arith, ap length after_is, length-append (take at now ++ part) others, front-length, length-drop (by k) (drop at now), length-drop at now)
 
     pub turn_same : take at now ++ moved_of (k ∷ rest) (drop at now) ≡ whole → take next after ++ moved_of rest (drop next after) ≡ whole
@@ -119,7 +123,7 @@ module _ (by : Kind → ℕ) (names : Kind → Bool) (one : NamesByOne by names)
     pub turn_within : NumbersMoveWithin by names seen base (k ∷ rest) (drop at now) → NumbersMoveWithin by names seen base rest (drop next after)
     turn_within h = subst (λ (xs : List ℕ). NumbersMoveWithin by names seen base rest xs) (sym turn_rest) h.1
 
-  pub items_moved : {Z : Type 0} (kinds : List Kind) (v : Vec ℕ Z) (ks : List Kind) (now ws : List ℕ) → ks ≡ kinds → now ≡ v.items → ws ≡ moved_of ks now → used_by by kinds ≡ length v.items → (with_items v ws).items ≡ moved_of kinds v.items
+  pub items_moved : {Z : Type 0} (kinds : List Kind) (v : Vec ℕ Z) (ks : List Kind) (now ws : List ℕ) → ks ≡ kinds → now ≡ v.items → ws ≡ moved_of ks now → used by kinds ≡ length v.items → (with_items v ws).items ≡ moved_of kinds v.items
   items_moved kinds v ks now ws e f g h =
       let moved : ws ≡ moved_of kinds v.items = g ∙ ap (λ (k : List Kind). moved_of k now) e ∙ ap (moved_of kinds) f in
       with_items_is v ws (ap length moved ∙ length-moved kinds v.items (omega (arith, h)) ∙ sym v.ok.0) ∙ moved
@@ -137,105 +141,147 @@ module _ (seen base : ℕ) where
   abbrev pub moved_large : List Kind → List ℕ → List ℕ
   moved_large ks large = moved_numbers large_by is_large_lemma seen base ks large
 
-  literals_by-part : (k : Kind) (large rest : List ℕ) → large_by k ≤ length large → literals_by k (large_part k large ++ rest) ≡ literals_by k large
+  points_by-part : (k : Kind) (ns rest : List ℕ) → small_by k ≤ length ns → points_by k (small_part k ns ++ rest) ≡ points_by k ns
+  points_by-part PathKind [] rest h = absurd (omega arith)
+  points_by-part PathKind (n ∷ ns) rest h = refl
+  points_by-part CycleKind ns rest h = refl
+  points_by-part PairKind ns rest h = refl
+  points_by-part LargePairKind ns rest h = refl
+  points_by-part InputKind ns rest h = refl
+  points_by-part LargeInputKind ns rest h = refl
+  points_by-part LemmaKind ns rest h = refl
+  points_by-part LargeLemmaKind ns rest h = refl
+  points_by-part ClashKind ns rest h = refl
+  points_by-part LargeClashKind ns rest h = refl
+  points_by-part EitherKind ns rest h = refl
+  points_by-part LargeEitherKind ns rest h = refl
+
+  bounds_by-part : (k : Kind) (ns rest : List ℕ) → small_by k ≤ length ns → bounds_by k (small_part k ns ++ rest) ≡ bounds_by k ns
+  bounds_by-part PathKind [] rest h = absurd (omega arith)
+  bounds_by-part PathKind (n ∷ ns) rest h = refl
+  bounds_by-part CycleKind ns rest h = refl
+  bounds_by-part PairKind ns rest h = refl
+  bounds_by-part LargePairKind ns rest h = refl
+  bounds_by-part InputKind ns rest h = refl
+  bounds_by-part LargeInputKind ns rest h = refl
+  bounds_by-part LemmaKind ns rest h = refl
+  bounds_by-part LargeLemmaKind ns rest h = refl
+  bounds_by-part ClashKind ns rest h = refl
+  bounds_by-part LargeClashKind ns rest h = refl
+  bounds_by-part EitherKind ns rest h = refl
+  bounds_by-part LargeEitherKind ns rest h = refl
+
+  literals_by-part : (k : Kind) (ns rest : List ℕ) → large_by k ≤ length ns → literals_by k (large_part k ns ++ rest) ≡ literals_by k ns
+  literals_by-part PathKind ns rest h = refl
   literals_by-part CycleKind [] rest h = absurd (omega arith)
-  literals_by-part CycleKind (n ∷ large) rest h = refl
-  literals_by-part PairKind large rest h = refl
-  literals_by-part InputKind large rest h = refl
-  literals_by-part LargeInputKind large rest h = refl
-  literals_by-part LemmaKind large rest h = refl
-  literals_by-part LargeLemmaKind large rest h = refl
-  literals_by-part ClashKind large rest h = refl
-  literals_by-part LargeClashKind large rest h = refl
-  literals_by-part EitherKind large rest h = refl
+  literals_by-part CycleKind (n ∷ ns) rest h = refl
+  literals_by-part PairKind ns rest h = refl
+  literals_by-part LargePairKind ns rest h = refl
+  literals_by-part InputKind ns rest h = refl
+  literals_by-part LargeInputKind ns rest h = refl
+  literals_by-part LemmaKind ns rest h = refl
+  literals_by-part LargeLemmaKind ns rest h = refl
+  literals_by-part ClashKind ns rest h = refl
+  literals_by-part LargeClashKind ns rest h = refl
+  literals_by-part EitherKind ns rest h = refl
+  literals_by-part LargeEitherKind ns rest h = refl
 
-  step_by-part : (k : Kind) (small rest large rest' : List ℕ) (ls : List Literal) → small_by k ≤ length small → large_by k ≤ length large → step_by k (small_part k small ++ rest) (large_part k large ++ rest') ls ≡ moved_step seen base (step_by k small large ls)
-  step_by-part CycleKind small rest [] rest' ls h h' = absurd (omega arith)
-  step_by-part CycleKind small rest (n ∷ large) rest' ls h h' = refl
-  step_by-part PairKind small rest large rest' ls h h' = refl
-  step_by-part InputKind [] rest large rest' ls h h' = absurd (omega arith)
-  step_by-part InputKind (n ∷ small) rest large rest' ls h h' = refl
-  step_by-part LargeInputKind small rest [] rest' ls h h' = absurd (omega arith)
-  step_by-part LargeInputKind small rest (n ∷ large) rest' ls h h' = refl
-  step_by-part LemmaKind small rest large rest' ls h h' = refl
-  step_by-part LargeLemmaKind small rest large rest' ls h h' = refl
-  step_by-part ClashKind [] rest large rest' ls h h' = absurd (omega arith)
-  step_by-part ClashKind (n ∷ small) rest large rest' ls h h' = refl
-  step_by-part LargeClashKind small rest [] rest' ls h h' = absurd (omega arith)
-  step_by-part LargeClashKind small rest (n ∷ large) rest' ls h h' = refl
-  step_by-part EitherKind small rest large rest' ls h h' = refl
+  step_by-part : (k : Kind) (small rest large rest' points : List ℕ) (bounds : List ℤ) (ls : List Literal) → small_by k ≤ length small → large_by k ≤ length large → step_by k (parts (small_part k small ++ rest) (large_part k large ++ rest') points bounds ls) ≡ moved_step seen base (step_by k (parts small large points bounds ls))
+  step_by-part PathKind [] rest large rest' points bounds ls h h' = absurd (omega arith)
+  step_by-part PathKind (n ∷ small) rest large rest' points bounds ls h h' = refl
+  step_by-part CycleKind small rest [] rest' points bounds ls h h' = absurd (omega arith)
+  step_by-part CycleKind small rest (n ∷ large) rest' points bounds ls h h' = refl
+  step_by-part PairKind small rest large rest' points bounds ls h h' = refl
+  step_by-part LargePairKind small rest large rest' points bounds ls h h' = refl
+  step_by-part InputKind [] rest large rest' points bounds ls h h' = absurd (omega arith)
+  step_by-part InputKind (n ∷ small) rest large rest' points bounds ls h h' = refl
+  step_by-part LargeInputKind small rest [] rest' points bounds ls h h' = absurd (omega arith)
+  step_by-part LargeInputKind small rest (n ∷ large) rest' points bounds ls h h' = refl
+  step_by-part LemmaKind small rest large rest' points bounds ls h h' = refl
+  step_by-part LargeLemmaKind small rest large rest' points bounds ls h h' = refl
+  step_by-part ClashKind [] rest large rest' points bounds ls h h' = absurd (omega arith)
+  step_by-part ClashKind (n ∷ small) rest large rest' points bounds ls h h' = refl
+  step_by-part LargeClashKind small rest [] rest' points bounds ls h h' = absurd (omega arith)
+  step_by-part LargeClashKind small rest (n ∷ large) rest' points bounds ls h h' = refl
+  step_by-part EitherKind small rest large rest' points bounds ls h h' = refl
+  step_by-part LargeEitherKind small rest large rest' points bounds ls h h' = refl
 
-  used_literals-moved : (ks : List Kind) (large : List ℕ) → used_large ks ≤ length large → used_literals ks (moved_large ks large) ≡ used_literals ks large
-  used_literals-moved [] large h = refl
-  used_literals-moved (k ∷ ks) large h =
-      let here : large_by k ≤ length large = omega arith in
-      let rest = drop (large_by k) large in
-      ap (λ n. n + used_literals ks (drop (large_by k) (moved_large (k ∷ ks) large))) (literals_by-part k large (moved_large ks rest) here)
-      ∙ ap (λ xs. literals_by k large + used_literals ks xs) (rest_moved large_by is_large_lemma large_by_one seen base k ks large here)
-      ∙ ap (λ n. literals_by k large + n) (used_literals-moved ks rest (omega (arith, length-drop (large_by k) large)))
+  -- the parts of steps of these kinds, moved
+  abbrev pub moved_parts : List Kind → Parts → Parts
+  moved_parts ks p = parts (moved_small ks p.small) (moved_large ks p.large) p.points p.bounds p.literals
 
-  pub moved_whole : (ks : List Kind) (small large : List ℕ) (ls : List Literal) → IsWhole ks small large ls → IsWhole ks (moved_small ks small) (moved_large ks large) ls
-  moved_whole ks small large ls h =
-      let few : used_large ks ≤ length large = omega (arith, h.large_all) in
+  pub moved_whole : (ks : List Kind) (p : Parts) → IsWhole ks p → IsWhole ks (moved_parts ks p)
+  moved_whole ks p h =
+      let few : used small_by ks ≤ length p.small = omega (arith, h.small_all) in
+      let few_large : used large_by ks ≤ length p.large = omega (arith, h.large_all) in
       record {
-        small_all = h.small_all ∙ sym (length-moved small_by is_lemma small_by_one seen base ks small (omega (arith, used_by_small ks, h.small_all)));
-        large_all = h.large_all ∙ sym (length-moved large_by is_large_lemma large_by_one seen base ks large (omega (arith, used_by_large ks, h.large_all)));
-        literals_all = used_literals-moved ks large few ∙ h.literals_all;
+        small_all = h.small_all ∙ sym (length-moved small_by is_lemma small_by_one seen base ks p.small few);
+        large_all = h.large_all ∙ sym (length-moved large_by is_large_lemma large_by_one seen base ks p.large few_large);
+        points_all = items_kept small_by is_lemma small_by_one seen base points_by points_by-part ks p.small few ∙ h.points_all;
+        bounds_all = items_kept small_by is_lemma small_by_one seen base bounds_by bounds_by-part ks p.small few ∙ h.bounds_all;
+        literals_all = items_kept large_by is_large_lemma large_by_one seen base literals_by literals_by-part ks p.large few_large ∙ h.literals_all;
       }
 
-  pub moved_steps : (ks : List Kind) (small large : List ℕ) (ls : List Literal) → used_small ks ≤ length small → used_large ks ≤ length large → steps_by ks (moved_small ks small) (moved_large ks large) ls ≡ map (moved_step seen base) (steps_by ks small large ls)
-  moved_steps [] small large ls h h' = refl
-  moved_steps (k ∷ ks) small large ls h h' =
-      let here : small_by k ≤ length small = omega arith in
-      let here' : large_by k ≤ length large = omega arith in
-      let rest = drop (small_by k) small in
-      let rest' = drop (large_by k) large in
-      let smalls = moved_small (k ∷ ks) small in
-      let larges = moved_large (k ∷ ks) large in
-      let first : Step = moved_step seen base (step_by k small large ls) in
-      ap (λ (s : Step). s ∷ steps_by ks (drop (small_by k) smalls) (drop (large_by k) larges) (drop (literals_by k larges) ls)) (step_by-part k small (moved_small ks rest) large (moved_large ks rest') ls here here')
-      ∙ ap (λ xs. first ∷ steps_by ks xs (drop (large_by k) larges) (drop (literals_by k larges) ls)) (rest_moved small_by is_lemma small_by_one seen base k ks small here)
-      ∙ ap (λ xs. first ∷ steps_by ks (moved_small ks rest) xs (drop (literals_by k larges) ls)) (rest_moved large_by is_large_lemma large_by_one seen base k ks large here')
-      ∙ ap (λ n. first ∷ steps_by ks (moved_small ks rest) (moved_large ks rest') (drop n ls)) (literals_by-part k large (moved_large ks rest') here')
-      ∙ ap (λ (ss : List Step). first ∷ ss) (moved_steps ks rest rest' (drop (literals_by k large) ls) (omega (arith, length-drop (small_by k) small)) (omega (arith, length-drop (large_by k) large)))
+  behind-moved : (k : Kind) (ks : List Kind) (p : Parts) → small_by k ≤ length p.small → large_by k ≤ length p.large → behind k (moved_parts (k ∷ ks) p) ≡ moved_parts ks (behind k p)
+  behind-moved k ks p h h' =
+      parts_same _ _ _ _ _ _ _ _ _ _
+      (rest_moved small_by is_lemma small_by_one seen base k ks p.small h)
+      (rest_moved large_by is_large_lemma large_by_one seen base k ks p.large h')
+      (ap (λ n. drop n p.points) (points_by-part k p.small (moved_small ks (drop (small_by k) p.small)) h))
+      (ap (λ n. drop n p.bounds) (bounds_by-part k p.small (moved_small ks (drop (small_by k) p.small)) h))
+      (ap (λ n. drop n p.literals) (literals_by-part k p.large (moved_large ks (drop (large_by k) p.large)) h'))
 
-  small_part_within : (k : Kind) (small large : List ℕ) (ls : List Literal) → MovesWithin seen base (step_by k small large ls) → PartMovesWithin seen base (is_lemma k) small
-  small_part_within CycleKind small large ls h = tt
-  small_part_within PairKind small large ls h = tt
-  small_part_within InputKind small large ls h = tt
-  small_part_within LargeInputKind small large ls h = tt
-  small_part_within LemmaKind small large ls h = h
-  small_part_within LargeLemmaKind small large ls h = tt
-  small_part_within ClashKind small large ls h = tt
-  small_part_within LargeClashKind small large ls h = tt
-  small_part_within EitherKind small large ls h = tt
+  pub moved_steps : (ks : List Kind) (p : Parts) → used small_by ks ≤ length p.small → used large_by ks ≤ length p.large → steps_by ks (moved_parts ks p) ≡ map (moved_step seen base) (steps_by ks p)
+  moved_steps [] p h h' = refl
+  moved_steps (k ∷ ks) p h h' =
+      let here : small_by k ≤ length p.small = omega arith in
+      let here' : large_by k ≤ length p.large = omega arith in
+      let first : Step = moved_step seen base (step_by k p) in
+      ap (λ (s : Step). s ∷ steps_by ks (behind k (moved_parts (k ∷ ks) p))) (step_by-part k p.small (moved_small ks (drop (small_by k) p.small)) p.large (moved_large ks (drop (large_by k) p.large)) p.points p.bounds p.literals here here')
+      ∙ ap (λ (r : Parts). first ∷ steps_by ks r) (behind-moved k ks p here here')
+      ∙ ap (λ (ss : List Step). first ∷ ss) (moved_steps ks (behind k p) (omega (arith, length-drop (small_by k) p.small)) (omega (arith, length-drop (large_by k) p.large)))
 
-  large_part_within : (k : Kind) (small large : List ℕ) (ls : List Literal) → MovesWithin seen base (step_by k small large ls) → PartMovesWithin seen base (is_large_lemma k) large
-  large_part_within CycleKind small large ls h = tt
-  large_part_within PairKind small large ls h = tt
-  large_part_within InputKind small large ls h = tt
-  large_part_within LargeInputKind small large ls h = tt
-  large_part_within LemmaKind small large ls h = tt
-  large_part_within LargeLemmaKind small large ls h = h
-  large_part_within ClashKind small large ls h = tt
-  large_part_within LargeClashKind small large ls h = tt
-  large_part_within EitherKind small large ls h = tt
+  small_part_within : (k : Kind) (p : Parts) → MovesWithin seen base (step_by k p) → PartMovesWithin seen base (is_lemma k) p.small
+  small_part_within PathKind p h = tt
+  small_part_within CycleKind p h = tt
+  small_part_within PairKind p h = tt
+  small_part_within LargePairKind p h = tt
+  small_part_within InputKind p h = tt
+  small_part_within LargeInputKind p h = tt
+  small_part_within LemmaKind p h = h
+  small_part_within LargeLemmaKind p h = tt
+  small_part_within ClashKind p h = tt
+  small_part_within LargeClashKind p h = tt
+  small_part_within EitherKind p h = tt
+  small_part_within LargeEitherKind p h = tt
 
-  pub small_within : (ks : List Kind) (small large : List ℕ) (ls : List Literal) → All (MovesWithin seen base) (steps_by ks small large ls) → NumbersMoveWithin small_by is_lemma seen base ks small
-  small_within [] small large ls h = tt
-  small_within (k ∷ ks) small large ls h =
-      let rest : List Step = steps_by ks (drop (small_by k) small) (drop (large_by k) large) (drop (literals_by k large) ls) in (
-        small_part_within k small large ls (All-head (MovesWithin seen base) (step_by k small large ls) rest h),
-        small_within ks (drop (small_by k) small) (drop (large_by k) large) (drop (literals_by k large) ls) (All-tail (MovesWithin seen base) (step_by k small large ls) rest h),
-      )
+  pub small_within : (ks : List Kind) (p : Parts) → All (MovesWithin seen base) (steps_by ks p) → NumbersMoveWithin small_by is_lemma seen base ks p.small
+  small_within [] p h = tt
+  small_within (k ∷ ks) p h = (
+    small_part_within k p (All-head (MovesWithin seen base) (step_by k p) (steps_by ks (behind k p)) h),
+    small_within ks (behind k p) (All-tail (MovesWithin seen base) (step_by k p) (steps_by ks (behind k p)) h),
+  )
 
-  pub large_within : (ks : List Kind) (small large : List ℕ) (ls : List Literal) → All (MovesWithin seen base) (steps_by ks small large ls) → NumbersMoveWithin large_by is_large_lemma seen base ks large
-  large_within [] small large ls h = tt
-  large_within (k ∷ ks) small large ls h =
-      let rest : List Step = steps_by ks (drop (small_by k) small) (drop (large_by k) large) (drop (literals_by k large) ls) in (
-        large_part_within k small large ls (All-head (MovesWithin seen base) (step_by k small large ls) rest h),
-        large_within ks (drop (small_by k) small) (drop (large_by k) large) (drop (literals_by k large) ls) (All-tail (MovesWithin seen base) (step_by k small large ls) rest h),
-      )
+  large_part_within : (k : Kind) (p : Parts) → MovesWithin seen base (step_by k p) → PartMovesWithin seen base (is_large_lemma k) p.large
+  large_part_within PathKind p h = tt
+  large_part_within CycleKind p h = tt
+  large_part_within PairKind p h = tt
+  large_part_within LargePairKind p h = tt
+  large_part_within InputKind p h = tt
+  large_part_within LargeInputKind p h = tt
+  large_part_within LemmaKind p h = tt
+  large_part_within LargeLemmaKind p h = h
+  large_part_within ClashKind p h = tt
+  large_part_within LargeClashKind p h = tt
+  large_part_within EitherKind p h = tt
+  large_part_within LargeEitherKind p h = tt
+
+  pub large_within : (ks : List Kind) (p : Parts) → All (MovesWithin seen base) (steps_by ks p) → NumbersMoveWithin large_by is_large_lemma seen base ks p.large
+  large_within [] p h = tt
+  large_within (k ∷ ks) p h = (
+    large_part_within k p (All-head (MovesWithin seen base) (step_by k p) (steps_by ks (behind k p)) h),
+    large_within ks (behind k p) (All-tail (MovesWithin seen base) (step_by k p) (steps_by ks (behind k p)) h),
+  )
 
   -- a part of which nothing moves
   pub part_stays : (count at : ℕ) (ns : List ℕ) → HasMovedPart seen base count false at ns ns

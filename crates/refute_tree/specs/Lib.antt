@@ -1,5 +1,6 @@
 pub mod Limits
 pub mod Trees
+pub mod Paths
 pub mod Store
 pub mod Lists
 pub mod Views

@@ -1,8 +1,10 @@
 ghost use Rattle.std.specs.Prelude.{◌≡◌, ◌++◌, Some, None, slice_get, map, MatchOption, OnOk, IfOk};
+ghost use Rattle.refute_tree.specs.declared.step.Step.TheVariants.{Cycle as CycleStep};
 ghost use Rattle.refute_tree.specs.Lengths.{pair_step, lengthened_step, lengthened_lemma, shortened_lemma};
 ghost use Rattle.refute_tree.specs.Lengths.{is_pair_of, begin_with_pairs, ClosedCases, IsShorter, StaysRefuted};
-ghost use Rattle.refute_tree.specs.Views.{step_seen};
+ghost use Rattle.refute_tree.specs.Views.{literals_of, step_seen};
 
+use crate::cycle::Cycle;
 use crate::lemma::Lemma;
 use crate::reader::{Reader, StepView};
 use crate::store::Steps;
@@ -66,13 +68,19 @@ pub fn lengthen(alloc: Global, problem: &Problem, lemma: &Lemma) -> Result<Lemma
     Ok(Lemma { clause, steps })
 }
 
+// Whether the cycle is that of the literal and its negation, in this order.
+fn is_pair(literal: Literal, cycle: Cycle<'_>) -> bool
+    ensures { result ≡ is_pair_of literal (CycleStep (literals_of cycle.entry)) }
+{
+    cycle.len() == 2 && cycle.at(0) == literal && cycle.at(1) == negate(literal)
+}
+
 fn is_pair_of(literal: Literal, step: StepView<'_>) -> bool
     ensures { result ≡ is_pair_of literal (step_seen step.entry) }
 {
     match step {
-        StepView::Cycle([first, second]) => *first == literal && *second == negate(literal),
+        StepView::Cycle(cycle) => is_pair(literal, cycle),
         StepView::Pair(first) => first == literal,
-        StepView::Cycle(_) => false,
         StepView::Input(_) | StepView::Lemma(_) => false,
         StepView::Clash(_) | StepView::Either(_) => false,
     }

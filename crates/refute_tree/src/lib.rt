@@ -4,6 +4,7 @@
 
 mod batch;
 mod batch_laws;
+mod cycle;
 mod earlier;
 mod kind;
 mod laws;
@@ -12,6 +13,8 @@ mod lengths;
 mod limits;
 mod lists;
 mod moving;
+mod narrow;
+mod path;
 mod reader;
 mod step;
 mod store;
@@ -19,11 +22,13 @@ mod tree;
 
 pub use batch::Batch;
 pub use batch_laws::{joined_law, moved_batch_law, references_law};
+pub use cycle::Cycle;
 pub use earlier::Earlier;
 pub use laws::{examples_law, lengths_law, refutation_law};
 pub use lemma::{Lemma, Refutation};
 pub use lengths::{lengthen, shorten};
 pub use limits::LEMMAS_LIMIT;
+pub use path::Path;
 pub use reader::{Reader, StepView};
 pub use step::Step;
 pub use store::Steps;

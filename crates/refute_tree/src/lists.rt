@@ -1,8 +1,11 @@
-ghost use Rattle.std.specs.Prelude.{◌≡◌, ◌≤◌, length, take, drop, ◌++◌, OnOk, OnErr, IfOk};
-ghost use Rattle.refute_tree.specs.Lists.{AreNone, AreSame, AreExtended, BeginAs, AreCutOut, IsBefore, IsWithin};
-ghost use Rattle.refute_tree.specs.Lists.{AreSlices, SlicesAreWhole, IsPlaceOf};
+ghost use Rattle.std.specs.Prelude.{◌≡◌, ◌≤◌, ◌++◌, ◌∷◌, [], length, take, drop, OnOk, OnErr, IfOk};
+ghost use Rattle.refute_tree.specs.Lists.{AreNone, AreSame, AreExtended, BeginAs, AreCut, AreCutOut, HavePath};
+ghost use Rattle.refute_tree.specs.Lists.{AreSlices, SlicesAreWhole, IsEnd, IsPlaceOf, EndsStep, IsBeforeStep};
+ghost use Rattle.refute_tree.specs.Lists.{IsBefore, IsWithin};
+ghost use Rattle.refute_tree.specs.Paths.{IsShortPath};
 
-use crate::kind::{Kind, large_by, literals_by, small_by};
+use crate::kind::{Kind, bounds_by, large_by, literals_by, points_by, small_by};
+use crate::narrow::{push_bounds, push_points};
 use std::alloc::{AllocError, Global};
 use stn_core::Literal;
 
@@ -12,6 +15,8 @@ pub struct Lists {
     pub kinds: Vec<Kind>,
     pub small: Vec<u32>,
     pub large: Vec<usize>,
+    pub points: Vec<u16>,
+    pub bounds: Vec<i32>,
     pub literals: Vec<Literal>,
 }
 
@@ -21,6 +26,8 @@ pub struct Slices<'a> {
     pub kinds: &'a [Kind],
     pub small: &'a [u32],
     pub large: &'a [usize],
+    pub points: &'a [u16],
+    pub bounds: &'a [i32],
     pub literals: &'a [Literal],
 }
 
@@ -30,7 +37,26 @@ pub struct Place {
     pub kinds: usize,
     pub small: usize,
     pub large: usize,
+    pub points: usize,
+    pub bounds: usize,
     pub literals: usize,
+}
+
+// Where that begins which a step of this kind has, where this place is its end.
+fn before(slices: Slices<'_>, place: Place, kind: Kind) -> Place
+    requires { EndsStep slices kind place }
+    ensures { IsBeforeStep slices.entry kind place result }
+{
+    let small = place.small - small_by(kind);
+    let large = place.large - large_by(kind);
+    Place {
+        kinds: place.kinds - 1,
+        small,
+        large,
+        points: place.points - points_by(kind, slices.small, small),
+        bounds: place.bounds - bounds_by(kind, slices.small, small),
+        literals: place.literals - literals_by(kind, slices.large, large),
+    }
 }
 
 /// Where that begins which the step with this number has; for the count of the steps, where all ends. It goes over
@@ -40,23 +66,18 @@ pub fn place_of(slices: Slices<'_>, step: usize) -> Place
     requires step { step ≤ length slices.kinds.now }
     ensures { IsPlaceOf slices.entry step result }
 {
-    let mut kinds = slices.kinds.len();
-    let mut small = slices.small.len();
-    let mut large = slices.large.len();
-    let mut literals = slices.literals.len();
-    'back: while kinds > step {
-        kinds -= 1;
-        let kind = slices.kinds[kinds];
-        small -= small_by(kind);
-        large -= large_by(kind);
-        literals -= literals_by(kind, slices.large, large);
+    let mut place = Place {
+        kinds: slices.kinds.len(),
+        small: slices.small.len(),
+        large: slices.large.len(),
+        points: slices.points.len(),
+        bounds: slices.bounds.len(),
+        literals: slices.literals.len(),
+    };
+    'back: while place.kinds > step {
+        place = before(slices, place, slices.kinds[place.kinds - 1]);
     }
-    Place {
-        kinds,
-        small,
-        large,
-        literals,
-    }
+    place
 }
 
 fn cut_out<T: Drop>(list: &mut Vec<T>, low: usize, high: usize)
@@ -75,6 +96,8 @@ impl Lists {
             kinds: Vec::new(alloc),
             small: Vec::new(alloc),
             large: Vec::new(alloc),
+            points: Vec::new(alloc),
+            bounds: Vec::new(alloc),
             literals: Vec::new(alloc),
         }
     }
@@ -86,6 +109,8 @@ impl Lists {
             kinds: self.kinds.as_slice(),
             small: self.small.as_slice(),
             large: self.large.as_slice(),
+            points: self.points.as_slice(),
+            bounds: self.bounds.as_slice(),
             literals: self.literals.as_slice(),
         }
     }
@@ -98,7 +123,34 @@ impl Lists {
         self.kinds.extend_from_slice(more.kinds)?;
         self.small.extend_from_slice(more.small)?;
         self.large.extend_from_slice(more.large)?;
+        self.points.extend_from_slice(more.points)?;
+        self.bounds.extend_from_slice(more.bounds)?;
         self.literals.extend_from_slice(more.literals)
+    }
+
+    // Where the lists end.
+    fn end(&self) -> Place
+        ensures { IsEnd self.now result }
+    {
+        Place {
+            kinds: self.kinds.len(),
+            small: self.small.len(),
+            large: self.large.len(),
+            points: self.points.len(),
+            bounds: self.bounds.len(),
+            literals: self.literals.len(),
+        }
+    }
+
+    fn truncate(&mut self, end: Place)
+        ensures { AreCut self.old end self.new }
+    {
+        self.kinds.truncate(end.kinds);
+        self.small.truncate(end.small);
+        self.large.truncate(end.large);
+        self.points.truncate(end.points);
+        self.bounds.truncate(end.bounds);
+        self.literals.truncate(end.literals);
     }
 
     /// Appends the slices; without memory, none of them.
@@ -106,17 +158,39 @@ impl Lists {
         ensures ok { OnOk result (AreExtended self.old more.entry self.new) }
         ensures err { OnErr result (AreSame self.old self.new) }
     {
-        let kinds = self.kinds.len();
-        let small = self.small.len();
-        let large = self.large.len();
-        let literals = self.literals.len();
+        let end = self.end();
         match self.try_extend(more) {
             Ok(()) => Ok(()),
             Err(error) => {
-                self.kinds.truncate(kinds);
-                self.small.truncate(small);
-                self.large.truncate(large);
-                self.literals.truncate(literals);
+                self.truncate(end);
+                Err(error)
+            }
+        }
+    }
+
+    // Without memory, perhaps a part of it is appended.
+    fn try_push_path(&mut self, literals: &[Literal]) -> Result<(), AllocError>
+        requires { IsShortPath literals.now }
+        ensures ok { OnOk result (HavePath self.old literals.now self.new) }
+        ensures front { BeginAs self.old self.new }
+    {
+        self.kinds.push(Kind::Path)?;
+        self.small.push(literals.len() as u32)?;
+        push_points(literals, &mut self.points)?;
+        push_bounds(literals, &mut self.bounds)
+    }
+
+    /// Appends a cycle as a path; without memory, nothing of it.
+    pub fn push_path(&mut self, literals: &[Literal]) -> Result<(), AllocError>
+        requires { IsShortPath literals.now }
+        ensures ok { OnOk result (HavePath self.old literals.now self.new) }
+        ensures err { OnErr result (AreSame self.old self.new) }
+    {
+        let end = self.end();
+        match self.try_push_path(literals) {
+            Ok(()) => Ok(()),
+            Err(error) => {
+                self.truncate(end);
                 Err(error)
             }
         }
@@ -131,6 +205,8 @@ impl Lists {
         cut_out(&mut self.kinds, low.kinds, high.kinds);
         cut_out(&mut self.small, low.small, high.small);
         cut_out(&mut self.large, low.large, high.large);
+        cut_out(&mut self.points, low.points, high.points);
+        cut_out(&mut self.bounds, low.bounds, high.bounds);
         cut_out(&mut self.literals, low.literals, high.literals);
     }
 
@@ -141,6 +217,8 @@ impl Lists {
         self.kinds.shrink_to_fit();
         self.small.shrink_to_fit();
         self.large.shrink_to_fit();
+        self.points.shrink_to_fit();
+        self.bounds.shrink_to_fit();
         self.literals.shrink_to_fit();
     }
 
@@ -151,6 +229,8 @@ impl Lists {
             kinds: Vec::from_slice(alloc, self.kinds.as_slice())?,
             small: Vec::from_slice(alloc, self.small.as_slice())?,
             large: Vec::from_slice(alloc, self.large.as_slice())?,
+            points: Vec::from_slice(alloc, self.points.as_slice())?,
+            bounds: Vec::from_slice(alloc, self.bounds.as_slice())?,
             literals: Vec::from_slice(alloc, self.literals.as_slice())?,
         })
     }

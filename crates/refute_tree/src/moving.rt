@@ -2,7 +2,7 @@ ghost use Rattle.std.specs.Prelude.{◌≡◌, ◌≤◌, ◌+◌, length, drop}
 ghost use Rattle.refute_tree.specs.Moves.{moved_number, moved_numbers, HasMovedPart};
 ghost use Rattle.refute_tree.specs.Moves.{NumberMovesWithin, PartMovesWithin, NumbersMoveWithin};
 ghost use Rattle.refute_tree.specs.Moves.{is_lemma, is_large_lemma};
-ghost use Rattle.refute_tree.specs.Store.{small_by, large_by, used_small, used_large};
+ghost use Rattle.refute_tree.specs.Store.{small_by, large_by, used};
 
 use crate::kind::{Kind, large_by, small_by};
 
@@ -41,7 +41,8 @@ fn move_part(
         Kind::Lemma => small[small_at] = moved_small(small[small_at], seen, base),
         Kind::LargeLemma => large[large_at] = moved_number(large[large_at], seen, base),
         Kind::Input | Kind::LargeInput | Kind::Clash | Kind::LargeClash => {}
-        Kind::Cycle | Kind::Pair | Kind::Either => {}
+        Kind::Path | Kind::Cycle | Kind::Pair | Kind::LargePair => {}
+        Kind::Either | Kind::LargeEither => {}
     }
 }
 
@@ -53,8 +54,8 @@ pub fn move_numbers(
     seen: usize,
     base: usize,
 )
-    requires small_whole { used_small kinds.now ≡ length small.old }
-    requires large_whole { used_large kinds.now ≡ length large.old }
+    requires small_whole { used small_by kinds.now ≡ length small.old }
+    requires large_whole { used large_by kinds.now ≡ length large.old }
     requires small_within { NumbersMoveWithin small_by is_lemma seen base kinds.now small.old }
     requires large_within { NumbersMoveWithin large_by is_large_lemma seen base kinds.now large.old }
     ensures small { small.new ≡ moved_numbers small_by is_lemma seen base kinds.now small.old }

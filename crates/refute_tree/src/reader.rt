@@ -1,17 +1,20 @@
-ghost use Rattle.std.specs.Prelude.{◌≡◌, ◌≤◌, ◌∷◌, [], length, MatchOption};
-ghost use Rattle.refute_tree.specs.Lists.{SlicesAreWhole, steps_of_slices};
-ghost use Rattle.refute_tree.specs.Store.{small_by, large_by, literals_by, step_by};
+ghost use Rattle.std.specs.Prelude.{◌≡◌, ◌≤◌, ◌<◌, ◌+◌, ◌∷◌, length, MatchOption};
+ghost use Rattle.refute_tree.specs.Lists.{SlicesAreWhole, HaveStep, IsBehindStep, parts_of_slices, steps_of_slices};
+ghost use Rattle.refute_tree.specs.Store.{step_by, first_number, first_path};
+ghost use Rattle.refute_tree.specs.Paths.{narrow_literal, path_of};
 ghost use Rattle.refute_tree.specs.Views.{step_seen, ReadsNone};
 
-use crate::kind::{Kind, large_by, literals_by, small_by};
+use crate::cycle::Cycle;
+use crate::kind::{Kind, bounds_by, large_by, literals_by, points_by, small_by};
 use crate::lists::Slices;
+use crate::path::Path;
 use std::marker::Model;
 use stn_core::Literal;
 
 /// A step as it is read. A pair is the cycle of the literal and its negation.
 #[derive(Clone, Copy)]
 pub enum StepView<'a> {
-    Cycle(&'a [Literal]),
+    Cycle(Cycle<'a>),
     Pair(Literal),
     Input(usize),
     Lemma(usize),
@@ -19,23 +22,73 @@ pub enum StepView<'a> {
     Either(Literal),
 }
 
-// The step of the kind whose numbers and literals are the first of these.
-fn view<'a>(kind: Kind, small: &[u32], large: &[usize], literals: &'a [Literal]) -> StepView<'a>
-    requires small { small_by kind ≤ length small.now }
-    requires large { large_by kind ≤ length large.now }
-    requires literals { literals_by kind large.now ≤ length literals.now }
-    ensures { step_seen result ≡ step_by kind small.now large.now literals.now }
+// The literal that is kept as the first points and the first bound.
+fn narrow_literal(slices: Slices<'_>) -> Literal
+    requires points { 2 ≤ length slices.points.now }
+    requires bounds { 1 ≤ length slices.bounds.now }
+    ensures { result ≡ narrow_literal slices.entry.points.now slices.entry.bounds.now }
+{
+    Literal {
+        x: u32::from(slices.points[0]),
+        y: u32::from(slices.points[1]),
+        c: i64::from(slices.bounds[0]),
+    }
+}
+
+// The cycle that is kept as the first points and bounds.
+fn path(slices: Slices<'_>) -> Path<'_>
+    requires small { 1 ≤ length slices.small.now }
+    requires points { first_number slices.small.now + 1 ≤ length slices.points.now }
+    requires bounds { first_number slices.small.now ≤ length slices.bounds.now }
+    ensures { path_of result.points.now result.bounds.now
+        ≡ first_path slices.entry.small.now slices.entry.points.now slices.entry.bounds.now }
+{
+    let count = slices.small[0] as usize;
+    Path {
+        points: &slices.points[..count + 1],
+        bounds: &slices.bounds[..count],
+    }
+}
+
+// The step of the kind whose numbers, points, bounds and literals are the first of these.
+fn view<'a>(kind: Kind, slices: Slices<'a>) -> StepView<'a>
+    requires { HaveStep kind slices }
+    ensures { step_seen result ≡ step_by kind (parts_of_slices slices.entry) }
 {
     match kind {
-        Kind::Cycle => StepView::Cycle(&literals[..large[0]]),
-        Kind::Pair => StepView::Pair(literals[0]),
-        Kind::Input => StepView::Input(small[0] as usize),
-        Kind::LargeInput => StepView::Input(large[0]),
-        Kind::Lemma => StepView::Lemma(small[0] as usize),
-        Kind::LargeLemma => StepView::Lemma(large[0]),
-        Kind::Clash => StepView::Clash(small[0] as usize),
-        Kind::LargeClash => StepView::Clash(large[0]),
-        Kind::Either => StepView::Either(literals[0]),
+        Kind::Path => StepView::Cycle(Cycle::Path(path(slices))),
+        Kind::Cycle => StepView::Cycle(Cycle::Literals(&slices.literals[..slices.large[0]])),
+        Kind::Pair => StepView::Pair(narrow_literal(slices)),
+        Kind::LargePair => StepView::Pair(slices.literals[0]),
+        Kind::Input => StepView::Input(slices.small[0] as usize),
+        Kind::LargeInput => StepView::Input(slices.large[0]),
+        Kind::Lemma => StepView::Lemma(slices.small[0] as usize),
+        Kind::LargeLemma => StepView::Lemma(slices.large[0]),
+        Kind::Clash => StepView::Clash(slices.small[0] as usize),
+        Kind::LargeClash => StepView::Clash(slices.large[0]),
+        Kind::Either => StepView::Either(narrow_literal(slices)),
+        Kind::LargeEither => StepView::Either(slices.literals[0]),
+    }
+}
+
+// What stands behind the first step, which is of this kind.
+fn behind<'a>(kind: Kind, slices: Slices<'a>) -> Slices<'a>
+    requires some { 0 < length slices.kinds.now }
+    requires step { HaveStep kind slices }
+    ensures { IsBehindStep kind slices.entry result }
+{
+    let small = small_by(kind);
+    let large = large_by(kind);
+    let points = points_by(kind, slices.small, 0);
+    let bounds = bounds_by(kind, slices.small, 0);
+    let literals = literals_by(kind, slices.large, 0);
+    Slices {
+        kinds: &slices.kinds[1..],
+        small: &slices.small[small..],
+        large: &slices.large[large..],
+        points: &slices.points[points..],
+        bounds: &slices.bounds[bounds..],
+        literals: &slices.literals[literals..],
     }
 }
 
@@ -76,14 +129,8 @@ impl<'a> Reader<'a> {
             return None;
         }
         let kind = left.kinds[0];
-        let literals = literals_by(kind, left.large, 0);
-        self.left = Slices {
-            kinds: &left.kinds[1..],
-            small: &left.small[small_by(kind)..],
-            large: &left.large[large_by(kind)..],
-            literals: &left.literals[literals..],
-        };
-        Some(view(kind, left.small, left.large, left.literals))
+        self.left = behind(kind, left);
+        Some(view(kind, left))
     }
 
     /// Another reader of the same steps.

@@ -2,12 +2,15 @@ ghost use Rattle.std.specs.Prelude.{◌≡◌, ◌≤◌, ◌∷◌, [], ◌++�
 ghost use Rattle.refute_tree.specs.declared.step.Step.TheVariants.{Cycle, Input, Lemma as Cited, Clash, Either};
 ghost use Rattle.refute_tree.specs.Lists.{SlicesAreWhole, steps_of_slices};
 ghost use Rattle.refute_tree.specs.Moves.{moved_step, MovesWithin};
-ghost use Rattle.refute_tree.specs.Store.{pair_of, step_by, IsWhole, AreNumberKinds};
-ghost use Rattle.refute_tree.specs.Views.{step_seen};
+ghost use Rattle.refute_tree.specs.Paths.{IsNarrow, IsShortPath};
+ghost use Rattle.refute_tree.specs.Store.{pair_of, parts, step_by, IsWhole, AreNumberKinds, AreLiteralKinds};
+ghost use Rattle.refute_tree.specs.Views.{literals_of, step_seen};
 
+use crate::cycle::Cycle as CycleView;
 use crate::kind::Kind;
 use crate::lists::{Lists, Slices, place_of};
 use crate::moving::move_numbers;
+use crate::narrow::{is_narrow, is_short_path};
 use crate::reader::{Reader, StepView};
 use std::alloc::{AllocError, Global};
 use std::marker::Model;
@@ -15,8 +18,10 @@ use stn_core::{Literal, negate};
 
 /// A list of steps, without memory of its own for each.
 ///
-/// A step takes a byte, and beside it: `Either`, or a literal and its negation, 16; another cycle 8, and 16 for each
-/// literal; `Input`, `Lemma` and `Clash` with a number below 2^32 take 4, and with another 8.
+/// A step takes a byte, and beside it: `Input`, `Lemma` and `Clash` with a number below 2^32 take 4, and with another 8.
+/// Where the points are below 2^16 and the bounds are of 32 bits, `Either`, or a literal and its negation, takes 8, and
+/// a cycle of which each literal begins at the point where the one before it ends takes 6, and 6 for each literal. Else
+/// they take 16, and 8 and 16 for each literal.
 #[derive(Drop)]
 pub struct Steps {
     lists: Lists,
@@ -59,11 +64,14 @@ impl Steps {
         kind: Kind,
         small: &[u32],
         large: &[usize],
+        points: &[u16],
+        bounds: &[i32],
         literals: &[Literal],
     ) -> Result<(), AllocError>
-        requires { IsWhole (kind ∷ []) small.now large.now literals.now }
-        ensures ok { OnOk result (self.new
-            ≡ self.old ++ step_by kind small.now large.now literals.now ∷ []) }
+        requires { IsWhole (kind ∷ [])
+            (parts small.now large.now points.now bounds.now literals.now) }
+        ensures ok { OnOk result (self.new ≡ self.old
+            ++ step_by kind (parts small.now large.now points.now bounds.now literals.now) ∷ []) }
         ensures err { OnErr result (self.new ≡ self.old) }
     {
         let kinds = [kind];
@@ -71,11 +79,58 @@ impl Steps {
             kinds: kinds.as_slice(),
             small,
             large,
+            points,
+            bounds,
             literals,
         })
     }
 
-    /// Adds a cycle; without memory, the list is as before. A literal and its negation are kept as a pair.
+    // Adds a step of a literal, of the one kind or of the other.
+    fn add_literal(
+        &mut self,
+        literal: Literal,
+        kind: Kind,
+        large_kind: Kind,
+    ) -> Result<(), AllocError>
+        requires kinds { AreLiteralKinds kind large_kind }
+        ensures ok { OnOk result (self.new
+            ≡ self.old ++ step_by large_kind (parts [] [] [] [] (literal ∷ [])) ∷ []) }
+        ensures err { OnErr result (self.new ≡ self.old) }
+    {
+        if is_narrow(literal) {
+            let points = [literal.x as u16, literal.y as u16];
+            let bounds = [literal.c as i32];
+            self.add(kind, &[], &[], points.as_slice(), bounds.as_slice(), &[])
+        } else {
+            self.add(large_kind, &[], &[], &[], &[], [literal].as_slice())
+        }
+    }
+
+    // Adds a step of a number, of the one kind or of the other.
+    fn add_number(&mut self, number: usize, kind: Kind, large_kind: Kind) -> Result<(), AllocError>
+        requires kinds { AreNumberKinds kind large_kind }
+        ensures ok { OnOk result (self.new
+            ≡ self.old ++ step_by large_kind (parts [] (number ∷ []) [] [] []) ∷ []) }
+        ensures err { OnErr result (self.new ≡ self.old) }
+    {
+        if number < 1 << 32 {
+            self.add(kind, [number as u32].as_slice(), &[], &[], &[], &[])
+        } else {
+            self.add(large_kind, &[], [number].as_slice(), &[], &[], &[])
+        }
+    }
+
+    // Adds a cycle that is a short path.
+    fn add_path(&mut self, literals: &[Literal]) -> Result<(), AllocError>
+        requires { IsShortPath literals.now }
+        ensures ok { OnOk result (self.new ≡ self.old ++ Cycle literals.now ∷ []) }
+        ensures err { OnErr result (self.new ≡ self.old) }
+    {
+        self.lists.push_path(literals)?;
+        Ok(())
+    }
+
+    /// Adds a cycle; without memory, the list is as before.
     pub fn push_cycle(&mut self, literals: &[Literal]) -> Result<(), AllocError>
         ensures ok { OnOk result (self.new ≡ self.old ++ Cycle literals.now ∷ []) }
         ensures err { OnErr result (self.new ≡ self.old) }
@@ -85,8 +140,32 @@ impl Steps {
                 return self.push_pair(*first);
             }
         }
+        if is_short_path(literals) {
+            return self.add_path(literals);
+        }
         let count = [literals.len()];
-        self.add(Kind::Cycle, [].as_slice(), count.as_slice(), literals)
+        self.add(Kind::Cycle, &[], count.as_slice(), &[], &[], literals)
+    }
+
+    // Adds a cycle that was read, without a look at its literals where they are kept as a path.
+    fn push_seen(&mut self, cycle: CycleView<'_>) -> Result<(), AllocError>
+        ensures ok { OnOk result (self.new ≡ self.old ++ Cycle (literals_of cycle.entry) ∷ []) }
+        ensures err { OnErr result (self.new ≡ self.old) }
+    {
+        match cycle {
+            CycleView::Literals(literals) => self.push_cycle(literals),
+            CycleView::Path(path) => {
+                let count = [path.bounds.len() as u32];
+                self.add(
+                    Kind::Path,
+                    count.as_slice(),
+                    &[],
+                    path.points,
+                    path.bounds,
+                    &[],
+                )
+            }
+        }
     }
 
     /// Adds the cycle of the literal and its negation; without memory, the list is as before.
@@ -94,35 +173,7 @@ impl Steps {
         ensures ok { OnOk result (self.new ≡ self.old ++ Cycle (pair_of literal) ∷ []) }
         ensures err { OnErr result (self.new ≡ self.old) }
     {
-        self.add(
-            Kind::Pair,
-            [].as_slice(),
-            [].as_slice(),
-            [literal].as_slice(),
-        )
-    }
-
-    // Adds a step of a number, of the one kind or of the other.
-    fn add_number(&mut self, number: usize, kind: Kind, large_kind: Kind) -> Result<(), AllocError>
-        requires kinds { AreNumberKinds kind large_kind }
-        ensures ok { OnOk result (self.new ≡ self.old ++ step_by large_kind [] (number ∷ []) [] ∷ []) }
-        ensures err { OnErr result (self.new ≡ self.old) }
-    {
-        if number < 1 << 32 {
-            self.add(
-                kind,
-                [number as u32].as_slice(),
-                [].as_slice(),
-                [].as_slice(),
-            )
-        } else {
-            self.add(
-                large_kind,
-                [].as_slice(),
-                [number].as_slice(),
-                [].as_slice(),
-            )
-        }
+        self.add_literal(literal, Kind::Pair, Kind::LargePair)
     }
 
     /// Adds the cases of a clause of the problem; without memory, the list is as before.
@@ -154,12 +205,7 @@ impl Steps {
         ensures ok { OnOk result (self.new ≡ self.old ++ Either literal ∷ []) }
         ensures err { OnErr result (self.new ≡ self.old) }
     {
-        self.add(
-            Kind::Either,
-            [].as_slice(),
-            [].as_slice(),
-            [literal].as_slice(),
-        )
+        self.add_literal(literal, Kind::Either, Kind::LargeEither)
     }
 
     /// Adds the step that was read; without memory, the list is as before.
@@ -168,7 +214,7 @@ impl Steps {
         ensures err { OnErr result (self.new ≡ self.old) }
     {
         match step {
-            StepView::Cycle(cycle) => self.push_cycle(cycle),
+            StepView::Cycle(cycle) => self.push_seen(cycle),
             StepView::Pair(literal) => self.push_pair(literal),
             StepView::Input(i) => self.push_input(i),
             StepView::Lemma(j) => self.push_lemma(j),

@@ -1,10 +1,10 @@
 use Rattle.std.proofs.Common.{◌≡◌, ◌+◌, ◌∷◌, ◌++◌, List, take, drop, length, slice_index_or, ap, subst, ◌∙◌, sym}
 use Rattle.std.proofs.lemmas.List.{drop_more}
 use Rattle.refute_tree.specs.declared.kind.Kind.{Kind}
-use Rattle.refute_tree.specs.declared.kind.Kind.TheVariants.{Cycle}
-use Rattle.refute_tree.specs.Store.{small_by, large_by}
+use Rattle.refute_tree.specs.declared.kind.Kind.TheVariants.{Path}
+use Rattle.refute_tree.specs.Store.{small_by, large_by, used}
 use Rattle.refute_tree.specs.Moves.{is_lemma, is_large_lemma, moved_numbers, NumbersMoveWithin}
-use Rattle.refute_tree.proofs.MovedNumbers.{used_by, small_by_one, large_by_one, turn_left, turn_same, turn_within}
+use Rattle.refute_tree.proofs.MovedNumbers.{small_by_one, large_by_one, turn_left, turn_same, turn_within}
 use Rattle.refute_tree.proofs.moving.move_numbers.Goals as goal
 
 pub loop-kind-preserved : goal.loop-kind-preserved
@@ -12,15 +12,15 @@ loop-kind-preserved c =
     let seen = c.args.seen in
     let base = c.args.base in
     let i = c.loop-kind.kind-index in
-    let kind : Kind = slice_index_or c.args.kinds.now i Cycle in
+    let kind : Kind = slice_index_or c.args.kinds.now i Path in
     let rest : List Kind = drop (i + 1) c.args.kinds.now in
-    let e : drop i c.args.kinds.now ≡ kind ∷ rest = drop_more c.args.kinds.now i Cycle c.loop-kind-test.true in
+    let e : drop i c.args.kinds.now ≡ kind ∷ rest = drop_more c.args.kinds.now i Path c.loop-kind-test.true in
     let h = c.loop-kind.invariant in
     let small_at = c.loop-kind.small_at in
     let small = c.loop-kind.small in
     let small_next = small_at + c.small_by-small_at.result in
     let small_whole = moved_numbers small_by is_lemma seen base c.args.kinds.now c.args.small.now in
-    let small_left : small_at + used_by small_by (kind ∷ rest) ≡ length small = sym (ap (λ (ks : List Kind). small_at + used_by small_by ks) e) ∙ h.small_left in
+    let small_left : small_at + used small_by (kind ∷ rest) ≡ length small = sym (ap (λ (ks : List Kind). small_at + used small_by ks) e) ∙ h.small_left in
     let small_on : small_next ≡ small_at + small_by kind = ap (λ n. small_at + n) c.small_by-small_at.ensures in
     let small_same : take small_at small ++ moved_numbers small_by is_lemma seen base (kind ∷ rest) (drop small_at small) ≡ small_whole =
     sym (ap (λ (ks : List Kind). take small_at small ++ moved_numbers small_by is_lemma seen base ks (drop small_at small)) e) ∙ h.small_same in
@@ -30,7 +30,7 @@ loop-kind-preserved c =
     let large = c.loop-kind.large in
     let large_next = large_at + c.large_by-large_at.result in
     let large_whole = moved_numbers large_by is_large_lemma seen base c.args.kinds.now c.args.large.now in
-    let large_left : large_at + used_by large_by (kind ∷ rest) ≡ length large = sym (ap (λ (ks : List Kind). large_at + used_by large_by ks) e) ∙ h.large_left in
+    let large_left : large_at + used large_by (kind ∷ rest) ≡ length large = sym (ap (λ (ks : List Kind). large_at + used large_by ks) e) ∙ h.large_left in
     let large_on : large_next ≡ large_at + large_by kind = ap (λ n. large_at + n) c.large_by-large_at.ensures in
     let large_same : take large_at large ++ moved_numbers large_by is_large_lemma seen base (kind ∷ rest) (drop large_at large) ≡ large_whole =
     sym (ap (λ (ks : List Kind). take large_at large ++ moved_numbers large_by is_large_lemma seen base ks (drop large_at large)) e) ∙ h.large_same in
