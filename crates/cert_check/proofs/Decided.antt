@@ -1,11 +1,10 @@
 -- The tests answer what the definitions say.
-use Rattle.std.proofs.Common.{arith, refl, sym, ap, subst, ◌∙◌, ◌≡◌, inl, inr, ℕ, zero, suc, List, [], ◌∷◌, true, ◌==◌, ◌&&◌, ℤ, pos, ◌<ℤ◌}
+use Rattle.std.proofs.Common.{arith, refl, sym, subst, ◌≡◌, inl, inr, ℕ, zero, suc, List, [], ◌∷◌, true, ◌==◌, ℤ, pos, ◌<ℤ◌}
 use Rattle.std.specs.Prelude.{All, Contains, nat_lt, int_lt}
 use Rattle.std.specs.Bool.{Decides}
 use Rattle.std.specs.List.{list_all}
-use Rattle.std.specs.Ordering.{int_eq}
 use Rattle.std.proofs.lemmas.Bool.{and_parts, and_from, or_cases, or_left, or_right, eqb-true, eq-eqb, ltb-true, lt-ltb}
-use Rattle.std.proofs.lemmas.Bool.Decides.{Decides-int_eq, Decides-by_and}
+use Rattle.std.proofs.lemmas.Bool.Decides.{Decides-by_and}
 use Rattle.std.proofs.lemmas.Int.{ints}
 use Rattle.stn_core.specs.declared.literal.Literal.{Literal}
 use Rattle.stn_core.specs.Cycle.{Leads, weight_of, IsNegativeCycle}

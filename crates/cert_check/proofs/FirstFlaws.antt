@@ -1,22 +1,21 @@
 -- What the first flaw says of the tree that the steps before it begin.
-use Rattle.std.proofs.Common.{arith, ◌≡◌, ◌<◌, ◌≤◌, ◌+◌, ◌-◌, ◌⊎◌, inl, inr, ℕ, zero, suc, List, [], ◌∷◌, ◌++◌, length, map, take, Option, Some, None, Bool, true, false, All, refl, sym, ap, ◌∙◌, subst}
-use Rattle.std.specs.Prelude.{slice_get, Result, Ok, Err, Contains, if◌then◌else◌}
+use Rattle.std.proofs.Common.{arith, ◌≡◌, ◌<◌, ◌≤◌, ◌+◌, ◌⊎◌, inl, inr, ℕ, suc, List, [], ◌∷◌, ◌++◌, length, map, take, Option, Some, None, Bool, true, false, All, refl, ap, subst}
+use Rattle.std.specs.Prelude.{slice_get, Result, Ok, Err, if◌then◌else◌}
 use Rattle.std.specs.List.{list_all}
 use Rattle.std.proofs.lemmas.Bool.{both_ways}
-use Rattle.std.proofs.lemmas.Option.{same_Some, slice_get_cases, slice_get_within}
+use Rattle.std.proofs.lemmas.Option.{same_Some, slice_get_cases}
 use Rattle.stn_core.specs.declared.literal.Literal.{Literal}
 use Rattle.stn_core.specs.Literal.{negation_of}
-use Rattle.stn_core.specs.Cycle.{IsNegativeCycle}
 use Rattle.refute_tree.specs.declared.step.Step.{Step}
 use Rattle.refute_tree.specs.declared.step.Step.TheVariants.{Cycle, Input, Lemma as Earlier, Clash, Either}
 use Rattle.refute_tree.specs.declared.lemma.Lemma.{Lemma}
-use Rattle.refute_tree.specs.Trees.{Tree, Forest, IsDenied, leaf, clash, cases, none, more, IsOnPoints, IsRefuted, stated}
+use Rattle.refute_tree.specs.Trees.{Tree, Forest, leaf, clash, cases, none, more, IsOnPoints, stated}
 use Rattle.cert_check.specs.declared.flaw.FlawKind.{FlawKind}
-use Rattle.cert_check.specs.declared.flaw.FlawKind.TheVariants.{NoSuchPoint, NoSuchClause, NotAssumed, NotACycle, NotDenied, StepsMissing, StepsLeftOver, LastLemmaNotEmpty}
+use Rattle.cert_check.specs.declared.flaw.FlawKind.TheVariants.{NoSuchPoint, NoSuchClause, NotAssumed, NotACycle, NotDenied, StepsMissing, StepsLeftOver}
 use Rattle.cert_check.specs.declared.flaw.Flaw.{Flaw}
 use Rattle.cert_check.specs.Tests.{is_assumed, is_on_points, is_negative_cycle}
 use Rattle.cert_check.specs.Flaws.{cases_of, cases_in, opened_by_clash, opened, flaw_at, after_step, steps_flaw, lemma_flaw, refutation_flaw}
-use Rattle.cert_check.specs.FirstFlaws.{Begun, ForestBegun, start, goes_on, inside, after, IsWrong, IsFlawOf, own, at_step, missing, left_over, IsFlawOfEnd, IsFirstFlaw}
+use Rattle.cert_check.specs.FirstFlaws.{Begun, ForestBegun, start, goes_on, inside, after, IsWrong, IsFlawOf, own, at_step, missing, left_over, IsFirstFlaw}
 use Rattle.cert_check.proofs.Decided.{all_assumed_decides, is_on_points_decides, all_on_points_decides, is_negative_cycle_decides}
 use Rattle.cert_check.proofs.Reading.{leaf_opened, clash_opened, Reads, Opens, as_leaf, as_clash, as_cases, OpensBy, step_opens, gathers, refuted_lemma}
 use Rattle.cert_check.proofs.Places.{first_flaw_at, last_flaw_at}

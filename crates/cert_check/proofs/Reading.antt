@@ -13,7 +13,7 @@ use Rattle.refute_tree.specs.declared.step.Step.TheVariants.{Cycle, Input, Lemma
 use Rattle.refute_tree.specs.declared.lemma.Lemma.{Lemma}
 use Rattle.refute_tree.specs.Trees.{clause_of, Tree, Forest, IsDenied, leaf, clash, cases, none, more, IsOnPoints, NamesPoints, IsRefuted}
 use Rattle.cert_check.specs.declared.flaw.FlawKind.{FlawKind}
-use Rattle.cert_check.specs.declared.flaw.FlawKind.TheVariants.{NoSuchPoint, NoSuchClause, NotAssumed, NotACycle, NotDenied}
+use Rattle.cert_check.specs.declared.flaw.FlawKind.TheVariants.{NoSuchPoint, NotAssumed, NotACycle, NotDenied}
 use Rattle.cert_check.specs.Tests.{is_assumed, is_on_points, is_negative_cycle}
 use Rattle.cert_check.specs.Flaws.{cases_of, cases_in, opened_by_cycle, opened_by_clash, opened, flaw_at, after_step, steps_flaw, lemma_flaw}
 use Rattle.cert_check.proofs.Decided.{all_assumed_decides, is_on_points_decides, all_on_points_decides, is_negative_cycle_decides}

@@ -1,5 +1,5 @@
 -- A turn of the loop over the steps.
-use Rattle.std.proofs.Common.{arith, ◌≡◌, ◌<◌, ◌+◌, ℕ, zero, suc, List, [], ◌∷◌, ◌++◌, length, drop, get_or, None, Bool, true, false, refl, sym, ap, ◌∙◌, subst, map}
+use Rattle.std.proofs.Common.{arith, ◌≡◌, ◌+◌, ℕ, suc, List, [], ◌∷◌, ◌++◌, None, Bool, true, false, sym, ap, ◌∙◌, subst, map}
 use Rattle.std.specs.Prelude.{Err}
 use Rattle.stn_core.specs.declared.literal.Literal.{Literal}
 use Rattle.stn_core.specs.Literal.{negation_of}

@@ -73,6 +73,84 @@ fn steps_are_read_and_cut(rt: HostRuntime) -> Result<(), Fail> {
     Ok(())
 }
 
+/// Three literals round, with the greatest points and bounds that a path has.
+const ROUND: [Literal; 3] = [
+    Literal { x: 3, y: 4, c: -7 },
+    Literal {
+        x: 4,
+        y: 65_535,
+        c: -2_147_483_648,
+    },
+    Literal {
+        x: 65_535,
+        y: 3,
+        c: 2_147_483_647,
+    },
+];
+
+/// Two with a point that is no path's.
+const FAR: [Literal; 2] = [
+    Literal {
+        x: 3,
+        y: 65_536,
+        c: -7,
+    },
+    Literal {
+        x: 65_536,
+        y: 3,
+        c: 5,
+    },
+];
+
+/// Two with a bound that is no path's.
+const WIDE: [Literal; 2] = [
+    Literal {
+        x: 3,
+        y: 4,
+        c: 2_147_483_648,
+    },
+    Literal {
+        x: 4,
+        y: 3,
+        c: -2_147_483_650,
+    },
+];
+
+/// Whether the step is the negative cycle of these literals.
+fn is_read_as(step: Option<StepView<'_>>, literals: &[Literal]) -> bool {
+    let Some(StepView::Cycle(cycle)) = step else {
+        return false;
+    };
+    if cycle.len() != literals.len() || !cycle.is_negative() {
+        return false;
+    }
+    for place in 0..cycle.len() {
+        if literals.get(place).copied() != Some(cycle.at(place)) {
+            return false;
+        }
+    }
+    true
+}
+
+fn cycles_read(alloc: Global) -> Result<[bool; 3], AllocError> {
+    let mut steps = Steps::new(alloc);
+    steps.push_cycle(ROUND.as_slice())?;
+    steps.push_cycle(FAR.as_slice())?;
+    steps.push_cycle(WIDE.as_slice())?;
+    let copied = steps.copy(alloc)?;
+    let mut reader = copied.reader();
+    let round = is_read_as(reader.next(), ROUND.as_slice());
+    let far = is_read_as(reader.next(), FAR.as_slice());
+    let wide = is_read_as(reader.next(), WIDE.as_slice());
+    Ok([round, far, wide])
+}
+
+#[test]
+fn cycles_are_read(rt: HostRuntime) -> Result<(), Fail> {
+    assert_eq!(rt; cycles_read(rt.alloc())?, [true, true, true]);
+    Ok(())
+}
+
 #[test]
 fn references_are_moved(rt: HostRuntime) -> Result<(), Fail> {
     let mut steps = Steps::new(rt.alloc());
