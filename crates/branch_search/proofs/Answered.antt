@@ -1,6 +1,5 @@
 -- A slice's answer, over plain lists.
 use Rattle.std.proofs.Common.{arith, ◌≡◌, ℕ, ◌<◌, ◌≤◌, ◌+◌, min, Bool, true, false, List, length, All, Contains, Option, Some, get_or, ℤ, subst, sym, ap, ◌∙◌}
-use Rattle.std.specs.Prelude.{slice_get}
 use Rattle.std.proofs.lemmas.Option.{slice_get_within}
 use Rattle.stn_core.specs.declared.literal.Literal.{Literal}
 use Rattle.stn_core.specs.Literal.{negation_of}
@@ -15,8 +14,8 @@ use Rattle.branch_search.specs.declared.search.Found.TheVariants.{Model as Found
 use Rattle.branch_search.specs.declared.answer.Slice.{Slice}
 use Rattle.branch_search.specs.declared.answer.Slice.TheVariants.{Model as AsModel, Refuted as AsRefuted, Split as AsSplit}
 use Rattle.branch_search.specs.Search.{Question, AreProved, AreExcluding, adds_limit}
-use Rattle.branch_search.specs.Slices.{IsModel, AreFound}
-use Rattle.branch_search.specs.Divisions.{IsDivision, IsBatch, IsSlice, IsSplit, HasSpent, excluding}
+use Rattle.branch_search.specs.Slices.{AreFound}
+use Rattle.branch_search.specs.Divisions.{IsDivision, IsBatch, IsSlice, HasSpent, excluding}
 use Rattle.branch_search.specs.Deliveries.{IsLeft, IsOfKind}
 
 pub found_model : (q : Question) (own : List Lemma) (found : Found) (schedule : List ℤ) → found ≡ FoundModel schedule → AreFound q own found → IsDivision q own (Model schedule)

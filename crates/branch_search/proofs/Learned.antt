@@ -1,9 +1,7 @@
 -- What is learned from a conflict, over plain lists.
-use Rattle.std.proofs.Common.{arith, ◌≡◌, ◌≢◌, ℕ, zero, suc, ◌<◌, ◌≤◌, ◌+◌, List, [], ◌∷◌, ◌++◌, length, take, get_or, All, Contains, Bool, true, Option, Some, None, subst, sym, ap, ◌∙◌, refl}
-use Rattle.std.specs.Prelude.{slice_get}
+use Rattle.std.proofs.Common.{arith, ◌≡◌, ℕ, ◌<◌, ◌≤◌, List, [], ◌∷◌, ◌++◌, length, take, All, Contains, Bool, true, Option, Some, None, subst, sym, ap, ◌∙◌, refl}
 use Rattle.std.proofs.lemmas.List.{length_push, length-take-le}
 use Rattle.stn_core.specs.declared.literal.Literal.{Literal}
-use Rattle.stn_core.specs.Literal.{negation_of}
 use Rattle.refute_tree.specs.declared.lemma.Lemma.{Lemma}
 use Rattle.conflict_analysis.specs.declared.entry.Reason.{Reason}
 use Rattle.conflict_analysis.specs.declared.entry.Reason.TheVariants.{Given, Decision, Clause as ByClause, Pair as ByPair, Cycle as ByCycle}
@@ -14,7 +12,7 @@ use Rattle.branch_search.specs.declared.propagate.Taken.{Taken}
 use Rattle.branch_search.specs.declared.propagate.Taken.TheVariants.{Pushed, Nothing, Stuck}
 use Rattle.conflict_analysis.specs.Trails.{IsReason, IsTrail, IsFirst, IsDenial, entry_at, on_trail}
 use Rattle.conflict_analysis.specs.Proved.{IsClauseOver, IsProved}
-use Rattle.branch_search.specs.Search.{Question, all_lemmas, AreProved, start_of, in_net_of, IsSearch, IsStuckSearch, IsSearchLearned, AreExcluding, IsSearchTaken, IsSearchAfter}
+use Rattle.branch_search.specs.Search.{Question, all_lemmas, start_of, in_net_of, IsSearch, IsStuckSearch, IsSearchLearned, AreExcluding, IsSearchTaken, IsSearchAfter}
 use Rattle.branch_search.proofs.States.{lemma_last, state_learned, state_cut}
 
 -- a literal without a reason before it is one of the cube's, where nothing was decided

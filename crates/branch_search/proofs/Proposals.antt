@@ -1,20 +1,18 @@
 -- Literals that are pushed on the trail, each with its reason, over plain lists.
-use Rattle.std.proofs.Common.{arith, ◌≡◌, ◌≢◌, ℕ, zero, suc, ◌<◌, ◌≤◌, ◌+◌, inl, inr, ◌⊎◌, List, [], ◌∷◌, ◌++◌, length, take, get_or, All, Contains, Option, Some, None, ℤ, pos, subst, sym, ap, ◌∙◌, refl}
+use Rattle.std.proofs.Common.{arith, ◌≡◌, ℕ, zero, suc, ◌<◌, ◌≤◌, ◌+◌, inl, inr, ◌⊎◌, List, [], ◌∷◌, ◌++◌, length, take, get_or, Contains, subst, sym, ap, ◌∙◌, refl}
 use Rattle.std.proofs.lemmas.Int.{ints}
-use Rattle.std.proofs.lemmas.Bool.{cases_eq}
 use Rattle.std.proofs.lemmas.List.{length_push, take_more}
 use Rattle.stn_core.specs.declared.literal.Literal.{Literal}
 use Rattle.stn_core.specs.Literal.{negation_of, IsOver}
 use Rattle.stn_core.specs.Cycle.{IsNegativeCycle}
 use Rattle.refute_tree.specs.declared.lemma.Lemma.{Lemma}
 use Rattle.conflict_analysis.specs.declared.entry.Source.{Source}
-use Rattle.conflict_analysis.specs.declared.entry.Reason.TheVariants.{Given, Decision, Clause as ByClause, Pair as ByPair, Cycle as ByCycle}
+use Rattle.conflict_analysis.specs.declared.entry.Reason.TheVariants.{Given, Decision, Clause as ByClause, Pair as ByPair}
 use Rattle.conflict_analysis.specs.declared.entry.Entry.{Entry}
 use Rattle.conflict_analysis.specs.declared.entry.Level.{Level}
 use Rattle.conflict_analysis.specs.declared.entry.Conflict.TheVariants.{Clause as OfClause, Cycle as OfCycle}
-use Rattle.conflict_analysis.specs.Trails.{no_literal, literal_at, source_clause, IsKnown, entry_at, on_trail, pair_cycle, IsByClause, IsByCycle, IsConflict, Stands}
-use Rattle.conflict_analysis.specs.Denials.{AreDenied}
-use Rattle.branch_search.specs.Search.{Question, all_lemmas, start_of, IsSearch, IsStuckSearch, IsWeaker}
+use Rattle.conflict_analysis.specs.Trails.{literal_at, on_trail, pair_cycle, IsByClause, IsConflict, Stands}
+use Rattle.branch_search.specs.Search.{Question, all_lemmas, IsSearch, IsStuckSearch, IsWeaker}
 use Rattle.branch_search.proofs.States.{state_pushed, state_begun, entry_last}
 
 -- a clause's last literal

@@ -1,5 +1,5 @@
 -- A literal that holds without a decision gets a lemma of its own, over plain lists.
-use Rattle.std.proofs.Common.{arith, ◌≡◌, ◌≢◌, ℕ, zero, suc, ◌<◌, ◌≤◌, ◌+◌, inl, inr, ◌⊎◌, List, [], ◌∷◌, ◌++◌, length, take, get_or, set, All, Contains, Option, Some, None, subst, sym, ap, ◌∙◌, refl}
+use Rattle.std.proofs.Common.{arith, ◌≡◌, ◌≢◌, ℕ, zero, suc, ◌<◌, ◌≤◌, ◌+◌, inl, inr, List, [], ◌∷◌, ◌++◌, length, take, get_or, set, Option, Some, subst, sym, ap, ◌∙◌, refl}
 use Rattle.std.proofs.lemmas.Bool.{cases_lt, cases_eq}
 use Rattle.std.proofs.lemmas.List.{get_or-take, get_or-set_same, get_or-set_other, length-set, length-take-le, ext_get_or}
 use Rattle.stn_core.specs.declared.literal.Literal.{Literal}
@@ -16,8 +16,8 @@ use Rattle.conflict_analysis.specs.declared.entry.Conflict.TheVariants.{Clause a
 use Rattle.conflict_analysis.specs.Trails.{no_literal, literal_at, source_clause, IsByClause, IsByCycle, pair_cycle, entry_at, on_trail, Stands, IsReason, IsTrail, AreOver, IsConflict}
 use Rattle.conflict_analysis.specs.Proved.{IsProved}
 use Rattle.branch_search.specs.Roots.{denial_of}
-use Rattle.branch_search.specs.Search.{Question, all_lemmas, AllStand, in_net_of, start_of, IsLevel, level_at, IsSearch}
-use Rattle.branch_search.proofs.States.{length_part, reason_moved, decision_within, state_learned}
+use Rattle.branch_search.specs.Search.{Question, all_lemmas, AllStand, in_net_of, start_of, IsSearch}
+use Rattle.branch_search.proofs.States.{length_part, reason_moved, state_learned}
 
 -- the first places, of which the last has the literal's negation
 module _ (es fs : List Entry) (k n : ℕ) (l : Literal) (within : k < length es) (is : fs ≡ take (k + 1) (set es k (record { literal = negation_of l; number = n; reason = Decision }))) where

@@ -1,6 +1,6 @@
 -- What the cube alone comes to, over plain lists.
-use Rattle.std.proofs.Common.{arith, ◌≡◌, ℕ, zero, suc, ◌<◌, ◌≤◌, ◌+◌, inl, inr, List, [], ◌∷◌, ◌++◌, length, map, take, get_or, All, Contains, Option, Some, None, ℤ, min, subst, sym, ap, ◌∙◌, refl}
-use Rattle.std.specs.Prelude.{MatchOption, IfSome}
+use Rattle.std.proofs.Common.{arith, ◌≡◌, ℕ, zero, suc, ◌<◌, ◌+◌, inl, inr, List, [], ◌∷◌, ◌++◌, length, map, take, get_or, All, Contains, Option, Some, None, ℤ, subst, sym, ap, ◌∙◌, refl}
+use Rattle.std.specs.Prelude.{MatchOption}
 use Rattle.std.proofs.lemmas.Bool.{cases_eq}
 use Rattle.std.proofs.lemmas.List.Elements.{All-push, All-append, All-map, Contains-get_or, Contains-push_cases}
 use Rattle.stn_core.specs.declared.literal.Literal.{Literal}
@@ -25,7 +25,7 @@ use Rattle.conflict_analysis.specs.Trails.{no_literal, literal_at, IsByCycle, St
 use Rattle.conflict_analysis.specs.Denials.{AreDenied}
 use Rattle.branch_search.specs.Clauses.{IsFalseAt}
 use Rattle.conflict_analysis.specs.Proved.{IsClauseOver}
-use Rattle.branch_search.specs.Search.{Question, all_lemmas, AreProved, AllStand, start_of, in_net_of, IsSearch, IsStuckSearch, IsSearchSettled}
+use Rattle.branch_search.specs.Search.{Question, all_lemmas, AreProved, start_of, in_net_of, IsSearch, IsStuckSearch, IsSearchSettled}
 use Rattle.branch_search.specs.Slices.{IsModel}
 use Rattle.branch_search.specs.Divisions.{IsLive, IsLiveAt, IsSearchLiveness, HasLive, AreSearchLive, IsSplit}
 use Rattle.conflict_analysis.proofs.Spines.{negation_twice}

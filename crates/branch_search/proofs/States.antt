@@ -1,17 +1,15 @@
 -- How a search's trail grows and is cut.
-use Rattle.std.proofs.Common.{arith, ◌≡◌, ◌≢◌, ℕ, zero, suc, ◌<◌, ◌≤◌, ◌+◌, inl, inr, List, [], ◌∷◌, ◌++◌, length, map, take, get_or, All, Contains, Bool, true, Some, subst, sym, ap, ◌∙◌, refl, append_assoc}
+use Rattle.std.proofs.Common.{arith, ◌≡◌, ◌≢◌, ℕ, zero, suc, ◌<◌, ◌≤◌, inl, inr, List, [], ◌∷◌, ◌++◌, length, map, take, get_or, All, Contains, Some, subst, sym, ap, ◌∙◌, refl, append_assoc}
 use Rattle.std.specs.Prelude.{slice_get}
 use Rattle.std.proofs.lemmas.Bool.{cases_lt, cases_eq}
-use Rattle.std.proofs.lemmas.List.{get_or_append_left, get_or_push, get_or-take, length_push, length-append, length-map, length-take-le, map-append, take_all, take_at, take-take, take-append-le}
-use Rattle.std.proofs.lemmas.List.Elements.{All-push, All-take, All-nil}
-use Rattle.std.proofs.lemmas.Option.{slice_get_within}
+use Rattle.std.proofs.lemmas.List.{get_or_append_left, get_or_push, get_or-take, length_push, length-append, length-take-le, map-append, take_all, take-take, take-append-le}
+use Rattle.std.proofs.lemmas.List.Elements.{All-push}
 use Rattle.stn_core.specs.declared.literal.Literal.{Literal}
 use Rattle.stn_core.specs.Literal.{negation_of, IsOver}
 use Rattle.stn_core.specs.Answer.{IsCycleAmong}
 use Rattle.stn_core.specs.Net.{IsAdded}
 use Rattle.stn_core.specs.declared.net.Added.{Added}
 use Rattle.stn_core.specs.declared.net.Added.TheVariants.{Yes, Cycle as Refused}
-use Rattle.stn_core.proofs.Consequences.{IsOver-negation_of}
 use Rattle.refute_tree.specs.declared.lemma.Lemma.{Lemma}
 use Rattle.refute_tree.specs.Trees.{stated}
 use Rattle.refute_tree.specs.Batches.{LemmaIsOver}
@@ -23,7 +21,7 @@ use Rattle.conflict_analysis.specs.declared.entry.Reason.TheVariants.{Given, Dec
 use Rattle.conflict_analysis.specs.declared.entry.Entry.{Entry}
 use Rattle.conflict_analysis.specs.declared.entry.Level.{Level}
 use Rattle.conflict_analysis.specs.declared.entry.Conflict.TheVariants.{Cycle as OfCycle}
-use Rattle.conflict_analysis.specs.Trails.{no_literal, literal_at, source_clause, IsKnown, IsByCycle, pair_cycle, entry_at, on_trail, Stands, IsReason, IsTrail, AreOver, IsConflict}
+use Rattle.conflict_analysis.specs.Trails.{no_literal, literal_at, source_clause, IsKnown, IsByCycle, pair_cycle, entry_at, on_trail, Stands, IsReason, IsTrail, AreOver}
 use Rattle.conflict_analysis.specs.Proved.{IsClauseOver, IsProved}
 use Rattle.branch_search.specs.Search.{Question, all_lemmas, AreProved, level_at, start_of, in_net_of, AllStand, IsLevel, IsSearch, IsStuckSearch}
 

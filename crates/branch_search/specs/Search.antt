@@ -3,17 +3,14 @@ use Rattle.std.specs.Prelude.{◌≡◌, ℕ, ◌<◌, ◌≤◌, ◌+◌, List,
 use Rattle.std.specs.Prelude.{Option, Some, None, slice_get, slice_index_or, ◌≤ℤ◌}
 use Rattle.stn_core.specs.declared.literal.Literal.{Literal}
 use Rattle.stn_core.specs.declared.problem.Problem.{Problem}
-use Rattle.stn_core.specs.Literal.{negation_of, IsOver}
-use Rattle.stn_core.specs.Answer.{IsCycleAmong}
+use Rattle.stn_core.specs.Literal.{negation_of}
 use Rattle.refute_tree.specs.declared.lemma.Lemma.{Lemma}
 use Rattle.refute_tree.specs.Trees.{stated}
 use Rattle.refute_tree.specs.Batches.{AreRefuted, LemmaIsOver}
-use Rattle.conflict_analysis.specs.declared.entry.Reason.{Reason}
 use Rattle.conflict_analysis.specs.declared.entry.Reason.TheVariants.{Decision}
 use Rattle.conflict_analysis.specs.declared.entry.Entry.{Entry}
 use Rattle.conflict_analysis.specs.declared.entry.Level.{Level}
 use Rattle.conflict_analysis.specs.declared.entry.Conflict.{Conflict}
-use Rattle.conflict_analysis.specs.declared.entry.Conflict.TheVariants.{Cycle as OfCycle}
 use Rattle.branch_search.specs.declared.state.State.{State}
 use Rattle.branch_search.specs.declared.propagate.Taken.{Taken}
 use Rattle.branch_search.specs.declared.propagate.Taken.TheVariants.{Pushed, Nothing, Stuck}

@@ -1,4 +1,3 @@
-use Rattle.std.proofs.Common.{◌∙◌}
 use Rattle.branch_search.specs.Search.{question_of}
 use Rattle.branch_search.proofs.Answered.{answered_model, answered_refuted, answered_split}
 use Rattle.branch_search.proofs.state.State.deliver.Goals as goal

@@ -1,4 +1,4 @@
-use Rattle.std.proofs.Common.{refl, ◌≡◌, ◌∙◌, ap, sym, take, set, ◌+◌, List}
+use Rattle.std.proofs.Common.{refl, ◌∙◌, ap, sym, take, set, ◌+◌, List}
 use Rattle.stn_core.specs.declared.literal.Literal.{Literal}
 use Rattle.conflict_analysis.specs.declared.entry.Entry.{Entry}
 use Rattle.conflict_analysis.specs.declared.entry.Reason.TheVariants.{Decision}
@@ -7,7 +7,6 @@ use Rattle.branch_search.specs.Search.{question_of, all_lemmas}
 use Rattle.conflict_analysis.proofs.Marks.{entry_is}
 use Rattle.branch_search.proofs.Learned.{trail_seen}
 use Rattle.branch_search.proofs.Restated.{prefix_trail, prefix_over, prefix_conflict, put_back, derived}
-use Rattle.refute_tree.specs.declared.lemma.Lemma.{Lemma}
 use Rattle.branch_search.proofs.state.State.derive.Goals as goal
 
 pub analyze-requires-clause-trail : goal.analyze-requires-clause-trail

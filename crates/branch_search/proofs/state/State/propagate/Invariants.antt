@@ -1,4 +1,4 @@
-use Rattle.std.proofs.Common.{◌≡◌, ◌≤◌, min, length}
+use Rattle.std.proofs.Common.{◌≡◌, ◌≤◌, min}
 use Rattle.branch_search.specs.Search.{question_of, IsSearch, adds_limit}
 use Rattle.branch_search.proofs.state.State.propagate.Given as goal
 

@@ -1,4 +1,4 @@
-use Rattle.std.proofs.Common.{◌≡◌, ◌∙◌, ap, sym, subst, take, set, List}
+use Rattle.std.proofs.Common.{◌≡◌, ◌∙◌, ap, subst, take, set, List}
 use Rattle.stn_core.specs.declared.literal.Literal.{Literal}
 use Rattle.conflict_analysis.specs.declared.entry.Entry.{Entry}
 use Rattle.conflict_analysis.specs.declared.entry.Reason.TheVariants.{Clause as ByClause}

@@ -1,4 +1,4 @@
-use Rattle.std.proofs.Common.{◌≡◌, length}
+use Rattle.std.proofs.Common.{◌≡◌}
 use Rattle.branch_search.specs.Search.{question_of, IsSearch}
 use Rattle.branch_search.proofs.state.State.take_inputs.Given as goal
 
