@@ -3,3 +3,4 @@ pub mod Faults
 pub mod PlainLines
 pub mod Saying
 pub mod Faulting
+pub mod BenchLines

@@ -14,15 +14,15 @@ use Rattle.command_line.specs.declared.line.Line.{Line}
 use Rattle.command_line.specs.declared.line.Line.TheVariants.{Solve, Certify, Check}
 
 -- the text is a value that the parser takes, and no flag
-pub record IsValue (most : ℕ) (t : Text) : Type 0 where
+pub record IsValue (least most : ℕ) (t : Text) : Type 0 where
   pub bare : strip_byte 45 t ≡ None
   pub no_dashes : bytes_eq t (45 ∷ 45 ∷ []) ≡ false
-  pub fits : is_unsigned_in 1 most t ≡ true
+  pub fits : is_unsigned_in least most t ≡ true
 
 abbrev pub the_value : Text → ℕ
 the_value t = digits_value 10 (without_leading_plus t)
 
-abbrev found_in : List Text → Option Line
+abbrev pub found_in : List Text → Option Line
 found_in words = option_and_then (λ found. command_of found.0 found.1) (subcommand_of dtp_app words)
 
 -- what is found counts where there is no fault
@@ -32,7 +32,7 @@ asked_by [] (Some p) line none is = is
 asked_by [] None line none is = cc
 asked_by (k ∷ ks) found line none is = cc
 
-line_by : (words : List Text) (line : Line) → fault_of dtp_app words ≡ [] → found_in words ≡ Some line → line_of words ≡ Some line
+pub line_by : (words : List Text) (line : Line) → fault_of dtp_app words ≡ [] → found_in words ≡ Some line → line_of words ≡ Some line
 line_by words line none is = asked_by (fault_of dtp_app words) (subcommand_of dtp_app words) line none is
 
 pub check_alone : line_of (codes "check" ∷ []) ≡ Some Check
@@ -43,94 +43,94 @@ pub solve_alone : line_of (codes "solve" ∷ []) ≡ Some (Solve (record { worke
 unfolding clap_on_literals
 solve_alone = refl
 
-solve_workers_fault : (t : Text) → IsValue 64 t → fault_of dtp_app (codes "solve" ∷ codes "--workers" ∷ t ∷ []) ≡ []
+solve_workers_fault : (t : Text) → IsValue 1 64 t → fault_of dtp_app (codes "solve" ∷ codes "--workers" ∷ t ∷ []) ≡ []
 unfolding clap_on_literals
 solve_workers_fault t v = rw (v.no_dashes, v.bare, v.bare, v.fits) refl
 
-solve_workers_found : (t : Text) → IsValue 64 t → found_in (codes "solve" ∷ codes "--workers" ∷ t ∷ []) ≡ Some (Solve (record { workers = the_value t; slice = 1000 }))
+solve_workers_found : (t : Text) → IsValue 1 64 t → found_in (codes "solve" ∷ codes "--workers" ∷ t ∷ []) ≡ Some (Solve (record { workers = the_value t; slice = 1000 }))
 unfolding clap_on_literals
 solve_workers_found t v = rw (v.no_dashes, v.bare, v.bare, v.fits) refl
 
-pub solve_workers : (t : Text) → IsValue 64 t → line_of (codes "solve" ∷ codes "--workers" ∷ t ∷ []) ≡ Some (Solve (record { workers = the_value t; slice = 1000 }))
+pub solve_workers : (t : Text) → IsValue 1 64 t → line_of (codes "solve" ∷ codes "--workers" ∷ t ∷ []) ≡ Some (Solve (record { workers = the_value t; slice = 1000 }))
 solve_workers t v = line_by (codes "solve" ∷ codes "--workers" ∷ t ∷ []) _ (solve_workers_fault t v) (solve_workers_found t v)
 
-solve_slice_fault : (t : Text) → IsValue 1000000 t → fault_of dtp_app (codes "solve" ∷ codes "--slice" ∷ t ∷ []) ≡ []
+solve_slice_fault : (t : Text) → IsValue 1 1000000 t → fault_of dtp_app (codes "solve" ∷ codes "--slice" ∷ t ∷ []) ≡ []
 unfolding clap_on_literals
 solve_slice_fault t v = rw (v.no_dashes, v.bare, v.bare, v.fits) refl
 
-solve_slice_found : (t : Text) → IsValue 1000000 t → found_in (codes "solve" ∷ codes "--slice" ∷ t ∷ []) ≡ Some (Solve (record { workers = 4; slice = the_value t }))
+solve_slice_found : (t : Text) → IsValue 1 1000000 t → found_in (codes "solve" ∷ codes "--slice" ∷ t ∷ []) ≡ Some (Solve (record { workers = 4; slice = the_value t }))
 unfolding clap_on_literals
 solve_slice_found t v = rw (v.no_dashes, v.bare, v.bare, v.fits) refl
 
-pub solve_slice : (t : Text) → IsValue 1000000 t → line_of (codes "solve" ∷ codes "--slice" ∷ t ∷ []) ≡ Some (Solve (record { workers = 4; slice = the_value t }))
+pub solve_slice : (t : Text) → IsValue 1 1000000 t → line_of (codes "solve" ∷ codes "--slice" ∷ t ∷ []) ≡ Some (Solve (record { workers = 4; slice = the_value t }))
 solve_slice t v = line_by (codes "solve" ∷ codes "--slice" ∷ t ∷ []) _ (solve_slice_fault t v) (solve_slice_found t v)
 
-solve_workers_first_fault : (t u : Text) → IsValue 64 t → IsValue 1000000 u → fault_of dtp_app (codes "solve" ∷ codes "--workers" ∷ t ∷ codes "--slice" ∷ u ∷ []) ≡ []
+solve_workers_first_fault : (t u : Text) → IsValue 1 64 t → IsValue 1 1000000 u → fault_of dtp_app (codes "solve" ∷ codes "--workers" ∷ t ∷ codes "--slice" ∷ u ∷ []) ≡ []
 unfolding clap_on_literals
 solve_workers_first_fault t u v w = rw (v.no_dashes, v.bare, v.bare, v.fits, w.no_dashes, w.bare, w.bare, w.fits) refl
 
-solve_workers_first_found : (t u : Text) → IsValue 64 t → IsValue 1000000 u → found_in (codes "solve" ∷ codes "--workers" ∷ t ∷ codes "--slice" ∷ u ∷ []) ≡ Some (Solve (record { workers = the_value t; slice = the_value u }))
+solve_workers_first_found : (t u : Text) → IsValue 1 64 t → IsValue 1 1000000 u → found_in (codes "solve" ∷ codes "--workers" ∷ t ∷ codes "--slice" ∷ u ∷ []) ≡ Some (Solve (record { workers = the_value t; slice = the_value u }))
 unfolding clap_on_literals
 solve_workers_first_found t u v w = rw (v.no_dashes, v.bare, v.bare, w.no_dashes, w.bare, w.bare, v.fits, w.fits) refl
 
-pub solve_workers_first : (t u : Text) → IsValue 64 t → IsValue 1000000 u → line_of (codes "solve" ∷ codes "--workers" ∷ t ∷ codes "--slice" ∷ u ∷ []) ≡ Some (Solve (record { workers = the_value t; slice = the_value u }))
+pub solve_workers_first : (t u : Text) → IsValue 1 64 t → IsValue 1 1000000 u → line_of (codes "solve" ∷ codes "--workers" ∷ t ∷ codes "--slice" ∷ u ∷ []) ≡ Some (Solve (record { workers = the_value t; slice = the_value u }))
 solve_workers_first t u v w = line_by (codes "solve" ∷ codes "--workers" ∷ t ∷ codes "--slice" ∷ u ∷ []) _ (solve_workers_first_fault t u v w) (solve_workers_first_found t u v w)
 
-solve_slice_first_fault : (t u : Text) → IsValue 1000000 t → IsValue 64 u → fault_of dtp_app (codes "solve" ∷ codes "--slice" ∷ t ∷ codes "--workers" ∷ u ∷ []) ≡ []
+solve_slice_first_fault : (t u : Text) → IsValue 1 1000000 t → IsValue 1 64 u → fault_of dtp_app (codes "solve" ∷ codes "--slice" ∷ t ∷ codes "--workers" ∷ u ∷ []) ≡ []
 unfolding clap_on_literals
 solve_slice_first_fault t u v w = rw (v.no_dashes, v.bare, v.bare, v.fits, w.no_dashes, w.bare, w.bare, w.fits) refl
 
-solve_slice_first_found : (t u : Text) → IsValue 1000000 t → IsValue 64 u → found_in (codes "solve" ∷ codes "--slice" ∷ t ∷ codes "--workers" ∷ u ∷ []) ≡ Some (Solve (record { workers = the_value u; slice = the_value t }))
+solve_slice_first_found : (t u : Text) → IsValue 1 1000000 t → IsValue 1 64 u → found_in (codes "solve" ∷ codes "--slice" ∷ t ∷ codes "--workers" ∷ u ∷ []) ≡ Some (Solve (record { workers = the_value u; slice = the_value t }))
 unfolding clap_on_literals
 solve_slice_first_found t u v w = rw (v.no_dashes, v.bare, v.bare, w.no_dashes, w.bare, w.bare, v.fits, w.fits) refl
 
-pub solve_slice_first : (t u : Text) → IsValue 1000000 t → IsValue 64 u → line_of (codes "solve" ∷ codes "--slice" ∷ t ∷ codes "--workers" ∷ u ∷ []) ≡ Some (Solve (record { workers = the_value u; slice = the_value t }))
+pub solve_slice_first : (t u : Text) → IsValue 1 1000000 t → IsValue 1 64 u → line_of (codes "solve" ∷ codes "--slice" ∷ t ∷ codes "--workers" ∷ u ∷ []) ≡ Some (Solve (record { workers = the_value u; slice = the_value t }))
 solve_slice_first t u v w = line_by (codes "solve" ∷ codes "--slice" ∷ t ∷ codes "--workers" ∷ u ∷ []) _ (solve_slice_first_fault t u v w) (solve_slice_first_found t u v w)
 
 pub certify_alone : line_of (codes "certify" ∷ []) ≡ Some (Certify (record { workers = 4; slice = 1000 }))
 unfolding clap_on_literals
 certify_alone = refl
 
-certify_workers_fault : (t : Text) → IsValue 64 t → fault_of dtp_app (codes "certify" ∷ codes "--workers" ∷ t ∷ []) ≡ []
+certify_workers_fault : (t : Text) → IsValue 1 64 t → fault_of dtp_app (codes "certify" ∷ codes "--workers" ∷ t ∷ []) ≡ []
 unfolding clap_on_literals
 certify_workers_fault t v = rw (v.no_dashes, v.bare, v.bare, v.fits) refl
 
-certify_workers_found : (t : Text) → IsValue 64 t → found_in (codes "certify" ∷ codes "--workers" ∷ t ∷ []) ≡ Some (Certify (record { workers = the_value t; slice = 1000 }))
+certify_workers_found : (t : Text) → IsValue 1 64 t → found_in (codes "certify" ∷ codes "--workers" ∷ t ∷ []) ≡ Some (Certify (record { workers = the_value t; slice = 1000 }))
 unfolding clap_on_literals
 certify_workers_found t v = rw (v.no_dashes, v.bare, v.bare, v.fits) refl
 
-pub certify_workers : (t : Text) → IsValue 64 t → line_of (codes "certify" ∷ codes "--workers" ∷ t ∷ []) ≡ Some (Certify (record { workers = the_value t; slice = 1000 }))
+pub certify_workers : (t : Text) → IsValue 1 64 t → line_of (codes "certify" ∷ codes "--workers" ∷ t ∷ []) ≡ Some (Certify (record { workers = the_value t; slice = 1000 }))
 certify_workers t v = line_by (codes "certify" ∷ codes "--workers" ∷ t ∷ []) _ (certify_workers_fault t v) (certify_workers_found t v)
 
-certify_slice_fault : (t : Text) → IsValue 1000000 t → fault_of dtp_app (codes "certify" ∷ codes "--slice" ∷ t ∷ []) ≡ []
+certify_slice_fault : (t : Text) → IsValue 1 1000000 t → fault_of dtp_app (codes "certify" ∷ codes "--slice" ∷ t ∷ []) ≡ []
 unfolding clap_on_literals
 certify_slice_fault t v = rw (v.no_dashes, v.bare, v.bare, v.fits) refl
 
-certify_slice_found : (t : Text) → IsValue 1000000 t → found_in (codes "certify" ∷ codes "--slice" ∷ t ∷ []) ≡ Some (Certify (record { workers = 4; slice = the_value t }))
+certify_slice_found : (t : Text) → IsValue 1 1000000 t → found_in (codes "certify" ∷ codes "--slice" ∷ t ∷ []) ≡ Some (Certify (record { workers = 4; slice = the_value t }))
 unfolding clap_on_literals
 certify_slice_found t v = rw (v.no_dashes, v.bare, v.bare, v.fits) refl
 
-pub certify_slice : (t : Text) → IsValue 1000000 t → line_of (codes "certify" ∷ codes "--slice" ∷ t ∷ []) ≡ Some (Certify (record { workers = 4; slice = the_value t }))
+pub certify_slice : (t : Text) → IsValue 1 1000000 t → line_of (codes "certify" ∷ codes "--slice" ∷ t ∷ []) ≡ Some (Certify (record { workers = 4; slice = the_value t }))
 certify_slice t v = line_by (codes "certify" ∷ codes "--slice" ∷ t ∷ []) _ (certify_slice_fault t v) (certify_slice_found t v)
 
-certify_workers_first_fault : (t u : Text) → IsValue 64 t → IsValue 1000000 u → fault_of dtp_app (codes "certify" ∷ codes "--workers" ∷ t ∷ codes "--slice" ∷ u ∷ []) ≡ []
+certify_workers_first_fault : (t u : Text) → IsValue 1 64 t → IsValue 1 1000000 u → fault_of dtp_app (codes "certify" ∷ codes "--workers" ∷ t ∷ codes "--slice" ∷ u ∷ []) ≡ []
 unfolding clap_on_literals
 certify_workers_first_fault t u v w = rw (v.no_dashes, v.bare, v.bare, v.fits, w.no_dashes, w.bare, w.bare, w.fits) refl
 
-certify_workers_first_found : (t u : Text) → IsValue 64 t → IsValue 1000000 u → found_in (codes "certify" ∷ codes "--workers" ∷ t ∷ codes "--slice" ∷ u ∷ []) ≡ Some (Certify (record { workers = the_value t; slice = the_value u }))
+certify_workers_first_found : (t u : Text) → IsValue 1 64 t → IsValue 1 1000000 u → found_in (codes "certify" ∷ codes "--workers" ∷ t ∷ codes "--slice" ∷ u ∷ []) ≡ Some (Certify (record { workers = the_value t; slice = the_value u }))
 unfolding clap_on_literals
 certify_workers_first_found t u v w = rw (v.no_dashes, v.bare, v.bare, w.no_dashes, w.bare, w.bare, v.fits, w.fits) refl
 
-pub certify_workers_first : (t u : Text) → IsValue 64 t → IsValue 1000000 u → line_of (codes "certify" ∷ codes "--workers" ∷ t ∷ codes "--slice" ∷ u ∷ []) ≡ Some (Certify (record { workers = the_value t; slice = the_value u }))
+pub certify_workers_first : (t u : Text) → IsValue 1 64 t → IsValue 1 1000000 u → line_of (codes "certify" ∷ codes "--workers" ∷ t ∷ codes "--slice" ∷ u ∷ []) ≡ Some (Certify (record { workers = the_value t; slice = the_value u }))
 certify_workers_first t u v w = line_by (codes "certify" ∷ codes "--workers" ∷ t ∷ codes "--slice" ∷ u ∷ []) _ (certify_workers_first_fault t u v w) (certify_workers_first_found t u v w)
 
-certify_slice_first_fault : (t u : Text) → IsValue 1000000 t → IsValue 64 u → fault_of dtp_app (codes "certify" ∷ codes "--slice" ∷ t ∷ codes "--workers" ∷ u ∷ []) ≡ []
+certify_slice_first_fault : (t u : Text) → IsValue 1 1000000 t → IsValue 1 64 u → fault_of dtp_app (codes "certify" ∷ codes "--slice" ∷ t ∷ codes "--workers" ∷ u ∷ []) ≡ []
 unfolding clap_on_literals
 certify_slice_first_fault t u v w = rw (v.no_dashes, v.bare, v.bare, v.fits, w.no_dashes, w.bare, w.bare, w.fits) refl
 
-certify_slice_first_found : (t u : Text) → IsValue 1000000 t → IsValue 64 u → found_in (codes "certify" ∷ codes "--slice" ∷ t ∷ codes "--workers" ∷ u ∷ []) ≡ Some (Certify (record { workers = the_value u; slice = the_value t }))
+certify_slice_first_found : (t u : Text) → IsValue 1 1000000 t → IsValue 1 64 u → found_in (codes "certify" ∷ codes "--slice" ∷ t ∷ codes "--workers" ∷ u ∷ []) ≡ Some (Certify (record { workers = the_value u; slice = the_value t }))
 unfolding clap_on_literals
 certify_slice_first_found t u v w = rw (v.no_dashes, v.bare, v.bare, w.no_dashes, w.bare, w.bare, v.fits, w.fits) refl
 
-pub certify_slice_first : (t u : Text) → IsValue 1000000 t → IsValue 64 u → line_of (codes "certify" ∷ codes "--slice" ∷ t ∷ codes "--workers" ∷ u ∷ []) ≡ Some (Certify (record { workers = the_value u; slice = the_value t }))
+pub certify_slice_first : (t u : Text) → IsValue 1 1000000 t → IsValue 1 64 u → line_of (codes "certify" ∷ codes "--slice" ∷ t ∷ codes "--workers" ∷ u ∷ []) ≡ Some (Certify (record { workers = the_value u; slice = the_value t }))
 certify_slice_first t u v w = line_by (codes "certify" ∷ codes "--slice" ∷ t ∷ codes "--workers" ∷ u ∷ []) _ (certify_slice_first_fault t u v w) (certify_slice_first_found t u v w)

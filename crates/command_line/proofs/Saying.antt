@@ -7,10 +7,12 @@ use Rattle.std.proofs.lemmas.Str.Parse.{digit_from_value}
 use Rattle.clap.specs.Words.{Text}
 use Rattle.clap.specs.Lexer.{strip_byte}
 use Rattle.command_line.specs.Lines.{line_of}
-use Rattle.command_line.specs.Plain.{IsNumeralOf, IsOptions, IsPlainLine, neither, workers, slice, workers_first, slice_first, solve, certify, check}
+use Rattle.command_line.specs.Plain.{IsNumeralOf, IsOptions, IsPlainLine, neither, workers, slice, workers_first, slice_first, solve, certify, check, bench, bench_workers, AreNumbersOf}
 use Rattle.command_line.specs.declared.line.Line.{Line}
 use Rattle.command_line.specs.declared.line.Line.TheVariants.{Solve, Certify}
 use Rattle.command_line.specs.declared.line.Search.{Search}
+use Rattle.command_line.specs.declared.line.Shop.{Shop}
+use Rattle.command_line.proofs.BenchLines.{AreValues, bench_alone, bench_workers as bench_with, same_bench}
 use Rattle.command_line.proofs.Numbers.{is_in_range}
 use Rattle.command_line.proofs.PlainLines.{IsValue, the_value, check_alone, solve_alone, solve_workers, solve_slice, solve_workers_first, solve_slice_first, certify_alone, certify_workers, certify_slice, certify_workers_first, certify_slice_first}
 
@@ -23,29 +25,29 @@ not_dashes d ds e = rw e refl
 no_plus : (d : ℕ) (ds : Text) → (d == 43) ≡ false → without_leading_plus (d ∷ ds) ≡ d ∷ ds
 no_plus d ds e = rw e refl
 
-value_with : (most n d : ℕ) (ds : Text) → most < 2 ^ 64 → IsNumeralOf most (d ∷ ds) n → (d == 45) ≡ false → (d == 43) ≡ false
-    → IsValue most (d ∷ ds) × (the_value (d ∷ ds) ≡ n)
-value_with most n d ds small h dash plus =
+value_with : (least most n d : ℕ) (ds : Text) → most < 2 ^ 64 → IsNumeralOf least most (d ∷ ds) n → (d == 45) ≡ false → (d == 43) ≡ false
+    → IsValue least most (d ∷ ds) × (the_value (d ∷ ds) ≡ n)
+value_with least most n d ds small h dash plus =
     let bare : without_leading_plus (d ∷ ds) ≡ d ∷ ds = no_plus d ds plus in
     let is : the_value (d ∷ ds) ≡ n = ap (λ (t : Text). digits_value 10 t) bare ∙ h.value in
     let numeral : IsNumeral 10 (without_leading_plus (d ∷ ds)) = subst (λ (t : Text). IsNumeral 10 t) (sym bare) h.numeral in
-    let least : 1 ≤ the_value (d ∷ ds) = subst (λ (k : ℕ). 1 ≤ k) (sym is) h.least in
+    let low : least ≤ the_value (d ∷ ds) = subst (λ (k : ℕ). least ≤ k) (sym is) h.first in
     let last : the_value (d ∷ ds) ≤ most = subst (λ (k : ℕ). k ≤ most) (sym is) h.last in
     let wide : the_value (d ∷ ds) < 2 ^ 64 = omega (arith, last, small) in
-    (record { bare = no_hyphen d ds dash; no_dashes = not_dashes d ds dash; fits = is_in_range most (d ∷ ds) (numeral, wide, least, last) }, is)
+    (record { bare = no_hyphen d ds dash; no_dashes = not_dashes d ds dash; fits = is_in_range least most (d ∷ ds) (numeral, wide, low, last) }, is)
 
-value_from_digit : (most n d : ℕ) (ds : Text) → most < 2 ^ 64 → IsNumeralOf most (d ∷ ds) n → 48 ≤ d → IsValue most (d ∷ ds) × (the_value (d ∷ ds) ≡ n)
-value_from_digit most n d ds small h digit = value_with most n d ds small h (ne_eqb d 45 (λ e. absurd (omega (arith, e, digit)))) (ne_eqb d 43 (λ e. absurd (omega (arith, e, digit))))
+value_from_digit : (least most n d : ℕ) (ds : Text) → most < 2 ^ 64 → IsNumeralOf least most (d ∷ ds) n → 48 ≤ d → IsValue least most (d ∷ ds) × (the_value (d ∷ ds) ≡ n)
+value_from_digit least most n d ds small h digit = value_with least most n d ds small h (ne_eqb d 45 (λ e. absurd (omega (arith, e, digit)))) (ne_eqb d 43 (λ e. absurd (omega (arith, e, digit))))
 
-value_of_numeral : (most n : ℕ) (t : Text) → most < 2 ^ 64 → IsNumeralOf most t n → IsValue most t × (the_value t ≡ n)
-value_of_numeral most n [] small h = absurd (omega (arith, h.numeral.0))
-value_of_numeral most n (d ∷ ds) small h = value_from_digit most n d ds small h ((digit_from_value d h.numeral.1.0).0)
+value_of_numeral : (least most n : ℕ) (t : Text) → most < 2 ^ 64 → IsNumeralOf least most t n → IsValue least most t × (the_value t ≡ n)
+value_of_numeral least most n [] small h = absurd (omega (arith, h.numeral.0))
+value_of_numeral least most n (d ∷ ds) small h = value_from_digit least most n d ds small h ((digit_from_value d h.numeral.1.0).0)
 
-workers_value : (t : Text) (n : ℕ) → IsNumeralOf 64 t n → IsValue 64 t × (the_value t ≡ n)
-workers_value t n h = value_of_numeral 64 n t (omega arith) h
+workers_value : (t : Text) (n : ℕ) → IsNumeralOf 1 64 t n → IsValue 1 64 t × (the_value t ≡ n)
+workers_value t n h = value_of_numeral 1 64 n t (omega arith) h
 
-slice_value : (t : Text) (n : ℕ) → IsNumeralOf 1000000 t n → IsValue 1000000 t × (the_value t ≡ n)
-slice_value t n h = value_of_numeral 1000000 n t (omega arith) h
+slice_value : (t : Text) (n : ℕ) → IsNumeralOf 1 1000000 t n → IsValue 1 1000000 t × (the_value t ≡ n)
+slice_value t n h = value_of_numeral 1 1000000 n t (omega arith) h
 
 at : (make : Search → Line) (a b n m : ℕ) → a ≡ n → b ≡ m → Some (make (record { workers = a; slice = b })) ≡ Some (make (record { workers = n; slice = m }))
 at make a b n m e f = ap (λ (k : ℕ). Some (make (record { workers = k; slice = b }))) e ∙ ap (λ (k : ℕ). Some (make (record { workers = n; slice = k }))) f
@@ -64,7 +66,23 @@ certify_line _ _ (slice {u} {b} h) = let v = slice_value u b h in certify_slice 
 certify_line _ _ (workers_first {t} {u} {n} {b} h k) = let v = workers_value t n h in let w = slice_value u b k in certify_workers_first t u v.0 w.0 ∙ at Certify _ _ _ _ v.1 w.1
 certify_line _ _ (slice_first {t} {u} {n} {b} h k) = let v = workers_value t n h in let w = slice_value u b k in certify_slice_first u t w.0 v.0 ∙ at Certify _ _ _ _ v.1 w.1
 
+shop_values : (a b c d : Text) (shop : Shop) → AreNumbersOf a b c d shop
+    → AreValues a b c d × (the_value a ≡ shop.jobs) × (the_value b ≡ shop.machines) × (the_value c ≡ shop.start) × (the_value d ≡ shop.deadline)
+shop_values a b c d shop h =
+    let j = value_of_numeral 1 40 shop.jobs a (omega arith) h.jobs_is in
+    let m = value_of_numeral 1 40 shop.machines b (omega arith) h.machines_is in
+    let s = value_of_numeral 0 4294967295 shop.start c (omega arith) h.start_is in
+    let e = value_of_numeral 0 1000000 shop.deadline d (omega arith) h.deadline_is in
+    (record { jobs = j.0; machines = m.0; start = s.0; deadline = e.0 }, j.1, m.1, s.1, e.1)
+
 pub plain_line : (words : List Text) (line : Line) → IsPlainLine words line → line_of words ≡ Some line
 plain_line _ _ (solve {words} {search} h) = solve_line words search h
 plain_line _ _ (certify {words} {search} h) = certify_line words search h
 plain_line _ _ check = check_alone
+plain_line _ _ (bench {a} {b} {c} {d} {shop} h) =
+    let v = shop_values a b c d shop h in
+    bench_alone a b c d v.0 ∙ same_bench a b c d 4 4 shop v.1 v.2 v.3 v.4 refl
+plain_line _ _ (bench_workers {a} {b} {c} {d} {t} {shop} {n} h k) =
+    let v = shop_values a b c d shop h in
+    let w = workers_value t n k in
+    bench_with a b c d t v.0 w.0 ∙ same_bench a b c d _ n shop v.1 v.2 v.3 v.4 w.1

@@ -26,6 +26,27 @@ top_app = let a = silent (new_app (codes "dtp")) in record a { top = record a.to
 abbrev pub checking_app : App
 checking_app = silent (new_app (codes "check"))
 
--- `solve`, `certify` and `check`
+-- a number at its place among the words, which has to be there, from the least to the most
+abbrev pub place_rule : Text → ℕ → ℕ → Rule
+place_rule name least most = record (new_rule name) { required = true; parser = Some (vp.Unsigned least most) }
+
+abbrev pub jobs_rule : Rule
+jobs_rule = place_rule (codes "jobs") 1 40
+
+abbrev pub machines_rule : Rule
+machines_rule = place_rule (codes "machines") 1 40
+
+abbrev pub start_rule : Rule
+start_rule = place_rule (codes "start") 0 4294967295
+
+abbrev pub deadline_rule : Rule
+deadline_rule = place_rule (codes "deadline") 0 1000000
+
+-- four numbers, then options
+abbrev pub benching_app : App
+benching_app =
+    with_rule (with_rule (with_rule (with_rule (with_rule (silent (new_app (codes "bench"))) jobs_rule) machines_rule) start_rule) deadline_rule) workers_rule
+
+-- `solve`, `certify`, `check` and `bench`
 abbrev pub dtp_app : App
-dtp_app = with_subcommand (with_subcommand (with_subcommand top_app (searching_app (codes "solve")).top) (searching_app (codes "certify")).top) checking_app.top
+dtp_app = with_subcommand (with_subcommand (with_subcommand (with_subcommand top_app (searching_app (codes "solve")).top) (searching_app (codes "certify")).top) checking_app.top) benching_app.top

@@ -3,21 +3,29 @@ use Rattle.std.specs.Prelude.{◌≡◌, ◌≤◌, ℕ, List, [], ◌∷◌, co
 use Rattle.std.specs.Str.Parse.{IsNumeral, digits_value}
 use Rattle.clap.specs.Words.{Text}
 use Rattle.command_line.specs.declared.line.Line.{Line}
-use Rattle.command_line.specs.declared.line.Line.TheVariants.{Solve, Certify, Check}
+use Rattle.command_line.specs.declared.line.Line.TheVariants.{Solve, Certify, Check, Bench}
 use Rattle.command_line.specs.declared.line.Search.{Search}
+use Rattle.command_line.specs.declared.line.Shop.{Shop}
 
--- the text is a numeral of n, which is from 1 to the most
-pub record IsNumeralOf (most : ℕ) (text : Text) (n : ℕ) : Type 0 where
+-- the text is a numeral of n, which is from the least to the most
+pub record IsNumeralOf (least most : ℕ) (text : Text) (n : ℕ) : Type 0 where
   pub numeral : IsNumeral 10 text
   pub value : digits_value 10 text ≡ n
-  pub least : 1 ≤ n
+  pub first : least ≤ n
   pub last : n ≤ most
 
 abbrev pub IsWorkers : Text → ℕ → Type 0
-IsWorkers text n = IsNumeralOf 64 text n
+IsWorkers text n = IsNumeralOf 1 64 text n
 
 abbrev pub IsSlice : Text → ℕ → Type 0
-IsSlice text n = IsNumeralOf 1000000 text n
+IsSlice text n = IsNumeralOf 1 1000000 text n
+
+-- the four numbers of a job shop, in this order
+pub record AreNumbersOf (jobs machines start deadline : Text) (shop : Shop) : Type 0 where
+  pub jobs_is : IsNumeralOf 1 40 jobs shop.jobs
+  pub machines_is : IsNumeralOf 1 40 machines shop.machines
+  pub start_is : IsNumeralOf 0 4294967295 start shop.start
+  pub deadline_is : IsNumeralOf 0 1000000 deadline shop.deadline
 
 -- the options of a search; 4 workers and slices of 1,000 where they don't say it
 pub data IsOptions : List Text → Search → Type 0 where
@@ -31,3 +39,6 @@ pub data IsPlainLine : List Text → Line → Type 0 where
   solve : {words : List Text} {search : Search} → IsOptions words search → IsPlainLine (codes "solve" ∷ words) (Solve search)
   certify : {words : List Text} {search : Search} → IsOptions words search → IsPlainLine (codes "certify" ∷ words) (Certify search)
   check : IsPlainLine (codes "check" ∷ []) Check
+  bench : {a b c d : Text} {shop : Shop} → AreNumbersOf a b c d shop → IsPlainLine (codes "bench" ∷ a ∷ b ∷ c ∷ d ∷ []) (Bench shop 4)
+  bench_workers : {a b c d t : Text} {shop : Shop} {n : ℕ} → AreNumbersOf a b c d shop → IsWorkers t n
+      → IsPlainLine (codes "bench" ∷ a ∷ b ∷ c ∷ d ∷ codes "--workers" ∷ t ∷ []) (Bench shop n)

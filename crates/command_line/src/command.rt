@@ -1,8 +1,9 @@
 //! The command line as `clap` reads it.
 ghost use Rattle.std.specs.Prelude.{◌≡◌, IfOk, false};
-ghost use Rattle.clap.specs.Words.{app_of, rule_of};
+ghost use Rattle.clap.specs.Words.{app_of, rule_of, with_rule};
 ghost use Rattle.clap.specs.declared.builder.command.Command.TheViews.{out-Command as fields_of};
-ghost use Rattle.command_line.specs.Apps.{checking_app, dtp_app, searching_app, silent, slice_rule, top_app, workers_rule};
+ghost use Rattle.command_line.specs.Apps.{benching_app, checking_app, dtp_app, searching_app, silent, top_app};
+ghost use Rattle.command_line.specs.Apps.{deadline_rule, jobs_rule, machines_rule, slice_rule, start_rule, workers_rule};
 
 use clap::{Arg, Command, value_parser};
 use std::alloc::{AllocError, Global};
@@ -65,6 +66,73 @@ fn checking<'a>(alloc: Global) -> Command<'a>
     without_help(Command::new(alloc, "check"))
 }
 
+/// How many jobs.
+fn jobs<'a>(alloc: Global) -> Arg<'a>
+    ensures rule { rule_of result ≡ jobs_rule }
+    ensures local { result.global ≡ false }
+{
+    Arg::new(alloc, "jobs")
+        .required(true)
+        .value_parser(value_parser!(u64).range(1..=40))
+}
+
+/// How many machines.
+fn machines<'a>(alloc: Global) -> Arg<'a>
+    ensures rule { rule_of result ≡ machines_rule }
+    ensures local { result.global ≡ false }
+{
+    Arg::new(alloc, "machines")
+        .required(true)
+        .value_parser(value_parser!(u64).range(1..=40))
+}
+
+/// What is drawn from.
+fn start<'a>(alloc: Global) -> Arg<'a>
+    ensures rule { rule_of result ≡ start_rule }
+    ensures local { result.global ≡ false }
+{
+    Arg::new(alloc, "start")
+        .required(true)
+        .value_parser(value_parser!(u64).range(0..=4_294_967_295))
+}
+
+/// When all jobs must have ended.
+fn deadline<'a>(alloc: Global) -> Arg<'a>
+    ensures rule { rule_of result ≡ deadline_rule }
+    ensures local { result.global ≡ false }
+{
+    Arg::new(alloc, "deadline")
+        .required(true)
+        .value_parser(value_parser!(u64).range(0..=1_000_000))
+}
+
+/// The command with two more arguments.
+fn with_two<'a>(
+    command: Command<'a>,
+    first: Arg<'a>,
+    second: Arg<'a>,
+) -> Result<Command<'a>, AllocError>
+    requires local { (fields_of command).has_globals ≡ false }
+    requires first_local { first.global ≡ false }
+    requires second_local { second.global ≡ false }
+    ensures app { IfOk result (λ c. app_of c
+        ≡ with_rule (with_rule (app_of command.entry) (rule_of first.entry)) (rule_of second.entry)) }
+    ensures local { IfOk result (λ c. (fields_of c).has_globals ≡ false) }
+{
+    command.arg(first)?.arg(second)
+}
+
+/// The command that makes a job shop's script.
+fn benching<'a>(alloc: Global) -> Result<Command<'a>, AllocError>
+    ensures app { IfOk result (λ c. app_of c ≡ benching_app) }
+    ensures local { IfOk result (λ c. (fields_of c).has_globals ≡ false) }
+{
+    let command = without_help(Command::new(alloc, "bench"));
+    let command = with_two(command, jobs(alloc), machines(alloc))?;
+    let command = with_two(command, start(alloc), deadline(alloc))?;
+    command.arg(workers(alloc))
+}
+
 /// The whole command line.
 pub(crate) fn dtp<'a>(alloc: Global) -> Result<Command<'a>, AllocError>
     ensures app { IfOk result (λ c. app_of c ≡ dtp_app) }
@@ -75,5 +143,6 @@ pub(crate) fn dtp<'a>(alloc: Global) -> Result<Command<'a>, AllocError>
     let command = top(alloc).subcommand(solve)?;
     let command = command.subcommand(certify)?;
     let command = command.subcommand(checking(alloc))?;
+    let command = command.subcommand(benching(alloc)?)?;
     Ok(command)
 }

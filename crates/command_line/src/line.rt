@@ -1,7 +1,7 @@
 //! What the words ask for.
 ghost use Rattle.std.specs.Prelude.{◌≡◌, ◌≤◌, ℕ, List, Some, None, map, IfOk, IfErr, IfSome, String, string_bytes};
 ghost use Rattle.clap.specs.Words.{found_of, one_of, rows_of};
-ghost use Rattle.command_line.specs.Lines.{line_of, IsInRange, IsSearchInRange, command_of};
+ghost use Rattle.command_line.specs.Lines.{line_of, IsInRange, IsSearchInRange, IsShopInRange, command_of};
 ghost use Rattle.command_line.specs.Lines as spec;
 
 use crate::command::dtp;
@@ -18,6 +18,19 @@ pub struct Search {
     pub slice: u32,
 }
 
+/// A job shop whose script is to be made.
+#[derive(Clone, Copy, Debug, PartialEq, Eq)]
+pub struct Shop {
+    /// How many jobs, 1 to 40.
+    pub jobs: u32,
+    /// How many machines, 1 to 40.
+    pub machines: u32,
+    /// What orders and durations are drawn from, any.
+    pub start: u32,
+    /// When all jobs must have ended, 0 to 1,000,000.
+    pub deadline: u32,
+}
+
 /// What a command line asks for.
 #[derive(Clone, Copy, Debug, PartialEq, Eq)]
 pub enum Line {
@@ -27,6 +40,8 @@ pub enum Line {
     Certify(Search),
     /// Whether a script's certificate is right.
     Check,
+    /// A job shop's script, certified by so many workers and checked.
+    Bench(Shop, u32),
 }
 
 /// Why there is no line.
@@ -76,8 +91,17 @@ fn asked(name: &str, options: &ArgMatches<'_>) -> Option<Line>
         "solve" => Some(Line::Solve(search_of(options))),
         "certify" => Some(Line::Certify(search_of(options))),
         "check" => Some(Line::Check),
+        "bench" => Some(Line::Bench(shop_of(options), workers_of(options))),
         _ => None,
     }
+}
+
+/// How many workers search, as the options say.
+fn workers_of(options: &ArgMatches<'_>) -> u32
+    ensures workers { result ≡ spec.workers_of (rows_of (found_of options.now)) }
+    ensures range { (1 ≤ result) × (result ≤ 64) }
+{
+    number_of(options, "workers", 1, 64, 4)
 }
 
 /// How to search, as the options say.
@@ -86,19 +110,32 @@ fn search_of(options: &ArgMatches<'_>) -> Search
     ensures range { IsSearchInRange result }
 {
     Search {
-        workers: number_of(options, "workers", 64, 4),
-        slice: number_of(options, "slice", 1_000_000, 1_000),
+        workers: workers_of(options),
+        slice: number_of(options, "slice", 1, 1_000_000, 1_000),
     }
 }
 
-/// The number that the option was given; the default where it wasn't. `clap` lets no other number through.
-fn number_of(options: &ArgMatches<'_>, name: &str, most: u32, default: u32) -> u32
-    requires default { (1 ≤ default) × (default ≤ most) }
-    ensures number { result ≡ spec.number_of (one_of name.now (rows_of (found_of options.now))) most default }
-    ensures range { (1 ≤ result) × (result ≤ most) }
+/// The four numbers of a job shop.
+fn shop_of(options: &ArgMatches<'_>) -> Shop
+    ensures shop { result ≡ spec.shop_of (rows_of (found_of options.now)) }
+    ensures range { IsShopInRange result }
+{
+    Shop {
+        jobs: number_of(options, "jobs", 1, 40, 1),
+        machines: number_of(options, "machines", 1, 40, 1),
+        start: number_of(options, "start", 0, u32::MAX, 0),
+        deadline: number_of(options, "deadline", 0, 1_000_000, 0),
+    }
+}
+
+/// The number that was given under this name; the default where none was. `clap` lets no other number through.
+fn number_of(options: &ArgMatches<'_>, name: &str, least: u32, most: u32, default: u32) -> u32
+    requires default { (least ≤ default) × (default ≤ most) }
+    ensures number { result ≡ spec.number_of (one_of name.now (rows_of (found_of options.now))) least most default }
+    ensures range { (least ≤ result) × (result ≤ most) }
 {
     match options.get_one::<u32>(name) {
-        Some(number) if 1 <= number && number <= most => number,
+        Some(number) if least <= number && number <= most => number,
         _ => default,
     }
 }

@@ -1,2 +1,3 @@
 pub mod Usages
+pub mod Benching
 pub mod Runs

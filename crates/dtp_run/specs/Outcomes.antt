@@ -12,8 +12,12 @@ use Rattle.dtp_check.specs.Answered.{IsAnswer, IsAnswerPart}
 use Rattle.dtp_check.specs.declared.check.Checked.{Checked}
 use Rattle.dtp_check.specs.declared.check.Checked.TheVariants.{Accepted, NotAccepted as Unaccepted}
 use Rattle.clap.specs.Words.{fault_of}
+use Rattle.dtp_entry.specs.Written.{IsPartOf}
+use Rattle.dtp_gen.specs.Plans.{Plan}
+use Rattle.dtp_bench.specs.Benches.{IsBench}
 use Rattle.command_line.specs.declared.line.Line.{Line}
-use Rattle.command_line.specs.declared.line.Line.TheVariants.{Solve, Certify, Check}
+use Rattle.command_line.specs.declared.line.Shop.{Shop}
+use Rattle.command_line.specs.declared.line.Line.TheVariants.{Solve, Certify, Check, Bench}
 use Rattle.command_line.specs.Apps.{dtp_app}
 use Rattle.command_line.specs.Lines.{line_of}
 use Rattle.command_line.specs.Plain.{IsPlainLine}
@@ -113,11 +117,30 @@ IsChecked old new OutOfMemory = IsUnfinished reading.OutOfMemory old new ⊎ Che
 IsChecked old new NotAccepted = Checks Unaccepted old new
 IsChecked old new TooLong = IsUnfinished reading.TooLong old new
 
+-- the plan of a job shop's four numbers
+abbrev pub plan_of : Shop → Plan
+plan_of s = record { jobs = s.jobs; machines = s.machines; start = s.start; deadline = s.deadline }
+
+-- the five lines about the plan's script are written whole; the source isn't read
+abbrev pub Benches : Plan → Outside → Outside → Type 0
+Benches p old new = IsUnread old new × ((text : List ℕ) × Appends old.holds new.holds text × IsBench p text)
+
+-- a front of them is written
+abbrev pub BenchesPart : Plan → Outside → Outside → Type 0
+BenchesPart p old new = IsUnread old new × ((written : List ℕ) × Appends old.holds new.holds written × IsPartOf (IsBench p) written)
+
+abbrev pub IsBenched : Plan → Outside → Outside → Status → Type 0
+IsBenched p old new Done = Benches p old new
+IsBenched p old new WriteFault = Rose old.write_faults new.write_faults × BenchesPart p old new
+IsBenched p old new OutOfMemory = BenchesPart p old new
+IsBenched p old new _ = ⊥
+
 -- each kind of line has its own outcomes
 abbrev pub IsOutcomeOf : Line → Outside → Outside → Status → Type 0
 IsOutcomeOf (Solve search) old new status = IsReported Verdicts old new status
 IsOutcomeOf (Certify search) old new status = IsReported Certificate old new status
 IsOutcomeOf Check old new status = IsChecked old new status
+IsOutcomeOf (Bench shop workers) old new status = IsBenched (plan_of shop) old new status
 
 -- the words are no command line: the usage line, or nothing for want of memory; the source isn't read
 abbrev pub IsRefused : Outside → Outside → Status → Type 0

@@ -1,12 +1,13 @@
 //! The top call: from the words and the source to the sink and a status.
-ghost use Rattle.std.specs.Prelude.{◌≡◌, ◌≤◌};
+ghost use Rattle.std.specs.Prelude.{◌≡◌, ◌≤◌, ℕ, List, Option};
 ghost use Rattle.dtp_session.specs.Solving.{IsSolved};
-ghost use Rattle.command_line.specs.Lines.{IsSearchInRange, line_of};
+ghost use Rattle.command_line.specs.Lines.{IsSearchInRange, IsShopInRange, line_of};
 ghost use Rattle.dtp_run.specs.Statuses.{unread_status};
-ghost use Rattle.dtp_run.specs.Outcomes.{IsRun, IsOutcome, IsReported, IsChecked, WritesUsage, outside, texts};
+ghost use Rattle.dtp_run.specs.Outcomes.{IsRun, IsOutcome, IsReported, IsChecked, IsBenched, WritesUsage, outside, plan_of, texts};
 
 use crate::status::Status;
-use command_line::{Line, LineError, Search, read_line};
+use command_line::{Line, LineError, Search, Shop, read_line};
+use dtp_bench::PlanNumbers;
 use dtp_check::{Checked, check_pair};
 use dtp_entry::{Report, SessionError};
 use dtp_io::{ReadError, Sink, Source, read_all, write_all_of};
@@ -62,6 +63,7 @@ fn perform<R: Wait, S: Source, K: Sink, G: Gate>(
             report_on(rt, alloc, source, sink, Report::Certificate, search, gate)
         }
         Ok(Line::Check) => check(alloc, source, sink),
+        Ok(Line::Bench(shop, workers)) => bench(rt, alloc, shop, workers, sink, gate),
         Err(LineError::Refused) => usage(sink),
         Err(LineError::OutOfMemory) => Status::OutOfMemory,
     }
@@ -162,6 +164,39 @@ fn check<S: Source, K: Sink>(alloc: Global, source: &mut S, sink: &mut K) -> Sta
     match check_pair(alloc, &bytes, sink) {
         Ok(Checked::Accepted) => Status::Done,
         Ok(Checked::NotAccepted) => Status::NotAccepted,
+        Err(SessionError::WriteFault) => Status::WriteFault,
+        Err(SessionError::OutOfMemory) => Status::OutOfMemory,
+    }
+}
+
+/// Makes a job shop's script, and writes what its certificate comes to.
+fn bench<R: Wait, K: Sink, G: Gate>(
+    rt: &R,
+    alloc: Global,
+    shop: Shop,
+    workers: u32,
+    sink: &mut K,
+    gate: &G,
+) -> Status
+    requires shop { IsShopInRange shop }
+    requires workers { (1 ≤ workers) × (workers ≤ 64) }
+    ensures benched { (left : Option (List ℕ)) (read_faults : ℕ) → IsBenched (plan_of shop)
+        (outside left read_faults (K.holds sink.old) (K.faults sink.old))
+        (outside left read_faults (K.holds sink.new) (K.faults sink.new)) result }
+    ensures write_later { K.faults sink.old ≤ K.faults sink.new }
+{
+    let plan = PlanNumbers {
+        jobs: shop.jobs,
+        machines: shop.machines,
+        start: shop.start,
+        deadline: shop.deadline,
+    };
+    let options = SearchOptions {
+        workers,
+        slice: 1_000,
+    };
+    match dtp_bench::bench(rt, alloc, plan, options, sink, gate) {
+        Ok(()) => Status::Done,
         Err(SessionError::WriteFault) => Status::WriteFault,
         Err(SessionError::OutOfMemory) => Status::OutOfMemory,
     }

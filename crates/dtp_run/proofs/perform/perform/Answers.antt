@@ -1,0 +1,14 @@
+use Rattle.std.proofs.Common.{◌∙◌, ap, Some}
+use Rattle.command_line.specs.declared.line.Line.TheVariants.{Bench}
+use Rattle.command_line.specs.Lines.{line_of}
+use Rattle.dtp_run.specs.Outcomes.{outside, texts}
+use Rattle.dtp_run.proofs.Benching.{outcome_of, without_memory}
+use Rattle.dtp_run.proofs.perform.perform.Goals as goal
+
+pub returns-in-Ok-Bench-clause-outcome : goal.returns-in-Ok-Bench-clause-outcome
+returns-in-Ok-Bench-clause-outcome g c =
+    outcome_of (line_of (texts c.args.words.now)) (Bench c.in-Ok-Bench.shop c.in-Ok-Bench.workers) _ _ c.bench.result (c.in-Ok-Bench.ensures.line ∙ ap Some c.in-Ok-Bench.field-0-is)
+    (c.bench.ensures.benched (g.S.Source.left c.args.source.now) (g.S.Source.faults c.args.source.now))
+
+pub returns-in-Err-OutOfMemory-clause-outcome : goal.returns-in-Err-OutOfMemory-clause-outcome
+returns-in-Err-OutOfMemory-clause-outcome g c = without_memory (line_of (texts c.args.words.now)) _ _ _ _
