@@ -1,10 +1,13 @@
 #!/usr/bin/env python3
-"""Strips the clauses off the search's sources and writes a cargo workspace of them, to be measured before it is proved.
+"""Strips the clauses off the sources of a program and of what it stands on, and writes a cargo workspace of them, to be tried and measured before
+it is proved.
 
-    bench/native/translate.py FOLDER CRATE ..
+    bench/native/translate.py FOLDER PROGRAM ..
 
-What rustc builds of it is the same search as the proved program (the counts of lemmas are the same), not the proved program: its times show
-which of two forms is faster, and no more. std's types that take an allocator are those of shim/, a page of stand-ins. bench/native/build.sh calls it.
+What rustc builds of it is the same code as the proved program (the counts of lemmas are the same), not the proved program: its times show
+which of two forms is faster, and no more. std's types that take an allocator, and the libraries, are those of shim/, some pages of stand-ins;
+own/ has whole files in place of those that speak with the process or with `clap` (the command line there takes no fault but plain ones).
+bench/native/build.sh calls it.
 """
 import os
 import re
@@ -20,14 +23,21 @@ PROFILE = 'opt-level = 3\ndebug = 1\nlto = "fat"\ncodegen-units = 1\npanic = "ab
 STAND_INS = [
     (r"#!?\[tactic\([^\]]*\)\]", ""),
     (r"#\[derive\(Drop\)\]", ""),
+    (r"(#\[derive\([^\]]*), Drop\)\]", r"\1)]"),
     (r"vec!\[in ", "shim::vec_in![in "),
     (r"use std::alloc::([^;]*);", r"use shim::\1;"),
     (r"use std::collections::(HashMap|BinaryHeap);", r"use shim::\1;"),
     (r"use std::marker::(Model|Drop);", ""),
     (r"use std::sync::Arc;", "use shim::Arc;"),
-    (r"use indexmap::IndexSet;", "use shim::IndexSet;"),
+    (r"use std::(sync::Wait|thread::Threads);", r"use shim::\1;"),
+    (r"use indexmap::(\w+);", r"use shim::\1;"),
+    (r"use (bstr::ByteVec|itoa::Buffer);", r"use shim::\1;"),
+    (r"\bformat!\(in alloc;", "shim::format_in!(in alloc;"),
+    (r"\.to_string\(alloc\)", ".to_string_in(alloc)"),
     (r"\.(try_)?collect\(", r".\1collect_in("),
     (r"\b(\w+): Drop\b", r"\1"),
+    (r" \+ Drop\b", ""),
+    (r"\b(trait \w+) {", r"\1: Sized {"),
     (r"println!\(rt; ", "println!("),
 ]
 # and what a program has of its process
@@ -144,20 +154,38 @@ def write_crate(folder, name, crates):
     libraries = "".join(f'{library} = {{ path = "../{library}" }}\n' for library in libraries_of(name) if library in crates)
     write(
         os.path.join(folder, name, "Cargo.toml"),
-        f'[package]\nname = "{name}"\nversion = "0.1.0"\nedition = "2021"\n[dependencies]\nshim = {{ path = "../shim" }}\n{libraries}',
+        f'[package]\nname = "{name}"\nversion = "0.1.0"\nedition = "2024"\n[dependencies]\nshim = {{ path = "../shim" }}\n{libraries}',
     )
     source = os.path.join(TOP, "crates", name, "src")
     for file in sorted(os.listdir(source)):
+        if file == "tests.rt":
+            continue
         root = file in ("lib.rt", "main.rt")
         with open(os.path.join(source, file), encoding="utf-8") as text:
             head, rest = translated(text.read(), file == "main.rt")
         allow = ["#![allow(warnings)]"] if root else []
-        lines = head + allow + ["use shim::{CollectIn as _, Vec};"] + rest
-        write(os.path.join(folder, name, "src", file[:-3] + ".rs"), "\n".join(lines))
+        lines = head + allow + ["use shim::{CollectIn as _, String, ToStringIn as _, Vec};"] + rest
+        text = "\n".join(lines)
+        own = os.path.join(HERE, "own", name, file[:-3] + ".rs")
+        if os.path.exists(own):
+            with open(own, encoding="utf-8") as stand_in:
+                text = stand_in.read()
+        write(os.path.join(folder, name, "src", file[:-3] + ".rs"), text)
+
+
+def crates_below(names):
+    """The crates of the repository that these stand on, and themselves."""
+    found, open_names = [], list(names)
+    while open_names:
+        name = open_names.pop()
+        if name not in found and os.path.isdir(os.path.join(TOP, "crates", name)):
+            found.append(name)
+            open_names += libraries_of(name)
+    return sorted(found)
 
 
 def main():
-    folder, crates = sys.argv[1], sys.argv[2:]
+    folder, crates = sys.argv[1], crates_below(sys.argv[2:])
     members = ", ".join(f'"{name}"' for name in crates + ["shim"])
     write(os.path.join(folder, "Cargo.toml"), f'[workspace]\nresolver = "2"\nmembers = [{members}]\n[profile.release]\n{PROFILE}')
     for name in crates:

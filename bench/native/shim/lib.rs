@@ -9,9 +9,14 @@ impl<T> From<AllocFailed<T>> for AllocError {
         AllocError
     }
 }
+impl<T> From<AllocError> for AllocFailed<T> {
+    fn from(_: AllocError) -> Self {
+        AllocFailed(std::marker::PhantomData)
+    }
+}
 #[derive(Clone, Copy, Debug)]
 pub struct Global;
-#[derive(Debug)]
+#[derive(Debug, PartialEq, Eq, Hash, PartialOrd, Ord)]
 pub struct Vec<T>(pub std::vec::Vec<T>);
 impl<T> Vec<T> {
     pub fn new(_: Global) -> Self {
@@ -21,7 +26,7 @@ impl<T> Vec<T> {
         Ok(Vec(std::vec::Vec::with_capacity(n)))
     }
     #[inline(always)]
-    pub fn push(&mut self, x: T) -> Result<(), AllocError> {
+    pub fn push(&mut self, x: T) -> Result<(), AllocFailed<T>> {
         self.0.push(x);
         Ok(())
     }
@@ -66,6 +71,9 @@ impl<T> Vec<T> {
     }
 }
 impl<T: Clone> Vec<T> {
+    pub fn clone(&self) -> Result<Self, AllocError> {
+        Ok(Vec(self.0.clone()))
+    }
     pub fn extend_from_slice(&mut self, s: &[T]) -> Result<(), AllocError> {
         self.0.extend_from_slice(s);
         Ok(())
@@ -173,33 +181,192 @@ impl<T> Vec<T> {
         Ok(Vec(self.0.split_off(n)))
     }
 }
-pub struct IndexSet<T> {
-    keys: std::vec::Vec<T>,
-    map: std::collections::HashMap<T, usize>,
+/// Keys in order, each once, found by hash in a table of places; a removed key leaves its place to the last one.
+pub struct IndexMap<K, V> {
+    keys: std::vec::Vec<K>,
+    values: std::vec::Vec<V>,
+    hashes: std::vec::Vec<u64>,
+    table: std::vec::Vec<u32>,
 }
-impl<T: std::hash::Hash + Eq + Copy> IndexSet<T> {
+const NONE: u32 = u32::MAX;
+fn hash_of<Q: std::hash::Hash + ?Sized>(k: &Q) -> u64 {
+    let mut state = std::collections::hash_map::DefaultHasher::new();
+    k.hash(&mut state);
+    std::hash::Hasher::finish(&state)
+}
+impl<K: std::hash::Hash + Eq, V> IndexMap<K, V> {
     pub fn new(_: Global) -> Self {
-        IndexSet {
+        IndexMap {
             keys: vec![],
-            map: Default::default(),
+            values: vec![],
+            hashes: vec![],
+            table: vec![NONE; 8],
         }
     }
-    pub fn get_index_of(&self, k: &T) -> Option<usize> {
-        self.map.get(k).copied()
-    }
-    pub fn insert(&mut self, k: T) -> Result<bool, AllocError> {
-        if self.map.contains_key(&k) {
-            return Ok(false);
+    fn slot_of<Q: std::hash::Hash + Eq + ?Sized>(&self, k: &Q, hash: u64) -> usize
+    where
+        K: std::borrow::Borrow<Q>,
+    {
+        let mask = self.table.len() - 1;
+        let mut slot = hash as usize & mask;
+        loop {
+            let place = self.table[slot];
+            if place == NONE || (self.hashes[place as usize] == hash && self.keys[place as usize].borrow() == k) {
+                return slot;
+            }
+            slot = (slot + 1) & mask;
         }
-        self.map.insert(k, self.keys.len());
+    }
+    fn rebuild(&mut self, length: usize) {
+        self.table.clear();
+        self.table.resize(length, NONE);
+        let mask = length - 1;
+        for (place, hash) in self.hashes.iter().enumerate() {
+            let mut slot = *hash as usize & mask;
+            while self.table[slot] != NONE {
+                slot = (slot + 1) & mask;
+            }
+            self.table[slot] = place as u32;
+        }
+    }
+    /// Empties a slot, and moves up what stands behind it.
+    fn unhook(&mut self, mut slot: usize) {
+        let mask = self.table.len() - 1;
+        let mut next = (slot + 1) & mask;
+        while self.table[next] != NONE {
+            let home = self.hashes[self.table[next] as usize] as usize & mask;
+            if (next.wrapping_sub(home) & mask) >= (next.wrapping_sub(slot) & mask) {
+                self.table[slot] = self.table[next];
+                slot = next;
+            }
+            next = (next + 1) & mask;
+        }
+        self.table[slot] = NONE;
+    }
+    fn slot_of_place(&self, place: usize) -> usize {
+        let mask = self.table.len() - 1;
+        let mut slot = self.hashes[place] as usize & mask;
+        while self.table[slot] != place as u32 {
+            slot = (slot + 1) & mask;
+        }
+        slot
+    }
+    pub fn get_index_of<Q: std::hash::Hash + Eq + ?Sized>(&self, k: &Q) -> Option<usize>
+    where
+        K: std::borrow::Borrow<Q>,
+    {
+        let place = self.table[self.slot_of(k, hash_of(k))];
+        (place != NONE).then_some(place as usize)
+    }
+    pub fn get<Q: std::hash::Hash + Eq + ?Sized>(&self, k: &Q) -> Option<&V>
+    where
+        K: std::borrow::Borrow<Q>,
+    {
+        self.get_index_of(k).map(|i| &self.values[i])
+    }
+    pub fn get_mut<Q: std::hash::Hash + Eq + ?Sized>(&mut self, k: &Q) -> Option<&mut V>
+    where
+        K: std::borrow::Borrow<Q>,
+    {
+        let place = self.get_index_of(k)?;
+        self.values.get_mut(place)
+    }
+    pub fn insert_full(&mut self, k: K, v: V) -> Result<(usize, Option<V>), AllocError> {
+        let hash = hash_of(&k);
+        let slot = self.slot_of(&k, hash);
+        let place = self.table[slot];
+        if place != NONE {
+            return Ok((place as usize, Some(std::mem::replace(&mut self.values[place as usize], v))));
+        }
+        let place = self.keys.len();
+        self.table[slot] = place as u32;
         self.keys.push(k);
-        Ok(true)
+        self.values.push(v);
+        self.hashes.push(hash);
+        if self.keys.len() * 4 > self.table.len() * 3 {
+            self.rebuild(self.table.len() * 2);
+        }
+        Ok((place, None))
+    }
+    pub fn insert(&mut self, k: K, v: V) -> Result<Option<V>, AllocError> {
+        self.insert_full(k, v).map(|r| r.1)
+    }
+    pub fn swap_remove<Q: std::hash::Hash + Eq + ?Sized>(&mut self, k: &Q) -> Option<V>
+    where
+        K: std::borrow::Borrow<Q>,
+    {
+        let place = self.get_index_of(k)?;
+        let last = self.keys.len() - 1;
+        self.unhook(self.slot_of_place(place));
+        if place < last {
+            let slot = self.slot_of_place(last);
+            self.table[slot] = place as u32;
+        }
+        self.keys.swap_remove(place);
+        self.hashes.swap_remove(place);
+        Some(self.values.swap_remove(place))
     }
     pub fn truncate(&mut self, n: usize) {
         while self.keys.len() > n {
-            let k = self.keys.pop().unwrap();
-            self.map.remove(&k);
+            self.unhook(self.slot_of_place(self.keys.len() - 1));
+            self.keys.pop();
+            self.values.pop();
+            self.hashes.pop();
         }
+    }
+    pub fn clear(&mut self) {
+        self.truncate(0)
+    }
+    pub fn len(&self) -> usize {
+        self.keys.len()
+    }
+    pub fn is_empty(&self) -> bool {
+        self.keys.is_empty()
+    }
+}
+pub struct IndexSet<T>(IndexMap<T, ()>);
+impl<T: std::hash::Hash + Eq> IndexSet<T> {
+    pub fn new(a: Global) -> Self {
+        IndexSet(IndexMap::new(a))
+    }
+    pub fn get_index_of<Q: std::hash::Hash + Eq + ?Sized>(&self, k: &Q) -> Option<usize>
+    where
+        T: std::borrow::Borrow<Q>,
+    {
+        self.0.get_index_of(k)
+    }
+    pub fn contains<Q: std::hash::Hash + Eq + ?Sized>(&self, k: &Q) -> bool
+    where
+        T: std::borrow::Borrow<Q>,
+    {
+        self.0.get_index_of(k).is_some()
+    }
+    pub fn get_index(&self, i: usize) -> Option<&T> {
+        self.0.keys.get(i)
+    }
+    pub fn insert_full(&mut self, k: T) -> Result<(usize, bool), AllocError> {
+        self.0.insert_full(k, ()).map(|(i, old)| (i, old.is_none()))
+    }
+    pub fn insert(&mut self, k: T) -> Result<bool, AllocError> {
+        self.insert_full(k).map(|r| r.1)
+    }
+    pub fn truncate(&mut self, n: usize) {
+        self.0.truncate(n)
+    }
+    pub fn clear(&mut self) {
+        self.0.truncate(0)
+    }
+    pub fn len(&self) -> usize {
+        self.0.keys.len()
+    }
+    pub fn is_empty(&self) -> bool {
+        self.0.keys.is_empty()
+    }
+    pub fn as_slice(&self) -> &[T] {
+        &self.0.keys
+    }
+    pub fn iter(&self) -> std::slice::Iter<'_, T> {
+        self.0.keys.iter()
     }
 }
 impl<T> Vec<T> {
@@ -222,4 +389,88 @@ impl Host {
 pub fn read_all(v: &mut Vec<u8>) {
     use std::io::Read;
     std::io::stdin().read_to_end(&mut v.0).unwrap();
+}
+
+#[derive(Clone, Debug, PartialEq, Eq, PartialOrd, Ord, Hash)]
+pub struct String(pub std::string::String);
+impl Deref for String {
+    type Target = str;
+    fn deref(&self) -> &str {
+        &self.0
+    }
+}
+pub trait ToStringIn {
+    fn to_string_in(&self, a: Global) -> Result<String, AllocError>;
+}
+impl<T: std::fmt::Display + ?Sized> ToStringIn for T {
+    fn to_string_in(&self, _: Global) -> Result<String, AllocError> {
+        Ok(String(std::format!("{self}")))
+    }
+}
+#[macro_export]
+macro_rules! format_in {
+    (in $a:expr; $($rest:tt)*) => { { let _ = $a; Ok::<_, $crate::AllocError>($crate::String(std::format!($($rest)*))) } };
+}
+pub mod sync {
+    pub trait Wait {}
+    impl Wait for crate::Host {}
+}
+pub mod thread {
+    pub trait Threads {}
+    impl Threads for crate::Host {}
+}
+pub mod bstr {
+    use crate::{AllocError, Vec};
+    pub trait ByteVec {
+        fn push_byte(&mut self, byte: u8) -> Result<(), AllocError>;
+        fn push_str<B: AsRef<[u8]>>(&mut self, bytes: B) -> Result<(), AllocError>;
+    }
+    impl ByteVec for Vec<u8> {
+        fn push_byte(&mut self, byte: u8) -> Result<(), AllocError> {
+            Ok(self.push(byte)?)
+        }
+        fn push_str<B: AsRef<[u8]>>(&mut self, bytes: B) -> Result<(), AllocError> {
+            self.extend_from_slice(bytes.as_ref())
+        }
+    }
+}
+pub mod itoa {
+    pub struct Buffer(std::string::String);
+    impl Buffer {
+        pub fn new() -> Self {
+            Buffer(std::string::String::new())
+        }
+        pub fn format<I: std::fmt::Display>(&mut self, i: I) -> &str {
+            self.0 = i.to_string();
+            &self.0
+        }
+    }
+}
+impl<T> Vec<T> {
+    pub fn reserve(&mut self, n: usize) -> Result<(), AllocError> {
+        self.0.reserve(n);
+        Ok(())
+    }
+    #[inline(always)]
+    pub fn push_reserved(&mut self, x: T) {
+        self.0.push(x)
+    }
+}
+impl<T> Vec<T> {
+    pub fn append(&mut self, other: &mut Vec<T>) -> Result<(), AllocError> {
+        self.0.append(&mut other.0);
+        Ok(())
+    }
+    pub fn insert(&mut self, i: usize, x: T) -> Result<(), AllocError> {
+        self.0.insert(i, x);
+        Ok(())
+    }
+    pub fn remove(&mut self, i: usize) -> T {
+        self.0.remove(i)
+    }
+}
+impl String {
+    pub fn into_bytes(self) -> Vec<u8> {
+        Vec(self.0.into_bytes())
+    }
 }

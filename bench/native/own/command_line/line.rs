@@ -1,0 +1,48 @@
+use shim::{Global, String};
+#[derive(Clone, Copy, Debug, PartialEq, Eq)]
+pub struct Search {
+    pub workers: u32,
+    pub slice: u32,
+}
+#[derive(Clone, Copy, Debug, PartialEq, Eq)]
+pub struct Shop {
+    pub jobs: u32,
+    pub machines: u32,
+    pub start: u32,
+    pub deadline: u32,
+}
+#[derive(Clone, Copy, Debug, PartialEq, Eq)]
+pub enum Line {
+    Solve(Search),
+    Certify(Search),
+    Check,
+    Bench(Shop, u32),
+}
+#[derive(Clone, Copy, Debug, PartialEq, Eq)]
+pub enum LineError {
+    Refused,
+    OutOfMemory,
+}
+pub fn read_line(_: Global, words: &[String]) -> Result<Line, LineError> {
+    line_of(words).ok_or(LineError::Refused)
+}
+fn line_of(words: &[String]) -> Option<Line> {
+    let mut search = Search { workers: 4, slice: 1_000 };
+    let mut numbers = std::vec::Vec::new();
+    let mut rest = words.iter().map(|word| word.0.as_str());
+    let name = rest.next()?;
+    while let Some(word) = rest.next() {
+        match word {
+            "--workers" => search.workers = rest.next()?.parse().ok().filter(|n| (1..=64).contains(n))?,
+            "--slice" => search.slice = rest.next()?.parse().ok().filter(|n| (1..=1_000_000).contains(n))?,
+            _ => numbers.push(word.parse::<u32>().ok()?),
+        }
+    }
+    match (name, numbers.as_slice()) {
+        ("solve", []) => Some(Line::Solve(search)),
+        ("certify", []) => Some(Line::Certify(search)),
+        ("check", []) => Some(Line::Check),
+        ("bench", &[jobs, machines, start, deadline]) => Some(Line::Bench(Shop { jobs, machines, start, deadline }, search.workers)),
+        _ => None,
+    }
+}

@@ -1,0 +1,3 @@
+fn main() -> std::process::ExitCode {
+    dtp_run::start()
+}
