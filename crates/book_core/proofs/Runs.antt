@@ -22,6 +22,7 @@ use Rattle.book_core.specs.declared.event.Event.{Event}
 use Rattle.book_core.specs.declared.event.Taken.{Taken}
 use Rattle.book_core.specs.declared.event.Taken.TheVariants.{Done, Idle, Cube}
 use Rattle.book_core.specs.Books.{State, opening, IsAllowed, MayAnswer, IsJustified, cover_taken, cover_delivered, after}
+use Rattle.book_core.specs.Halves.{halves_after, halves_from, halves_of}
 use Rattle.book_core.specs.Runs.{IsRun, IsRunFrom, replayed_from, replayed, Ledger, ledger, state_of, with_event, IsKept}
 
 pub replayed_push : (s : State) (es : List Event) (e : Event) → replayed_from s (es ++ e ∷ []) ≡ after (replayed_from s es) e
@@ -36,13 +37,20 @@ run_push : (problem : Problem) (s : State) (es : List Event) (e : Event) → IsR
 run_push problem s [] e h a = (a, tt)
 run_push problem s (x ∷ es) e h a = (h.0, run_push problem (after s x) es e h.1 a)
 
-pub kept_more : (problem : Problem) (es es_new : List Event) (s s_new : State) (e : Event) (room room_new : ℕ) → IsKept problem es s room → IsAllowed problem s e → es_new ≡ es ++ e ∷ [] → s_new ≡ after s e → length es + 1 + held_count s_new.cover.nodes ≤ room_new → IsKept problem es_new s_new room_new
-kept_more problem es es_new s s_new e room room_new k a ee es_is le =
+-- the halves of a journal that is one event longer
+pub halves_push : (s : State) (last : Option (ℕ × ℕ)) (es : List Event) (e : Event) → halves_from s last (es ++ e ∷ []) ≡ halves_after (replayed_from s es) e (halves_from s last es)
+halves_push s last [] e = refl
+halves_push s last (x ∷ es) e = halves_push (after s x) (halves_after s x last) es e
+
+pub kept_more : (problem : Problem) (es es_new : List Event) (s s_new : State) (e : Event) (halves halves_new : Option (ℕ × ℕ)) (room room_new : ℕ) → IsKept problem es s halves room → IsAllowed problem s e → es_new ≡ es ++ e ∷ [] → s_new ≡ after s e
+    → halves_new ≡ halves_after s e halves → length es + 1 + held_count s_new.cover.nodes ≤ room_new → IsKept problem es_new s_new halves_new room_new
+kept_more problem es es_new s s_new e halves halves_new room room_new k a ee es_is divided le =
     let allowed : IsAllowed problem (replayed es) e = subst (λ (t : State). IsAllowed problem t e) k.same a in
     let state : s_new ≡ replayed es_new = es_is ∙ (ap (λ (t : State). after t e) k.same ∙ (sym (replayed_push opening es e) ∙ ap replayed (sym ee))) in
     let run : IsRun problem es_new = subst (IsRun problem) (sym ee) (run_push problem opening es e k.run allowed) in
     let count : length es_new ≡ length es + 1 = ap length ee ∙ length-append es (e ∷ []) in
-    record { run = run; same = state; reserved = omega arith }
+    let last : halves_new ≡ halves_of es_new = divided ∙ ((λ i. halves_after (k.same i) e (k.divided i)) ∙ (sym (halves_push opening None es e) ∙ ap halves_of (sym ee))) in
+    record { run = run; same = state; divided = last; reserved = omega arith }
 
 abbrev pub state : Cubes → List Lemma → Option (List ℤ) → State
 state cover lemmas found = record { cover = cover; lemmas = lemmas; found = found }

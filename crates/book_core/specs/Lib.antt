@@ -6,6 +6,8 @@ pub mod Verdicts
 pub mod Shared
 pub mod Prepared
 pub mod Handed
+pub mod Halves
+pub mod Deliveries
 pub mod Closing
 pub use Rattle.refute_tree.specs.Trees
 pub use Rattle.refute_tree.specs.Batches

@@ -7,10 +7,12 @@ ghost use Rattle.book_core.specs.declared.event.Taken.TheVariants.{Cube};
 ghost use Rattle.book_core.specs.Books.{IsJustifiedIn, IsHeldBy, IsAllowed, MayAnswer, cover_taken};
 ghost use Rattle.book_core.specs.Shared.{lemmas_of};
 ghost use Rattle.book_core.specs.Facts.{IsSound};
-ghost use Rattle.book_core.specs.Runs.{ledger, state_of, with_event, Answers, IsRun};
+ghost use Rattle.book_core.specs.Halves.{halves_of};
+ghost use Rattle.book_core.specs.Runs.{ledger, state_of, with_event, Answers, IsNear, told_as, IsRun};
 ghost use Rattle.book_core.specs.Verdicts.{Concludes};
 
 use crate::answer::Answer;
+use crate::delivery::{Delivery, Refused};
 use crate::event::{Event, Outcome, Taken};
 use crate::prepared::{Prepared, prepare, publish, settle};
 use crate::refutation::refutation_of;
@@ -22,13 +24,6 @@ use std::marker::Model;
 use std::sync::Arc;
 use stn_core::{Problem, Schedule};
 
-/// A delivery for which there was no memory: what was handed in comes back.
-#[derive(Drop)]
-pub struct Refused {
-    pub batch: Batch,
-    pub outcome: Outcome,
-}
-
 /// The book of a problem. A lemma is kept once: the event that brought it shares it with the list of all.
 #[derive(Drop)]
 pub struct Book {
@@ -36,6 +31,7 @@ pub struct Book {
     cover: Cover,
     lemmas: Vec<Arc<Lemma>>,
     found: Option<Schedule>,
+    halves: Option<(usize, usize)>,
     journal: Vec<Event>,
 }
 
@@ -50,7 +46,7 @@ impl Model for Book {
     ghost view = { λ b. ledger b.problem b.journal.items };
 
     ghost invariant = { λ b. IsKept b.problem b.journal.items
-        (state_with b.cover (lemmas_of b.lemmas.items) b.found) (vec_capacity b.journal) };
+        (state_with b.cover (lemmas_of b.lemmas.items) b.found) b.halves (vec_capacity b.journal) };
 }
 
 impl Book {
@@ -63,6 +59,7 @@ impl Book {
             cover: Cover::new(alloc)?,
             lemmas: Vec::new(alloc),
             found: None,
+            halves: None,
             journal: Vec::new(alloc),
         })
     }
@@ -138,13 +135,43 @@ impl Book {
         let _ = &self.problem;
     }
 
+    /// The two halves of the last delivery, by their numbers, where it divided its cube.
+    pub fn halves(&self) -> Option<(usize, usize)>
+        ensures { result ≡ halves_of self.now.journal }
+    {
+        self.halves
+    }
+
     /// A cube for the seat, if one is free. At `Err` nothing changed.
     pub fn take(&mut self, seat: u32) -> Result<Answer, AllocError>
         ensures ok { IfOk result (λ answer. Answers self.old seat answer self.new) }
         ensures small { OnOk result (length self.new.journal < 2 ^ 64) }
         ensures err { OnErr result (self.new ≡ self.old) }
     {
-        match self.next() {
+        let next = self.next();
+        self.answer(seat, next)
+    }
+
+    /// As `take`, with the cube of this number where it is free.
+    pub fn take_near(&mut self, seat: u32, id: usize) -> Result<Answer, AllocError>
+        ensures ok { IfOk result (λ answer. Answers self.old seat answer self.new) }
+        ensures near { IfOk result (IsNear (state_of self.old).cover id) }
+        ensures small { OnOk result (length self.new.journal < 2 ^ 64) }
+        ensures err { OnErr result (self.new ≡ self.old) }
+    {
+        let next = self.next_near(id);
+        self.answer(seat, next)
+    }
+
+    /// A `take` with this answer. At `Err` nothing changed.
+    fn answer(&mut self, seat: u32, taken: Taken) -> Result<Answer, AllocError>
+        requires { MayAnswer (state_of self.old) taken }
+        ensures ok { IfOk result (λ answer. Answers self.old seat answer self.new) }
+        ensures told { IfOk result (λ answer. told_as answer ≡ taken) }
+        ensures small { OnOk result (length self.new.journal < 2 ^ 64) }
+        ensures err { OnErr result (self.new ≡ self.old) }
+    {
+        match taken {
             Taken::Cube(id) => {
                 let literals = self.cover.cube_of(id)?;
                 self.record_take(seat, Taken::Cube(id))?;
@@ -158,6 +185,17 @@ impl Book {
                 self.record_take(seat, Taken::Done)?;
                 Ok(Answer::Done)
             }
+        }
+    }
+
+    /// What a `take` is answered now, with the cube of this number where it is free.
+    fn next_near(&self, id: usize) -> Taken
+        ensures may { MayAnswer (state_of self.now) result }
+        ensures near { (k : ℕ) → result ≡ Cube k → node_at (state_of self.now).cover id ≡ Some Free → k ≡ id }
+    {
+        match self.next() {
+            Taken::Cube(_) if self.cover.is_free(id) => Taken::Cube(id),
+            next => next,
         }
     }
 
@@ -206,20 +244,35 @@ impl Book {
         ensures err { OnErr result (self.new ≡ self.old) }
         ensures refused { IfErr result (λ refused. (refused.batch ≡ batch) × (refused.outcome ≡ outcome)) }
     {
+        let delivery = Delivery::new(batch, outcome)?;
+        self.receive(seat, id, delivery)
+    }
+
+    /// As `deliver`, of a delivery whose copies were made before. It takes time in its lemmas' length.
+    pub fn receive(&mut self, seat: u32, id: usize, delivery: Delivery) -> Result<(), Refused>
+        requires held { IsHeldBy (state_of self.old) id seat }
+        requires justified { IsJustifiedIn self.old.problem (state_of self.old) id
+            delivery.batch delivery.outcome }
+        ensures ok { OnOk result (self.new
+            ≡ with_event self.old (Deliver seat id delivery.batch delivery.outcome)) }
+        ensures err { OnErr result (self.new ≡ self.old) }
+        ensures refused { IfErr result (λ refused.
+            (refused.batch ≡ delivery.batch) × (refused.outcome ≡ delivery.outcome)) }
+    {
+        let Delivery {
+            batch,
+            outcome,
+            copied,
+            schedule,
+        } = delivery;
         let alloc = *self.lemmas.allocator();
         let base = self.lemmas.len();
-        let prepared = match prepare(alloc, base, &batch, &outcome) {
-            Ok(prepared) => prepared,
-            Err(_) => return Err(Refused { batch, outcome }),
+        let Ok(prepared) = prepare(alloc, base, copied) else {
+            return Err(Refused { batch, outcome });
         };
-        let Prepared {
-            shared,
-            handed,
-            schedule,
-        } = prepared;
-        match self.lemmas.reserve(shared.len()) {
-            Ok(()) => {}
-            Err(_) => return Err(Refused { batch, outcome }),
+        let Prepared { shared, handed } = prepared;
+        if self.lemmas.reserve(shared.len()).is_err() {
+            return Err(Refused { batch, outcome });
         }
         match settle(
             &mut self.cover,
@@ -230,7 +283,7 @@ impl Book {
             &outcome,
             schedule,
         ) {
-            Ok(()) => {}
+            Ok(halves) => self.halves = halves,
             Err(_) => return Err(Refused { batch, outcome }),
         }
         publish(&mut self.lemmas, shared);

@@ -1,4 +1,5 @@
 ghost use Rattle.std.specs.Prelude.{◌≡◌, IfOk};
+ghost use Rattle.book_core.specs.Prepared.{given_schedule};
 
 use crate::handed::HandedBatch;
 use std::alloc::AllocError;
@@ -32,6 +33,16 @@ impl Outcome {
             Outcome::Found(schedule) => Ok(Outcome::Found(schedule.copy()?)),
             Outcome::Shut(j) => Ok(Outcome::Shut(*j)),
             Outcome::Split(literal) => Ok(Outcome::Split(*literal)),
+        }
+    }
+
+    /// The schedule that was found, in memory of its own.
+    pub(crate) fn schedule(&self) -> Result<Option<Schedule>, AllocError>
+        ensures { IfOk result (λ schedule. schedule ≡ given_schedule self.now) }
+    {
+        match self {
+            Outcome::Found(schedule) => Ok(Some(schedule.copy()?)),
+            _ => Ok(None),
         }
     }
 }

@@ -10,6 +10,7 @@
 mod answer;
 mod book;
 mod closing;
+mod delivery;
 mod event;
 mod handed;
 mod laws;
@@ -18,7 +19,8 @@ mod refutation;
 mod verdict;
 
 pub use answer::Answer;
-pub use book::{Book, Refused};
+pub use book::Book;
+pub use delivery::{Delivery, Refused};
 pub use event::{Event, Outcome, Taken};
 pub use handed::HandedBatch;
 pub use laws::{divided_law, done_kept_law, ends_law, sound_law};

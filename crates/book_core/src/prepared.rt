@@ -9,6 +9,7 @@ ghost use Rattle.book_core.specs.declared.event.Outcome.TheVariants.{Shut};
 ghost use Rattle.book_core.specs.Books.{cover_delivered, found_delivered};
 ghost use Rattle.book_core.specs.Shared.{lemmas_of};
 ghost use Rattle.book_core.specs.Prepared.{given_schedule};
+ghost use Rattle.book_core.specs.Halves.{halves_made};
 
 use crate::event::Outcome;
 use crate::handed::HandedBatch;
@@ -18,44 +19,30 @@ use std::alloc::{AllocError, Global};
 use std::sync::Arc;
 use stn_core::Schedule;
 
-/// What a delivery leaves in the book, in memory of its own.
+/// A batch as it stands in the book.
 #[derive(Drop)]
 pub(crate) struct Prepared {
     pub(crate) shared: Vec<Arc<Lemma>>,
     pub(crate) handed: HandedBatch,
-    pub(crate) schedule: Option<Schedule>,
 }
 
-/// The batch's lemmas as they stand behind the first `base` ones, and the schedule.
-pub(crate) fn prepare(
-    alloc: Global,
-    base: usize,
-    batch: &Batch,
-    outcome: &Outcome,
-) -> Result<Prepared, AllocError>
-    requires seen { batch.now.seen ≤ base }
-    requires below { All (LemmaRefersBelow (batch.now.seen + length batch.now.lemmas)) batch.now.lemmas }
-    ensures lemmas { IfOk result (λ p. lemmas_of p.shared.items ≡ (moved base batch.now).lemmas) }
-    ensures handed { IfOk result (λ p. p.handed ≡ batch.now) }
-    ensures fits { IfOk result (λ p. base + length batch.now.lemmas ≤ lemmas_limit) }
-    ensures schedule { IfOk result (λ p. p.schedule ≡ given_schedule outcome.now) }
+/// The batch's lemmas as they stand behind the first `base` ones.
+pub(crate) fn prepare(alloc: Global, base: usize, batch: Batch) -> Result<Prepared, AllocError>
+    requires seen { batch.seen ≤ base }
+    requires below { All (LemmaRefersBelow (batch.seen + length batch.lemmas)) batch.lemmas }
+    ensures lemmas { IfOk result (λ p. lemmas_of p.shared.items ≡ (moved base batch).lemmas) }
+    ensures handed { IfOk result (λ p. p.handed ≡ batch) }
+    ensures fits { IfOk result (λ p. base + length batch.lemmas ≤ lemmas_limit) }
 {
     if base.saturating_add(batch.lemmas().len()) > LEMMAS_LIMIT {
         return Err(AllocError);
     }
-    let mut moved = batch.copy()?;
+    let seen = batch.seen();
+    let mut moved = batch;
     moved.move_to(base);
     let shared = share(alloc, moved.into_lemmas())?;
-    let handed = HandedBatch::new(batch.seen(), base, share_again(alloc, shared.as_slice())?);
-    let schedule = match outcome {
-        Outcome::Found(schedule) => Some(schedule.copy()?),
-        _ => None,
-    };
-    Ok(Prepared {
-        shared,
-        handed,
-        schedule,
-    })
+    let handed = HandedBatch::new(seen, base, share_again(alloc, shared.as_slice())?);
+    Ok(Prepared { shared, handed })
 }
 
 fn share(alloc: Global, lemmas: Vec<Lemma>) -> Result<Vec<Arc<Lemma>>, AllocError>
@@ -89,7 +76,8 @@ pub(crate) fn publish(lemmas: &mut Vec<Arc<Lemma>>, mut shared: Vec<Arc<Lemma>>)
     lemmas.append(&mut shared).unwrap();
 }
 
-/// What the outcome makes of the cover, and of the schedule found. At `Err` both are as before.
+/// What the outcome makes of the cover, and of the schedule found; the two halves where it divides the cube. At
+/// `Err` both are as before.
 pub(crate) fn settle(
     cover: &mut Cover,
     found: &mut Option<Schedule>,
@@ -98,12 +86,13 @@ pub(crate) fn settle(
     base: usize,
     outcome: &Outcome,
     schedule: Option<Schedule>,
-) -> Result<(), AllocError>
+) -> Result<Option<(usize, usize)>, AllocError>
     requires held { (seat : ℕ) × (node_at cover.old id ≡ Some (Held seat)) }
     requires number { (j : ℕ) → outcome.now ≡ Shut j → moved_number batch.now.seen base j < 2 ^ 64 }
     requires schedule { schedule ≡ given_schedule outcome.now }
     ensures cover { OnOk result (cover.new ≡ cover_delivered cover.old id batch.now.seen base outcome.now) }
     ensures found { OnOk result (found.new ≡ found_delivered found.old outcome.now) }
+    ensures halves { IfOk result (λ h. h ≡ halves_made cover.old outcome.now) }
     ensures cover_err { OnErr result (cover.new ≡ cover.old) }
     ensures found_err { OnErr result (found.new ≡ found.old) }
 {
@@ -113,15 +102,15 @@ pub(crate) fn settle(
             if found.is_none() {
                 *found = schedule;
             }
-            Ok(())
+            Ok(None)
         }
         Outcome::Shut(j) => {
             cover.close(id, batch.moved_number(*j, base));
-            Ok(())
+            Ok(None)
         }
         Outcome::Split(literal) => {
-            let _ = cover.split(id, *literal)?;
-            Ok(())
+            let halves = cover.split(id, *literal)?;
+            Ok(Some(halves))
         }
     }
 }

@@ -14,7 +14,7 @@ use Rattle.book_core.proofs.book.Book.conclude.Goals as goal
 pub returns-in-Some : goal.returns-in-Some
 returns-in-Some c =
     let s : State = state_with c.self.inside.cover (lemmas_of c.self.inside.lemmas.items) c.self.inside.found in
-    let sound = kept_sound c.self.inside.problem _ s _ c.self.invariant in
+    let sound = kept_sound c.self.inside.problem _ s _ _ c.self.invariant in
     outside (λ (p : Problem) (t : State). IsDone t × IsRight p (Sat c.in_ok-copy-in-Some.field-0)) c.self.inside.problem _ s _ c.self.view_is c.self.invariant.same
     (done_by_found s c.in-Some.schedule c.in-Some.is, concluded_sat c.self.inside.problem c.self.inside.found c.in-Some.schedule c.in_ok-copy-in-Some.field-0 sound.found c.in-Some.is c.in_ok-copy-in-Some.ensures)
 
@@ -27,7 +27,7 @@ returns-then-not-is_closed c =
 pub refutation_of-requires-clause-sound : goal.refutation_of-requires-clause-sound
 refutation_of-requires-clause-sound c =
     let s : State = state_with c.self.inside.cover (lemmas_of c.self.inside.lemmas.items) c.self.inside.found in
-    sound_read (λ a. arc_value {X = Stated} a) c.self.inside.problem s c.self.inside.lemmas.items c.as_slice.result.now (kept_sound c.self.inside.problem _ s _ c.self.invariant) refl c.as_slice.ensures.value
+    sound_read (λ a. arc_value {X = Stated} a) c.self.inside.problem s c.self.inside.lemmas.items c.as_slice.result.now (kept_sound c.self.inside.problem _ s _ _ c.self.invariant) refl c.as_slice.ensures.value
 
 pub returns : goal.returns
 returns c =

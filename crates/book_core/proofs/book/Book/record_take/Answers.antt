@@ -1,4 +1,4 @@
-use Rattle.std.proofs.Common.{arith, ap, ◌∙◌, List, [], ◌∷◌, ◌++◌}
+use Rattle.std.proofs.Common.{arith, ap, refl, ◌∙◌, List, [], ◌∷◌, ◌++◌}
 use Rattle.stn_core.specs.declared.problem.Problem.{Problem}
 use Rattle.book_core.specs.declared.event.Event.{Event}
 use Rattle.book_core.specs.declared.event.Event.TheVariants.{Take}
@@ -13,5 +13,5 @@ invariant_of-self-2 c =
     let e : Event = Take c.args.seat c.args.taken in
     let may = inside (λ (p : Problem) (t : State). MayAnswer t c.args.taken) c.self.inside.problem _ s _ c.self.view_is c.self.invariant.same c.requires in
     let count = count_held s _ c.args.seat c.args.taken may c.hold.ensures in
-    kept_more _ _ _ s _ e _ _ c.self.invariant may (c.push_reserved.ensures.items ∙ ap (λ (es : List Event). es ++ e ∷ []) c.in_ok-reserve.ensures.items) (ap (with_cover s) c.hold.ensures)
+    kept_more _ _ _ s _ e _ _ _ _ c.self.invariant may (c.push_reserved.ensures.items ∙ ap (λ (es : List Event). es ++ e ∷ []) c.in_ok-reserve.ensures.items) (ap (with_cover s) c.hold.ensures) refl
     (omega (arith, count, c.held_count-held.ensures, c.in_ok-reserve.ensures.ok, c.in_ok-reserve.ensures.len, c.push_reserved.ensures.capacity))

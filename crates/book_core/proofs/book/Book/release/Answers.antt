@@ -1,4 +1,4 @@
-use Rattle.std.proofs.Common.{arith, ap}
+use Rattle.std.proofs.Common.{arith, ap, refl}
 use Rattle.book_core.specs.declared.event.Event.TheVariants.{Release}
 use Rattle.book_core.specs.Shared.{lemmas_of}
 use Rattle.book_core.specs.Books.{State, state_with}
@@ -19,4 +19,4 @@ invariant_of-self c =
     let count = count_freed _ _ c.args.id _ here c.release.ensures in
     let room = c.self.invariant.reserved in
     let s : State = state_with c.self.inside.cover (lemmas_of c.self.inside.lemmas.items) c.self.inside.found in
-    kept_more _ _ _ s _ (Release c.args.seat c.args.id) _ _ c.self.invariant here c.push_reserved.ensures.items (ap (with_cover s) c.release.ensures) (omega (arith, c.push_reserved.ensures.capacity))
+    kept_more _ _ _ s _ (Release c.args.seat c.args.id) _ _ _ _ c.self.invariant here c.push_reserved.ensures.items (ap (with_cover s) c.release.ensures) refl (omega (arith, c.push_reserved.ensures.capacity))

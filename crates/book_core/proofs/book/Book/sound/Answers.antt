@@ -9,4 +9,4 @@ pub returns-clause-run : goal.returns-clause-run
 returns-clause-run c = subst (λ (b : Ledger). IsRun b.problem b.journal) c.self.view_is c.self.invariant.run
 
 pub returns-clause-sound : goal.returns-clause-sound
-returns-clause-sound c = outside IsSound c.self.inside.problem _ _ _ c.self.view_is c.self.invariant.same (kept_sound c.self.inside.problem _ _ _ c.self.invariant)
+returns-clause-sound c = outside IsSound c.self.inside.problem _ _ _ c.self.view_is c.self.invariant.same (kept_sound c.self.inside.problem _ _ _ _ c.self.invariant)

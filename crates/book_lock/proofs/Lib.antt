@@ -1,0 +1,10 @@
+pub mod Holding
+pub mod Calling
+pub mod Turning
+pub mod Taking
+pub mod Fronts
+pub mod Journals
+pub mod Steps
+pub mod Seating
+pub mod Ending
+pub mod Sounds
