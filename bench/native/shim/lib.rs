@@ -412,12 +412,181 @@ macro_rules! format_in {
     (in $a:expr; $($rest:tt)*) => { { let _ = $a; Ok::<_, $crate::AllocError>($crate::String(std::format!($($rest)*))) } };
 }
 pub mod sync {
-    pub trait Wait {}
+    pub trait Wait {
+        fn forever(&self) -> std::iter::Repeat<()> {
+            std::iter::repeat(())
+        }
+    }
     impl Wait for crate::Host {}
 }
 pub mod thread {
+    pub use std::thread::yield_now;
     pub trait Threads {}
     impl Threads for crate::Host {}
+    /// The items in so many parts, each by a thread of its own.
+    pub fn for_each_mut<R, T: Send, F: Fn(usize, &mut T) + Sync>(_: &R, s: &mut [T], threads: usize, f: &F) {
+        let length = s.len().div_ceil(threads.max(1)).max(1);
+        std::thread::scope(|scope| {
+            for (part, items) in s.chunks_mut(length).enumerate() {
+                scope.spawn(move || {
+                    for (k, item) in items.iter_mut().enumerate() {
+                        f(part * length + k, item);
+                    }
+                });
+            }
+        });
+    }
+}
+pub mod snapshot {
+    /// The value at a time, of which code has nothing.
+    pub struct Snapshot<T>(std::marker::PhantomData<T>);
+    impl<T> Snapshot<T> {
+        pub fn of(_: &T) -> Self {
+            Snapshot(std::marker::PhantomData)
+        }
+    }
+    unsafe impl<T> Send for Snapshot<T> {}
+    unsafe impl<T> Sync for Snapshot<T> {}
+}
+pub mod atomic_table {
+    use crate::{AllocError, Vec};
+    use std::cell::UnsafeCell;
+    use std::marker::PhantomData;
+    use std::sync::atomic::{AtomicU64, Ordering::SeqCst};
+    pub trait TableRule<S, V, K> {}
+    pub trait Play<S, V> {}
+    pub trait Split<V> {}
+    pub trait Join<V> {}
+    pub struct Seat<S, V>(PhantomData<(S, V)>);
+    unsafe impl<S, V> Send for Seat<S, V> {}
+    unsafe impl<S, V> Sync for Seat<S, V> {}
+    pub struct Shared<S, V, K, P> {
+        words: std::vec::Vec<AtomicU64>,
+        slots: std::vec::Vec<UnsafeCell<S>>,
+        marker: PhantomData<(V, K, P)>,
+    }
+    unsafe impl<S: Send, V, K, P> Sync for Shared<S, V, K, P> {}
+    unsafe impl<S: Send, V, K, P> Send for Shared<S, V, K, P> {}
+    pub struct Table<S, V, K, P, A> {
+        pub shared: Shared<S, V, K, P>,
+        marker: PhantomData<A>,
+    }
+    pub struct Closed<S, A> {
+        words: std::vec::Vec<u64>,
+        slots: std::vec::Vec<Option<S>>,
+        marker: PhantomData<A>,
+    }
+    impl<S, V, K, P, A> Table<S, V, K, P, A> {
+        pub fn new(_: A, words: &[u64], slots: Vec<S>, _: &K) -> Result<(Self, Seat<S, V>), AllocError> {
+            let shared = Shared {
+                words: words.iter().map(|word| AtomicU64::new(*word)).collect(),
+                slots: slots.0.into_iter().map(UnsafeCell::new).collect(),
+                marker: PhantomData,
+            };
+            Ok((Table { shared, marker: PhantomData }, Seat(PhantomData)))
+        }
+        pub fn close(self) -> Closed<S, A> {
+            Closed {
+                words: self.shared.words.into_iter().map(AtomicU64::into_inner).collect(),
+                slots: self.shared.slots.into_iter().map(|slot| Some(slot.into_inner())).collect(),
+                marker: PhantomData,
+            }
+        }
+        pub fn close_with(self, _: Seat<S, V>) -> Closed<S, A> {
+            self.close()
+        }
+    }
+    impl<S, A> Closed<S, A> {
+        pub fn word(&self, i: usize) -> u64 {
+            self.words[i]
+        }
+        pub fn take(&mut self, i: usize) -> S {
+            self.slots[i].take().unwrap()
+        }
+        pub fn free(self) {}
+    }
+    impl<S, V, K, P> Shared<S, V, K, P> {
+        pub fn compare_exchange<Y>(&self, _: &mut Seat<S, V>, word: usize, old: u64, new: u64) -> u64 {
+            self.words[word].compare_exchange(old, new, SeqCst, SeqCst).unwrap_or_else(|found| found)
+        }
+        pub fn store<Y>(&self, _: &mut Seat<S, V>, word: usize, new: u64) {
+            self.words[word].store(new, SeqCst)
+        }
+        pub fn load<Y>(&self, _: &mut Seat<S, V>, word: usize) -> u64 {
+            self.words[word].load(SeqCst)
+        }
+        pub fn peek(&self, word: usize) -> u64 {
+            self.words[word].load(SeqCst)
+        }
+        /// The rule of the caller says that it alone has the slot.
+        pub fn exchange(&self, _: &mut Seat<S, V>, slot: usize, value: S) -> S {
+            unsafe { std::mem::replace(&mut *self.slots[slot].get(), value) }
+        }
+        pub fn split_seat<Y>(&self, _: &mut Seat<S, V>) -> Seat<S, V> {
+            Seat(PhantomData)
+        }
+        pub fn join_seat<Y>(&self, _: &mut Seat<S, V>, _: Seat<S, V>) {}
+        /// Sleeps so long where the word is this one; nobody ends it earlier.
+        pub fn park_timeout<R>(&self, _: &R, word: usize, seen: u32, time: std::time::Duration) {
+            if self.words[word].load(SeqCst) as u32 == seen {
+                std::thread::sleep(time);
+            }
+        }
+    }
+}
+pub mod crossbeam_deque {
+    use crate::AllocError;
+    use std::collections::VecDeque;
+    use std::marker::PhantomData;
+    use std::sync::{Arc, Mutex};
+    pub mod protocol {
+        pub trait Protocol<T, V> {}
+        pub trait Outcome<T, V> {}
+        pub trait Lesson<T, V> {}
+        pub trait Split<V> {}
+        pub trait Join<V> {}
+    }
+    pub struct Pass<T, V>(PhantomData<(T, V)>);
+    unsafe impl<T, V> Send for Pass<T, V> {}
+    unsafe impl<T, V> Sync for Pass<T, V> {}
+    pub struct Worker<T, A, V, P>(Arc<Mutex<VecDeque<T>>>, PhantomData<(A, V, P)>);
+    pub struct Stealer<T, A, V, P>(Arc<Mutex<VecDeque<T>>>, PhantomData<(A, V, P)>);
+    unsafe impl<T: Send, A, V, P> Send for Worker<T, A, V, P> {}
+    unsafe impl<T: Send, A, V, P> Sync for Worker<T, A, V, P> {}
+    unsafe impl<T: Send, A, V, P> Send for Stealer<T, A, V, P> {}
+    unsafe impl<T: Send, A, V, P> Sync for Stealer<T, A, V, P> {}
+    pub enum Steal<T> {
+        Success(T),
+        Empty,
+        Retry,
+    }
+    impl<T, A, V, P> Worker<T, A, V, P> {
+        pub fn fifo_as(_: A, _: usize) -> Result<Self, AllocError> {
+            Ok(Worker(Default::default(), PhantomData))
+        }
+        pub fn push_as<Y>(&mut self, x: T) -> Result<(), T> {
+            self.0.lock().unwrap().push_back(x);
+            Ok(())
+        }
+        pub fn pop_as<Y>(&mut self) -> Option<T> {
+            self.0.lock().unwrap().pop_front()
+        }
+        pub fn len_as<Y>(&mut self) -> usize {
+            self.0.lock().unwrap().len()
+        }
+        pub fn another<Y>(&mut self) -> Pass<T, V> {
+            Pass(PhantomData)
+        }
+        pub fn absorb<Y>(&mut self, _: Pass<T, V>) {}
+        pub fn stealer(&self) -> Result<Stealer<T, A, V, P>, AllocError> {
+            Ok(Stealer(self.0.clone(), PhantomData))
+        }
+    }
+    impl<T, A, V, P> Stealer<T, A, V, P> {
+        pub fn steal_as<Y>(&self, _: &mut Pass<T, V>) -> Steal<T> {
+            self.0.lock().unwrap().pop_front().map_or(Steal::Empty, Steal::Success)
+        }
+    }
 }
 pub mod bstr {
     use crate::{AllocError, Vec};
