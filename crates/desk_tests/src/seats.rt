@@ -1,0 +1,125 @@
+//! What each of two seats is answered.
+ghost use Rattle.std.specs.Prelude.{◌≡◌};
+ghost use Rattle.book_lock.specs.Seats.{IsSameSeat};
+
+use crate::calls::{ask, ask_near, deliver_justified, give_back};
+use crate::endings::{Call, closed, conclusion, first_calls, last_halves};
+use crate::table::{X_BEFORE_Y, refuting, two_orders};
+use book_core::Outcome;
+use book_lock::{Desk, Seat, Taken};
+use refute_tree::Batch;
+use std::alloc::{AllocError, Global};
+use std::sync::Wait;
+use std::test::Fail;
+use stn_core::Problem;
+
+/// Seat 0 takes the whole and refutes it; how many lemmas each seat has after the other's `take`.
+fn refuted<R: Wait>(
+    rt: &R,
+    alloc: Global,
+    desk: &Desk,
+    problem: &Problem,
+    seat: &mut Seat,
+    other: &mut Seat,
+) -> Result<(Option<Taken>, bool, Option<Taken>, [usize; 2]), AllocError>
+    requires desk { (seat.old.desk ≡ desk.now.id) × (other.old.desk ≡ desk.now.id) }
+    requires problem { seat.old.view.problem ≡ problem.now }
+    ensures same { IsSameSeat seat.old seat.new × IsSameSeat other.old other.new }
+{
+    let first = ask(rt, desk, seat)?;
+    let batch = refuting(alloc)?;
+    let is_justified = deliver_justified(rt, alloc, desk, seat, problem, batch, Outcome::Shut(1))?;
+    let second = ask(rt, desk, other)?;
+    let counts = [seat.lemmas().len(), other.lemmas().len()];
+    Ok((first, is_justified, second, counts))
+}
+
+#[test]
+fn a_seat_sees_what_another_delivered(rt: HostRuntime) -> Result<(), Fail> {
+    let alloc = rt.alloc();
+    let problem = two_orders(alloc)?;
+    let (desk, mut seat) = Desk::start(alloc, problem.copy()?)?;
+    let mut other = desk.split_seat(&mut seat)?;
+    let told = refuted(&rt, alloc, &desk, &problem, &mut seat, &mut other)?;
+    let expected = (Some(Taken::Cube), true, Some(Taken::Done), [0, 2]);
+    assert_eq!(rt; told, expected);
+    let book = closed(desk, seat, other);
+    assert_eq!(rt; conclusion(&book)?, Some((3, true)));
+    Ok(())
+}
+
+/// Seat 1 takes the whole and gives it back, and seat 0 refutes it.
+fn taken_twice<R: Wait>(
+    rt: &R,
+    alloc: Global,
+    desk: &Desk,
+    problem: &Problem,
+    seat: &mut Seat,
+    other: &mut Seat,
+) -> Result<(Option<usize>, bool), AllocError>
+    requires desk { (seat.old.desk ≡ desk.now.id) × (other.old.desk ≡ desk.now.id) }
+    requires problem { seat.old.view.problem ≡ problem.now }
+    ensures same { IsSameSeat seat.old seat.new × IsSameSeat other.old other.new }
+{
+    let _ = ask(rt, desk, other)?;
+    let id = give_back(rt, desk, other);
+    let _ = ask(rt, desk, seat)?;
+    let batch = refuting(alloc)?;
+    let is_justified = deliver_justified(rt, alloc, desk, seat, problem, batch, Outcome::Shut(1))?;
+    Ok((id, is_justified))
+}
+
+#[test]
+fn one_history_of_both(rt: HostRuntime) -> Result<(), Fail> {
+    let alloc = rt.alloc();
+    let problem = two_orders(alloc)?;
+    let (desk, mut seat) = Desk::start(alloc, problem.copy()?)?;
+    let mut other = desk.split_seat(&mut seat)?;
+    let told = taken_twice(&rt, alloc, &desk, &problem, &mut seat, &mut other)?;
+    assert_eq!(rt; told, (Some(0), true));
+    let book = closed(desk, seat, other);
+    let expected = [
+        Some(Call::Take(1)),
+        Some(Call::Release(1)),
+        Some(Call::Take(0)),
+        Some(Call::Deliver(0)),
+        None,
+    ];
+    assert_eq!(rt; first_calls(&book), expected);
+    Ok(())
+}
+
+/// Seat 0 divides the whole, and seat 1 takes the first half and gives it back.
+fn divided<R: Wait>(
+    rt: &R,
+    alloc: Global,
+    desk: &Desk,
+    problem: &Problem,
+    seat: &mut Seat,
+    other: &mut Seat,
+) -> Result<(Option<(usize, usize)>, Option<Taken>, Option<usize>), AllocError>
+    requires desk { (seat.old.desk ≡ desk.now.id) × (other.old.desk ≡ desk.now.id) }
+    requires problem { seat.old.view.problem ≡ problem.now }
+    ensures same { IsSameSeat seat.old seat.new × IsSameSeat other.old other.new }
+{
+    let _ = ask(rt, desk, seat)?;
+    let batch = Batch::new(0, Vec::new(alloc));
+    let outcome = Outcome::Split(X_BEFORE_Y);
+    let _ = deliver_justified(rt, alloc, desk, seat, problem, batch, outcome)?;
+    let answer = ask_near(rt, desk, other, 1)?;
+    let id = give_back(rt, desk, other);
+    Ok((seat.halves(), answer, id))
+}
+
+#[test]
+fn halves_are_told_and_taken(rt: HostRuntime) -> Result<(), Fail> {
+    let alloc = rt.alloc();
+    let problem = two_orders(alloc)?;
+    let (desk, mut seat) = Desk::start(alloc, problem.copy()?)?;
+    let mut other = desk.split_seat(&mut seat)?;
+    let told = divided(&rt, alloc, &desk, &problem, &mut seat, &mut other)?;
+    assert_eq!(rt; told, (Some((1, 2)), Some(Taken::Cube), Some(1)));
+    let book = closed(desk, seat, other);
+    assert_eq!(rt; last_halves(&book), Some((1, 2)));
+    Ok(())
+}
