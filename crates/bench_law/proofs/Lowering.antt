@@ -1,5 +1,5 @@
 -- What the terms of a script are made into.
-use Rattle.std.proofs.Common.{◌≡◌, ◌∙◌, refl, ap, arith, ℕ, ◌+◌, ◌<◌, ◌≤◌, Bool, true, false, ◌==◌, nat_lt, nat_le, List, [], ◌∷◌, ◌++◌, length, length-append, Option, Some, None, Result, Ok, Err, ℤ, pos, neg_ℤ, ◌+ℤ◌, ◌≤ℤ◌}
+use Rattle.std.proofs.Common.{◌≡◌, ◌∙◌, refl, ap, arith, ℕ, ◌+◌, ◌<◌, ◌≤◌, Bool, true, false, ◌&&◌, ◌==◌, nat_lt, nat_le, List, [], ◌∷◌, ◌++◌, length, length-append, Option, Some, None, Result, Ok, Err, ℤ, pos, neg_ℤ, ◌+ℤ◌, ◌≤ℤ◌}
 use Rattle.std.specs.Prelude.{codes, if◌then◌else◌, int_le}
 use Rattle.std.specs.Str.{bytes_eq}
 use Rattle.std.proofs.lemmas.Int.{ints}
@@ -12,16 +12,19 @@ use Rattle.idl_linear.specs.Limits.{constant_limit, number_limit}
 use Rattle.idl_linear.specs.Linear.{LinearValue, sum_of, collected, less_others, is_limited, is_within, number_alone, point_alone}
 use Rattle.idl_linear.specs.Differences.{difference_of, ends_of}
 use Rattle.idl_node.specs.Limits.{nodes_limit}
+use Rattle.idl_node.specs.Making.{disjoined}
 use Rattle.idl_node.specs.Nodes.{NodeValue, atom, disjunction, Placed, placed, placed_by, number_in}
 use Rattle.idl_node.specs.declared.sort.Sort.TheVariants as sort
+use Rattle.idl_scope.specs.Guarded.{plain}
 use Rattle.idl_scope.specs.Scopes.{LoweredTerm, formula, linear_term, Scope, found, declared_at}
 use Rattle.idl_term.specs.Applied.{Made, applied, as_number, a_formula}
-use Rattle.idl_term.specs.Comparing.{follows, or_too_large, compared, related_by, each_compared, at_most, at_least}
+use Rattle.idl_term.specs.Comparing.{follows, or_too_large, compared, related_by, each_case_compared, each_compared, at_most, at_least}
 use Rattle.idl_term.specs.Walks.{application_made, let_made}
 use Rattle.idl_term.specs.declared.error.TermRefusal.{TermRefusal}
 use Rattle.idl_term.specs.declared.error.TermRefusal.TheVariants.{WrongCount, BoundTooLarge}
 use Rattle.idl_term.specs.Lowered.{Head, operator, binder, refused, head_of, count_of, lowered, lowered_list, lowered_each, lowered_leaf, MadeEach, put_first}
 use Rattle.idl_term.specs.Operators.{connective_of, order_of, sign_of, equality_of, operator_of, is_reserved, takes_count}
+use Rattle.idl_term.specs.declared.comparing.Relation.{Relation}
 use Rattle.idl_term.specs.declared.comparing.Relation.TheVariants as relation
 use Rattle.idl_term.specs.declared.operator.Connective.TheVariants as connective
 use Rattle.idl_term.specs.declared.operator.Operator.{Operator}
@@ -218,18 +221,18 @@ module _ (scope : Scope) where
 
 -- ---- sums
 
-summed_number : (nodes : List NodeValue) (l : LinearValue) → is_limited l ≡ true → as_number nodes l ≡ Ok (record { nodes = nodes; is = linear_term l })
-summed_number nodes l e = ap (λ (b : Bool). if b then Ok (record { nodes = nodes; is = linear_term l }) else Err BoundTooLarge) e
+summed_number : (nodes : List NodeValue) (l : LinearValue) → is_limited l ≡ true → as_number nodes (plain l) ≡ Ok (record { nodes = nodes; is = linear_term l })
+summed_number nodes l e = ap (λ (b : Bool). if (b && true) then Ok (record { nodes = nodes; is = linear_term l }) else Err BoundTooLarge) e
 
-applied_minus : (nodes : List NodeValue) (a b : LinearValue) → applied (op.Sum sign.Minus) nodes (linear_term a ∷ linear_term b ∷ []) ≡ as_number nodes (less_others (a ∷ b ∷ []))
+applied_minus : (nodes : List NodeValue) (a b : LinearValue) → applied (op.Sum sign.Minus) nodes (linear_term a ∷ linear_term b ∷ []) ≡ as_number nodes (plain (less_others (a ∷ b ∷ [])))
 unfolding applied
 applied_minus nodes a b = refl
 
-applied_plus : (nodes : List NodeValue) (a b : LinearValue) → applied (op.Sum sign.Plus) nodes (linear_term a ∷ linear_term b ∷ []) ≡ as_number nodes (sum_of (a ∷ b ∷ []))
+applied_plus : (nodes : List NodeValue) (a b : LinearValue) → applied (op.Sum sign.Plus) nodes (linear_term a ∷ linear_term b ∷ []) ≡ as_number nodes (plain (sum_of (a ∷ b ∷ [])))
 unfolding applied
 applied_plus nodes a b = refl
 
-applied_negative : (nodes : List NodeValue) (a : LinearValue) → applied (op.Sum sign.Minus) nodes (linear_term a ∷ []) ≡ as_number nodes (less_others (a ∷ []))
+applied_negative : (nodes : List NodeValue) (a : LinearValue) → applied (op.Sum sign.Minus) nodes (linear_term a ∷ []) ≡ as_number nodes (plain (less_others (a ∷ [])))
 unfolding applied
 applied_negative nodes a = refl
 
@@ -267,7 +270,7 @@ module _ (scope : Scope) (nodes : List NodeValue) where
   less_number ds n e small =
       unary_made scope nodes (codes "-") (op.Sum sign.Minus) (digits ds) (record { nodes = nodes; is = linear_term (number_alone (pos n)) })
       (minus_head scope) refl (digits_number scope nodes ds n e (omega arith))
-      ∙ applied_negative nodes (number_alone (pos n)) ∙ ap (as_number nodes) (negative_is n) ∙ summed_number nodes (number_alone (neg_ℤ (pos n) +ℤ pos 0)) (number_limited _ (negative_near n small))
+      ∙ applied_negative nodes (number_alone (pos n)) ∙ ap (λ (l : LinearValue). as_number nodes (plain l)) (negative_is n) ∙ summed_number nodes (number_alone (neg_ℤ (pos n) +ℤ pos 0)) (number_limited _ (negative_near n small))
 
 -- ---- comparisons
 
@@ -277,6 +280,10 @@ pub record IsFormula (scope : Scope) (nodes : List NodeValue) (x : Sexpr) (more 
   pub root : ℕ
   pub is : lowered scope nodes x ≡ Ok (record { nodes = after; is = formula root })
   pub few : length after ≤ length nodes + more
+
+-- the pair in the one case of terms without conditions
+abbrev one_case : Relation → Result Placed TermRefusal → Result Placed TermRefusal
+one_case r pair = follows (follows pair (λ p. or_too_large (disjoined p.nodes (p.number ∷ [])))) (λ q. each_case_compared r q.nodes (q.number ∷ []) [])
 
 module _ (nodes : List NodeValue) (l : LinearValue) (c : ℤ) (short : IsShort l) (near : Near c) where
   abbrev bound : Difference
@@ -291,12 +298,12 @@ module _ (nodes : List NodeValue) (l : LinearValue) (c : ℤ) (short : IsShort l
   applied_most : (p : Placed) → compared relation.AtMost nodes l (number_alone c) ≡ Ok p
       → applied (op.Order order.AtMost) nodes (linear_term l ∷ linear_term (number_alone c) ∷ []) ≡ Ok (record { nodes = p.nodes; is = formula p.number })
   unfolding applied
-  applied_most p e = ap (λ (r : Result Placed TermRefusal). follows (follows r (λ q. each_compared relation.AtMost q.nodes (q.number ∷ []) [])) a_formula) e
+  applied_most p e = ap (λ (r : Result Placed TermRefusal). follows (follows (one_case relation.AtMost r) (λ q. each_compared relation.AtMost q.nodes (q.number ∷ []) [])) a_formula) e
 
   applied_least : (p : Placed) → compared relation.AtLeast nodes l (number_alone c) ≡ Ok p
       → applied (op.Order order.AtLeast) nodes (linear_term l ∷ linear_term (number_alone c) ∷ []) ≡ Ok (record { nodes = p.nodes; is = formula p.number })
   unfolding applied
-  applied_least p e = ap (λ (r : Result Placed TermRefusal). follows (follows r (λ q. each_compared relation.AtLeast q.nodes (q.number ∷ []) [])) a_formula) e
+  applied_least p e = ap (λ (r : Result Placed TermRefusal). follows (follows (one_case relation.AtLeast r) (λ q. each_compared relation.AtLeast q.nodes (q.number ∷ []) [])) a_formula) e
 
 module _ (scope : Scope) (nodes : List NodeValue) (room : length nodes < nodes_limit) (x y : Sexpr) (l : LinearValue) (c : ℤ) (short : IsShort l) (near : Near c) (hx : IsNumber scope nodes x l) (hy : IsNumber scope nodes y (number_alone c)) where
   most_formula : IsFormula scope nodes (binary (codes "<=") x y) 1

@@ -19,7 +19,7 @@ pub struct Difference {
     pub n: i64,
 }
 
-/// `a` compared with `b`: their difference, where it is one of two time points and a number within 2^40. It takes no
+/// `a` compared with `b`: their difference, where it is one of two time points and a number within 2^60. It takes no
 /// memory, and a time in proportion to the terms' lengths.
 pub fn compare(a: &Linear, b: &Linear) -> Result<Difference, DifferenceRefusal>
     ensures ok { IfOk result (λ d. difference_of a.now b.now ≡ Ok d) }

@@ -10,6 +10,6 @@ pub enum LinearRefusal {
 pub enum DifferenceRefusal {
     /// Other than one name with coefficient 1 and one with -1 is left.
     NotADifference,
-    /// The number that the difference is compared with is beyond 2^40.
+    /// The number that the difference is compared with is beyond 2^60.
     BoundTooLarge,
 }

@@ -36,8 +36,8 @@ pub fn worked_comparisons()
     ensures twice { difference_of (plus x x) x ≡ Ok (difference 1 0 (pos 0)) }
     ensures sum { difference_of (plus x y) (number 3) ≡ Err NotADifference }
     ensures two { difference_of (plus x x) y ≡ Err NotADifference }
-    ensures greatest { difference_of x (number 1099511627776) ≡ Ok (difference 1 0 (pos 1099511627776)) }
-    ensures beyond { difference_of x (number 1099511627777) ≡ Err BoundTooLarge }
-    ensures least { difference_of (number 1099511627776) x ≡ Ok (difference 0 1 (negsuc 1099511627775)) }
-    ensures sum_first { difference_of (plus x y) (number 1099511627777) ≡ Err NotADifference }
+    ensures greatest { difference_of x (number 1152921504606846976) ≡ Ok (difference 1 0 (pos 1152921504606846976)) }
+    ensures beyond { difference_of x (number 1152921504606846977) ≡ Err BoundTooLarge }
+    ensures least { difference_of (number 1152921504606846976) x ≡ Ok (difference 0 1 (negsuc 1152921504606846975)) }
+    ensures sum_first { difference_of (plus x y) (number 1152921504606846977) ≡ Err NotADifference }
 {}

@@ -10,4 +10,4 @@ pub const COEFFICIENT_LIMIT: u64 = 1 << 20;
 pub const CONSTANT_LIMIT: u64 = 1 << 62;
 
 /// The greatest absolute value of a comparison's number, before strictness.
-pub const NUMBER_LIMIT: u64 = 1 << 40;
+pub const NUMBER_LIMIT: u64 = 1 << 60;

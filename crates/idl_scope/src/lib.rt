@@ -7,7 +7,7 @@ mod lowered;
 mod names;
 mod scope;
 
-pub use cases::{Case, Cases};
+pub use cases::{CASES_LIMIT, Case, Cases, branches};
 pub use idl_linear::NAMES_LIMIT;
 pub use locals::Locals;
 pub use lowered::Lowered;

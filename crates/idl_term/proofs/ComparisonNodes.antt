@@ -74,7 +74,7 @@ module _ (nodes middle later now : List NodeValue) (l m : Literal) (first second
 -- ---- neighbours
 
 -- one term has no neighbour
-pub neighbours_none : (ls : List LinearValue) → length ls ≤ 1 → neighbours ls ≡ []
+pub neighbours_none : {A : Type 0} (ls : List A) → length ls ≤ 1 → neighbours ls ≡ []
 neighbours_none [] h = refl
 neighbours_none (a ∷ []) h = refl
 neighbours_none (a ∷ b ∷ rest) h = absurd (omega arith)

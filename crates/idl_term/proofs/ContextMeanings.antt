@@ -37,7 +37,7 @@ meant_made scope nodes t m over is = record {
 
 meant_later : (scope : Scope) (nodes later : List NodeValue) (t : Sexpr) (term : LoweredTerm) → IsScopeOver scope nodes → IsGrown (sorts_of scope.declared) nodes later → IsMeant scope nodes t term → IsMeant scope later t term
 meant_later scope nodes later t term over grown is = record {
-  here = term_later (sorts_of scope.declared) nodes later grown term is.here;
+  here = term_later (sorts_of scope.declared) nodes later grown over.table term is.here;
   says = λ schedule env fits agrees.
       is.says schedule env fits (agrees_before scope nodes later over grown schedule env agrees)
       ∙ sym (value_later (sorts_of scope.declared) nodes later grown over.table schedule term is.here);

@@ -13,7 +13,8 @@ use Rattle.idl_node.proofs.Keeping.{table_of-better}
 use Rattle.idl_node.specs.Sorts.{IsIntPoint, IsBoolPoint, IsAtomFor, AreOfSorts}
 use Rattle.idl_term.specs.Contexts.{value_of_named, declared_values}
 use Rattle.idl_scope.specs.Limits.{names_limit}
-use Rattle.idl_term.specs.Meanings.{lowered_value, IsTermIn, IsScopeOver, found_value, Agrees}
+use Rattle.idl_scope.specs.Guarded.{CaseValue}
+use Rattle.idl_term.specs.Meanings.{lowered_value, IsCaseIn, IsTermIn, IsScopeOver, found_value, Agrees}
 use Rattle.idl_scope.specs.Scopes.{LoweredTerm, formula, numeric, Declaration, Binding, Scope, Found, declared_at, stands_for, unknown, found_declared, found_bound, is_found, sorts_of}
 use Rattle.idl_term.specs.Values.{Value, Named, looked_up}
 use Rattle.idl_term.proofs.BelowLinear.{points_weaker}
@@ -72,11 +73,14 @@ module _ (d : Declaration) where
           ];
         }
 
+    case_declared : (nodes : List NodeValue) (cases : List CaseValue) → AllByRecursion (IsCaseIn sorts nodes) cases → AllByRecursion (IsCaseIn more_sorts nodes) cases
+    case_declared nodes [] h = tt
+    case_declared nodes (case ∷ cases) h =
+        (record { guards = h.0.guards; linear = record { linear = h.0.linear.linear; points = points_weaker (IsIntPoint sorts) (IsIntPoint more_sorts) int_point_later case.linear.summands h.0.linear.points } }, case_declared nodes cases h.1)
+
     pub term_declared : (nodes : List NodeValue) (t : LoweredTerm) → IsTermIn sorts nodes t → IsTermIn more_sorts nodes t
     term_declared nodes (formula k) h = h
-    term_declared nodes (numeric []) h = h
-    term_declared nodes (numeric (case ∷ [])) h = (h.0, record { linear = h.1.linear; points = points_weaker (IsIntPoint sorts) (IsIntPoint more_sorts) int_point_later case.linear.summands h.1.points })
-    term_declared nodes (numeric (case ∷ other ∷ cases)) h = h
+    term_declared nodes (numeric cases) h = record { each = case_declared nodes cases h.each; one = h.one }
 
     terms_declared : (nodes : List NodeValue) (bs : List Binding) → AllByRecursion (λ (b : Binding). IsTermIn sorts nodes b.stands) bs → AllByRecursion (λ (b : Binding). IsTermIn more_sorts nodes b.stands) bs
     terms_declared nodes [] h = tt

@@ -1,33 +1,34 @@
 -- The value of a linear term, summand by summand, and how large it may be; and values of the names' sorts.
-use Rattle.std.proofs.Common.{refl, ap, sym, subst, ◌∙◌, arith, ◌≡◌, ◌<◌, ◌≤◌, ◌+◌, ◌*◌, ℕ, zero, suc, List, [], ◌∷◌, length, drop, get_or, slice_get, Some, true, false, ℤ, pos, negsuc, neg_ℤ, ◌+ℤ◌, ◌*ℤ◌, ◌≤ℤ◌, FitsSigned, w64, to_z, of_z, unsigned_abs}
+use Rattle.std.proofs.Common.{refl, ap, sym, subst, ◌∙◌, arith, ◌≡◌, ◌<◌, ◌≤◌, ◌+◌, ◌*◌, ℕ, zero, suc, List, [], ◌∷◌, length, drop, get_or, slice_get, Bool, cond, Some, true, false, ℤ, pos, negsuc, neg_ℤ, ◌+ℤ◌, ◌*ℤ◌, ◌≤ℤ◌, FitsSigned, w64, to_z, of_z, unsigned_abs}
 use Rattle.std.proofs.lemmas.Int.{ints, unsigned_abs-mul, fits_signed_mul, to_z-of_z}
 use Rattle.std.specs.Int.{w128}
 use Rattle.idl_linear.proofs.Merging.{within_low, within_high}
 use Rattle.std.proofs.lemmas.Nat.{mul-le}
 use Rattle.std.proofs.lemmas.List.{at_drop_more, get_or-map}
-use Rattle.std.specs.List.{AllByRecursion}
+use Rattle.std.specs.List.{AllByRecursion, list_all}
 use Rattle.stn_core.specs.Literal.{IsOver, value_at}
 use Rattle.stn_core.specs.declared.named.NamedValue.{NamedValue}
 use Rattle.stn_core.specs.declared.named.NamedValue.TheVariants.{Int, Truth}
 use Rattle.stn_core.specs.Limits.{named_value_limit}
 use Rattle.stn_core.specs.Named.{IsWithinLimit, AreWithinLimit}
-use Rattle.idl_node.specs.Truth.{point_value, point_values}
-use Rattle.idl_term.specs.Evaluating.{product_limit}
-use Rattle.std.proofs.lemmas.Option.{slice_get_within}
+use Rattle.idl_node.specs.Truth.{point_value, point_values, truth, AreTruths}
+use Rattle.idl_term.specs.Evaluating.{product_limit, IsCaseOver}
+use Rattle.std.proofs.lemmas.Option.{get_or_from_slice_get, slice_get_within}
 use Rattle.idl_node.specs.declared.sort.Sort.{Sort}
 use Rattle.idl_node.specs.declared.sort.Sort.TheVariants as sort
 use Rattle.idl_node.specs.Nodes.{NodeValue}
 use Rattle.idl_node.specs.Sorts.{IsIntPoint, IsAtomFor, AreOfSorts}
 use Rattle.idl_node.specs.Tables.{IsTableOf, IsTableOver}
 use Rattle.idl_node.proofs.Keeping.{table_of-better}
-use Rattle.idl_term.specs.Meanings.{IsTermIn}
+use Rattle.idl_node.proofs.Truths.{list_all-agree}
+use Rattle.idl_term.specs.Meanings.{holds, cases_value, IsCaseIn, IsTermIn}
 use Rattle.idl_scope.specs.Guarded.{CaseValue}
 use Rattle.idl_scope.specs.Scopes.{numeric}
 use Rattle.idl_linear.specs.declared.summand.Summand.{Summand}
 use Rattle.idl_linear.specs.Forms.{AscendAbove, IsLinear}
 use Rattle.idl_linear.specs.Limits.{points_limit, coefficient_limit, constant_limit}
 use Rattle.idl_linear.specs.Linear.{LinearValue, is_within}
-use Rattle.idl_linear.specs.Values.{summands_value}
+use Rattle.idl_linear.specs.Values.{linear_value, summands_value}
 
 abbrev pub no_summand : Summand
 no_summand = record { point = 0; coefficient = pos 0 }
@@ -143,17 +144,44 @@ module _ (sorts : List Sort) (values : List NamedValue) (fits : AreOfSorts sorts
   points_valued [] h = tt
   points_valued (x ∷ xs) h = (rw (values_count sorts values fits) (int_point_within sorts x.point h.0), points_valued xs h.1)
 
-  -- and so do those of the only case of a term
-  pub case_valued : (nodes : List NodeValue) (cases : List CaseValue) (case : CaseValue) (l : LinearValue) → IsTermIn sorts nodes (numeric cases) → slice_get cases 0 ≡ Some case → l ≡ case.linear
-      → AllByRecursion (λ (s : Summand). s.point < length values + 1) l.summands
-  case_valued nodes [] case l h e is = absurd h
-  case_valued nodes (c ∷ []) case l h e is =
-      let same : c ≡ case = cc in
-      let linear : c.linear ≡ l = ap (λ (x : CaseValue). x.linear) same ∙ sym is in
-      subst (λ (x : LinearValue). AllByRecursion (λ (s : Summand). s.point < length values + 1) x.summands) linear (points_valued c.linear.summands h.1.points)
-  case_valued nodes (c ∷ d ∷ cs) case l h e is = absurd h
+  -- and so do those of each case of a term
+  each_valued : (nodes : List NodeValue) (cases : List CaseValue) → AllByRecursion (IsCaseIn sorts nodes) cases → AllByRecursion (IsCaseOver (length values + 1) (length nodes)) cases
+  each_valued nodes [] h = tt
+  each_valued nodes (case ∷ cases) h = (record { guards = h.0.guards; points = points_valued case.linear.summands h.0.linear.points }, each_valued nodes cases h.1)
+
+  pub cases_valued : (nodes : List NodeValue) (cases : List CaseValue) → IsTermIn sorts nodes (numeric cases) → AllByRecursion (IsCaseOver (length values + 1) (length nodes)) cases
+  cases_valued nodes cases h = each_valued nodes cases h.each
 
   -- and so do those of a table of atoms over the names
   pub table_valued : (nodes : List NodeValue) → IsTableOf (IsAtomFor sorts) nodes → IsTableOver (length values + 1) nodes
   table_valued nodes table =
       rw (values_count sorts values fits) (table_of-better (IsAtomFor sorts) (IsOver (length sorts + 1)) (λ l is. is.over) nodes table)
+
+-- ---- the case whose guards are true
+
+pub all_at : {A : Type 0} (P : A → Type 0) (xs : List A) (k : ℕ) (x : A) → AllByRecursion P xs → slice_get xs k ≡ Some x → P x
+all_at P [] k x h e = absurd cc
+all_at P (y ∷ ys) zero x h e =
+    let same : y ≡ x = cc in
+    subst P same h.0
+all_at P (y ∷ ys) (suc k) x h e = all_at P ys k x h.1 e
+
+module _ (nodes : List NodeValue) (values : List ℤ) where
+  -- marks that tell the truth tell it of guards
+  pub marks_tell : (marks : List Bool) (guards : List ℕ) → AreTruths nodes values marks → AllByRecursion (λ g. g < length marks) guards → list_all (λ j. get_or marks j false) guards ≡ list_all (truth nodes values) guards
+  marks_tell marks guards truths there = list_all-agree (λ j. get_or marks j false) (truth nodes values) (length marks) truths.each guards there
+
+  module _ (cases : List CaseValue) (k : ℕ) (case : CaseValue) (at : slice_get cases k ≡ Some case) where
+    value_at_case : (b : Bool) → b ≡ holds nodes values case → cases_value nodes values (drop k cases) ≡ cond b (linear_value values case.linear) (cases_value nodes values (drop (k + 1) cases))
+    value_at_case b e =
+        at_drop_more (cases_value nodes values) cases k case (slice_get_within cases k case at)
+        ∙ ap (λ (c : CaseValue). cases_value nodes values (c ∷ drop (k + 1) cases)) (get_or_from_slice_get cases k case case at)
+        ∙ ap (λ (u : Bool). cond u (linear_value values case.linear) (cases_value nodes values (drop (k + 1) cases))) (sym e)
+
+    -- the case's guards are true, or some of them isn't
+    pub value_here : (b : Bool) (l : LinearValue) (z : ℤ) → b ≡ holds nodes values case → b ≡ true → l ≡ case.linear → z ≡ linear_value values l → cases_value nodes values cases ≡ cases_value nodes values (drop k cases) → z ≡ cases_value nodes values cases
+    value_here b l z e f g h i =
+        h ∙ ap (linear_value values) g ∙ sym (i ∙ value_at_case b e ∙ ap (λ (u : Bool). cond u (linear_value values case.linear) (cases_value nodes values (drop (k + 1) cases))) f)
+
+    pub value_behind : (b : Bool) → b ≡ holds nodes values case → b ≡ false → cases_value nodes values cases ≡ cases_value nodes values (drop k cases) → cases_value nodes values cases ≡ cases_value nodes values (drop (k + 1) cases)
+    value_behind b e f i = i ∙ value_at_case b e ∙ ap (λ (u : Bool). cond u (linear_value values case.linear) (cases_value nodes values (drop (k + 1) cases))) f

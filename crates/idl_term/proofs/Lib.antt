@@ -1,5 +1,7 @@
 pub mod BelowLinear
 pub mod MeaningAtoms
+pub mod MeaningCases
+pub mod MeaningSums
 pub mod MeaningOperators
 pub mod MeaningNames
 pub mod MeaningLeaves
@@ -9,6 +11,7 @@ pub mod ContextMeanings
 pub mod Arguments
 pub mod ComparisonNodes
 pub mod PairsCompared
+pub mod CaseSteps
 pub mod SumsOfTerms
 pub mod Leaves
 pub mod TreesOfIds

@@ -1,10 +1,8 @@
 -- The atoms of comparisons: over Int names' time points, and true exactly where the comparison holds.
-use Rattle.std.proofs.Common.{refl, ap, sym, arith, inl, inr, ◌∙◌, ◌≡◌, ◌<◌, ◌+◌, ℕ, zero, suc, List, [], ◌∷◌, ◌++◌, length, map, get_or, Bool, true, false, not, ◌&&◌, ◌||◌, Option, Some, None, ℤ, pos, neg_ℤ, ◌+ℤ◌, ◌-ℤ◌}
+use Rattle.std.proofs.Common.{refl, ap, sym, arith, inl, inr, ◌≡◌, ◌<◌, ◌+◌, ℕ, zero, suc, List, [], ◌∷◌, length, get_or, Bool, true, false, not, ◌&&◌, ◌||◌, Option, Some, None, ℤ, pos, neg_ℤ, ◌+ℤ◌, ◌-ℤ◌}
 use Rattle.std.specs.Prelude.{Result, Ok, Err, int_le, int_lt, slice_get, ◌≤ℤ◌}
-use Rattle.std.specs.List.{AllByRecursion, list_all}
 use Rattle.std.specs.Ordering.{int_eq}
 use Rattle.std.proofs.lemmas.Int.{ints}
-use Rattle.std.proofs.lemmas.List.Folds.{list_all-append}
 use Rattle.stn_core.specs.declared.literal.Literal.{Literal}
 use Rattle.stn_core.specs.Literal.{negation_of, value_at}
 use Rattle.idl_linear.specs.Limits.{number_limit}
@@ -17,19 +15,16 @@ use Rattle.idl_linear.proofs.Comparing.{value-difference, number-within, points-
 use Rattle.idl_node.specs.declared.sort.Sort.{Sort}
 use Rattle.idl_node.specs.declared.sort.Sort.TheVariants as sort
 use Rattle.idl_node.specs.Nodes.{NodeValue, atom, conjunction, disjunction, Placed, placed}
-use Rattle.idl_node.specs.Making.{then, conjoined, neighbours, pairs}
+use Rattle.idl_node.specs.Making.{then}
 use Rattle.idl_node.specs.Meaning.{IsMade}
 use Rattle.idl_node.specs.Sorts.{IsIntPoint, IsBoolPoint, IsAtomFor}
 use Rattle.idl_node.specs.Tables.{IsTableOf}
-use Rattle.idl_node.specs.Truth.{truth, chain, all_pairs}
-use Rattle.idl_node.proofs.Growing.{AreThere, are_there_push, made-are_there, made-keeps, made-on, then-is, placed-made}
-use Rattle.idl_node.proofs.Makers.{and_true, conjoined-made, both-made, either-made}
-use Rattle.idl_node.proofs.Pairs.{neighbours-chain, pairs-all_pairs, neighbours-are, pairs-are}
-use Rattle.idl_node.proofs.Truths.{list_all-agree}
+use Rattle.idl_node.proofs.Growing.{then-is, placed-made}
+use Rattle.idl_node.proofs.Makers.{both-made, either-made}
 use Rattle.idl_term.specs.declared.comparing.Relation.{Relation}
 use Rattle.idl_term.specs.declared.comparing.Relation.TheVariants.{AtMost, Less, AtLeast, Greater, Equal, Distinct}
 use Rattle.idl_term.specs.declared.error.TermRefusal.{TermRefusal}
-use Rattle.idl_term.specs.Comparing.{follows, or_too_large, at_most, below, at_least, above, related, related_by, compared, each_compared}
+use Rattle.idl_term.specs.Comparing.{follows, or_too_large, at_most, below, at_least, above, related, related_by, compared}
 use Rattle.idl_term.specs.Meanings.{IsLinearFor}
 
 -- ---- one step and another
@@ -242,55 +237,3 @@ module _ (sorts : List Sort) (nodes : List NodeValue) (table : IsTableOf (IsAtom
 
     pub compared_made : compared relation nodes a b ≡ Ok q → IsTested Good nodes q pair_test
     compared_made e = related_by_made (difference_of a b) refl e
-
--- ---- what is made of each pair
-
-and_and : (a b c : Bool) → ((a && b) && c) ≡ (a && (b && c))
-and_and true b c = refl
-and_and false b c = refl
-
-module _ (sorts : List Sort) (relation : Relation) where
-  abbrev All : Literal → Type 0
-  All = IsAtomFor sorts
-
-  abbrev AreLinear : LinearValue × LinearValue → Type 0
-  AreLinear p = IsLinearFor sorts p.0 × IsLinearFor sorts p.1
-
-  abbrev pair_says : List ℤ → LinearValue × LinearValue → Bool
-  pair_says values p = relation_test relation (linear_value values p.0) (linear_value values p.1)
-
-  each_compared_made : (nodes : List NodeValue) (members : List ℕ) (ps : List (LinearValue × LinearValue)) (q : Placed) → IsTableOf All nodes → AreThere nodes members → AllByRecursion AreLinear ps
-      → each_compared relation nodes members ps ≡ Ok q → IsTested All nodes q (λ values. list_all (truth nodes values) members && list_all (pair_says values) ps)
-  each_compared_made nodes members [] q table h i e = record {
-    meaning = λ values. list_all (truth nodes values) members;
-    made = conjoined-made All nodes table members q h (placed_is (conjoined nodes members) q e);
-    same = λ values none. sym (and_true (list_all (truth nodes values) members));
-  }
-  each_compared_made nodes members (pair ∷ rest) q table h i e =
-      let t = follows-is (compared relation nodes pair.0 pair.1) (λ p. each_compared relation p.nodes (members ++ p.number ∷ []) rest) q e in
-      let p : Placed = t.middle in
-      let one = compared_made sorts nodes table relation pair.0 pair.1 i.0.0 i.0.1 p t.begins in
-      let there = are_there_push p.nodes members p.number (made-are_there All nodes p one.meaning one.made members h) one.made.in_range in
-      let later = each_compared_made p.nodes (members ++ p.number ∷ []) rest q one.made.table there i.1 t.goes_on in
-      record {
-        meaning = later.meaning;
-        made = made-on All nodes p one.meaning one.made q later.meaning later.made;
-        same = λ values none.
-            later.same values none
-            ∙ ap (λ (u : Bool). u && list_all (pair_says values) rest)
-            (list_all-append (truth p.nodes values) members (p.number ∷ [])
-            ∙ ap (λ (u : Bool). u && (truth p.nodes values p.number && true)) (list_all-agree (truth p.nodes values) (truth nodes values) (length nodes) (made-keeps All nodes p one.meaning one.made table values) members h)
-            ∙ ap (λ (u : Bool). list_all (truth nodes values) members && u) (and_true (truth p.nodes values p.number) ∙ one.made.says values ∙ one.same values none))
-            ∙ and_and (list_all (truth nodes values) members) (pair_says values pair) (list_all (pair_says values) rest);
-      }
-
-  module _ (nodes : List NodeValue) (table : IsTableOf All nodes) (ls : List LinearValue) (h : AllByRecursion (IsLinearFor sorts) ls) (q : Placed) where
-    pub neighbours_made : each_compared relation nodes [] (neighbours ls) ≡ Ok q → IsTested All nodes q (λ values. chain (relation_test relation) (map (linear_value values) ls))
-    neighbours_made e =
-        let made = each_compared_made nodes [] (neighbours ls) q table tt (neighbours-are (IsLinearFor sorts) (λ a b. IsLinearFor sorts a × IsLinearFor sorts b) (λ a b f g. (f, g)) ls h) e in
-        record { meaning = made.meaning; made = made.made; same = λ values none. made.same values none ∙ neighbours-chain (relation_test relation) (linear_value values) ls }
-
-    pub pairs_made : each_compared relation nodes [] (pairs ls) ≡ Ok q → IsTested All nodes q (λ values. all_pairs (relation_test relation) (map (linear_value values) ls))
-    pairs_made e =
-        let made = each_compared_made nodes [] (pairs ls) q table tt (pairs-are (IsLinearFor sorts) (λ a b. IsLinearFor sorts a × IsLinearFor sorts b) (λ a b f g. (f, g)) ls h) e in
-        record { meaning = made.meaning; made = made.made; same = λ values none. made.same values none ∙ pairs-all_pairs (relation_test relation) (linear_value values) ls }

@@ -13,13 +13,14 @@ use Rattle.idl_node.specs.Sorts.{IsAtomFor, IsOfSort, AreOfSorts}
 use Rattle.idl_node.specs.Tables.{IsTableOf}
 use Rattle.idl_node.specs.Truth.{point_value, point_values}
 use Rattle.idl_node.specs.Truth as node
-use Rattle.idl_node.proofs.Growing.{there_longer}
+use Rattle.idl_node.proofs.Growing.{there_longer, IsLonger}
 use Rattle.idl_node.proofs.Truths.{truth-longer}
 use Rattle.idl_term.specs.Contexts.{value_of_named}
 use Rattle.idl_term.specs.Lowered.{with_bound}
 use Rattle.idl_term.specs.Meanings.{lowered_value, IsTermIn, IsScopeOver, found_value, Agrees}
 use Rattle.idl_scope.specs.Scopes.{LoweredTerm, formula, numeric, Declaration, Binding, Scope, Found, declared_at, stands_for, unknown, found_declared, found_bound, found, sorts_of, bindings_of}
 use Rattle.idl_term.specs.Values.{Value, whole, truth, Named, looked_up}
+use Rattle.idl_term.proofs.MeaningCases.{cases_later, cases_value-later}
 
 -- ---- schedules
 
@@ -97,19 +98,21 @@ pub record IsGrown (sorts : List Sort) (nodes later : List NodeValue) : Type 0 w
   pub table : IsTableOf (IsAtomFor sorts) later
 
 module _ (sorts : List Sort) (nodes later : List NodeValue) (grown : IsGrown sorts nodes later) where
-  pub term_later : (t : LoweredTerm) → IsTermIn sorts nodes t → IsTermIn sorts later t
-  term_later (formula k) h = omega (arith, there_longer nodes grown.added k h, ap length grown.grows)
-  term_later (numeric []) h = h
-  term_later (numeric (case ∷ [])) h = h
-  term_later (numeric (case ∷ other ∷ cases)) h = h
+  longer : IsLonger nodes later
+  longer = record { added = grown.added; grows = grown.grows }
 
-  pub terms_later : (ts : List LoweredTerm) → AllByRecursion (IsTermIn sorts nodes) ts → AllByRecursion (IsTermIn sorts later) ts
-  terms_later [] h = tt
-  terms_later (t ∷ ts) h = (term_later t h.0, terms_later ts h.1)
+  module _ (table : IsTableOf (IsAtomFor sorts) nodes) where
+    pub term_later : (t : LoweredTerm) → IsTermIn sorts nodes t → IsTermIn sorts later t
+    term_later (formula k) h = omega (arith, there_longer nodes grown.added k h, ap length grown.grows)
+    term_later (numeric cases) h = cases_later sorts nodes later longer table cases h
 
-  pub bindings_later : (bs : List Binding) → AllByRecursion (λ (b : Binding). IsTermIn sorts nodes b.stands) bs → AllByRecursion (λ (b : Binding). IsTermIn sorts later b.stands) bs
-  bindings_later [] h = tt
-  bindings_later (b ∷ bs) h = (term_later b.stands h.0, bindings_later bs h.1)
+    pub terms_later : (ts : List LoweredTerm) → AllByRecursion (IsTermIn sorts nodes) ts → AllByRecursion (IsTermIn sorts later) ts
+    terms_later [] h = tt
+    terms_later (t ∷ ts) h = (term_later t h.0, terms_later ts h.1)
+
+    pub bindings_later : (bs : List Binding) → AllByRecursion (λ (b : Binding). IsTermIn sorts nodes b.stands) bs → AllByRecursion (λ (b : Binding). IsTermIn sorts later b.stands) bs
+    bindings_later [] h = tt
+    bindings_later (b ∷ bs) h = (term_later b.stands h.0, bindings_later bs h.1)
 
   module _ (table : IsTableOf (IsAtomFor sorts) nodes) (schedule : List NamedValue) where
     -- a term is worth as much
@@ -117,9 +120,7 @@ module _ (sorts : List Sort) (nodes later : List NodeValue) (grown : IsGrown sor
     value_later (formula k) h =
         ap (λ (ns : List NodeValue). truth (node.truth ns (point_values schedule) k)) grown.grows
         ∙ ap truth (truth-longer (IsAtomFor sorts) nodes (point_values schedule) table grown.added k h)
-    value_later (numeric []) h = refl
-    value_later (numeric (case ∷ [])) h = refl
-    value_later (numeric (case ∷ other ∷ cases)) h = refl
+    value_later (numeric cases) h = ap whole (cases_value-later sorts nodes later longer table (point_values schedule) cases h.each)
 
     pub found_later : (f : Found) (v : Value) → IsFoundIn sorts nodes f → found_value nodes schedule f v → found_value later schedule f v
     found_later (declared_at place s) v h i = i
@@ -135,7 +136,7 @@ module _ (scope : Scope) (nodes later : List NodeValue) (over : IsScopeOver scop
   pub scope_later : IsScopeOver scope later
   scope_later = record {
     few = over.few;
-    terms = bindings_later (sorts_of scope.declared) nodes later grown scope.bound over.terms;
+    terms = bindings_later (sorts_of scope.declared) nodes later grown over.table scope.bound over.terms;
     table = grown.table;
     room = grown.room;
   }

@@ -1,5 +1,5 @@
 -- What an operator makes of its arguments is worth what the operator gives of their values.
-use Rattle.std.proofs.Common.{refl, ap, sym, subst, ◌∙◌, ◌≡◌, ◌<◌, ◌≤◌, ℕ, List, [], ◌∷◌, ◌++◌, length, map, Bool, true, false, cond, not, ◌&&◌, ◌||◌, Option, Some, None, ℤ, ◌+ℤ◌, ◌-ℤ◌, append-nil}
+use Rattle.std.proofs.Common.{refl, ap, sym, subst, ◌∙◌, ◌≡◌, ◌<◌, ◌≤◌, ◌+◌, ℕ, List, [], ◌∷◌, ◌++◌, length, map, Bool, true, false, cond, not, ◌&&◌, ◌||◌, Option, Some, None, ℤ, ◌+ℤ◌, ◌-ℤ◌, append-nil}
 use Rattle.std.specs.Prelude.{Result, Ok, Err}
 use Rattle.std.specs.List.{AllByRecursion, list_all, list_any}
 use Rattle.stn_core.specs.declared.literal.Literal.{Literal}
@@ -33,16 +33,19 @@ use Rattle.idl_term.specs.declared.operator.Operator.TheVariants as op
 use Rattle.idl_term.specs.declared.comparing.Relation.{Relation}
 use Rattle.idl_term.specs.declared.comparing.Relation.TheVariants as relation
 use Rattle.idl_term.specs.declared.error.TermRefusal.{TermRefusal}
-use Rattle.idl_term.specs.declared.error.TermRefusal.TheVariants.{BoundTooLarge}
-use Rattle.idl_term.specs.Applied.{Made, a_formula, as_formula, as_number, formula_before, linear_before, formulas_in, linears_in, connected, equal_formulas, summed, related_numbers, relation_of_order, relation_of_equality, of_sort, of_first_sort, of_branches, applied}
-use Rattle.idl_term.specs.Comparing.{follows, each_compared}
-use Rattle.idl_term.specs.Meanings.{lowered_value, IsLinearFor, IsTermIn}
+use Rattle.idl_term.specs.declared.error.TermRefusal.TheVariants.{BoundTooLarge, TooManyCases}
+use Rattle.idl_term.specs.Applied.{Made, a_formula, a_number, are_limited, as_formula, as_number, branches_made, formula_before, number_before, formulas_in, numbers_in, linear_sum, sum_cases, connected, equal_formulas, summed, related_numbers, relation_of_order, relation_of_equality, of_sort, of_first_sort, of_branches, applied}
+use Rattle.idl_term.specs.Choices.{choices, no_choice, count_from, are_few}
+use Rattle.idl_term.specs.Comparing.{follows, or_too_large, each_compared}
+use Rattle.idl_term.specs.Meanings.{lowered_value, cases_value, IsLinearFor, IsCaseIn, AreCasesIn, IsTermIn}
 use Rattle.idl_term.specs.Operators.{takes_count}
-use Rattle.idl_scope.specs.Guarded.{CaseValue}
+use Rattle.idl_scope.specs.Guarded.{CaseValue, plain, branched}
 use Rattle.idl_scope.specs.Scopes.{LoweredTerm, formula, numeric, linear_term}
 use Rattle.idl_term.specs.Values.{Value, whole, truth, any_true, all_true, connective_value, total, remainder, sum_value, order_value, equal_truths, equal_numbers, truth_before, whole_before, truths_in, wholes_in, of_all, equality_value, operator_value}
 use Rattle.idl_term.proofs.BelowLinear.{ArePoints, HavePoints, points_sum, points_others, points_negatives, points_weaker, points_both, points_ascending, ascends_sum}
-use Rattle.idl_term.proofs.MeaningAtoms.{follows-is, atom_negates, relation_test, IsTested, neighbours_made, pairs_made}
+use Rattle.idl_term.proofs.MeaningAtoms.{follows-is, atom_negates, relation_test, IsTested}
+use Rattle.idl_term.proofs.MeaningCases.{neighbours_made, pairs_made, branched_are}
+use Rattle.idl_term.proofs.MeaningSums.{AreSingle, all_chosen, all_holding, choices_in, choices_value, chosen_linear, sum_holding, sums_in, values_chosen}
 
 -- what is made is worth this on every schedule; the table is longer, and one of atoms over the declared names
 pub record IsWorth (sorts : List Sort) (nodes : List NodeValue) (m : Made) (worth : List NamedValue → Value) : Type 0 where
@@ -145,29 +148,24 @@ module _ (sorts : List Sort) (nodes : List NodeValue) (room : length nodes ≤ n
       placed_worth is.placed m meaning worth (makes is.placed is.begins) is.same same
 
   module _ (table : IsTableOf Good nodes) where
-    -- a linear term, and its value
-    pub linear_worth : (l : LinearValue) (m : Made) (worth : List NamedValue → Value) → IsLinearFor sorts l → record { nodes = nodes; is = linear_term l } ≡ m
-        → ((schedule : List NamedValue) → whole (linear_value (point_values schedule) l) ≡ worth schedule) → IsWorth sorts nodes m worth
-    linear_worth l m worth linear e same =
+    -- an Int term of some cases, and its value
+    cases_worth : (cases : List CaseValue) (m : Made) (worth : List NamedValue → Value) → AreCasesIn sorts nodes cases → a_number nodes cases ≡ m
+        → ((schedule : List NamedValue) → whole (cases_value nodes (point_values schedule) cases) ≡ worth schedule) → IsWorth sorts nodes m worth
+    cases_worth cases m worth are e same =
         subst (λ (n : Made). IsWorth sorts nodes n worth) e (record {
           added = [];
           grows = sym (append-nil nodes);
           room = room;
           table = table;
-          term = (refl, linear);
+          term = are;
           says = same;
         })
 
-    number_by : (l : LinearValue) (m : Made) (worth : List NamedValue → Value) (limited : Bool) → is_limited l ≡ limited → (is_limited l ≡ true → IsLinearFor sorts l)
-        → ((schedule : List NamedValue) → whole (linear_value (point_values schedule) l) ≡ worth schedule) → cond limited (Ok (record { nodes = nodes; is = linear_term l })) (Err BoundTooLarge) ≡ Ok m → IsWorth sorts nodes m worth
-    number_by l m worth false f linear same e = absurd cc
-    number_by l m worth true f linear same e =
-        let is : record { nodes = nodes; is = linear_term l } ≡ m = cc in
-        linear_worth l m worth (linear f) is same
-
-    number_worth : (l : LinearValue) (m : Made) (worth : List NamedValue → Value) → (is_limited l ≡ true → IsLinearFor sorts l)
-        → ((schedule : List NamedValue) → whole (linear_value (point_values schedule) l) ≡ worth schedule) → as_number nodes l ≡ Ok m → IsWorth sorts nodes m worth
-    number_worth l m worth linear same e = number_by l m worth (is_limited l) refl linear same e
+    -- a linear term, and its value
+    pub linear_worth : (l : LinearValue) (m : Made) (worth : List NamedValue → Value) → IsLinearFor sorts l → record { nodes = nodes; is = linear_term l } ≡ m
+        → ((schedule : List NamedValue) → whole (linear_value (point_values schedule) l) ≡ worth schedule) → IsWorth sorts nodes m worth
+    linear_worth l m worth linear e same =
+        cases_worth (plain l) m worth (record { each = (record { guards = tt; linear = linear }, tt); one = λ values. refl }) e same
 
     tested_worth : (made : Result Placed TermRefusal) (m : Made) (test : List ℤ → Bool) (worth : List NamedValue → Value) → ((q : Placed) → made ≡ Ok q → IsTested Good nodes q test)
         → ((schedule : List NamedValue) → truth (test (point_values schedule)) ≡ worth schedule) → follows made a_formula ≡ Ok m → IsWorth sorts nodes m worth
@@ -263,86 +261,149 @@ module _ (sorts : List Sort) (nodes : List NodeValue) (room : length nodes ≤ n
 
     -- ---- operators on numbers
 
-    module _ (l : LinearValue) (ls : List LinearValue) (h : AllByRecursion (IsLinearFor sorts) (l ∷ ls)) (m : Made) where
+    few_of : (few : Bool) (made : Result Made TermRefusal) (m : Made) → cond few made (Err TooManyCases) ≡ Ok m → made ≡ Ok m
+    few_of true made m e = e
+    few_of false made m e = absurd cc
+
+    limited_of : (limited : Bool) (cases : List CaseValue) (m : Made) → cond limited (Ok (a_number nodes cases)) (Err BoundTooLarge) ≡ Ok m → (limited ≡ true) × (a_number nodes cases ≡ m)
+    limited_of true cases m e = (refl, cc)
+    limited_of false cases m e = absurd cc
+
+    linear_sums : (g : Sign) (ls : List LinearValue) → AllByRecursion (IsLinearFor sorts) ls → is_limited (linear_sum g ls) ≡ true → IsLinearFor sorts (linear_sum g ls)
+    linear_sums sign.Plus ls h e = sum_linear sorts ls (have_points sorts ls h) e
+    linear_sums sign.Minus [] h e = record { linear = record { ascends = tt; over = tt; limited = e }; points = tt }
+    linear_sums sign.Minus (l ∷ ls) h e = less_linear sorts l ls (have_points sorts (l ∷ ls) h) e
+
+    each_of : (terms : List (List CaseValue)) → AllByRecursion (AreCasesIn sorts nodes) terms → AllByRecursion (λ (cases : List CaseValue). AllByRecursion (IsCaseIn sorts nodes) cases) terms
+    each_of [] h = tt
+    each_of (cases ∷ terms) h = (h.0.each, each_of terms h.1)
+
+    single_of : (values : List ℤ) (terms : List (List CaseValue)) → AllByRecursion (AreCasesIn sorts nodes) terms → AreSingle nodes values terms
+    single_of values [] h = tt
+    single_of values (cases ∷ terms) h = (h.0.one values, single_of values terms h.1)
+
+    module _ (t : List CaseValue) (ts : List (List CaseValue)) (h : AllByRecursion (AreCasesIn sorts nodes) (t ∷ ts)) (m : Made) where
+      abbrev terms : List (List CaseValue)
+      terms = t ∷ ts
+
       abbrev values_on : List NamedValue → List ℤ
-      values_on schedule = map (linear_value (point_values schedule)) (l ∷ ls)
+      values_on schedule = map (cases_value nodes (point_values schedule)) terms
 
-      by_neighbours : (relation : Relation) → follows (each_compared relation nodes [] (neighbours (l ∷ ls))) a_formula ≡ Ok m → IsWorth sorts nodes m (λ schedule. truth (chain (relation_test relation) (values_on schedule)))
+      by_neighbours : (relation : Relation) → follows (each_compared relation nodes [] (neighbours terms)) a_formula ≡ Ok m → IsWorth sorts nodes m (λ schedule. truth (chain (relation_test relation) (values_on schedule)))
       by_neighbours relation e =
-          tested_worth (each_compared relation nodes [] (neighbours (l ∷ ls))) m (λ values. chain (relation_test relation) (map (linear_value values) (l ∷ ls))) (λ schedule. truth (chain (relation_test relation) (values_on schedule)))
-          (λ q f. neighbours_made sorts relation nodes table (l ∷ ls) h q f) (λ schedule. refl) e
+          tested_worth (each_compared relation nodes [] (neighbours terms)) m (λ values. chain (relation_test relation) (map (cases_value nodes values) terms)) (λ schedule. truth (chain (relation_test relation) (values_on schedule)))
+          (λ q f. neighbours_made sorts relation nodes table terms h q f) (λ schedule. refl) e
 
-      by_pairs : (relation : Relation) → follows (each_compared relation nodes [] (pairs (l ∷ ls))) a_formula ≡ Ok m → IsWorth sorts nodes m (λ schedule. truth (all_pairs (relation_test relation) (values_on schedule)))
+      by_pairs : (relation : Relation) → follows (each_compared relation nodes [] (pairs terms)) a_formula ≡ Ok m → IsWorth sorts nodes m (λ schedule. truth (all_pairs (relation_test relation) (values_on schedule)))
       by_pairs relation e =
-          tested_worth (each_compared relation nodes [] (pairs (l ∷ ls))) m (λ values. all_pairs (relation_test relation) (map (linear_value values) (l ∷ ls))) (λ schedule. truth (all_pairs (relation_test relation) (values_on schedule)))
-          (λ q f. pairs_made sorts relation nodes table (l ∷ ls) h q f) (λ schedule. refl) e
+          tested_worth (each_compared relation nodes [] (pairs terms)) m (λ values. all_pairs (relation_test relation) (map (cases_value nodes values) terms)) (λ schedule. truth (all_pairs (relation_test relation) (values_on schedule)))
+          (λ q f. pairs_made sorts relation nodes table terms h q f) (λ schedule. refl) e
 
-      summed_worth : (g : Sign) → summed g nodes (l ∷ ls) ≡ Ok m → IsWorth sorts nodes m (λ schedule. sum_value g (values_on schedule))
-      summed_worth sign.Plus e =
-          number_worth (sum_of (l ∷ ls)) m (λ schedule. sum_value sign.Plus (values_on schedule)) (sum_linear sorts (l ∷ ls) (have_points sorts (l ∷ ls) h))
-          (λ schedule. ap whole (value-sum (point_values schedule) (l ∷ ls) ∙ sym (total_is (point_values schedule) (l ∷ ls)))) e
-      summed_worth sign.Minus e =
-          number_worth (less_others (l ∷ ls)) m (λ schedule. sum_value sign.Minus (values_on schedule)) (less_linear sorts l ls (have_points sorts (l ∷ ls) h))
-          (λ schedule. ap whole (value-less (point_values schedule) (l ∷ ls)) ∙ sym (remainder_is (point_values schedule) l ls)) e
+      -- the linear terms of the cases that hold
+      abbrev linears_on : List ℤ → List LinearValue
+      linears_on values = map (chosen_linear nodes values) terms
 
-      ordered_worth : (o : Order) → related_numbers (relation_of_order o) nodes (l ∷ ls) ≡ Ok m → IsWorth sorts nodes m (λ schedule. order_value o (values_on schedule))
+      linear_sum_value : (g : Sign) (values : List ℤ) (l : LinearValue) (ls : List LinearValue) → whole (linear_value values (linear_sum g (l ∷ ls))) ≡ sum_value g (map (linear_value values) (l ∷ ls))
+      linear_sum_value sign.Plus values l ls = ap whole (value-sum values (l ∷ ls) ∙ sym (total_is values (l ∷ ls)))
+      linear_sum_value sign.Minus values l ls = ap whole (value-less values (l ∷ ls)) ∙ sym (remainder_is values l ls)
+
+      sum_worth_of : (g : Sign) (values : List ℤ) → whole (cases_value nodes values (sum_cases g terms)) ≡ sum_value g (map (cases_value nodes values) terms)
+      sum_worth_of g values =
+          ap whole (choices_value nodes values g (choices terms) 0 (all_holding nodes values (no_choice ∷ []) terms (single_of values terms h))
+          ∙ ap (λ (ls : List LinearValue). linear_value values (linear_sum g ls)) (all_chosen nodes values (no_choice ∷ []) terms (single_of values terms h) refl))
+          ∙ linear_sum_value g values (chosen_linear nodes values t) (map (chosen_linear nodes values) ts)
+          ∙ ap (sum_value g) (sym (values_chosen nodes values terms))
+
+      summed_worth : (g : Sign) → summed g nodes terms ≡ Ok m → IsWorth sorts nodes m (λ schedule. sum_value g (values_on schedule))
+      summed_worth g e =
+          let cases : List CaseValue = sum_cases g terms in
+          let is = limited_of (are_limited cases) cases m (few_of (are_few (count_from 1 terms)) (as_number nodes cases) m e) in
+          let each = sums_in sorts nodes g (linear_sums g) (choices terms) (choices_in sorts nodes (no_choice ∷ []) terms (record { guards = tt; linears = tt }, tt) (each_of terms h)) is.0 in
+          cases_worth cases m (λ schedule. sum_value g (values_on schedule))
+          (record { each = each; one = λ values. sum_holding nodes values g (choices terms) ∙ all_holding nodes values (no_choice ∷ []) terms (single_of values terms h) }) is.1
+          (λ schedule. sum_worth_of g (point_values schedule))
+
+      ordered_worth : (o : Order) → related_numbers (relation_of_order o) nodes terms ≡ Ok m → IsWorth sorts nodes m (λ schedule. order_value o (values_on schedule))
       ordered_worth order.AtMost e = by_neighbours relation.AtMost e
       ordered_worth order.Less e = by_neighbours relation.Less e
       ordered_worth order.AtLeast e = by_neighbours relation.AtLeast e
       ordered_worth order.Greater e = by_neighbours relation.Greater e
 
-      equal_numbers_worth : (q : Equality) → related_numbers (relation_of_equality q) nodes (l ∷ ls) ≡ Ok m → IsWorth sorts nodes m (λ schedule. equal_numbers q (values_on schedule))
+      equal_numbers_worth : (q : Equality) → related_numbers (relation_of_equality q) nodes terms ≡ Ok m → IsWorth sorts nodes m (λ schedule. equal_numbers q (values_on schedule))
       equal_numbers_worth equality.Equal e = by_neighbours relation.Equal e
       equal_numbers_worth equality.Distinct e = by_pairs relation.Distinct e
 
     -- terms that are all Int
-    record AreNumbers (ts : List LoweredTerm) (ls : List LinearValue) : Type 0 where
-      linear : AllByRecursion (IsLinearFor sorts) ls
-      say : (schedule : List NamedValue) → wholes_in (map (lowered_value nodes schedule) ts) ≡ Some (map (linear_value (point_values schedule)) ls)
+    record AreNumbers (ts : List LoweredTerm) (terms : List (List CaseValue)) : Type 0 where
+      cases : AllByRecursion (AreCasesIn sorts nodes) terms
+      say : (schedule : List NamedValue) → wholes_in (map (lowered_value nodes schedule) ts) ≡ Some (map (cases_value nodes (point_values schedule)) terms)
 
-    linear_before_is : (case : CaseValue) (found : Option (List LinearValue)) (ls : List LinearValue) → linear_before (numeric (case ∷ [])) found ≡ Some ls → (others : List LinearValue) × (found ≡ Some others) × (case.linear ∷ others ≡ ls)
-    linear_before_is case None ls e = absurd cc
-    linear_before_is case (Some others) ls e = let same : case.linear ∷ others ≡ ls = cc in (others, refl, same)
+    number_before_is : (cases : List CaseValue) (found : Option (List (List CaseValue))) (terms : List (List CaseValue)) → number_before (numeric cases) found ≡ Some terms → (others : List (List CaseValue)) × (found ≡ Some others) × (cases ∷ others ≡ terms)
+    number_before_is cases None terms e = absurd cc
+    number_before_is cases (Some others) terms e = let same : cases ∷ others ≡ terms = cc in (others, refl, same)
 
-    numbers_are : (ts : List LoweredTerm) (ls : List LinearValue) → AllByRecursion (IsTermIn sorts nodes) ts → linears_in ts ≡ Some ls → AreNumbers ts ls
-    numbers_are [] ls h e =
-        let same : [] ≡ ls = cc in
-        subst (AreNumbers []) same (record { linear = tt; say = λ schedule. refl })
-    numbers_are (formula k ∷ ts) ls h e = absurd cc
-    numbers_are (numeric [] ∷ ts) ls h e = absurd cc
-    numbers_are (numeric (case ∷ []) ∷ ts) ls h e =
-        let is = linear_before_is case (linears_in ts) ls e in
+    numbers_are : (ts : List LoweredTerm) (terms : List (List CaseValue)) → AllByRecursion (IsTermIn sorts nodes) ts → numbers_in ts ≡ Some terms → AreNumbers ts terms
+    numbers_are [] terms h e =
+        let same : [] ≡ terms = cc in
+        subst (AreNumbers []) same (record { cases = tt; say = λ schedule. refl })
+    numbers_are (formula k ∷ ts) terms h e = absurd cc
+    numbers_are (numeric cases ∷ ts) terms h e =
+        let is = number_before_is cases (numbers_in ts) terms e in
         let rest = numbers_are ts is.0 h.1 is.1 in
-        subst (AreNumbers (numeric (case ∷ []) ∷ ts)) is.2 (record {
-          linear = (h.0.1, rest.linear);
-          say = λ schedule. ap (whole_before (whole (linear_value (point_values schedule) case.linear))) (rest.say schedule);
+        subst (AreNumbers (numeric cases ∷ ts)) is.2 (record {
+          cases = (h.0, rest.cases);
+          say = λ schedule. ap (whole_before (whole (cases_value nodes (point_values schedule) cases))) (rest.say schedule);
         })
-    numbers_are (numeric (case ∷ other ∷ cases) ∷ ts) ls h e = absurd cc
 
-    no_truths : (t : LoweredTerm) (ts : List LoweredTerm) (ls : List LinearValue) → linears_in (t ∷ ts) ≡ Some ls → (schedule : List NamedValue) → truths_in (map (lowered_value nodes schedule) (t ∷ ts)) ≡ None
-    no_truths (formula k) ts ls e schedule = absurd cc
-    no_truths (numeric []) ts ls e schedule = absurd cc
-    no_truths (numeric (case ∷ [])) ts ls e schedule = refl
-    no_truths (numeric (case ∷ other ∷ cases)) ts ls e schedule = absurd cc
+    no_truths : (t : LoweredTerm) (ts : List LoweredTerm) (terms : List (List CaseValue)) → numbers_in (t ∷ ts) ≡ Some terms → (schedule : List NamedValue) → truths_in (map (lowered_value nodes schedule) (t ∷ ts)) ≡ None
+    no_truths (formula k) ts terms e schedule = absurd cc
+    no_truths (numeric cases) ts terms e schedule = refl
 
-    some_before : (t : LoweredTerm) (found : Option (List LinearValue)) → linear_before t found ≡ Some [] → ⊥
+    some_before : (t : LoweredTerm) (found : Option (List (List CaseValue))) → number_before t found ≡ Some [] → ⊥
     some_before (formula k) found e = cc
-    some_before (numeric []) found e = cc
-    some_before (numeric (case ∷ [])) None e = cc
-    some_before (numeric (case ∷ [])) (Some ls) e = cc
-    some_before (numeric (case ∷ other ∷ cases)) found e = cc
+    some_before (numeric cases) None e = cc
+    some_before (numeric cases) (Some terms) e = cc
 
     -- what is made of one or more terms that are all Int
-    numbers_by : (make : List LinearValue → Result Made TermRefusal) (f : List ℤ → Value) (m : Made) (t : LoweredTerm) (ts : List LoweredTerm) (found : Option (List LinearValue)) (worth : List NamedValue → Value)
-        → ((l : LinearValue) (ls : List LinearValue) → AllByRecursion (IsLinearFor sorts) (l ∷ ls) → make (l ∷ ls) ≡ Ok m → IsWorth sorts nodes m (λ schedule. f (map (linear_value (point_values schedule)) (l ∷ ls))))
+    numbers_by : (make : List (List CaseValue) → Result Made TermRefusal) (f : List ℤ → Value) (m : Made) (t : LoweredTerm) (ts : List LoweredTerm) (found : Option (List (List CaseValue))) (worth : List NamedValue → Value)
+        → ((c : List CaseValue) (cs : List (List CaseValue)) → AllByRecursion (AreCasesIn sorts nodes) (c ∷ cs) → make (c ∷ cs) ≡ Ok m → IsWorth sorts nodes m (λ schedule. f (map (cases_value nodes (point_values schedule)) (c ∷ cs))))
         → ((schedule : List NamedValue) (ns : List ℤ) → truths_on (t ∷ ts) schedule ≡ None → wholes_on (t ∷ ts) schedule ≡ Some ns → f ns ≡ worth schedule)
-        → AllByRecursion (IsTermIn sorts nodes) (t ∷ ts) → linears_in (t ∷ ts) ≡ found → of_sort make found ≡ Ok m → IsWorth sorts nodes m worth
+        → AllByRecursion (IsTermIn sorts nodes) (t ∷ ts) → numbers_in (t ∷ ts) ≡ found → of_sort make found ≡ Ok m → IsWorth sorts nodes m worth
     numbers_by make f m t ts None worth makes same h g e = absurd cc
-    numbers_by make f m t ts (Some []) worth makes same h g e = absurd (some_before t (linears_in ts) g)
-    numbers_by make f m t ts (Some (l ∷ ls)) worth makes same h g e =
-        let are = numbers_are (t ∷ ts) (l ∷ ls) h g in
-        worth_as m (λ schedule. f (map (linear_value (point_values schedule)) (l ∷ ls))) worth (makes l ls are.linear e)
-        (λ schedule. same schedule (map (linear_value (point_values schedule)) (l ∷ ls)) (no_truths t ts (l ∷ ls) g schedule) (are.say schedule))
+    numbers_by make f m t ts (Some []) worth makes same h g e = absurd (some_before t (numbers_in ts) g)
+    numbers_by make f m t ts (Some (c ∷ cs)) worth makes same h g e =
+        let are = numbers_are (t ∷ ts) (c ∷ cs) h g in
+        worth_as m (λ schedule. f (map (cases_value nodes (point_values schedule)) (c ∷ cs))) worth (makes c cs are.cases e)
+        (λ schedule. same schedule (map (cases_value nodes (point_values schedule)) (c ∷ cs)) (no_truths t ts (c ∷ cs) g schedule) (are.say schedule))
+
+    -- ---- `ite` of Int terms
+
+    placed_of : (made : Option Placed) (next : Placed → Result Made TermRefusal) (m : Made) → follows (or_too_large made) next ≡ Ok m → (p : Placed) × (made ≡ Some p) × (next p ≡ Ok m)
+    placed_of None next m e = absurd cc
+    placed_of (Some p) next m e = (p, refl, e)
+
+    abbrev number_made : Placed → List CaseValue → Result Made TermRefusal
+    number_made p cases = Ok (a_number p.nodes cases)
+
+    is_made : (p : Placed) (cases : List CaseValue) (m : Made) → number_made p cases ≡ Ok m → a_number p.nodes cases ≡ m
+    is_made p cases m e = cc
+
+    branches_made_worth : (c : ℕ) (a b : List CaseValue) (m : Made) → c < length nodes → AreCasesIn sorts nodes a → AreCasesIn sorts nodes b → branches_made nodes c a b ≡ Ok m
+        → IsWorth sorts nodes m (λ schedule. whole (cond (node.truth nodes (point_values schedule) c) (cases_value nodes (point_values schedule) a) (cases_value nodes (point_values schedule) b)))
+    branches_made_worth c a b m in_c are_a are_b e =
+        let t = placed_of (denied nodes c) (λ p. Ok (a_number p.nodes (branched c p.number a b))) m (few_of (are_few (length a + length b)) (follows (or_too_large (denied nodes c)) (λ p. Ok (a_number p.nodes (branched c p.number a b)))) m e) in
+        let p : Placed = t.0 in
+        let denial = denied-made Good (atom_negates sorts) nodes table c in_c p t.1 in
+        let is = branched_are sorts nodes table p c in_c denial a b are_a are_b in
+        subst (λ (n : Made). IsWorth sorts nodes n (λ schedule. whole (cond (node.truth nodes (point_values schedule) c) (cases_value nodes (point_values schedule) a) (cases_value nodes (point_values schedule) b))))
+        (is_made p (branched c p.number a b) m t.2) (record {
+          added = denial.added;
+          grows = denial.grows;
+          room = denial.few room;
+          table = denial.table;
+          term = is.are;
+          says = λ schedule. ap whole (is.worth (point_values schedule));
+        })
 
     -- ---- all operators
 
@@ -355,16 +416,16 @@ module _ (sorts : List Sort) (nodes : List NodeValue) (room : length nodes ≤ n
           formulas_by (connected c nodes) (connective_value c) m ts (formulas_in ts) (λ schedule. of_all (connective_value c) (truths_on ts schedule))
           (λ ks there made. connected_worth c ks m there made) (λ schedule bs is. sym (ap (of_all (connective_value c)) is)) h refl e
 
-      sum_worth : (g : Sign) (t : LoweredTerm) (ts : List LoweredTerm) → AllByRecursion (IsTermIn sorts nodes) (t ∷ ts) → of_sort (summed g nodes) (linears_in (t ∷ ts)) ≡ Ok m → IsApplied (op.Sum g) (t ∷ ts)
+      sum_worth : (g : Sign) (t : LoweredTerm) (ts : List LoweredTerm) → AllByRecursion (IsTermIn sorts nodes) (t ∷ ts) → of_sort (summed g nodes) (numbers_in (t ∷ ts)) ≡ Ok m → IsApplied (op.Sum g) (t ∷ ts)
       sum_worth g t ts h e =
-          numbers_by (summed g nodes) (sum_value g) m t ts (linears_in (t ∷ ts)) (λ schedule. of_all (sum_value g) (wholes_on (t ∷ ts) schedule))
-          (λ l ls linear made. summed_worth l ls linear m g made) (λ schedule ns none is. sym (ap (of_all (sum_value g)) is)) h refl e
+          numbers_by (summed g nodes) (sum_value g) m t ts (numbers_in (t ∷ ts)) (λ schedule. of_all (sum_value g) (wholes_on (t ∷ ts) schedule))
+          (λ t ts are made. summed_worth t ts are m g made) (λ schedule ns none is. sym (ap (of_all (sum_value g)) is)) h refl e
 
-      order_worth : (o : Order) (t : LoweredTerm) (ts : List LoweredTerm) → AllByRecursion (IsTermIn sorts nodes) (t ∷ ts) → of_sort (related_numbers (relation_of_order o) nodes) (linears_in (t ∷ ts)) ≡ Ok m
+      order_worth : (o : Order) (t : LoweredTerm) (ts : List LoweredTerm) → AllByRecursion (IsTermIn sorts nodes) (t ∷ ts) → of_sort (related_numbers (relation_of_order o) nodes) (numbers_in (t ∷ ts)) ≡ Ok m
           → IsApplied (op.Order o) (t ∷ ts)
       order_worth o t ts h e =
-          numbers_by (related_numbers (relation_of_order o) nodes) (order_value o) m t ts (linears_in (t ∷ ts)) (λ schedule. of_all (order_value o) (wholes_on (t ∷ ts) schedule))
-          (λ l ls linear made. ordered_worth l ls linear m o made) (λ schedule ns none is. sym (ap (of_all (order_value o)) is)) h refl e
+          numbers_by (related_numbers (relation_of_order o) nodes) (order_value o) m t ts (numbers_in (t ∷ ts)) (λ schedule. of_all (order_value o) (wholes_on (t ∷ ts) schedule))
+          (λ t ts are made. ordered_worth t ts are m o made) (λ schedule ns none is. sym (ap (of_all (order_value o)) is)) h refl e
 
       first_sort_worth : (q : Equality) (ts : List LoweredTerm) → AllByRecursion (IsTermIn sorts nodes) ts → of_first_sort q nodes ts ≡ Ok m → IsApplied (op.Equality q) ts
       first_sort_worth q [] h e = absurd cc
@@ -374,8 +435,8 @@ module _ (sorts : List Sort) (nodes : List NodeValue) (room : length nodes ≤ n
           (λ ks there made. equal_formulas_worth q ks m there made) (λ schedule bs is. sym (ap (λ (found : Option (List Bool)). equality_value q found (wholes_on all schedule)) is)) h refl e
       first_sort_worth q (numeric cases ∷ ts) h e =
           let all : List LoweredTerm = numeric cases ∷ ts in
-          numbers_by (related_numbers (relation_of_equality q) nodes) (equal_numbers q) m (numeric cases) ts (linears_in all) (λ schedule. equality_value q (truths_on all schedule) (wholes_on all schedule))
-          (λ l ls linear made. equal_numbers_worth l ls linear m q made)
+          numbers_by (related_numbers (relation_of_equality q) nodes) (equal_numbers q) m (numeric cases) ts (numbers_in all) (λ schedule. equality_value q (truths_on all schedule) (wholes_on all schedule))
+          (λ t ts are made. equal_numbers_worth t ts are m q made)
           (λ schedule ns none is. sym (ap (λ (found : Option (List Bool)). equality_value q found (wholes_on all schedule)) none ∙ ap (of_all (equal_numbers q)) is)) h refl e
 
       branches_worth : (ts : List LoweredTerm) → AllByRecursion (IsTermIn sorts nodes) ts → of_branches nodes ts ≡ Ok m → IsApplied op.Ite ts
@@ -390,7 +451,8 @@ module _ (sorts : List Sort) (nodes : List NodeValue) (room : length nodes ≤ n
           (λ p f. chosen-made Good (atom_negates sorts) nodes table a b h.1.0 h.1.1.0 c p h.0 f) (λ schedule. refl) e
       branches_worth (formula c ∷ formula a ∷ numeric b ∷ []) h e = absurd cc
       branches_worth (formula c ∷ numeric a ∷ formula b ∷ []) h e = absurd cc
-      branches_worth (formula c ∷ numeric a ∷ numeric b ∷ []) h e = absurd cc
+      branches_worth (formula c ∷ numeric a ∷ numeric b ∷ []) h e =
+          branches_made_worth c a b m h.0 h.1.0 h.1.1.0 e
       branches_worth (formula c ∷ formula a ∷ formula b ∷ d ∷ rest) h e = absurd cc
       branches_worth (formula c ∷ formula a ∷ numeric b ∷ d ∷ rest) h e = absurd cc
       branches_worth (formula c ∷ numeric a ∷ formula b ∷ d ∷ rest) h e = absurd cc

@@ -65,7 +65,7 @@ module _ (scope : Scope) (nodes : List NodeValue) (over : IsScopeOver scope node
       let grown = made_grown scope nodes p one.made in
       subst (λ (n : MadeEach). AreLowered scope nodes n (suc count) (λ env. first env ∷ others env)) same (record {
         grown = growth_on (sorts_of scope.declared) nodes p.nodes rest.nodes grown are.grown;
-        terms = (term_later (sorts_of scope.declared) p.nodes rest.nodes are.grown p.is one.made.term, are.terms);
+        terms = (term_later (sorts_of scope.declared) p.nodes rest.nodes are.grown one.made.table p.is one.made.term, are.terms);
         counted = ap suc are.counted;
         say = λ schedule env fits agrees.
             ap (λ (v : Value). v ∷ others env) (one.says schedule env fits agrees ∙ sym (value_later (sorts_of scope.declared) p.nodes rest.nodes are.grown one.made.table schedule p.is one.made.term))

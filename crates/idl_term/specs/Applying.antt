@@ -1,5 +1,5 @@
 -- What the code's own calls give on the way to an application. These are words of the code, and no part of the meaning.
-use Rattle.std.specs.Prelude.{◌≡◌, List, [], ◌∷◌, true, false, Option, Result, Ok, Err}
+use Rattle.std.specs.Prelude.{◌≡◌, List, [], ◌∷◌, true, false, Option, Some, None, Result, Ok, Err}
 use Rattle.stn_core.specs.declared.literal.Literal.{Literal}
 use Rattle.idl_linear.specs.declared.error.DifferenceRefusal.{DifferenceRefusal}
 use Rattle.idl_linear.specs.declared.error.LinearRefusal.{LinearRefusal}
@@ -10,7 +10,10 @@ use Rattle.idl_node.specs.declared.error.NodeError.TheVariants as node
 use Rattle.idl_node.specs.declared.error.NodeRefusal.TheVariants as full
 use Rattle.idl_node.specs.Making.{then}
 use Rattle.idl_node.specs.Nodes.{NodeValue, atom, conjunction, disjunction, Placed, placed}
+use Rattle.idl_scope.specs.Guarded.{CaseValue, plain_linear}
+use Rattle.idl_term.specs.Applied.{a_number, are_limited, summed}
 use Rattle.idl_term.specs.Comparing.{refusal_of}
+use Rattle.idl_term.specs.declared.operator.Sign.{Sign}
 use Rattle.idl_term.specs.declared.error.TermError.{TermError}
 use Rattle.idl_term.specs.declared.error.TermError.TheVariants.{OutOfMemory, Refused}
 use Rattle.idl_term.specs.declared.error.TermRefusal.TheVariants.{TooLarge, BoundTooLarge}
@@ -38,3 +41,28 @@ both_atoms nodes l m = then (placed nodes (atom l)) (λ p. then (placed p.nodes 
 
 abbrev pub either_atom : List NodeValue → Literal → Literal → Option Placed
 either_atom nodes l m = then (placed nodes (atom l)) (λ p. then (placed p.nodes (atom m)) (λ q. placed q.nodes (disjunction (p.number ∷ q.number ∷ []))))
+
+-- the sum in one choice, in each of some, and of some terms, where it is within the limits; want of memory says nothing
+abbrev pub SumsCase : CaseValue → Result CaseValue TermError → Type 0
+SumsCase case (Ok c) = (c ≡ case) × (is_limited case.linear ≡ true)
+SumsCase case (Err (Refused why)) = (why ≡ BoundTooLarge) × (is_limited case.linear ≡ false)
+SumsCase case (Err OutOfMemory) = Unit {0}
+
+abbrev pub SumsCases : List CaseValue → Result (List CaseValue) TermError → Type 0
+SumsCases cases (Ok cs) = (cs ≡ cases) × (are_limited cases ≡ true)
+SumsCases cases (Err (Refused why)) = (why ≡ BoundTooLarge) × (are_limited cases ≡ false)
+SumsCases cases (Err OutOfMemory) = Unit {0}
+
+abbrev pub SumsTerms : Sign → List (List CaseValue) → Result (List CaseValue) TermError → Type 0
+SumsTerms s terms (Ok cs) = (nodes : List NodeValue) → summed s nodes terms ≡ Ok (a_number nodes cs)
+SumsTerms s terms (Err (Refused why)) = (nodes : List NodeValue) → summed s nodes terms ≡ Err why
+SumsTerms s terms (Err OutOfMemory) = Unit {0}
+
+-- the linear terms of terms without conditions
+abbrev pub plain_before : Option LinearValue → Option (List LinearValue) → Option (List LinearValue)
+plain_before (Some l) (Some ls) = Some (l ∷ ls)
+plain_before _ _ = None
+
+abbrev pub plain_linears : List (List CaseValue) → Option (List LinearValue)
+plain_linears [] = Some []
+plain_linears (cases ∷ terms) = plain_before (plain_linear cases) (plain_linears terms)

@@ -1,5 +1,5 @@
 -- The laws of the definitions, each said once: its function ensures it, and who stands on it names it.
-use Rattle.std.specs.Prelude.{◌≡◌, ◌<◌, List, length, Ok}
+use Rattle.std.specs.Prelude.{◌≡◌, ◌<◌, ◌*◌, List, length, Ok}
 use Rattle.std.specs.List.{AllByRecursion}
 use Rattle.smt_sexpr.specs.Tree.{Sexpr}
 use Rattle.stn_core.specs.declared.named.NamedValue.{NamedValue}
@@ -9,7 +9,10 @@ use Rattle.idl_term.specs.Applied.{Made}
 use Rattle.idl_term.specs.Contexts.{Context, IsContext, IsScheduleFor, environment, scope_of}
 use Rattle.idl_term.specs.Lowered.{lowered}
 use Rattle.idl_term.specs.Meanings.{IsScopeOver, IsMadeIn, Agrees, AreRoots, lowered_value}
+use Rattle.idl_scope.specs.Guarded.{CaseValue}
 use Rattle.idl_scope.specs.Scopes.{Scope, sorts_of}
+use Rattle.idl_term.specs.Choices.{choices, count_from}
+use Rattle.idl_term.specs.Comparing.{case_pairs}
 use Rattle.idl_term.specs.Values.{Named, value}
 
 abbrev pub LoweredIsMade : Type 0
@@ -41,3 +44,12 @@ abbrev pub NamesAgree : Type 0
 NamesAgree =
     (c : Context) (schedule : List NamedValue) → IsContext c → IsScheduleFor c schedule
     → Agrees (scope_of c) c.nodes schedule (environment c schedule)
+
+-- choices, and pairs of cases, are as many as the products say by which they are counted
+abbrev pub ChoicesAreCounted : Type 0
+ChoicesAreCounted =
+    (terms : List (List CaseValue)) → length (choices terms) ≡ count_from 1 terms
+
+abbrev pub PairsAreCounted : Type 0
+PairsAreCounted =
+    (a b : List CaseValue) → length (case_pairs a b) ≡ length a * length b

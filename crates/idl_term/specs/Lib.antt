@@ -2,6 +2,7 @@ pub mod Evaluating
 pub mod Operators
 pub mod Reserved
 pub mod Values
+pub mod Choices
 pub mod Comparing
 pub mod Applied
 pub mod Lowered

@@ -19,3 +19,9 @@ abbrev pub Places : List NodeValue → Result Placed TermRefusal → Result ℕ 
 Places now made (Ok number) = made ≡ Ok (record { nodes = now; number = number })
 Places now made (Err (Refused why)) = made ≡ Err why
 Places now made (Err OutOfMemory) = Unit {0}
+
+-- a call after which what is made goes on like this; want of memory says nothing
+abbrev pub GoesOn : Result Placed TermRefusal → Result Placed TermRefusal → Result (Unit {0}) TermError → Type 0
+GoesOn before after (Ok _) = before ≡ after
+GoesOn before after (Err (Refused why)) = before ≡ Err why
+GoesOn before after (Err OutOfMemory) = Unit {0}

@@ -101,8 +101,10 @@ abbrev pub equal_numbers : Equality → List ℤ → Value
 equal_numbers equality.Equal ns = truth (chain int_eq ns)
 equal_numbers equality.Distinct ns = truth (all_pairs other_number ns)
 
-abbrev pub choice_value : List Bool → Value
-choice_value (c ∷ a ∷ b ∷ []) = truth (if c then a else b)
+-- `ite`: the second where the first is true, else the third, which has the same sort
+abbrev pub choice_value : List Value → Value
+choice_value (truth c ∷ truth a ∷ truth b ∷ []) = truth (if c then a else b)
+choice_value (truth c ∷ whole a ∷ whole b ∷ []) = whole (if c then a else b)
 choice_value _ = nothing
 
 abbrev pub truth_before : Value → Option (List Bool) → Option (List Bool)
@@ -138,7 +140,7 @@ operator_value (op.Connective c) vs = of_all (connective_value c) (truths_in vs)
 operator_value (op.Sum s) vs = of_all (sum_value s) (wholes_in vs)
 operator_value (op.Order o) vs = of_all (order_value o) (wholes_in vs)
 operator_value (op.Equality e) vs = equality_value e (truths_in vs) (wholes_in vs)
-operator_value op.Ite vs = of_all choice_value (truths_in vs)
+operator_value op.Ite vs = choice_value vs
 
 abbrev pub value_by : Option Operator → List Value → Value
 value_by (Some o) vs = operator_value o vs

@@ -3,16 +3,15 @@ ghost use Rattle.std.specs.Prelude.{◌≡◌, List, Option, length, map, option
 ghost use Rattle.idl_node.specs.Made.{Makes};
 ghost use Rattle.idl_node.specs.Nodes.{NodeValue, Placed};
 ghost use Rattle.idl_scope.specs.Scopes.{shown_terms};
-ghost use Rattle.idl_term.specs.Applied.{applied, as_formula, formulas_in, linears_in, connected, equal_formulas, summed, related_numbers, relation_of_order, relation_of_equality, of_sort, of_first_sort, of_branches};
+ghost use Rattle.idl_term.specs.Applied.{applied, as_formula, formulas_in, numbers_in, connected, equal_formulas, summed, related_numbers, relation_of_order, relation_of_equality, of_sort, of_first_sort, of_branches, branches_made};
 ghost use Rattle.idl_term.specs.Shapes.{Lowers};
 
-use crate::arithmetic::{add, subtract};
+use crate::choices::sum_terms;
 use crate::comparing::{Relation, compare_all};
-use crate::error::{LeftOutTerm, TermError, TermRefusal};
+use crate::error::{TermError, TermRefusal};
 use crate::operator::{Connective, Equality, Operator, Order, Sign};
-use idl_linear::Linear;
 use idl_node::{NodeError, Nodes};
-use idl_scope::Lowered;
+use idl_scope::{CASES_LIMIT, Cases, Lowered, branches};
 use std::alloc::{AllocFailed, Global};
 
 /// The nodes of terms that are all Bool.
@@ -29,21 +28,18 @@ fn formulas(alloc: Global, terms: &[Lowered]) -> Result<Option<Vec<u32>>, AllocF
     Ok(Some(members))
 }
 
-/// The linear terms of terms that are all Int, and have one case each.
-fn linears<'t>(
+/// The cases of terms that are all Int.
+fn numbers<'t>(
     alloc: Global,
     terms: &'t [Lowered],
-) -> Result<Option<Vec<&'t Linear>>, AllocFailed<&'t Linear>>
+) -> Result<Option<Vec<&'t Cases>>, AllocFailed<&'t Cases>>
     ensures { IfOk result (λ found.
-        linears_in (shown_terms terms.now) ≡ option_map (λ v. map (λ l. l.now) v.items) found) }
+        numbers_in (shown_terms terms.now) ≡ option_map (λ v. map (λ t. t.now) v.items) found) }
 {
     let mut members = Vec::new(alloc);
     for term in terms {
         match term {
-            Lowered::Number(cases) => match cases.only() {
-                Some(linear) => members.push(linear)?,
-                None => return Ok(None),
-            },
+            Lowered::Number(cases) => members.push(cases)?,
             Lowered::Truth(_) => return Ok(None),
         }
     }
@@ -149,16 +145,13 @@ fn apply_sum(
     arguments: &[Lowered],
 ) -> Result<Lowered, TermError>
     ensures { Lowers nodes.now
-        (of_sort (summed sign nodes.now) (linears_in (shown_terms arguments.now))) result }
+        (of_sort (summed sign nodes.now) (numbers_in (shown_terms arguments.now))) result }
 {
-    let Some(terms) = linears(alloc, arguments)? else {
+    let Some(terms) = numbers(alloc, arguments)? else {
         return Err(TermError::Refused(TermRefusal::WrongSort));
     };
-    let sum = match sign {
-        Sign::Plus => add(alloc, &terms)?,
-        Sign::Minus => subtract(alloc, &terms)?,
-    };
-    Ok(Lowered::number(alloc, sum))
+    let sum = sum_terms(alloc, sign, &terms)?;
+    Ok(Lowered::Number(sum))
 }
 
 /// A relation between terms that must all be Int.
@@ -169,10 +162,10 @@ fn relate_numbers(
     arguments: &[Lowered],
 ) -> Result<Lowered, TermError>
     ensures makes { Lowers nodes.new
-        (of_sort (related_numbers relation nodes.old) (linears_in (shown_terms arguments.now))) result }
+        (of_sort (related_numbers relation nodes.old) (numbers_in (shown_terms arguments.now))) result }
     ensures front { take (length nodes.old) nodes.new ≡ nodes.old }
 {
-    let Some(terms) = linears(alloc, arguments)? else {
+    let Some(terms) = numbers(alloc, arguments)? else {
         return Err(TermError::Refused(TermRefusal::WrongSort));
     };
     let number = compare_all(alloc, nodes, relation, &terms)?;
@@ -218,6 +211,25 @@ fn apply_equality(
     }
 }
 
+/// `ite` of Int terms, where the node is the condition's.
+fn choose_number(
+    alloc: Global,
+    nodes: &mut Nodes,
+    condition: u32,
+    yes: &Cases,
+    no: &Cases,
+) -> Result<Lowered, TermError>
+    ensures makes { Lowers nodes.new (branches_made nodes.old condition yes.now no.now) result }
+    ensures front { take (length nodes.old) nodes.new ≡ nodes.old }
+{
+    if yes.len().saturating_add(no.len()) > CASES_LIMIT {
+        return Err(TermError::Refused(TermRefusal::TooManyCases));
+    }
+    let denial = nodes.negate(condition)?;
+    let cases = branches(alloc, condition, denial, yes, no)?;
+    Ok(Lowered::Number(cases))
+}
+
 /// `ite`.
 fn choose(alloc: Global, nodes: &mut Nodes, arguments: &[Lowered]) -> Result<Lowered, TermError>
     ensures makes { Lowers nodes.new (of_branches nodes.old (shown_terms arguments.now)) result }
@@ -232,9 +244,11 @@ fn choose(alloc: Global, nodes: &mut Nodes, arguments: &[Lowered]) -> Result<Low
             let number = nodes.choose(alloc, *condition, *yes, *no)?;
             Ok(Lowered::Truth(number))
         }
-        [Lowered::Truth(_), Lowered::Number(_), Lowered::Number(_)] => {
-            Err(TermError::Refused(TermRefusal::LeftOut(LeftOutTerm::Ite)))
-        }
+        [
+            Lowered::Truth(condition),
+            Lowered::Number(yes),
+            Lowered::Number(no),
+        ] => choose_number(alloc, nodes, *condition, yes, no),
         _ => Err(TermError::Refused(TermRefusal::WrongSort)),
     }
 }

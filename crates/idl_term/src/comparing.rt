@@ -3,13 +3,15 @@ ghost use Rattle.std.specs.Prelude.{◌≡◌, ◌≤ℤ◌, pos, neg_ℤ, [], l
 ghost use Rattle.idl_linear.specs.Limits.{number_limit};
 ghost use Rattle.idl_node.specs.Made.{Makes};
 ghost use Rattle.idl_term.specs.Comparing.{at_most, below, at_least, above, related, compared, all_compared, each_compared, or_too_large};
-ghost use Rattle.idl_node.specs.Making.{conjoined, neighbours, pairs};
+ghost use Rattle.idl_node.specs.Making.{conjoined, disjoined, neighbours, pairs};
 ghost use Rattle.idl_term.specs.Applying.{both_atoms, either_atom};
 ghost use Rattle.idl_term.specs.Shapes.{Places};
 
 use crate::error::TermError;
+use crate::pairing::compare_cases;
 use idl_linear::{Difference, Linear, compare};
 use idl_node::{Node, NodeError, Nodes};
+use idl_scope::Cases;
 use std::alloc::Global;
 use stn_core::Literal;
 
@@ -121,8 +123,8 @@ fn relate(
     }
 }
 
-/// Two terms in the relation.
-fn compare_two(
+/// Two linear terms in the relation.
+pub(crate) fn compare_two(
     alloc: Global,
     nodes: &mut Nodes,
     relation: Relation,
@@ -138,11 +140,20 @@ fn compare_two(
 }
 
 /// All of the parts.
-fn conjoin(nodes: &mut Nodes, parts: Vec<u32>) -> Result<u32, TermError>
+pub(crate) fn conjoin(nodes: &mut Nodes, parts: Vec<u32>) -> Result<u32, TermError>
     ensures makes { Places nodes.new (or_too_large (conjoined nodes.old parts.items)) result }
     ensures front { take (length nodes.old) nodes.new ≡ nodes.old }
 {
     let number = nodes.conjoin(parts)?;
+    Ok(number)
+}
+
+/// One of the parts.
+pub(crate) fn disjoin(nodes: &mut Nodes, parts: Vec<u32>) -> Result<u32, TermError>
+    ensures makes { Places nodes.new (or_too_large (disjoined nodes.old parts.items)) result }
+    ensures front { take (length nodes.old) nodes.new ≡ nodes.old }
+{
+    let number = nodes.disjoin(parts)?;
     Ok(number)
 }
 
@@ -151,15 +162,15 @@ fn compare_neighbours(
     alloc: Global,
     nodes: &mut Nodes,
     relation: Relation,
-    terms: &[&Linear],
+    terms: &[&Cases],
 ) -> Result<u32, TermError>
     ensures makes { Places nodes.new (each_compared relation nodes.old []
-        (neighbours (map (λ l. l.now) terms.now))) result }
+        (neighbours (map (λ t. t.now) terms.now))) result }
     ensures front { take (length nodes.old) nodes.new ≡ nodes.old }
 {
     let mut parts = Vec::new(alloc);
     for i in 1..terms.len() {
-        parts.push(compare_two(alloc, nodes, relation, terms[i - 1], terms[i])?)?;
+        parts.push(compare_cases(alloc, nodes, relation, terms[i - 1], terms[i])?)?;
     }
     conjoin(nodes, parts)
 }
@@ -169,16 +180,16 @@ fn compare_pairs(
     alloc: Global,
     nodes: &mut Nodes,
     relation: Relation,
-    terms: &[&Linear],
+    terms: &[&Cases],
 ) -> Result<u32, TermError>
     ensures makes { Places nodes.new (each_compared relation nodes.old []
-        (pairs (map (λ l. l.now) terms.now))) result }
+        (pairs (map (λ t. t.now) terms.now))) result }
     ensures front { take (length nodes.old) nodes.new ≡ nodes.old }
 {
     let mut parts = Vec::new(alloc);
     for (i, first) in terms.iter().enumerate() {
         for second in &terms[i + 1..] {
-            parts.push(compare_two(alloc, nodes, relation, first, second)?)?;
+            parts.push(compare_cases(alloc, nodes, relation, first, second)?)?;
         }
     }
     conjoin(nodes, parts)
@@ -189,9 +200,9 @@ pub fn compare_all(
     alloc: Global,
     nodes: &mut Nodes,
     relation: Relation,
-    terms: &[&Linear],
+    terms: &[&Cases],
 ) -> Result<u32, TermError>
-    ensures makes { Places nodes.new (all_compared relation nodes.old (map (λ l. l.now) terms.now)) result }
+    ensures makes { Places nodes.new (all_compared relation nodes.old (map (λ t. t.now) terms.now)) result }
     ensures front { take (length nodes.old) nodes.new ≡ nodes.old }
 {
     match relation {

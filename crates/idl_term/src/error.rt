@@ -18,8 +18,6 @@ pub enum LeftOutTerm {
     Div,
     Mod,
     Abs,
-    /// `ite` of Int terms.
-    Ite,
     Decimal,
     Hexadecimal,
     Binary,
@@ -33,9 +31,11 @@ pub enum TermRefusal {
     IllFormedTerm,
     WrongCount,
     WrongSort,
+    /// An Int term, or a pair of them that is compared, with more than 4,096 cases.
+    TooManyCases,
     /// A comparison of other than one name less another.
     NotADifference,
-    /// A numeral or a constant beyond 2^62, a coefficient beyond 2^20, or a comparison's number beyond 2^40.
+    /// A numeral or a constant beyond 2^62, a coefficient beyond 2^20, or a comparison's number beyond 2^60.
     BoundTooLarge,
     /// The node table has 2^20 nodes.
     TooLarge,

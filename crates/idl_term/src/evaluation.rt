@@ -1,17 +1,22 @@
-//! The value of a linear term.
-ghost use Rattle.std.specs.Prelude.{◌≡◌, ◌<◌, ◌+◌, ◌*ℤ◌, ◌≤ℤ◌, neg_ℤ, pos, length, true};
-ghost use Rattle.std.specs.List.{AllByRecursion};
+//! The value of an Int term.
+ghost use Rattle.std.specs.Prelude.{◌≡◌, ◌<◌, ◌+◌, ◌*ℤ◌, ◌≤ℤ◌, neg_ℤ, pos, IfOk, List, length, slice_index_or, true, false};
+ghost use Rattle.std.specs.List.{AllByRecursion, list_all};
 ghost use Rattle.stn_core.specs.Literal.{value_at};
 ghost use Rattle.stn_core.specs.Named.{AreWithinLimit};
 ghost use Rattle.idl_linear.specs.Limits.{coefficient_limit};
 ghost use Rattle.idl_linear.specs.Linear.{is_within};
 ghost use Rattle.idl_linear.specs.Values.{linear_value};
 ghost use Rattle.idl_linear.specs.declared.summand.Summand.{Summand as OneSummand};
-ghost use Rattle.idl_node.specs.Truth.{point_values};
-ghost use Rattle.idl_term.specs.Evaluating.{product_limit};
+ghost use Rattle.idl_node.specs.Nodes.{NodeValue};
+ghost use Rattle.idl_node.specs.Tables.{IsTableOver};
+ghost use Rattle.idl_node.specs.Truth.{point_values, truth, AreTruths};
+ghost use Rattle.idl_term.specs.Evaluating.{product_limit, IsCaseOver};
+ghost use Rattle.idl_term.specs.Meanings.{cases_value};
 
 use idl_linear::{Linear, Summand};
-use idl_node::point_value;
+use idl_node::{Nodes, eval, eval_on, point_value};
+use idl_scope::Cases;
+use std::alloc::AllocError;
 use stn_core::{NamedValue, NamedValues, Value};
 
 /// The value of a time point times its coefficient.
@@ -28,7 +33,7 @@ fn product(summand: Summand, values: &[NamedValue]) -> Value
 
 /// The value of a linear term where the names have these values: of a Bool name's time point 0 where the name is true, else 1.
 /// Each Int name's value is within `NAMED_VALUE_LIMIT`, so that the sum is a `Value`. It takes no memory.
-pub fn eval_int(linear: &Linear, values: &NamedValues) -> Value
+fn eval_linear(linear: &Linear, values: &NamedValues) -> Value
     requires points { AllByRecursion (λ (s : OneSummand). s.point < length values.now + 1)
         linear.now.summands }
     requires within { AreWithinLimit values.now }
@@ -41,4 +46,96 @@ pub fn eval_int(linear: &Linear, values: &NamedValues) -> Value
         sum += product(*summand, values);
     }
     sum
+}
+
+/// Whether all of the guards are true, by the marks of the nodes.
+fn all_marked(guards: &[u32], marks: &[bool]) -> bool
+    requires { AllByRecursion (λ g. g < length marks.now) guards.now }
+    ensures { result ≡ list_all (λ j. slice_index_or marks.now j false) guards.now }
+{
+    for guard in guards {
+        if !marks[*guard as usize] {
+            return false;
+        }
+    }
+    true
+}
+
+/// The value of the case whose guards are true, by the marks of the nodes.
+fn eval_marked(cases: &Cases, values: &NamedValues, marks: &[bool]) -> Value
+    requires cases { AllByRecursion (IsCaseOver (length values.now + 1) (length marks.now)) cases.now }
+    requires within { AreWithinLimit values.now }
+    ensures { (nodes : List NodeValue) → AreTruths nodes (point_values values.now) marks.now
+        → result ≡ cases_value nodes (point_values values.now) cases.now }
+{
+    for k in 0..cases.len() {
+        let case = cases.at(k);
+        if all_marked(case.guards(), marks) {
+            return eval_linear(case.linear(), values);
+        }
+    }
+    0
+}
+
+/// The value of an Int term of the table where the names have these values: that of the case whose guards are true. `marks` is
+/// the caller's buffer, as long as the table: it then tells the truth of each node. It takes time of the order of the table and the
+/// term, and no memory.
+pub fn eval_int(cases: &Cases, nodes: &Nodes, values: &NamedValues, marks: &mut [bool]) -> Value
+    requires table { IsTableOver (length values.now + 1) nodes.now }
+    requires cases { AllByRecursion (IsCaseOver (length values.now + 1) (length nodes.now)) cases.now }
+    requires within { AreWithinLimit values.now }
+    requires room { length marks.old ≡ length nodes.now }
+    ensures value { result ≡ cases_value nodes.now (point_values values.now) cases.now }
+    ensures marks { AreTruths nodes.now (point_values values.now) marks.new }
+{
+    let count = nodes.len();
+    if count > 0 {
+        eval(nodes, count as u32 - 1, values, marks);
+    }
+    eval_marked(cases, values, marks)
+}
+
+/// Whether all of the guards are true. `marks` tells the truth of the table's first nodes, and then that of as many as were asked for.
+fn all_true(
+    guards: &[u32],
+    nodes: &Nodes,
+    values: &NamedValues,
+    marks: &mut Vec<bool>,
+) -> Result<bool, AllocError>
+    requires table { IsTableOver (length values.now + 1) nodes.now }
+    requires guards { AllByRecursion (λ g. g < length nodes.now) guards.now }
+    requires marks { AreTruths nodes.now (point_values values.now) marks.old.items }
+    ensures truth { IfOk result (λ b. b ≡ list_all (truth nodes.now (point_values values.now)) guards.now) }
+    ensures marks { AreTruths nodes.now (point_values values.now) marks.new.items }
+{
+    for guard in guards {
+        if !eval_on(nodes, *guard, values, marks)? {
+            return Ok(false);
+        }
+    }
+    Ok(true)
+}
+
+/// The value of an Int term of the table where the names have these values: that of the case whose guards are true. `marks` tells
+/// the truth of the table's first nodes, and then that of as many as were asked for: of none where the term has no conditions.
+pub fn eval_int_on(
+    cases: &Cases,
+    nodes: &Nodes,
+    values: &NamedValues,
+    marks: &mut Vec<bool>,
+) -> Result<Value, AllocError>
+    requires table { IsTableOver (length values.now + 1) nodes.now }
+    requires cases { AllByRecursion (IsCaseOver (length values.now + 1) (length nodes.now)) cases.now }
+    requires within { AreWithinLimit values.now }
+    requires marks { AreTruths nodes.now (point_values values.now) marks.old.items }
+    ensures value { IfOk result (λ n. n ≡ cases_value nodes.now (point_values values.now) cases.now) }
+    ensures marks { AreTruths nodes.now (point_values values.now) marks.new.items }
+{
+    for k in 0..cases.len() {
+        let case = cases.at(k);
+        if all_true(case.guards(), nodes, values, marks)? {
+            return Ok(eval_linear(case.linear(), values));
+        }
+    }
+    Ok(0)
 }

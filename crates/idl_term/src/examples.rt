@@ -2,11 +2,12 @@
 ghost use Rattle.std.specs.Prelude.{◌≡◌, ◌∷◌, [], codes, true, false, Ok, Err, pos, negsuc};
 ghost use Rattle.smt_sexpr.specs.Shapes.{symbol, form};
 ghost use Rattle.idl_node.specs.Nodes.{always, atom, denial, conjunction, disjunction};
-ghost use Rattle.idl_term.specs.declared.error.LeftOutTerm.TheVariants.{Ite, Times, As};
+ghost use Rattle.idl_term.specs.declared.error.LeftOutTerm.TheVariants.{Times, As};
 ghost use Rattle.idl_term.specs.declared.error.TermRefusal.TheVariants.{UnknownSymbol, IllFormedTerm, WrongCount, WrongSort, NotADifference, BoundTooLarge, LeftOut};
-ghost use Rattle.idl_term.specs.Examples.{numeral, x, y, p, z, binding, let_of, names, scope, literal};
+ghost use Rattle.idl_term.specs.Examples.{numeral, x, y, p, q, z, one, two, choice, binding, let_of, names, scope, literal, p_atom, no_p_atom, q_atom, no_q_atom, case, with_number};
 ghost use Rattle.idl_term.specs.Lowered.{lowered};
-ghost use Rattle.idl_scope.specs.Scopes.{formula};
+ghost use Rattle.idl_linear.specs.Linear.{point_alone};
+ghost use Rattle.idl_scope.specs.Scopes.{formula, numeric};
 ghost use Rattle.idl_term.specs.Values.{whole, truth, nothing, value};
 
 /// Values where x is 4, y is 7 and p is true.
@@ -29,9 +30,13 @@ pub fn worked_values()
     ensures ill_sorted { value names (form (codes "<") (x ∷ p ∷ [])) ≡ nothing }
     ensures branches { value names (form (codes "ite")
         (form (codes "not") (p ∷ []) ∷ p ∷ symbol (codes "false") ∷ [])) ≡ truth false }
+    ensures number_branches { value names choice ≡ whole (pos 4) }
+    ensures other_number { value names (form (codes "ite") (form (codes "not") (p ∷ []) ∷ x ∷ y ∷ []))
+        ≡ whole (pos 7) }
+    ensures two_sorts { value names (form (codes "ite") (p ∷ x ∷ p ∷ [])) ≡ nothing }
 {}
 
-/// What terms are made into, where the time points of x, y and p are 1, 2 and 3.
+/// What terms are made into, where the time points of x, y, p and q are 1, 2, 3 and 4.
 #[tactic(auto, unfolding(crate::specs::Operators::operator_of, crate::specs::Operators::connective_of, crate::specs::Operators::order_of, crate::specs::Operators::sign_of, crate::specs::Operators::equality_of, crate::specs::Operators::left_out_of, crate::specs::Operators::theory_symbols, crate::specs::Operators::reserved_words, crate::specs::Lowered::lowered, crate::specs::Lowered::lowered_leaf, crate::specs::Lowered::head_of, crate::specs::Lowered::is_let, crate::specs::Applied::applied, idl_linear::specs::Differences::difference_of, idl_linear::specs::Linear::sum_of, smt_lex::specs::Numbers::value_from))]
 pub fn worked_terms()
     ensures less { lowered scope [] (form (codes "<") (x ∷ y ∷ []))
@@ -63,10 +68,29 @@ pub fn worked_terms()
         (form (codes "<=") (form (codes "+") (x ∷ y ∷ []) ∷ numeral (codes "3") ∷ []))
         ≡ Err NotADifference }
     ensures count { lowered scope [] (form (codes "not") (z ∷ z ∷ [])) ≡ Err WrongCount }
-    ensures too_large { lowered scope [] (form (codes "=") (x ∷ numeral (codes "1099511627777") ∷ []))
+    ensures too_large { lowered scope [] (form (codes "=") (x ∷ numeral (codes "1152921504606846977") ∷ []))
         ≡ Err BoundTooLarge }
     ensures left_out { lowered scope [] (form (codes "*") (z ∷ [])) ≡ Err (LeftOut Times) }
-    ensures branches { lowered scope [] (form (codes "ite") (p ∷ x ∷ y ∷ [])) ≡ Err (LeftOut Ite) }
+    ensures branches { lowered scope [] choice ≡ Ok (record {
+      nodes = p_atom ∷ no_p_atom ∷ [];
+      is = numeric
+          (case (0 ∷ []) (point_alone 1) ∷ case (1 ∷ []) (point_alone 2) ∷ []);
+    }) }
+    ensures other_branches { lowered scope [] (form (codes "ite") (p ∷ x ∷ p ∷ [])) ≡ Err WrongSort }
+    ensures order_of_cases { lowered scope [] (form (codes "+")
+        (choice ∷ form (codes "ite") (q ∷ one ∷ two ∷ []) ∷ []))
+        ≡ Ok (record {
+          nodes = p_atom ∷ no_p_atom ∷ q_atom ∷ no_q_atom ∷ [];
+          is = numeric (case (0 ∷ 2 ∷ []) (with_number 1 1) ∷ case (0 ∷ 3 ∷ []) (with_number 1 2)
+              ∷ case (1 ∷ 2 ∷ []) (with_number 2 1) ∷ case (1 ∷ 3 ∷ []) (with_number 2 2) ∷ []);
+        }) }
+    ensures compared_cases { lowered scope [] (form (codes "<") (choice ∷ two ∷ []))
+        ≡ Ok (record {
+          nodes = p_atom ∷ no_p_atom ∷ atom (literal 1 0 (pos 1)) ∷ disjunction (1 ∷ 2 ∷ [])
+              ∷ atom (literal 2 0 (pos 1)) ∷ disjunction (0 ∷ 4 ∷ [])
+              ∷ conjunction (3 ∷ 5 ∷ []) ∷ [];
+          is = formula 6;
+        }) }
     ensures applied_name { lowered scope [] (form (codes "x") (y ∷ [])) ≡ Err IllFormedTerm }
     ensures applied_unknown { lowered scope [] (form (codes "f") (y ∷ [])) ≡ Err UnknownSymbol }
     ensures twice_bound { lowered scope [] (let_of (binding x z ∷ binding x z ∷ []) x) ≡ Err IllFormedTerm }

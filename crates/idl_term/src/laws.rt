@@ -1,5 +1,5 @@
 //! Laws of the definitions alone.
-ghost use Rattle.idl_term.specs.Laws.{LoweredIsMade, LoweredIsWorth, ContextsHaveScopes, RootsAreNodes, RootsAreExact, NamesAgree};
+ghost use Rattle.idl_term.specs.Laws.{LoweredIsMade, LoweredIsWorth, ContextsHaveScopes, RootsAreNodes, RootsAreExact, NamesAgree, ChoicesAreCounted, PairsAreCounted};
 
 /// What a term is made into is worth what the term is worth, on every schedule; the table grows, and stays one of atoms over
 /// the declared names.
@@ -16,4 +16,10 @@ pub fn context_law()
     ensures roots { RootsAreNodes }
     ensures exact { RootsAreExact }
     ensures agrees { NamesAgree }
+{}
+
+/// A sum has as many cases as the product of its terms' numbers of cases, and so has a pair that is compared.
+pub fn cases_law()
+    ensures choices { ChoicesAreCounted }
+    ensures pairs { PairsAreCounted }
 {}

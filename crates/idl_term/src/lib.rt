@@ -4,6 +4,7 @@
 mod applied;
 mod arithmetic;
 mod binding;
+mod choices;
 mod comparing;
 mod error;
 mod evaluation;
@@ -14,16 +15,17 @@ mod leaf;
 mod lowering;
 mod machine;
 mod operator;
+mod pairing;
 mod reserved;
 mod symbol;
 
 pub use error::{LeftOutTerm, TermError, TermRefusal};
-pub use evaluation::eval_int;
+pub use evaluation::{eval_int, eval_int_on};
 pub use examples::{worked_terms, worked_values};
 pub use idl_linear::Linear;
 pub use idl_node::{Node, Nodes, Sort, eval};
-pub use idl_scope::{Case, Cases, FoundName, Lowered, Names, Scope};
-pub use laws::{context_law, lowered_law};
+pub use idl_scope::{CASES_LIMIT, Case, Cases, FoundName, Lowered, Names, Scope};
+pub use laws::{cases_law, context_law, lowered_law};
 pub use lowering::lower;
 pub use operator::{Connective, Equality, Operator, Order, Sign};
 pub use reserved::is_reserved;

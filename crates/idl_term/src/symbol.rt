@@ -94,8 +94,7 @@ pub fn operator_of(name: &[u8]) -> Option<Operator>
     None
 }
 
-/// What is left out, by the symbol at the head of a term. What isn't known by its head alone, such as `ite` of Int terms,
-/// isn't among them.
+/// What is left out, by the symbol at the head of a term.
 #[tactic(auto, unfolding(crate::specs::Operators::left_out_of))]
 pub fn left_out_of(name: &[u8]) -> Option<LeftOutTerm>
     ensures { result ≡ left_out_of name.now }

@@ -8,7 +8,7 @@ use Rattle.idl_term.specs.declared.error.TermRefusal.TheVariants as term
 use Rattle.smt_script.specs.declared.error.Refusal.{Refusal}
 use Rattle.smt_script.specs.declared.error.Refusal.TheVariants as script
 use Rattle.smt_answer.specs.declared.kind.Kind.{Kind}
-use Rattle.smt_answer.specs.declared.kind.Kind.TheVariants.{BadByte, UnclosedString, UnclosedQuotedSymbol, LeadingZero, UnclosedList, StrayClose, UnknownCommand, IllFormedCommand, LogicNotSupported, AlreadyDeclared, TooManyNames, TooManyLevels, PopBelowTheBottom, NoModel, NoProof, UnknownSymbol, IllFormedTerm, WrongCount, WrongSort, NotADifference, BoundTooLarge, TooLarge, LeftOut}
+use Rattle.smt_answer.specs.declared.kind.Kind.TheVariants.{BadByte, UnclosedString, UnclosedQuotedSymbol, LeadingZero, UnclosedList, StrayClose, UnknownCommand, IllFormedCommand, LogicNotSupported, AlreadyDeclared, TooManyNames, TooManyLevels, PopBelowTheBottom, NoModel, NoProof, UnknownSymbol, IllFormedTerm, WrongCount, WrongSort, TooManyCases, NotADifference, BoundTooLarge, TooLarge, LeftOut}
 use Rattle.smt_answer.specs.declared.kind.LeftOut.TheVariants as left_out
 
 abbrev pub lexical_kind : LexErrorKind → Kind
@@ -28,6 +28,7 @@ kind_of_term term.UnknownSymbol = UnknownSymbol
 kind_of_term term.IllFormedTerm = IllFormedTerm
 kind_of_term term.WrongCount = WrongCount
 kind_of_term term.WrongSort = WrongSort
+kind_of_term term.TooManyCases = TooManyCases
 kind_of_term term.NotADifference = NotADifference
 kind_of_term term.BoundTooLarge = BoundTooLarge
 kind_of_term term.TooLarge = TooLarge

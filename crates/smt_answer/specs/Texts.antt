@@ -17,7 +17,7 @@ use Rattle.idl_term.specs.declared.error.LeftOutTerm.TheVariants as term
 use Rattle.smt_script.specs.declared.error.LeftOutCommand.{LeftOutCommand}
 use Rattle.smt_script.specs.declared.error.LeftOutCommand.TheVariants as command
 use Rattle.smt_answer.specs.declared.kind.Kind.{Kind}
-use Rattle.smt_answer.specs.declared.kind.Kind.TheVariants.{BadByte, UnclosedString, UnclosedQuotedSymbol, LeadingZero, UnclosedList, StrayClose, UnknownCommand, IllFormedCommand, LogicNotSupported, AlreadyDeclared, TooManyNames, TooManyLevels, PopBelowTheBottom, NoModel, NoProof, UnknownSymbol, IllFormedTerm, WrongCount, WrongSort, NotADifference, BoundTooLarge, TooLarge, LeftOut}
+use Rattle.smt_answer.specs.declared.kind.Kind.TheVariants.{BadByte, UnclosedString, UnclosedQuotedSymbol, LeadingZero, UnclosedList, StrayClose, UnknownCommand, IllFormedCommand, LogicNotSupported, AlreadyDeclared, TooManyNames, TooManyLevels, PopBelowTheBottom, NoModel, NoProof, UnknownSymbol, IllFormedTerm, WrongCount, WrongSort, TooManyCases, NotADifference, BoundTooLarge, TooLarge, LeftOut}
 use Rattle.smt_answer.specs.declared.kind.LeftOut.{LeftOut as Construct}
 use Rattle.smt_answer.specs.declared.kind.LeftOut.TheVariants as left_out
 
@@ -43,7 +43,6 @@ term_text term.Times = codes "*"
 term_text term.Div = codes "div"
 term_text term.Mod = codes "mod"
 term_text term.Abs = codes "abs"
-term_text term.Ite = codes "ite"
 term_text term.Decimal = codes "decimal"
 term_text term.Hexadecimal = codes "hexadecimal"
 term_text term.Binary = codes "binary"
@@ -85,6 +84,7 @@ fixed_text UnknownSymbol = codes "unknown symbol"
 fixed_text IllFormedTerm = codes "ill-formed term"
 fixed_text WrongCount = codes "wrong count of arguments"
 fixed_text WrongSort = codes "wrong sort"
+fixed_text TooManyCases = codes "too many cases"
 fixed_text NotADifference = codes "not a difference"
 fixed_text BoundTooLarge = codes "bound too large"
 fixed_text TooLarge = codes "too large"

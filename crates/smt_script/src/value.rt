@@ -10,7 +10,7 @@ ghost use Rattle.idl_term.specs.Scopes.{shown_term};
 ghost use Rattle.smt_script.specs.TermValues.{value_shown};
 
 use idl_node::{Nodes, eval_on};
-use idl_term::{Lowered, eval_int};
+use idl_term::{Lowered, eval_int_on};
 use std::alloc::AllocError;
 use stn_core::{NamedValues, Value};
 
@@ -24,7 +24,7 @@ pub enum TermValue {
 }
 
 /// The value of a lowered term of the table, where the names have these values. `marks` tells the truth of the table's first nodes,
-/// and for a Bool term then that of all up to its own.
+/// and then of as many as the term's value asks for.
 pub fn term_value(
     term: &Lowered,
     nodes: &Nodes,
@@ -44,7 +44,7 @@ pub fn term_value(
             Ok(TermValue::Truth(truth))
         }
         Lowered::Number(cases) => {
-            let number = eval_int(cases.first().linear(), values);
+            let number = eval_int_on(cases, nodes, values, marks)?;
             Ok(TermValue::Int(number))
         }
     }

@@ -32,6 +32,7 @@ fn values_without_names(rt: HostRuntime) {
     let values = [
         value(alloc, &mut state, b"(and (< 1 2) (not (= 3 4)))"),
         value(alloc, &mut state, b"(- (+ 1 2) 4611686018427387904)"),
+        value(alloc, &mut state, b"(+ (ite (< 1 2) 3 4) (ite (= 1 2) 10 20))"),
         value(alloc, &mut state, b"4611686018427387905"),
         value(alloc, &mut state, b"(or true x)"),
     ];
@@ -40,6 +41,7 @@ fn values_without_names(rt: HostRuntime) {
         [
             Ok(TermValue::Truth(true)),
             Ok(TermValue::Int(-4_611_686_018_427_387_901)),
+            Ok(TermValue::Int(23)),
             Err(TermError::Refused(TermRefusal::BoundTooLarge)),
             Err(TermError::Refused(TermRefusal::UnknownSymbol)),
         ]

@@ -3,7 +3,7 @@ use Rattle.idl_linear.specs.Limits.{constant_limit}
 use Rattle.idl_term.specs.Evaluating.{product_limit}
 use Rattle.idl_linear.specs.Values.{summands_value, linear_value}
 use Rattle.idl_node.specs.Truth.{point_values}
-use Rattle.idl_term.proofs.evaluation.eval_int.Given as goal
+use Rattle.idl_term.proofs.evaluation.eval_linear.Given as goal
 
 abbrev pub invariant-loop-summand : goal.invariant-loop-summand
 invariant-loop-summand l = record {

@@ -6,7 +6,7 @@ use Rattle.stn_core.specs.declared.named.NamedValue.{NamedValue}
 use Rattle.idl_linear.specs.declared.summand.Summand.{Summand}
 use Rattle.idl_node.specs.Truth.{point_values}
 use Rattle.idl_term.proofs.Evaluating.{no_summand, count_linear, summand_taken, sum_low, sum_high, sum_is}
-use Rattle.idl_term.proofs.evaluation.eval_int.Goals as goal
+use Rattle.idl_term.proofs.evaluation.eval_linear.Goals as goal
 
 pub overflow_add-sum : goal.overflow_add-sum
 overflow_add-sum c =
