@@ -1,0 +1,11 @@
+use Rattle.std.proofs.Common.{◌≡◌, ◌++◌, length}
+use Rattle.crossbeam_deque.specs.Handles.{worker_flavor, worker_view}
+use Rattle.cube_pool.specs.Lanes.{slip, whole}
+use Rattle.cube_pool.proofs.lane.drain.Given as goal
+
+abbrev pub invariant-loop-i : goal.invariant-loop-i
+invariant-loop-i l = record {
+  fifo : worker_flavor l.lane ≡ 0;
+  seen : worker_view l.lane ≡ slip whole (worker_view l.fn.lane).put ((worker_view l.fn.lane).taken ++ l.left.items);
+  count : length l.left.items ≡ l._i;
+}

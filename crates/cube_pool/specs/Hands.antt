@@ -1,0 +1,89 @@
+-- What contracts see of a pool and of its hands, and what a call does to a hand.
+use Rattle.std.specs.Prelude.{◌≡◌, ℕ, ◌+◌, ◌-◌, ◌<◌, ◌≤◌, List, [], ◌∷◌, ◌++◌, length, map, sum_by, Some, None, slice_get, slice_index_or, slice_set}
+use Rattle.std.specs.Global.{Global}
+use Rattle.crossbeam_deque.specs.declared.handles.Worker.{Worker}
+use Rattle.crossbeam_deque.specs.Handles.{Pass, view, worker_capacity, worker_deque, worker_flavor, worker_index, worker_view}
+use Rattle.cube_pool.specs.declared.slip.Slip.{Slip}
+use Rattle.cube_pool.specs.Lanes.{slip, whole, WasEmpty, weigh}
+
+-- which deque it is
+abbrev pub Deque : Type 0
+Deque = (ℕ × ℕ) × Global
+
+-- a hand: the deques of its pool, its number, what it pushed, and for each deque what it fetched there
+pub record Doings : Type 0 where
+  pub pool : List Deque
+  pub number : ℕ
+  pub pushed : List ℕ
+  pub fetched : List (List ℕ)
+
+-- a hand that has done nothing
+abbrev pub newcomer : List Deque → ℕ → Doings
+newcomer pool number =
+    record { pool = pool; number = number; pushed = []; fetched = map (λ (d : Deque). []) pool }
+
+-- the hands of a pool, each by its number, none of which has done anything
+abbrev pub AreNewcomers : ℕ → List Deque → List Doings → Type 0
+AreNewcomers workers pool hands =
+    (length pool ≡ workers) × (length hands ≡ workers)
+    × ((k : ℕ) → k < workers → slice_get hands k ≡ Some (newcomer pool k))
+
+-- after a push
+abbrev pub with_pushed : Doings → ℕ → Doings
+with_pushed hand id = record hand { pushed = hand.pushed ++ id ∷ [] }
+
+-- after a fetch from the deque with number k
+abbrev pub with_fetched : Doings → ℕ → ℕ → Doings
+with_fetched hand k id =
+    record hand { fetched = slice_set hand.fetched k (slice_index_or hand.fetched k [] ++ id ∷ []) }
+
+-- there was a moment, with this hand having fetched what it has, at which the deque with number k was empty
+abbrev pub WasEmptyAt : Doings → ℕ → Type 0
+WasEmptyAt hand k = WasEmpty (slip 1 [] (slice_index_or hand.fetched k []))
+
+-- all hands of the pool, by their numbers
+abbrev pub AreHandsOf : List Deque → List Doings → Type 0
+AreHandsOf pool hands =
+    (length hands ≡ length pool)
+    × ((k : ℕ) (d : Doings) → k < length hands
+    → ((slice_index_or hands k d).pool ≡ pool) × ((slice_index_or hands k d).number ≡ k))
+
+-- the weights of all numbers that the hands pushed, and of all that they fetched
+abbrev pub pushed_by : (ℕ → ℕ) → List Doings → ℕ
+pushed_by h hands = sum_by (λ (hand : Doings). weigh h hand.pushed) hands
+
+abbrev pub weigh_all : (ℕ → ℕ) → List (List ℕ) → ℕ
+weigh_all h lists = sum_by (λ (xs : List ℕ). weigh h xs) lists
+
+abbrev pub fetched_by : (ℕ → ℕ) → List Doings → ℕ
+fetched_by h hands = sum_by (λ (hand : Doings). weigh_all h hand.fetched) hands
+
+-- each number was fetched or is left as often as it was pushed: so it is however the numbers are weighed
+abbrev pub AreSettled : List Doings → List ℕ → Type 0
+AreSettled hands left = (h : ℕ → ℕ) → pushed_by h hands ≡ fetched_by h hands + weigh h left
+
+-- of the code: a pass of a deque, by which numbers are taken and none put
+abbrev pub deque_of : Pass ℕ Slip Global → Deque
+deque_of p = (p.rows, p.heap)
+
+abbrev pub taken_by : Pass ℕ Slip Global → List ℕ
+taken_by p = (view p).taken
+
+abbrev pub IsTaker : Pass ℕ Slip Global → Type 0
+IsTaker p = (p.me.hand ≡ None) × (p.me.spare ≡ None) × (view p ≡ slip 1 [] (taken_by p))
+
+abbrev pub AreTakers : List (Pass ℕ Slip Global) → Type 0
+AreTakers passes =
+    (k : ℕ) (d : Pass ℕ Slip Global) → k < length passes → IsTaker (slice_index_or passes k d)
+
+-- of the code: how a hand's parts hang together
+pub record IsHand {P : Type 0} (number pushes : ℕ) (lane : Worker ℕ Global Slip P)
+    (passes : List (Pass ℕ Slip Global)) : Type 0 where
+  pub own : slice_get (map deque_of passes) number ≡ Some (worker_deque lane)
+  pub fifo : worker_flavor lane ≡ 0
+  pub room : 65536 ≤ worker_capacity lane
+  pub index : worker_index lane ≤ pushes
+  pub count : pushes ≡ length (worker_view lane).put
+  pub few : length passes < whole
+  pub knows : worker_view lane ≡ slip (whole - length passes) (worker_view lane).put []
+  pub takers : AreTakers passes
