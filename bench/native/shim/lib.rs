@@ -643,3 +643,6 @@ impl String {
         Vec(self.0.into_bytes())
     }
 }
+pub fn args() -> Result<impl Iterator<Item = String>, AllocError> {
+    Ok(std::env::args().map(String))
+}

@@ -1,5 +1,5 @@
 -- What the cube alone comes to, over plain lists.
-use Rattle.std.proofs.Common.{arith, ◌≡◌, ℕ, zero, suc, ◌<◌, ◌+◌, inl, inr, List, [], ◌∷◌, ◌++◌, length, map, take, get_or, All, Contains, Option, Some, None, ℤ, subst, sym, ap, ◌∙◌, refl}
+use Rattle.std.proofs.Common.{arith, ◌≡◌, ℕ, zero, suc, ◌<◌, ◌+◌, inl, inr, List, [], ◌∷◌, ◌++◌, length, map, get_or, All, Contains, Option, Some, None, ℤ, subst, sym, ap, ◌∙◌, refl}
 use Rattle.std.specs.Prelude.{MatchOption}
 use Rattle.std.proofs.lemmas.Bool.{cases_eq}
 use Rattle.std.proofs.lemmas.List.Elements.{All-push, All-append, All-map, Contains-get_or, Contains-push_cases}
@@ -25,11 +25,11 @@ use Rattle.conflict_analysis.specs.Trails.{no_literal, literal_at, IsByCycle, St
 use Rattle.conflict_analysis.specs.Denials.{AreDenied}
 use Rattle.branch_search.specs.Clauses.{IsFalseAt}
 use Rattle.conflict_analysis.specs.Proved.{IsClauseOver}
-use Rattle.branch_search.specs.Search.{Question, all_lemmas, AreProved, start_of, in_net_of, IsSearch, IsStuckSearch, IsSearchSettled}
+use Rattle.branch_search.specs.Search.{Question, all_lemmas, AreProved, IsSearch, IsStuckSearch, IsSearchSettled}
 use Rattle.branch_search.specs.Slices.{IsModel}
 use Rattle.branch_search.specs.Divisions.{IsLive, IsLiveAt, IsSearchLiveness, HasLive, AreSearchLive, IsSplit}
 use Rattle.conflict_analysis.proofs.Spines.{negation_twice}
-use Rattle.branch_search.proofs.States.{state_pushed, state_cut, stands_grown, stands_last}
+use Rattle.branch_search.proofs.States.{state_pushed, stands_grown, stands_last}
 use Rattle.conflict_analysis.proofs.Denied.{denied_all}
 
 -- the net's schedule, where no clause fails on it
@@ -150,17 +150,6 @@ none_proved q own e = subst (AreProved q) (sym e) (tt, λ k d lt. absurd (omega 
 -- all clauses of lemmas are within the limits
 pub lemmas_over : (points : ℕ) (handed : List (List Literal)) (own these : List Lemma) → these ≡ own → All (IsClauseOver points) handed → All (LemmaIsOver points) own → All (IsClauseOver points) (all_lemmas handed these)
 lemmas_over points handed own these e over all = subst (λ (ls : List Lemma). All (IsClauseOver points) (all_lemmas handed ls)) (sym e) (All-append (IsClauseOver points) handed (map stated own) over (All-map (IsClauseOver points) stated own (λ k d lt. (all k d lt).clause)))
-
--- back to the root
-pub root_again : (q : Question) (count : ℕ) (own kept : List Lemma) (es now : List Entry) (levels fewer : List Level) (literals left : List Literal) → (length levels < count) × IsSearch q own es levels literals → now ≡ take (start_of levels 0) es → fewer ≡ take 0 levels → left ≡ take (in_net_of levels 0) literals → kept ≡ own → (length fewer < count) × IsSearch q kept now fewer left
-root_again q count own kept es now levels fewer literals left h is_now is_fewer is_left same =
-    let few = h.0 in
-    let none : length fewer ≡ 0 = ap (length {A = Level}) is_fewer in
-    (omega arith, subst (λ (ls : List Lemma). IsSearch q ls now fewer left) (sym same) (by levels h.1 is_now is_fewer is_left))
-  where
-    by : (vs : List Level) → IsSearch q own es vs literals → now ≡ take (start_of vs 0) es → fewer ≡ take 0 vs → left ≡ take (in_net_of vs 0) literals → IsSearch q own now fewer left
-    by [] s a b c = empty_search q own now fewer left a b c s.lemmas s.proved
-    by (v ∷ vs) s a b c = state_cut q own es now (v ∷ vs) fewer literals left 0 (omega arith) s a b c
 
 pub settled_goes : (q : Question) (count : ℕ) (own : List Lemma) (es : List Entry) (levels : List Level) (literals : List Literal) (found : Option ℕ) → IsSearchSettled q count own es levels literals found → ((j : ℕ) → found ≡ Some j → ⊥) → (length levels < count) × IsSearch q own es levels literals
 settled_goes q count own es levels literals (Some j) h none = absurd (none j refl)

@@ -5,9 +5,9 @@ ghost use Rattle.branch_search.specs.Slices.{IsModel, IsTurn, IsFound};
 
 use crate::model::try_model;
 use crate::state::State;
-use conflict_analysis::{Conflict, Reason, is_over};
+use conflict_analysis::{Conflict, Entry, Level, Reason, is_over};
 use refute_tree::Earlier;
-use search_guide::LiteralNumber;
+use search_guide::{Guide, LiteralNumber};
 use std::alloc::{AllocError, Global};
 use stn_core::{Literal, Net, Problem, Schedule};
 
@@ -42,7 +42,56 @@ pub struct Rest {
     pub target: u64,
 }
 
+// From conflict to conflict a slice passes by so many before it looks at its budget. Shorter slices of a large
+// problem end before they come to anything.
+const LOOK: u64 = 500;
+
+// Where it is time to restart, the first level whose decision is no more active than an open atom: those before
+// it would be decided again. Any level is right.
+//
+// Source: van der Tak, Ramos and Heule, "Reusing the assignment trail in CDCL solvers", JSAT 7 (2011).
+fn restart_level(guide: &mut Guide, entries: &[Entry], levels: &[Level]) -> Option<usize>
+    ensures { IfSome result (λ level. level < length levels.now) }
+{
+    if !guide.wants_restart() {
+        return None;
+    }
+    for (number, level) in levels.iter().enumerate() {
+        let outranks = match entries.get(level.start) {
+            Some(entry) => guide.outranks(entry.number),
+            None => false,
+        };
+        if !outranks {
+            return Some(number);
+        }
+    }
+    None
+}
+
 impl State {
+    // Back to the level from which a restart decides anew, if it is time.
+    fn restart<E: Earlier, N: Net>(
+        &mut self,
+        problem: &Problem,
+        handed: &E,
+        cube: &[Literal],
+        net: &mut N,
+    )
+        requires state { IsState (question_of problem.now (E.clauses handed.now) cube.now) self.old
+            (N.literals_of net.old) }
+        ensures points { N.points_of net.new ≡ N.points_of net.old }
+        ensures adds { N.adds_of net.new ≡ N.adds_of net.old }
+        ensures levels { length self.new.levels.items ≤ length self.old.levels.items }
+        ensures state { IsState (question_of problem.now (E.clauses handed.now) cube.now) self.new
+            (N.literals_of net.new) }
+    {
+        let found = restart_level(&mut self.guide, &self.entries, &self.levels);
+        let Some(level) = found else {
+            return;
+        };
+        self.cut(net, level);
+    }
+
     // Reacts to a conflict, and looks at restart and budget.
     fn settle<E: Earlier, N: Net>(
         &mut self,
@@ -67,15 +116,10 @@ impl State {
             return Ok(Turn::Ended(Found::Excluded(j)));
         }
         self.guide.forget()?;
-        if !self.guide.wants_restart() {
-            return Ok(Turn::Jumped);
-        }
-        if rest.target <= net.adds() {
+        if self.conflicts % LOOK == 0 && rest.target <= net.adds() {
             return Ok(Turn::Ended(Found::Spent));
         }
-        if !self.levels.is_empty() {
-            self.cut(net, 0);
-        }
+        self.restart(problem, handed, cube, net);
         Ok(Turn::Jumped)
     }
 

@@ -12,7 +12,7 @@ use crate::search::{Found, Rest};
 use crate::state::State;
 use refute_tree::Earlier;
 use search_distances::Distances;
-use search_guide::Guide;
+use search_guide::{Guide, Policy};
 use std::alloc::{AllocError, Global};
 use stn_core::{Literal, Mark, Net, Problem};
 
@@ -178,7 +178,16 @@ pub struct Searcher {
 impl Searcher {
     /// The one error is want of memory.
     pub fn new(alloc: Global, problem: &Problem) -> Result<Self, AllocError> {
-        let guide = Guide::new(alloc, problem)?;
+        Searcher::with_policy(alloc, problem, Policy::default())
+    }
+
+    /// A searcher that leaves out what the policy says. The one error is want of memory.
+    pub fn with_policy(
+        alloc: Global,
+        problem: &Problem,
+        policy: Policy,
+    ) -> Result<Self, AllocError> {
+        let guide = Guide::with_policy(alloc, problem, policy)?;
         let distances = Distances::new(alloc, &guide, problem.points)?;
         Ok(Searcher {
             state: State::new(alloc, guide, distances),

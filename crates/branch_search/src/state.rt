@@ -118,7 +118,7 @@ impl State {
         self.own.truncate(0);
         self.met_conflict = false;
         if !self.knows(handed) {
-            self.guide = Guide::new(alloc, problem)?;
+            self.guide = Guide::with_policy(alloc, problem, self.guide.policy())?;
             self.distances = Distances::new(alloc, &self.guide, problem.points)?;
             self.known = 0;
         }

@@ -252,6 +252,9 @@ impl Redundancy {
         guide: &Guide,
         place: usize,
     ) -> Result<bool, AllocError> {
+        if !guide.policy().minimization {
+            return Ok(false);
+        }
         match self.memo(place) {
             Memo::Redundant => return Ok(true),
             Memo::Needed => return Ok(false),

@@ -13,9 +13,7 @@ use search_guide::{Guide, LiteralNumber};
 use std::alloc::{AllocError, Global};
 use stn_core::Literal;
 
-/// At most so many rows, and an absolute value of distances below this.
-const ROWS_LIMIT: usize = 1_000;
-
+/// An absolute value of distances is below this.
 const DISTANCE_LIMIT: u64 = 1 << 60;
 
 /// The distance of points between which there is no path.
@@ -154,13 +152,13 @@ fn start(distances: &mut [i64], rows: usize) {
 
 impl Distances {
     /// The distances where no literal is in the net, over the points of the guide's literals that aren't
-    /// pure. There are none for more than 400 such points, or where a distance might leave 60 bits. The one
-    /// error is want of memory.
+    /// pure. There are none for more such points than the guide's policy says, or where a distance might leave
+    /// 60 bits. The one error is want of memory.
     pub fn new(alloc: Global, guide: &Guide, points: u32) -> Result<Option<Self>, AllocError> {
         let mut row_of = vec![in alloc; None; points as usize]?;
         let (rows, bound) = number_rows(guide, &mut row_of);
         let longest = bound.saturating_add(1).saturating_mul(rows as u64);
-        if rows == 0 || rows > ROWS_LIMIT || longest >= DISTANCE_LIMIT {
+        if rows == 0 || rows > guide.policy().most_rows || longest >= DISTANCE_LIMIT {
             return Ok(None);
         }
         let pairs = rows.wrapping_mul(rows);

@@ -1,14 +1,18 @@
-//! Activities: which atom is decided next. Each atom of a conflict gains by an increment that grows by 1/0.95
+//! Activities: which atom is decided next. Each atom of a conflict gains by an increment that grows by 1/0.92
 //! with each conflict, so that the gains of the past count less and less (Moskewicz and others 2001, in the
 //! form of Een and Sorensson 2003). Open atoms stand in a heap, the most active one first. At first an atom
 //! has a little for each clause that it is in, the more the shorter the clause, so that atoms of tight
 //! clauses come first; one conflict outweighs that. Branching only on clauses that are false on the schedule,
-//! without activities, took over 40 times as long.
-use crate::numbers::{LiteralNumber, atom_of, narrow};
+//! without activities, took over 40 times as long. Where there are many atoms, 0.95 stands for 0.92, which takes
+//! 0.6 to 1 of its time on smaller problems, but over 4 times its time on job shops of 1,200 tasks.
+use crate::numbers::{LiteralNumber, MANY_ATOMS, atom_of, narrow};
 use std::alloc::{AllocError, Global};
 
 /// The increment is divided by this at each conflict.
-const DECAY: f64 = 0.95;
+const DECAY: f64 = 0.92;
+
+/// And where there are many atoms.
+const SLOW_DECAY: f64 = 0.95;
 
 /// Where an activity goes past this, all are scaled down.
 const LARGE: f64 = 1e100;
@@ -159,6 +163,11 @@ impl Activities {
         self.heap.first().copied()
     }
 
+    /// Whether the literal's atom is more active than the other one.
+    pub fn is_before(&self, number: LiteralNumber, other: u32) -> bool {
+        self.activity(narrow(atom_of(number))) > self.activity(other)
+    }
+
     /// Takes the most active atom out of the heap.
     pub fn pop(&mut self) {
         let Some(last) = self.heap.pop() else {
@@ -198,6 +207,7 @@ impl Activities {
     }
 
     pub fn decay(&mut self) {
-        self.increment /= DECAY;
+        let has_many = self.activities.len() > MANY_ATOMS;
+        self.increment /= if has_many { SLOW_DECAY } else { DECAY };
     }
 }

@@ -7,6 +7,7 @@ use crate::ladders::Ladders;
 use crate::numbers::{LiteralNumber, Numbers, narrow, negated};
 use crate::patience::Patience;
 use crate::phases::{Phases, holds_on};
+use crate::policy::Policy;
 use crate::probing::Probing;
 use crate::restarts::Restarts;
 use crate::watches::{Proposal, Watches};
@@ -19,6 +20,7 @@ use stn_core::{Literal, Problem, Value};
 #[derive(Drop)]
 pub struct Guide {
     alloc: Global,
+    policy: Policy,
     pub(crate) numbers: Numbers,
     pub(crate) clauses: Clauses,
     pub(crate) assignment: Assignment,
@@ -54,11 +56,22 @@ fn read(alloc: Global, problem: &Problem) -> Result<(Numbers, Clauses), AllocErr
 impl Guide {
     /// The hints at the start of a search: no literal is on the trail, and there is no lemma.
     pub fn new(alloc: Global, problem: &Problem) -> Result<Self, AllocError> {
+        Guide::with_policy(alloc, problem, Policy::default())
+    }
+
+    /// The same for a search that leaves out what the policy says.
+    pub fn with_policy(
+        alloc: Global,
+        problem: &Problem,
+        policy: Policy,
+    ) -> Result<Self, AllocError> {
         let (numbers, clauses) = read(alloc, problem)?;
         let ladders = Ladders::start(alloc, numbers.atoms())?;
-        let phases = Phases::start(alloc, problem.points, numbers.atoms())?;
+        let phases = Phases::start(alloc, problem.points, numbers.atoms(), policy.pure_apart)?;
+        let restarts = Restarts::new(numbers.len());
         let mut guide = Guide {
             alloc,
+            policy,
             numbers,
             clauses,
             assignment: Assignment::new(alloc),
@@ -66,19 +79,24 @@ impl Guide {
             watches: Watches::new(alloc),
             activities: Activities::new(alloc),
             phases,
-            restarts: Restarts::new(),
+            restarts,
             forgetting: Forgetting::new(alloc),
             pointer: 0,
             patience: Patience::new(),
             set: 0,
             above_root: 0,
-            probing: Probing::new(alloc, problem.points)?,
+            probing: Probing::new(alloc, problem.points, policy.new_literals)?,
         };
         for _atom in 0..guide.numbers.len() {
             guide.push_atom()?;
         }
         guide.start_clauses()?;
         Ok(guide)
+    }
+
+    /// What the search leaves out.
+    pub fn policy(&self) -> Policy {
+        self.policy
     }
 
     /// Room for one more atom in the tables that begin empty.
@@ -186,7 +204,7 @@ impl Guide {
             self.above_root = self.above_root.saturating_sub(1);
         }
         self.assignment.unset(number);
-        if !self.probing.is_under_way() {
+        if self.policy.saved_phases && !self.probing.is_under_way() {
             self.phases.save(number);
         }
         self.activities.reopen(number);
@@ -214,7 +232,11 @@ impl Guide {
 
     /// From here on `next` answers what follows from this literal of the trail.
     pub fn begin(&mut self, number: LiteralNumber) {
-        let weaker = self.ladders.weaker(number);
+        let weaker = if self.policy.ladders {
+            self.ladders.weaker(number)
+        } else {
+            None
+        };
         self.watches.begin(number, weaker);
     }
 
@@ -240,6 +262,20 @@ impl Guide {
             self.activities.pop();
         }
         None
+    }
+
+    /// Whether the literal's atom is more active than each open one, so that it would be decided first.
+    pub fn outranks(&mut self, number: LiteralNumber) -> bool {
+        for _turn in 0..self.literals() {
+            let Some(atom) = self.activities.top() else {
+                return true;
+            };
+            if self.assignment.truth(atom.wrapping_mul(2)) == Truth::Open {
+                return self.activities.is_before(number, atom);
+            }
+            self.activities.pop();
+        }
+        true
     }
 
     fn seems_true(&self, clause: u32, values: &[Value]) -> bool {
@@ -329,15 +365,15 @@ impl Guide {
         second
     }
 
-    /// Whether it is time to go back to the root; if so, the next wait begins.
+    /// Whether it is time to go back; if so, the next wait begins.
     pub fn wants_restart(&mut self) -> bool {
-        self.restarts.is_due()
+        self.policy.restarts && self.restarts.is_due()
     }
 
     /// Takes lemmas out of the watches where it is time, and answers how many. Their numbers stay theirs;
     /// `number_at` answers nothing for them from then on. The one error is want of memory.
     pub fn forget(&mut self) -> Result<usize, AllocError> {
-        if !self.forgetting.is_due() {
+        if !self.policy.forgetting || !self.forgetting.is_due() {
             return Ok(0);
         }
         let (kept, dropped) = self

@@ -11,6 +11,9 @@ pub type LiteralNumber = u32;
 /// One more than the greatest number of an atom.
 const ATOMS_LIMIT: usize = 1 << 31;
 
+/// From so many atoms on a search takes decisions by the thousand from conflict to conflict.
+pub const MANY_ATOMS: usize = 10_000;
+
 /// The literal's negation.
 pub fn negated(number: LiteralNumber) -> LiteralNumber {
     number ^ 1

@@ -41,8 +41,13 @@ fn is_private(degrees: &[u32], point: u32) -> bool {
 }
 
 impl Phases {
-    /// No atom has been on the trail.
-    pub fn start(alloc: Global, points: u32, atoms: &[Literal]) -> Result<Self, AllocError> {
+    /// No atom has been on the trail. Where pure ones aren't told apart, none is pure.
+    pub fn start(
+        alloc: Global,
+        points: u32,
+        atoms: &[Literal],
+        tells_pure: bool,
+    ) -> Result<Self, AllocError> {
         let mut degrees = vec![in alloc; 0u32; points as usize]?;
         for atom in atoms {
             count(&mut degrees, atom.x);
@@ -50,7 +55,8 @@ impl Phases {
         }
         let mut pure = Vec::with_capacity(alloc, atoms.len())?;
         for atom in atoms {
-            pure.push(is_private(&degrees, atom.x) || is_private(&degrees, atom.y))?;
+            let is_pure = is_private(&degrees, atom.x) || is_private(&degrees, atom.y);
+            pure.push(tells_pure && is_pure)?;
         }
         let saved = vec![in alloc; None; atoms.len()]?;
         Ok(Phases { saved, pure })

@@ -52,12 +52,12 @@ pub struct Probing {
 }
 
 impl Probing {
-    /// Of a search over so many time points.
-    pub fn new(alloc: Global, points: u32) -> Result<Self, AllocError> {
+    /// Of a search over so many time points, which makes new literals or doesn't.
+    pub fn new(alloc: Global, points: u32, new_literals: bool) -> Result<Self, AllocError> {
         Ok(Probing {
             next: 0,
             work: None,
-            is_over: false,
+            is_over: !new_literals,
             common: Common::new(alloc, points)?,
             alternatives: Vec::new(alloc),
             met: Vec::new(alloc),

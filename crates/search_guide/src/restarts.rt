@@ -1,14 +1,23 @@
-//! Restarts: after so many conflicts the search goes back to its root, keeping what it learned, its
-//! activities and its phases. The waits are 100 conflicts times the sequence 1, 1, 2, 1, 1, 2, 4, 1, ..
-//! (Luby, Sinclair, Zuckerman 1993), made one by one as in Knuth's The Art of Computer Programming 4B,
-//! 7.2.2.2. Restarts that follow the levels of learned clauses instead took 1.3 times as long on disjunctive
-//! temporal problems.
+//! Restarts: after so many conflicts the search goes back, keeping what it learned, its activities and its
+//! phases, and all decisions that it would make again. The waits are 15 conflicts times the sequence 1, 1, 2,
+//! 1, 1, 2, 4, 1, .. (Luby, Sinclair, Zuckerman 1993), made one by one as in Knuth's The Art of Computer
+//! Programming 4B, 7.2.2.2. Restarts that follow the levels of learned clauses instead took 1.3 times as long
+//! on disjunctive temporal problems. Since a restart keeps most decisions, it is cheap: waits of 100 conflicts
+//! took 1.2 to 2 times as long on circuits and mutual exclusion, and about the same on job shops. But with many
+//! atoms a schedule is found by one long descent with few conflicts, whose order each restart upsets: there the
+//! waits are 100 conflicts times the sequence.
+use crate::numbers::MANY_ATOMS;
 
 /// How many conflicts the sequence's 1 stands for.
-const UNIT: u64 = 100;
+const UNIT: u64 = 15;
+
+/// And where there are many atoms.
+const LONG_UNIT: u64 = 100;
 
 #[derive(Clone, Copy)]
 pub struct Restarts {
+    /// how many conflicts the sequence's 1 stands for
+    unit: u64,
     /// which wait this is, from 1
     turn: u64,
     /// its length in units, a power of two
@@ -18,8 +27,10 @@ pub struct Restarts {
 }
 
 impl Restarts {
-    pub fn new() -> Self {
+    /// Of a search over so many atoms.
+    pub fn new(atoms: usize) -> Self {
         Restarts {
+            unit: if atoms > MANY_ATOMS { LONG_UNIT } else { UNIT },
             turn: 1,
             length: 1,
             conflicts: 0,
@@ -32,7 +43,7 @@ impl Restarts {
 
     /// Whether the wait is over; if so, the next one begins.
     pub fn is_due(&mut self) -> bool {
-        if self.conflicts < self.length.saturating_mul(UNIT) {
+        if self.conflicts < self.length.saturating_mul(self.unit) {
             return false;
         }
         self.conflicts = 0;
