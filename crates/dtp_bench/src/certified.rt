@@ -15,9 +15,10 @@ use smt_lex::Lexer;
 use smt_script::Satisfiability;
 use std::alloc::{AllocError, Global};
 use std::sync::Wait;
+use std::thread::Threads;
 
 /// The script, and behind it its certificate.
-pub fn certified<'a, R: Wait, G: Gate>(
+pub fn certified<'a, R: Threads + Wait + Sync, G: Gate>(
     rt: &R,
     alloc: Global,
     script: &[u8],

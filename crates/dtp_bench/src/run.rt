@@ -15,6 +15,7 @@ use script_counts::counts;
 use smt_script::Satisfiability;
 use std::alloc::{AllocError, Global};
 use std::sync::Wait;
+use std::thread::Threads;
 
 /// What the lines say.
 #[derive(Drop)]
@@ -26,7 +27,7 @@ pub struct Lines {
 }
 
 /// Makes the script, certifies it, checks it with its certificate, and gives what is to be written about it.
-fn lines_of<R: Wait, G: Gate>(
+fn lines_of<R: Threads + Wait + Sync, G: Gate>(
     rt: &R,
     alloc: Global,
     plan: PlanNumbers,
@@ -65,7 +66,7 @@ fn write_lines<K: Sink>(lines: &Lines, sink: &mut K) -> Result<(), SessionError>
 ///
 /// Script and certificate are held in memory. That no command of the script is refused, and that it is accepted with its
 /// certificate, are laws of `bench_law`: were it otherwise, the answer would be that of want of memory.
-pub fn bench<R: Wait, K: Sink, G: Gate>(
+pub fn bench<R: Threads + Wait + Sync, K: Sink, G: Gate>(
     rt: &R,
     alloc: Global,
     plan: PlanNumbers,

@@ -40,7 +40,7 @@ pub fn run<R: Threads + Wait + Sync, S: Source, K: Sink, G: Gate>(
 }
 
 /// Does what the words ask for.
-fn perform<R: Wait, S: Source, K: Sink, G: Gate>(
+fn perform<R: Threads + Wait + Sync, S: Source, K: Sink, G: Gate>(
     rt: &R,
     alloc: Global,
     words: &[String],
@@ -95,7 +95,7 @@ fn unread(error: ReadError) -> Status
 }
 
 /// Reads the script whole, and writes this report of it.
-fn report_on<R: Wait, S: Source, K: Sink, G: Gate>(
+fn report_on<R: Threads + Wait + Sync, S: Source, K: Sink, G: Gate>(
     rt: &R,
     alloc: Global,
     source: &mut S,
@@ -125,7 +125,7 @@ fn report_on<R: Wait, S: Source, K: Sink, G: Gate>(
 }
 
 /// Writes this report of the script.
-fn write_report<R: Wait, K: Sink, G: Gate>(
+fn write_report<R: Threads + Wait + Sync, K: Sink, G: Gate>(
     rt: &R,
     alloc: Global,
     script: &[u8],
@@ -170,7 +170,7 @@ fn check<S: Source, K: Sink>(alloc: Global, source: &mut S, sink: &mut K) -> Sta
 }
 
 /// Makes a job shop's script, and writes what its certificate comes to.
-fn bench<R: Wait, K: Sink, G: Gate>(
+fn bench<R: Threads + Wait + Sync, K: Sink, G: Gate>(
     rt: &R,
     alloc: Global,
     shop: Shop,

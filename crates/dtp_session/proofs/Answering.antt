@@ -1,6 +1,7 @@
 -- The piece that answers a command.
 use Rattle.std.proofs.Common.{refl, sym, ap, subst, inl, inr, ◌∙◌, ◌≡◌, ◌⊎◌, List, ℕ, [], ◌++◌, Bool, Option, Some, Result, Ok, Err}
 use Rattle.smt_sexpr.specs.Tree.{Sexpr}
+use Rattle.smt_sexpr.specs.Table.{Means}
 use Rattle.cert_text.specs.declared.entry.Entry.{Entry}
 use Rattle.cert_text.specs.declared.entry.Entry.TheVariants.{Sat, Unsat}
 use Rattle.cert_text.specs.Form.{entry_sexpr, line_of}
@@ -57,6 +58,11 @@ module _ (s : State) (x : Sexpr) (effect : Effect) (kept : Kept) (h : Steps s x 
     values = values s x (record { state = h.state; effect = effect }) h.leads;
     proof = proof s x (record { state = h.state; effect = effect }) h.leads;
   }
+
+-- what an effect's answer asks for
+pub may_answer : (q : Session) (id : ℕ) (effect : Effect) (s : State) (x : Sexpr) → Holds q s → Means q.sexprs id x → MayTell s x effect
+    → (s : State) × (x : Sexpr) × Holds q s × Means q.sexprs id x × MayTell s x effect
+may_answer q id effect s x holds means may = (s, x, holds, means, may)
 
 -- text and marks aside, the session is as before
 pub holds_kept : (p q : Session) (s : State) → KeepsVerdict p q → q.marks ≡ p.marks → Holds p s → Holds q s

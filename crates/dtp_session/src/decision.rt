@@ -1,10 +1,12 @@
 //! What decides a check-sat.
 ghost use Rattle.std.specs.Prelude.{◌≡◌, map, IfOk, OnOk};
 ghost use Rattle.refute_tree.specs.Lengths.{lengthened_lemma};
+ghost use Rattle.book_core.specs.Verdicts.{IsRight};
 ghost use Rattle.smt_script.specs.States.{State as Meaning};
 ghost use Rattle.dtp_entry.specs.Standing.{Stands};
 ghost use Rattle.dtp_entry.specs.Transcripts.{Decides};
 
+use crate::options::SearchOptions;
 use book_core::Verdict;
 use cert_text::{Entry, NUMBER_LIMIT};
 use clause_form::restrict;
@@ -12,7 +14,9 @@ use dtp_entry::problem;
 use refute_tree::{Lemma, Refutation, lengthen};
 use smt_script::State;
 use std::alloc::{AllocError, Global};
-use steal_search::solve_one;
+use std::sync::Wait;
+use std::thread::Threads;
+use steal_search::{Gate, solve_one, solve_shared};
 use stn_core::Problem;
 use trim_lemmas::trimmed;
 
@@ -39,9 +43,33 @@ fn written_out(
     Ok(Refutation::new(lemmas))
 }
 
-/// Decides the assertions: a schedule that satisfies them, or a refutation of their problem. The search adds so many
-/// literals in a slice; its time may grow with the number of ways to choose a literal of each clause.
-pub fn decide(alloc: Global, state: &State, slice: u64) -> Result<Entry, AllocError>
+/// Decides the problem by as many workers as are asked for; one is the caller itself.
+fn search<R: Threads + Wait + Sync, G: Gate>(
+    rt: &R,
+    alloc: Global,
+    problem: &Problem,
+    options: SearchOptions,
+    gate: &G,
+) -> Result<Verdict, AllocError>
+    ensures { IfOk result (IsRight problem.now) }
+{
+    let slice = u64::from(options.slice);
+    if options.workers == 1 {
+        solve_one(alloc, problem, slice)
+    } else {
+        solve_shared(rt, alloc, problem, options.workers, slice, gate)
+    }
+}
+
+/// Decides the assertions: a schedule that satisfies them, or a refutation of their problem. The time of the search may
+/// grow with the number of ways to choose a literal of each clause.
+pub fn decide<R: Threads + Wait + Sync, G: Gate>(
+    rt: &R,
+    alloc: Global,
+    state: &State,
+    options: SearchOptions,
+    gate: &G,
+) -> Result<Entry, AllocError>
     requires { (s : Meaning) × Stands state.now s }
     ensures { IfOk result (λ entry. (s : Meaning) → Stands state.now s → Decides s.context entry) }
 {
@@ -51,7 +79,7 @@ pub fn decide(alloc: Global, state: &State, slice: u64) -> Result<Entry, AllocEr
     refute_tree::lengths_law();
     stn_core::negation_kept();
     let problem = problem(alloc, state)?;
-    match solve_one(alloc, &problem, slice)? {
+    match search(rt, alloc, &problem, options, gate)? {
         Verdict::Sat(schedule) => {
             let values = restrict(alloc, schedule.as_slice(), state.names().sorts())?;
             Ok(Entry::Sat(values))

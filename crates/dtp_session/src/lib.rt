@@ -5,12 +5,11 @@
 //! refusal ends the script.
 //!
 //! What is written of a script is the relation `IsReport` of `dtp_entry/specs/Transcripts.antt`, and what a call that fails
-//! has written is the relation `IsReportPart` there. A `check-sat` is decided by one call of `steal_search::solve_one` over the
-//! clause form of the assertions.
+//! has written is the relation `IsReportPart` there. A `check-sat` is decided over the clause form of
+//! the assertions by one call of `steal_search::solve_one`, or of `solve_shared` where there is more than one worker.
 #![tactic(auto)]
 
 mod decision;
-mod gate;
 mod notices;
 mod options;
 mod piece;
@@ -18,7 +17,7 @@ mod session;
 mod solve;
 
 pub use dtp_entry::{Report, SessionError};
-pub use gate::{Gate, NoGate};
 pub use options::SearchOptions;
 pub use session::Solved;
 pub use solve::{certify_script, solve_script};
+pub use steal_search::{Gate, NoGate};

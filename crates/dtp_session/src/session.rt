@@ -20,6 +20,9 @@ use smt_lex::Lexer;
 use smt_script::{Effect, ScriptError, State};
 use smt_sexpr::{SexprError, SexprId, Sexprs};
 use std::alloc::{AllocError, Global};
+use std::sync::Wait;
+use std::thread::Threads;
+use steal_search::Gate;
 
 /// A script that is being answered: what is read of it, and what it has led to.
 #[derive(Drop)]
@@ -79,7 +82,12 @@ impl<'a> Session<'a> {
 
     /// Writes the report of the script: what opens it, the commands' answers in order, and what closes it or the line of
     /// the first error. Each piece goes out by a write of its own.
-    pub fn answer<K: Sink>(&mut self, sink: &mut K) -> Result<Solved, SessionError>
+    pub fn answer<R: Threads + Wait + Sync, K: Sink, G: Gate>(
+        &mut self,
+        rt: &R,
+        sink: &mut K,
+        gate: &G,
+    ) -> Result<Solved, SessionError>
         requires { IsStart self.old }
         ensures whole { IfOk result (λ end. Writes (K.holds sink.old) (K.holds sink.new)
             (λ added. IsReport self.old.report self.old.lexer.bytes added (status_of end))) }
@@ -91,7 +99,7 @@ impl<'a> Session<'a> {
     {
         self.write(Piece::Opening, sink)?;
         'commands: loop {
-            let piece = self.next_piece()?;
+            let piece = self.next_piece(rt, gate)?;
             self.write(piece, sink)?;
             match piece {
                 Piece::Closing => return Ok(Solved::Done),
@@ -102,7 +110,11 @@ impl<'a> Session<'a> {
     }
 
     /// Reads the next command, and carries it out: the piece that answers it, or the last one.
-    fn next_piece(&mut self) -> Result<Piece, AllocError>
+    fn next_piece<R: Threads + Wait + Sync, G: Gate>(
+        &mut self,
+        rt: &R,
+        gate: &G,
+    ) -> Result<Piece, AllocError>
         requires { IsReady self.old }
         ensures next { IfOk result (λ piece. (s : Meaning) → Holds self.old s
             → IsNext self.old self.new s piece) }
@@ -114,7 +126,7 @@ impl<'a> Session<'a> {
         self.sexprs.clear();
         match self.sexprs.read_one(&mut self.lexer) {
             Ok(Some(id)) => {
-                let piece = self.carry_out(id)?;
+                let piece = self.carry_out(rt, id, gate)?;
                 Ok(piece)
             }
             Ok(None) => Ok(Piece::Closing),
@@ -124,7 +136,12 @@ impl<'a> Session<'a> {
     }
 
     /// Carries out a command, and gives the piece that answers it.
-    fn carry_out(&mut self, id: SexprId) -> Result<Piece, AllocError>
+    fn carry_out<R: Threads + Wait + Sync, G: Gate>(
+        &mut self,
+        rt: &R,
+        id: SexprId,
+        gate: &G,
+    ) -> Result<Piece, AllocError>
         requires meaning { HasMeaning self.old.sexprs id }
         requires stands { (s : Meaning) × Holds self.old s }
         ensures gives { IfOk result (λ piece. (s : Meaning) (x : Sexpr)
@@ -136,7 +153,7 @@ impl<'a> Session<'a> {
         smt_script::mode_law();
         match self.state.step(&self.sexprs, id) {
             Ok(effect) => {
-                let piece = self.answer_effect(id, effect)?;
+                let piece = self.answer_effect(rt, id, effect, gate)?;
                 Ok(piece)
             }
             Err(ScriptError::Refused(why)) => Ok(Piece::Error(kind_of(why))),
@@ -145,8 +162,14 @@ impl<'a> Session<'a> {
     }
 
     /// The piece that answers an effect of the command.
-    fn answer_effect(&mut self, id: SexprId, effect: Effect) -> Result<Piece, AllocError>
-        requires { (s : Meaning) × (x : Sexpr) × Holds self.old s × Means self.old.sexprs id x
+    fn answer_effect<R: Threads + Wait + Sync, G: Gate>(
+        &mut self,
+        rt: &R,
+        id: SexprId,
+        effect: Effect,
+        gate: &G,
+    ) -> Result<Piece, AllocError>
+        requires may { (s : Meaning) × (x : Sexpr) × Holds self.old s × Means self.old.sexprs id x
             × MayTell s x effect }
         ensures gives { IfOk result (λ piece. (s : Meaning) (x : Sexpr) → Holds self.old s
             → Means self.old.sexprs id x → MayTell s x effect
@@ -155,7 +178,7 @@ impl<'a> Session<'a> {
     {
         match effect {
             Effect::CheckSat => {
-                self.check()?;
+                self.check(rt, gate)?;
                 Ok(Piece::Decision)
             }
             Effect::Tell(notice) => {
@@ -167,7 +190,11 @@ impl<'a> Session<'a> {
     }
 
     /// Decides the assertions, and holds what was found in place of what was held before.
-    fn check(&mut self) -> Result<(), AllocError>
+    fn check<R: Threads + Wait + Sync, G: Gate>(
+        &mut self,
+        rt: &R,
+        gate: &G,
+    ) -> Result<(), AllocError>
         requires { (s : Meaning) × Holds self.old s }
         ensures checked { OnOk result ((s : Meaning) → Holds self.old s → IsChecked self.new s) }
         ensures keeps { KeepsReading self.old self.new }
@@ -175,7 +202,7 @@ impl<'a> Session<'a> {
         smt_script::state_law();
         self.held = None;
         self.marks.clear();
-        let entry = decide(self.alloc, &self.state, u64::from(self.options.slice))?;
+        let entry = decide(rt, self.alloc, &self.state, self.options, gate)?;
         self.state.settle(verdict_of(&entry));
         self.held = Some(entry);
         Ok(())

@@ -2,61 +2,65 @@
 ghost use Rattle.dtp_entry.specs.declared.report.Report.TheVariants.{Verdicts, Certificate};
 ghost use Rattle.dtp_session.specs.Solving.{IsSolved};
 
-use crate::gate::Gate;
 use crate::options::SearchOptions;
 use crate::session::{Session, Solved};
 use dtp_entry::{Report, SessionError};
 use dtp_io::Sink;
 use std::alloc::Global;
 use std::sync::Wait;
+use std::thread::Threads;
+use steal_search::Gate;
 
 /// Writes this report of a script.
-fn write_report<K: Sink>(
+fn write_report<R: Threads + Wait + Sync, K: Sink, G: Gate>(
+    rt: &R,
     alloc: Global,
     bytes: &[u8],
     sink: &mut K,
     report: Report,
     options: SearchOptions,
+    gate: &G,
 ) -> Result<Solved, SessionError>
     ensures solved { IsSolved report bytes.now (K.holds sink.old) (K.holds sink.new)
         (K.faults sink.old) (K.faults sink.new) result }
 {
     let mut session = Session::new(alloc, bytes, report, options);
-    session.answer(sink)
+    session.answer(rt, sink, gate)
 }
 
 /// Writes the transcript of a script: the answers to its commands in order, each a line, up to the end, to `(exit)` or
 /// to the first refusal, whose error line it ends with.
 ///
-/// The number of workers and the gate have no effect yet: one thread decides, and the call returns without waiting.
-pub fn solve_script<R: Wait, K: Sink, G: Gate>(
-    _rt: &R,
+/// One worker is the caller itself, and then the call returns without waiting; more search side by side, and the gate is
+/// passed by each before each delivery. The verdict lines are the same for any number of workers.
+pub fn solve_script<R: Threads + Wait + Sync, K: Sink, G: Gate>(
+    rt: &R,
     alloc: Global,
     bytes: &[u8],
     sink: &mut K,
     options: SearchOptions,
-    _gate: &G,
+    gate: &G,
 ) -> Result<Solved, SessionError>
     ensures solved { IsSolved Verdicts bytes.now (K.holds sink.old) (K.holds sink.new)
         (K.faults sink.old) (K.faults sink.new) result }
 {
-    write_report(alloc, bytes, sink, Report::Verdicts, options)
+    write_report(rt, alloc, bytes, sink, Report::Verdicts, options, gate)
 }
 
 /// Writes the certificate of a script: a header, for each check-sat a schedule or a refutation, and the end, or the
 /// first refusal's error line in its place.
 ///
 /// The arguments are those of [`solve_script`].
-pub fn certify_script<R: Wait, K: Sink, G: Gate>(
-    _rt: &R,
+pub fn certify_script<R: Threads + Wait + Sync, K: Sink, G: Gate>(
+    rt: &R,
     alloc: Global,
     bytes: &[u8],
     sink: &mut K,
     options: SearchOptions,
-    _gate: &G,
+    gate: &G,
 ) -> Result<Solved, SessionError>
     ensures solved { IsSolved Certificate bytes.now (K.holds sink.old) (K.holds sink.new)
         (K.faults sink.old) (K.faults sink.new) result }
 {
-    write_report(alloc, bytes, sink, Report::Certificate, options)
+    write_report(rt, alloc, bytes, sink, Report::Certificate, options, gate)
 }

@@ -1,5 +1,5 @@
 use search_distances::Distances;
-use search_guide::Guide;
+use search_guide::{Guide, Policy};
 use std::alloc::{AllocError, Global};
 use std::test::Fail;
 use stn_core::{Clause, Clauses, Literal, Problem};
@@ -40,14 +40,29 @@ fn hits(
     Ok((before, after, path, hit == again))
 }
 
+/// The same where a table is kept for so many points.
+fn found_with(
+    alloc: Global,
+    most_rows: usize,
+) -> Result<Option<(Option<Literal>, Option<Literal>, usize, bool)>, AllocError> {
+    let policy = Policy {
+        most_rows,
+        ..Policy::default()
+    };
+    let mut guide = Guide::with_policy(alloc, &problem(alloc)?, policy)?;
+    let Some(mut distances) = Distances::new(alloc, &guide, 4)? else {
+        return Ok(None);
+    };
+    Ok(Some(hits(&mut guide, &mut distances)?))
+}
+
 #[test]
 fn follows_from_two(rt: HostRuntime) -> Result<(), Fail> {
     let alloc = rt.alloc();
-    let mut guide = Guide::new(alloc, &problem(alloc)?)?;
-    let Some(mut distances) = Distances::new(alloc, &guide, 4)? else {
-        return Ok(());
-    };
-    let found = hits(&mut guide, &mut distances)?;
-    assert_eq!(rt; found, (None, Some(BOTH), 2, true));
+    // by a table, by searches, and not at all
+    let expected = (None, Some(BOTH), 2, true);
+    assert_eq!(rt; found_with(alloc, 3)?, Some(expected));
+    assert_eq!(rt; found_with(alloc, 2)?, Some(expected));
+    assert_eq!(rt; found_with(alloc, 0)?, None);
     Ok(())
 }

@@ -15,9 +15,8 @@ use refute_tree::Lemma;
 use search_guide::Policy;
 use sizes::{Size, size_of_lemmas};
 use std::alloc::{AllocError, Global};
-use std::env;
-use std::io;
 use std::io::Read;
+use std::{env, io};
 use stn_core::{Net, Problem};
 use switches::policy_of;
 
@@ -76,6 +75,8 @@ fn main(rt: HostRuntime) -> io::Result<()> {
         bytes,
     } = size;
     println!(rt; "{verdict}")?;
-    eprintln!(rt; "conflicts={conflicts} decisions={decisions} lemmas={lemmas} steps={steps} bytes={bytes} adds={adds}")?;
+    eprintln!(rt;
+        "conflicts={conflicts} decisions={decisions} lemmas={lemmas} steps={steps} bytes={bytes} adds={adds}"
+    )?;
     Ok(())
 }

@@ -1,7 +1,7 @@
 //! The literals of a shortest path. An entry of the table names the literal that lowered it last; before and
 //! behind that literal the path goes on as the two entries beside it say. They are taken apart with a stack
 //! of their own, so that a long path needs none of the program's.
-use crate::distances::Distances;
+use crate::table::Table;
 use search_guide::{Guide, LiteralNumber};
 use std::alloc::{AllocError, Global};
 
@@ -34,7 +34,7 @@ impl Walk {
     }
 }
 
-impl Distances {
+impl Table {
     /// The literals of a path that explains the one with the number, the last edge first: so its negation,
     /// followed by them, goes around. Where the table doesn't lead from end to end, what it answers is no
     /// path. The one error is want of memory.

@@ -1,5 +1,2 @@
-pub mod Bases
-pub mod Holding
-pub mod Deciding
-pub mod Delivered
-pub mod Waiting
+pub mod Going
+pub mod Staffing

@@ -1,10 +1,14 @@
-//! Deciding a Disjunctive Temporal Problem by slices of search over the cubes of a book.
+//! Deciding a Disjunctive Temporal Problem by workers that share the cubes of a desk.
+//!
+//! What several workers do is in no clause on the answer: it is right however their calls fall. `book_search` is
+//! the way of one worker.
 #![tactic(auto)]
 
-mod base;
-mod clauses;
-mod delivery;
-mod solve;
-mod units;
+mod dealing;
+mod shared;
+mod worker;
 
-pub use solve::solve_one;
+pub use book_search::solve_one;
+pub use shared::{Worker, solve_shared};
+pub use worker::work;
+pub use worker_gates::{Gate, HoldSecond, NoGate};

@@ -32,7 +32,11 @@ fn values_without_names(rt: HostRuntime) {
     let values = [
         value(alloc, &mut state, b"(and (< 1 2) (not (= 3 4)))"),
         value(alloc, &mut state, b"(- (+ 1 2) 4611686018427387904)"),
-        value(alloc, &mut state, b"(+ (ite (< 1 2) 3 4) (ite (= 1 2) 10 20))"),
+        value(
+            alloc,
+            &mut state,
+            b"(+ (ite (< 1 2) 3 4) (ite (= 1 2) 10 20))",
+        ),
         value(alloc, &mut state, b"4611686018427387905"),
         value(alloc, &mut state, b"(or true x)"),
     ];

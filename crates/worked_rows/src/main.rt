@@ -14,11 +14,15 @@
 //! | `>x`, `<x` | bytes, each as a hexadecimal numeral |
 //! | `certified` | nothing: what `certify` writes of the source is put behind it |
 //! | `failing-reads`, `failing-writes` | the numbers of the reads and writes that fail, from 0 on |
+//! | `pieces` | how many bytes a read gives and a write takes at most |
+//! | `fails-anywhere` | nothing: the row is run again with each read and each write failing in turn, over pieces of 1, 7 and 4,096 bytes; nothing may be written then, or a front of the output |
+//! | `cut-anywhere` | nothing: each front of the source that lacks more than a last line feed is to be refused |
 //! | `status` | the status that must come, 0 where nothing is said |
 #![tactic(auto)]
 
 mod row;
 mod table;
+mod tries;
 
 use dtp_io::{StdSink, StdSource, read_all};
 use std::io;

@@ -2,6 +2,7 @@
 ghost use Rattle.std.specs.Prelude.{◌≡◌, ◌↔◌, IsTrue};
 
 use std::alloc::{AllocError, AllocFailed, Global};
+use std::num::NonZeroUsize;
 
 /// Why a line wasn't taken.
 #[derive(Clone, Copy, Debug, PartialEq, Eq)]
@@ -33,6 +34,12 @@ pub struct Row {
     pub certified: bool,
     pub failing_reads: Vec<u64>,
     pub failing_writes: Vec<u64>,
+    /// How many bytes a read gives and a write takes at most.
+    pub pieces: NonZeroUsize,
+    /// Each read and each write is to fail in turn.
+    pub fails_anywhere: bool,
+    /// Each front of the source is to be tried.
+    pub cut_anywhere: bool,
     pub output: Vec<u8>,
     pub status: u64,
 }
@@ -47,6 +54,9 @@ impl Row {
             certified: false,
             failing_reads: Vec::new(alloc),
             failing_writes: Vec::new(alloc),
+            pieces: NonZeroUsize::MAX,
+            fails_anywhere: false,
+            cut_anywhere: false,
             output: Vec::new(alloc),
             status: 0,
         })
@@ -62,6 +72,19 @@ impl Row {
             }
             "failing-reads" => take_numbers(&mut self.failing_reads, text),
             "failing-writes" => take_numbers(&mut self.failing_writes, text),
+            "pieces" => {
+                let count = usize::try_from(number(text)?).map_err(|_| LineError::Refused)?;
+                self.pieces = NonZeroUsize::new(count).ok_or(LineError::Refused)?;
+                Ok(())
+            }
+            "fails-anywhere" => {
+                self.fails_anywhere = true;
+                Ok(())
+            }
+            "cut-anywhere" => {
+                self.cut_anywhere = true;
+                Ok(())
+            }
             "status" => {
                 self.status = number(text)?;
                 Ok(())

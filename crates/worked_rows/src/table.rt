@@ -1,5 +1,6 @@
 //! The rows of a table, run one after the other.
 use crate::row::{LineError, Row};
+use crate::tries::{fails_anywhere, is_refused_anywhere, run_row};
 use dtp_io::{MemSink, MemSource, Sink, WriteFault, write_all_of};
 use dtp_run::{NoGate, run};
 use std::alloc::{AllocError, Global};
@@ -90,18 +91,40 @@ fn try_row<R: Threads + Wait + Sync, K: Sink>(
     if row.certified {
         certify(rt, alloc, &mut row)?;
     }
-    let mut from = MemSource::new(&row.source, &row.failing_reads);
-    let mut to = MemSink::new(alloc, &row.failing_writes);
-    let status = run(rt, alloc, &row.words, &mut from, &mut to, &NoGate);
+    let reads = &row.failing_reads;
+    let writes = &row.failing_writes;
+    let run = run_row(
+        rt,
+        alloc,
+        &row.words,
+        &row.source,
+        row.pieces,
+        reads,
+        writes,
+    );
     write_all_of(sink, &row.name)?;
-    if row.is_met(status, to.held()) {
-        write_all_of(sink, b": as written\n")?;
-        return Ok(true);
+    if !row.is_met(run.status, run.written()) {
+        let status = run.status;
+        let text = format!(in alloc; ": status {status} after:\n")?;
+        write_all_of(sink, text.as_bytes())?;
+        write_all_of(sink, shown(run.written()))?;
+        return Ok(false);
     }
-    let text = format!(in alloc; ": status {status} after:\n")?;
-    write_all_of(sink, text.as_bytes())?;
-    write_all_of(sink, &to.held()[..to.held().len().min(SHOWN)])?;
-    Ok(false)
+    if row.fails_anywhere && !fails_anywhere(rt, alloc, &row) {
+        write_all_of(sink, b": otherwise at a fault\n")?;
+        return Ok(false);
+    }
+    if row.cut_anywhere && !is_refused_anywhere(rt, alloc, &row) {
+        write_all_of(sink, b": otherwise for a front of the source\n")?;
+        return Ok(false);
+    }
+    write_all_of(sink, b": as written\n")?;
+    Ok(true)
+}
+
+/// The part of an output that is shown.
+fn shown(written: &[u8]) -> &[u8] {
+    &written[..written.len().min(SHOWN)]
 }
 
 /// Puts what `certify` writes of the row's source behind it.

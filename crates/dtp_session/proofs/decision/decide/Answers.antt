@@ -17,7 +17,7 @@ use Rattle.dtp_entry.proofs.Verdicts.{sorts_count}
 use Rattle.dtp_session.proofs.decision.decide.Goals as goal
 
 pub restrict-requires-clause-some : goal.restrict-requires-clause-some
-restrict-requires-clause-some c =
+restrict-requires-clause-some g c =
     let s = c.requires.0 in
     let stands = c.requires.1 in
     let e = c.in_ok-problem.ensures s stands in
@@ -29,12 +29,12 @@ restrict-requires-clause-some c =
     omega (arith, count, names, some)
 
 pub restrict-requires-clause-range : goal.restrict-requires-clause-range
-restrict-requires-clause-range c =
+restrict-requires-clause-range g c =
     let found : IsSolution c.in_ok-problem.problem c.in-Sat.schedule = as_found _ _ _ c.in-Sat.is c.in_ok-schedule.ensures in
     subst (λ (values : List ℤ). All IsInRange values) (sym c.as_slice.ensures) found.range
 
 pub returns-in-Sat : goal.returns-in-Sat
-returns-in-Sat c = λ s stands.
+returns-in-Sat g c = λ s stands.
     let e = c.in_ok-problem.ensures s stands in
     let found : IsSolution c.in_ok-problem.problem c.in-Sat.schedule = as_found _ _ _ c.in-Sat.is c.in_ok-schedule.ensures in
     let laws = c.context_law.ensures in
@@ -45,7 +45,7 @@ returns-in-Sat c = λ s stands.
     sat_decides s.context stands.made.context laws.scope laws.roots laws.exact c.clause_form_law.ensures.schedule c.in-Sat.schedule c.in_ok-values-in-Sat.values (found.count ∙ e.0) holds values c.in_ok-values-in-Sat.ensures.within
 
 pub returns : goal.returns
-returns c = λ s stands.
+returns g c = λ s stands.
     let e = c.in_ok-problem.ensures s stands in
     let lemmas = c.in_ok-shorter-in-Unsat.shorter in
     let shorter = c.in_ok-shorter-in-Unsat.ensures in

@@ -1,0 +1,5 @@
+pub mod Bases
+pub mod Holding
+pub mod Deciding
+pub mod Delivered
+pub mod Waiting

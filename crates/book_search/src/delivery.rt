@@ -1,0 +1,46 @@
+//! What a slice found, as a delivery.
+ghost use Rattle.std.specs.Prelude.{IfOk};
+ghost use Rattle.book_search.specs.Deliveries.{Delivers};
+
+use book_core::Outcome;
+use branch_search::Slice;
+use refute_tree::Batch;
+use std::alloc::AllocError;
+
+/// What is to be delivered of a cube.
+#[derive(Drop)]
+pub struct Delivery {
+    pub batch: Batch,
+    pub outcome: Outcome,
+    /// Whether the outcome divides the cube.
+    pub divides: bool,
+}
+
+/// The lemma of a refuted cube gets the number behind those that the slice was handed.
+pub fn delivery_of(slice: Slice) -> Result<Delivery, AllocError>
+    ensures { IfOk result (λ d. Delivers slice d.batch d.outcome) }
+{
+    stn_core::negation_law();
+    match slice {
+        Slice::Model(schedule, batch) => Ok(Delivery {
+            batch,
+            outcome: Outcome::Found(schedule),
+            divides: false,
+        }),
+        Slice::Refuted(batch, j) => {
+            let Some(number) = batch.seen().checked_add(j) else {
+                return Err(AllocError);
+            };
+            Ok(Delivery {
+                batch,
+                outcome: Outcome::Shut(number),
+                divides: false,
+            })
+        }
+        Slice::Split(literal, batch) => Ok(Delivery {
+            batch,
+            outcome: Outcome::Split(literal),
+            divides: true,
+        }),
+    }
+}

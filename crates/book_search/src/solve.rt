@@ -1,0 +1,121 @@
+//! The turns of one worker.
+ghost use Rattle.std.specs.Prelude.{◌≡◌, ◌<◌, IfOk, OnOk, None};
+ghost use Rattle.cover_tree.specs.Covers.{cube_at};
+ghost use Rattle.book_core.specs.Books.{IsHeldBy};
+ghost use Rattle.book_core.specs.Runs.{state_of};
+ghost use Rattle.book_core.specs.Ends.{left_in};
+ghost use Rattle.book_core.specs.Verdicts.{IsRight};
+ghost use Rattle.book_search.specs.Deliveries.{IsDelivered, IsWaiting, Advances};
+
+use crate::base::decide_units;
+use crate::tools::Tools;
+use book_core::{Answer, Book, Verdict};
+use std::alloc::{AllocError, Global};
+use stn_core::{Literal, Problem};
+
+/// The greatest budget of a slice.
+const BUDGET_LIMIT: u64 = 1_000_000;
+
+/// One slice of search under the cube, and the delivery of what it found: whether the cube is divided now.
+fn work(
+    alloc: Global,
+    tools: &mut Tools,
+    book: &mut Book,
+    id: usize,
+    cube: &[Literal],
+    budget: u64,
+) -> Result<bool, AllocError>
+    requires held { IsHeldBy (state_of book.old) id 0 }
+    requires unfound { (state_of book.old).found ≡ None }
+    requires cube { cube.now ≡ cube_at (state_of book.old).cover id }
+    requires points { tools.old ≡ book.old.problem.points }
+    ensures points { tools.new ≡ tools.old }
+    ensures delivered { OnOk result (IsDelivered book.old id book.new) }
+    ensures less { OnOk result (left_in book.new < left_in book.old) }
+{
+    book.sound();
+    book_core::ends_law();
+    let delivery = tools.search(alloc, book.problem(), book.lemmas(), cube, budget)?;
+    let divides = delivery.divides;
+    match book.deliver(0, id, delivery.batch, delivery.outcome) {
+        Ok(()) => Ok(divides),
+        Err(_) => Err(AllocError),
+    }
+}
+
+/// One turn: a cube is taken and worked on. The answer says whether it was divided, and is `None` where
+/// nothing is left to do.
+fn turn(
+    alloc: Global,
+    problem: &Problem,
+    tools: &mut Tools,
+    book: &mut Book,
+    budget: u64,
+) -> Result<Option<bool>, AllocError>
+    requires waiting { IsWaiting problem.now book.old }
+    requires points { tools.old ≡ problem.now.points }
+    ensures waiting { OnOk result (IsWaiting problem.now book.new) }
+    ensures points { tools.new ≡ tools.old }
+    ensures advances { IfOk result (Advances book.old book.new) }
+{
+    book.sound();
+    book_core::ends_law();
+    match book.take(0)? {
+        Answer::Cube(id, cube) => {
+            let divided = work(alloc, tools, book, id, cube.as_slice(), budget)?;
+            Ok(Some(divided))
+        }
+        Answer::Idle => unreachable!(),
+        Answer::Done => Ok(None),
+    }
+}
+
+/// The budget of the slice after one that was divided: twice as much, up to 1,000,000.
+pub fn doubled(budget: u64) -> u64 {
+    if budget >= BUDGET_LIMIT / 2 {
+        BUDGET_LIMIT
+    } else {
+        budget * 2
+    }
+}
+
+/// What is left to do of a book of the problem in which no leaf is held. It takes every leaf that is free, so
+/// that the answer rests on nothing that was done before.
+pub fn finish(
+    alloc: Global,
+    problem: &Problem,
+    book: Book,
+    budget: u64,
+) -> Result<Verdict, AllocError>
+    requires { IsWaiting problem.now book }
+    ensures { IfOk result (IsRight problem.now) }
+{
+    let mut book = book;
+    let mut tools = Tools::new(alloc, problem)?;
+    let mut budget = budget;
+    'turns: while let Some(divided) = turn(alloc, problem, &mut tools, &mut book, budget)? {
+        if divided {
+            budget = doubled(budget);
+        }
+    }
+    match book.conclude()? {
+        Some(verdict) => Ok(verdict),
+        None => unreachable!(),
+    }
+}
+
+/// Decides the problem by slices of search, one after the other: a cube that isn't decided within the slice's
+/// budget of adds is divided, and the next slice gets twice the last budget, up to 1,000,000. It returns on
+/// every problem, since each split decides one more atom of its cube (`book_core::ends_law`). The one error
+/// is want of memory.
+pub fn solve_one(alloc: Global, problem: &Problem, budget: u64) -> Result<Verdict, AllocError>
+    ensures { IfOk result (IsRight problem.now) }
+{
+    match decide_units(alloc, problem)? {
+        Some(verdict) => Ok(verdict),
+        None => {
+            let book = Book::new(alloc, problem.copy()?)?;
+            finish(alloc, problem, book, budget)
+        }
+    }
+}

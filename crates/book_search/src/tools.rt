@@ -1,0 +1,68 @@
+//! What one worker searches with.
+ghost use Rattle.std.specs.Prelude.{◌≡◌, All, IfOk};
+ghost use Rattle.std.specs.Arc.{arc_value};
+ghost use Rattle.refute_tree.specs.Batches.{LemmaIsOver};
+ghost use Rattle.stn_core.specs.Literal.{IsOver};
+ghost use Rattle.book_core.specs.Shared.{lemmas_of};
+ghost use Rattle.book_core.specs.Books.{IsJustified};
+
+use crate::delivery::{Delivery, delivery_of};
+use branch_search::Searcher;
+use inc_paths::Network;
+use refute_tree::Lemma;
+use std::alloc::{AllocError, Global};
+use std::marker::Model;
+use std::sync::Arc;
+use stn_core::{Literal, Problem};
+
+/// A worker's searcher and its net, which are kept from slice to slice. Contracts see the net's points.
+#[derive(Drop)]
+pub struct Tools {
+    searcher: Searcher,
+    net: Network,
+}
+
+impl Model for Tools {
+    ghost use Rattle.std.specs.Prelude.{◌≡◌, ℕ, []};
+
+    ghost Value = { ℕ };
+
+    ghost view = { λ t. t.net.points };
+
+    ghost invariant = { λ t. t.net.literals ≡ [] };
+}
+
+impl Tools {
+    /// The tools for a problem. The one error is want of memory.
+    pub fn new(alloc: Global, problem: &Problem) -> Result<Self, AllocError>
+        ensures { IfOk result (λ tools. tools ≡ problem.now.points) }
+    {
+        Ok(Tools {
+            searcher: Searcher::new(alloc, problem)?,
+            net: Network::new(alloc, problem.points)?,
+        })
+    }
+
+    /// One slice of search under the cube, over these lemmas, as a delivery. The one error is want of memory.
+    pub fn search(
+        &mut self,
+        alloc: Global,
+        problem: &Problem,
+        lemmas: &[Arc<Lemma>],
+        cube: &[Literal],
+        budget: u64,
+    ) -> Result<Delivery, AllocError>
+        requires points { self.old ≡ problem.now.points }
+        requires lemmas { All (LemmaIsOver problem.now.points) (lemmas_of lemmas.now) }
+        requires cube { All (IsOver problem.now.points) cube.now }
+        ensures points { self.new ≡ self.old }
+        ensures justified { IfOk result (λ d.
+            IsJustified problem.now (lemmas_of lemmas.now) cube.now d.batch d.outcome) }
+    {
+        let found = self
+            .searcher
+            .slice(alloc, problem, &lemmas, cube, budget, &mut self.net)?;
+        let delivery = delivery_of(found)?;
+        Ok(delivery)
+    }
+}

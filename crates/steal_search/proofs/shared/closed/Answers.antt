@@ -1,0 +1,10 @@
+use Rattle.std.proofs.Common.{◌∙◌, ap}
+use Rattle.book_core.specs.Runs.{Ledger}
+use Rattle.steal_search.proofs.shared.closed.Goals as goal
+
+-- the closed book is of this problem, and no cube of it is held
+pub returns : goal.returns
+returns g c = record {
+  problem_is = ap (λ (b : Ledger). b.problem) c.close.ensures.book ∙ c.in_ok-desk.ensures.0 ∙ c.in_ok-copy.ensures;
+  none_held = c.close.ensures.free;
+}

@@ -1,5 +1,0 @@
-use Rattle.steal_search.specs.Base.{IsBase}
-use Rattle.steal_search.proofs.units.Units.of.Given as goal
-
-abbrev pub invariant-loop-number : goal.invariant-loop-number
-invariant-loop-number l = record { base : IsBase l.clauses l.units }

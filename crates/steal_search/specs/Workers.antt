@@ -1,0 +1,48 @@
+-- What a worker's calls do to its seat and its hand: what stays, and what goes on.
+use Rattle.std.specs.Prelude.{◌≡◌, ℕ, List, [], ◌∷◌, ◌++◌, Some, None, IsSome, slice_index_or}
+use mathlib.Core.List.{IsPrefix}
+use Rattle.stn_core.specs.declared.problem.Problem.{Problem}
+use Rattle.refute_tree.specs.Batches.{LemmaBatch}
+use Rattle.book_core.specs.declared.event.Event.{Event}
+use Rattle.book_core.specs.declared.event.Event.TheVariants.{Take}
+use Rattle.book_core.specs.declared.event.Taken.TheVariants.{Done as TakeDone}
+use Rattle.book_core.specs.declared.event.Outcome.{Outcome}
+use Rattle.book_core.specs.Books.{IsJustified}
+use Rattle.book_lock.specs.declared.cube.Cube.{Cube}
+use Rattle.book_lock.specs.declared.cube.Taken.{Taken}
+use Rattle.book_lock.specs.declared.cube.Taken.TheVariants.{Cube as TakenCube, Idle, Done}
+use Rattle.book_lock.specs.Seats.{Sight, IsSameSeat}
+use Rattle.cube_pool.specs.Hands.{Doings}
+
+-- the seat of the same desk, with its number; its front and its calls begin with those of before
+pub record GoesOn (old new : Sight) : Type 0 where
+  pub same : IsSameSeat old new
+  pub front : IsPrefix old.view.front new.view.front
+  pub calls : IsPrefix old.view.calls new.view.calls
+
+-- the hand of the same pool, with its number; what it pushed and what it fetched begins with that of before
+pub record HandGoesOn (old new : Doings) : Type 0 where
+  pub pool : new.pool ≡ old.pool
+  pub number : new.number ≡ old.number
+  pub pushed : IsPrefix old.pushed new.pushed
+  pub fetched : (k : ℕ) → IsPrefix (slice_index_or old.fetched k []) (slice_index_or new.fetched k [])
+
+-- the seat's last call was answered Done
+abbrev pub HasEnded : Sight → Type 0
+HasEnded seat = (before : List Event) × (seat.view.calls ≡ before ++ Take seat.view.number TakeDone ∷ [])
+
+-- of the code: the seat after a `take` with this answer
+abbrev pub IsAnswered : Sight → Taken → Type 0
+IsAnswered seat TakenCube = IsSome seat.cube
+IsAnswered seat Idle = seat.cube ≡ None
+IsAnswered seat Done = (seat.cube ≡ None) × HasEnded seat
+
+-- of the code: the seat's problem is this one, and the seat holds a cube of it
+pub record IsSearching (problem : Problem) (seat : Sight) : Type 0 where
+  pub problem_is : seat.view.problem ≡ problem
+  pub holding : IsSome seat.cube
+
+-- of the code: the delivery is justified of the seat's cube, over the lemmas that the seat has seen
+abbrev pub IsJustifiedThere : Problem → Sight → LemmaBatch → Outcome → Type 0
+IsJustifiedThere problem seat batch outcome =
+    (cube : Cube) × (seat.cube ≡ Some cube) × IsJustified problem seat.lemmas cube.literals batch outcome

@@ -1,0 +1,109 @@
+//! How a worker deals with the cube that its seat holds.
+ghost use Rattle.std.specs.Prelude.{◌≡◌, IfOk, None};
+ghost use Rattle.steal_search.specs.Workers.{GoesOn, IsJustifiedThere, IsSearching};
+
+use book_lock::{Desk, Seat};
+use book_search::{Delivery, Tools, doubled};
+use std::alloc::{AllocError, Global};
+use std::sync::Wait;
+use stn_core::Problem;
+use worker_gates::Gate;
+
+/// What a worker keeps from slice to slice: its tools, the budget of its next slice, and how many it has made.
+#[derive(Drop)]
+pub struct Pace {
+    pub(crate) tools: Tools,
+    pub(crate) budget: u64,
+    pub(crate) slices: u64,
+}
+
+impl Pace {
+    pub(crate) fn new(alloc: Global, problem: &Problem, budget: u64) -> Result<Self, AllocError>
+        ensures { IfOk result (λ pace. pace.tools ≡ problem.now.points) }
+    {
+        Ok(Pace {
+            tools: Tools::new(alloc, problem)?,
+            budget,
+            slices: 0,
+        })
+    }
+}
+
+// One slice of search under the seat's cube, over the lemmas that it has seen.
+fn search(
+    alloc: Global,
+    problem: &Problem,
+    seat: &Seat,
+    pace: &mut Pace,
+) -> Result<Delivery, AllocError>
+    requires tools { pace.old.tools ≡ problem.now.points }
+    requires searching { IsSearching problem.now seat.now }
+    ensures tools { pace.new.tools ≡ pace.old.tools }
+    ensures justified { IfOk result (λ d. IsJustifiedThere problem.now seat.now d.batch d.outcome) }
+{
+    seat.sound();
+    let cube = seat.cube().unwrap();
+    pace.tools.search(
+        alloc,
+        problem,
+        seat.lemmas(),
+        cube.literals.as_slice(),
+        pace.budget,
+    )
+}
+
+// What was found is delivered, or else the cube is given back: whether it was divided.
+fn deliver<R: Wait>(
+    rt: &R,
+    desk: &Desk,
+    seat: &mut Seat,
+    delivery: Delivery,
+) -> Result<bool, AllocError>
+    requires desk { seat.old.desk ≡ desk.now.id }
+    requires justified { IsJustifiedThere seat.old.view.problem seat.old delivery.batch delivery.outcome }
+    ensures seat { GoesOn seat.old seat.new }
+    ensures none { seat.new.cube ≡ None }
+{
+    let divides = delivery.divides;
+    match desk.deliver(rt, seat, delivery.batch, delivery.outcome) {
+        Ok(()) => return Ok(divides),
+        Err(_) => {}
+    }
+    desk.release(rt, seat);
+    Err(AllocError)
+}
+
+/// One slice, the gate, and the delivery of what was found: whether it divided the cube, and then the next
+/// slice has twice the budget. Where there is no memory for it, the cube is given back.
+pub(crate) fn deal<R: Wait, G: Gate>(
+    rt: &R,
+    alloc: Global,
+    problem: &Problem,
+    desk: &Desk,
+    seat: &mut Seat,
+    pace: &mut Pace,
+    worker: u32,
+    gate: &G,
+) -> Result<bool, AllocError>
+    requires desk { seat.old.desk ≡ desk.now.id }
+    requires tools { pace.old.tools ≡ problem.now.points }
+    requires searching { IsSearching problem.now seat.old }
+    ensures seat { GoesOn seat.old seat.new }
+    ensures none { seat.new.cube ≡ None }
+    ensures tools { pace.new.tools ≡ pace.old.tools }
+{
+    match search(alloc, problem, seat, pace) {
+        Ok(delivery) => {
+            gate.pass(worker, pace.slices);
+            pace.slices = pace.slices.saturating_add(1);
+            if delivery.divides {
+                pace.budget = doubled(pace.budget);
+            }
+            deliver(rt, desk, seat, delivery)
+        }
+        Err(error) => {
+            desk.release(rt, seat);
+            Err(error)
+        }
+    }
+}

@@ -1,0 +1,260 @@
+//! Workers on threads of their own.
+ghost use Rattle.std.specs.Prelude.{◌≡◌, ◌≤◌, ◌<◌, ◌+◌, ◌^◌, length, vec_len, None, IfOk, OnOk, IfSome};
+ghost use Rattle.book_core.specs.Verdicts.{IsRight};
+ghost use Rattle.book_search.specs.Deliveries.{IsWaiting};
+ghost use Rattle.book_lock.specs.Seats.{AllJoined};
+ghost use Rattle.steal_search.specs.Staff.{AllMayWork, AreOfPool, AreSeated, IsFirst, IsSameWorker, MayWork};
+
+use crate::dealing::{Pace, deal};
+use crate::worker::go_on;
+use book_core::{Book, Verdict};
+use book_lock::{Desk, Seat, Taken};
+use book_search::{decide_units, finish};
+use cube_pool::{Hand, Pool};
+use std::alloc::{AllocError, Global};
+use std::sync::Wait;
+use std::thread;
+use std::thread::Threads;
+use stn_core::Problem;
+use worker_gates::Gate;
+
+/// What a worker's thread has.
+#[derive(Drop)]
+pub struct Worker {
+    pub(crate) seat: Seat,
+    pub(crate) hand: Hand,
+    // that of the first slice, for one of the workers
+    pub(crate) pace: Option<Pace>,
+    pub(crate) number: u32,
+}
+
+// The pace that is there, or a new one.
+fn pace_of(
+    alloc: Global,
+    problem: &Problem,
+    budget: u64,
+    pace: &mut Option<Pace>,
+) -> Result<Pace, AllocError>
+    requires { IfSome pace.old (λ pace. pace.tools ≡ problem.now.points) }
+    ensures { IfOk result (λ pace. pace.tools ≡ problem.now.points) }
+{
+    match pace.take() {
+        Some(pace) => Ok(pace),
+        None => Pace::new(alloc, problem, budget),
+    }
+}
+
+// One worker on this thread. Where it finds no memory, the others go on.
+fn run<R: Wait, G: Gate>(
+    rt: &R,
+    alloc: Global,
+    problem: &Problem,
+    desk: &Desk,
+    pool: &Pool,
+    worker: &mut Worker,
+    budget: u64,
+    gate: &G,
+)
+    requires { MayWork desk.now problem.now pool.now worker.old }
+    ensures { IsSameWorker worker.old worker.new }
+{
+    if let Ok(mut pace) = pace_of(alloc, problem, budget, &mut worker.pace) {
+        let _ = go_on(
+            rt,
+            alloc,
+            problem,
+            desk,
+            &mut worker.seat,
+            pool,
+            &mut worker.hand,
+            &mut pace,
+            worker.number,
+            gate,
+        );
+    }
+}
+
+// Each worker on a thread of its own.
+fn run_all<R: Threads + Wait + Sync, G: Gate>(
+    rt: &R,
+    alloc: Global,
+    problem: &Problem,
+    desk: &Desk,
+    pool: &Pool,
+    staff: &mut [Worker],
+    budget: u64,
+    gate: &G,
+)
+    requires staff { AllMayWork desk.now problem.now pool.now staff.old }
+    requires seats { AreSeated desk.now staff.old }
+    requires some { 0 < length staff.old }
+    ensures seats { AreSeated desk.now staff.new }
+    ensures count { length staff.new ≡ length staff.old }
+{
+    let count = staff.len();
+    thread::for_each_mut(
+        rt,
+        staff,
+        count,
+        &|_, worker|
+            requires { MayWork desk.now problem.now pool.now worker.old }
+            ensures { IsSameWorker worker.old worker.new }
+        { run(rt, alloc, problem, desk, pool, worker, budget, gate) },
+    );
+}
+
+// A worker for each hand, the first at the pace of the first slice.
+fn staff_of(
+    alloc: Global,
+    problem: &Problem,
+    desk: &Desk,
+    seat: &mut Seat,
+    pool: &Pool,
+    hands: Vec<Hand>,
+    pace: Pace,
+) -> Result<Vec<Worker>, AllocError>
+    requires seat { IsFirst desk.now problem.now 1 seat.old }
+    requires few { vec_len hands ≤ 64 }
+    requires hands { AreOfPool pool.now hands.items }
+    requires tools { pace.tools ≡ problem.now.points }
+    ensures seat { OnOk result (IsFirst desk.now problem.now (vec_len hands + 1) seat.new) }
+    ensures count { IfOk result (λ staff. vec_len staff ≡ vec_len hands) }
+    ensures seats { IfOk result (λ staff. AreSeated desk.now staff.items) }
+    ensures work { IfOk result (λ staff. AllMayWork desk.now problem.now pool.now staff.items) }
+{
+    let mut first = Some(pace);
+    let mut hands = hands;
+    let mut staff = Vec::with_capacity(alloc, hands.len())?;
+    'hands: while let Some(hand) = hands.pop() {
+        let seat = desk.split_seat(seat)?;
+        staff.push(Worker {
+            seat,
+            hand,
+            pace: first.take(),
+            number: staff.len() as u32,
+        })?;
+    }
+    Ok(staff)
+}
+
+// Seat 0 takes in the workers' seats.
+fn gather(desk: &Desk, problem: &Problem, seat: &mut Seat, staff: Vec<Worker>)
+    requires seat { IsFirst desk.now problem.now (vec_len staff + 1) seat.old }
+    requires seats { AreSeated desk.now staff.items }
+    ensures seat { IsFirst desk.now problem.now (vec_len staff + 1) seat.new }
+    ensures all { AllJoined seat.new.view }
+{
+    let mut staff = staff;
+    'staff: while let Some(worker) = staff.pop() {
+        let Worker {
+            seat: other,
+            hand: _,
+            pace: _,
+            number: _,
+        } = worker;
+        desk.join_seat(seat, other);
+    }
+}
+
+// Workers share what is left to do.
+fn share_out<R: Threads + Wait + Sync, G: Gate>(
+    rt: &R,
+    alloc: Global,
+    problem: &Problem,
+    desk: &Desk,
+    seat: &mut Seat,
+    pace: Pace,
+    workers: u32,
+    budget: u64,
+    gate: &G,
+) -> Result<(), AllocError>
+    requires workers { (1 ≤ workers) × (workers ≤ 64) }
+    requires seat { IsFirst desk.now problem.now 1 seat.old }
+    requires tools { pace.tools ≡ problem.now.points }
+    ensures seat { OnOk result (IsFirst desk.now problem.now (workers + 1) seat.new) }
+    ensures all { OnOk result (AllJoined seat.new.view) }
+{
+    let (pool, hands) = Pool::open(alloc, workers)?;
+    let mut staff = staff_of(alloc, problem, desk, seat, &pool, hands, pace)?;
+    run_all(
+        rt,
+        alloc,
+        problem,
+        desk,
+        &pool,
+        staff.as_mut_slice(),
+        budget,
+        gate,
+    );
+    gather(desk, problem, seat, staff);
+    Ok(())
+}
+
+// The first slice, on the caller's thread: whether it divided the whole.
+fn begin<R: Wait, G: Gate>(
+    rt: &R,
+    alloc: Global,
+    problem: &Problem,
+    desk: &Desk,
+    seat: &mut Seat,
+    pace: &mut Pace,
+    gate: &G,
+) -> Result<bool, AllocError>
+    requires seat { IsFirst desk.now problem.now 1 seat.old }
+    requires tools { pace.old.tools ≡ problem.now.points }
+    ensures seat { IsFirst desk.now problem.now 1 seat.new }
+    ensures tools { pace.new.tools ≡ pace.old.tools }
+{
+    match desk.take(rt, seat)? {
+        Taken::Cube => deal(rt, alloc, problem, desk, seat, pace, 0, gate),
+        Taken::Idle | Taken::Done => Ok(false),
+    }
+}
+
+// The book after the workers' calls.
+fn closed<R: Threads + Wait + Sync, G: Gate>(
+    rt: &R,
+    alloc: Global,
+    problem: &Problem,
+    workers: u32,
+    budget: u64,
+    gate: &G,
+) -> Result<Book, AllocError>
+    requires workers { (1 ≤ workers) × (workers ≤ 64) }
+    ensures { IfOk result (IsWaiting problem.now) }
+{
+    let (desk, mut seat) = Desk::start(alloc, problem.copy()?)?;
+    let mut pace = Pace::new(alloc, problem, budget)?;
+    if begin(rt, alloc, problem, &desk, &mut seat, &mut pace, gate)? {
+        share_out(
+            rt, alloc, problem, &desk, &mut seat, pace, workers, budget, gate,
+        )?;
+    }
+    Ok(desk.close(seat))
+}
+
+/// Decides the problem by so many workers, each on a thread of its own.
+///
+/// The caller makes the first slice alone, so that what it decides takes no thread; only where it divides the
+/// whole do the workers begin. Where some find no memory, the others go on, and what is left when all have
+/// ended is done on the caller's thread: the answer rests on no worker. The one error is want of memory.
+pub fn solve_shared<R: Threads + Wait + Sync, G: Gate>(
+    rt: &R,
+    alloc: Global,
+    problem: &Problem,
+    workers: u32,
+    budget: u64,
+    gate: &G,
+) -> Result<Verdict, AllocError>
+    requires workers { (1 ≤ workers) × (workers ≤ 64) }
+    ensures { IfOk result (IsRight problem.now) }
+{
+    if let Some(verdict) = decide_units(alloc, problem)? {
+        return Ok(verdict);
+    }
+    let book = closed(rt, alloc, problem, workers, budget, gate)?;
+    match book.conclude()? {
+        Some(verdict) => Ok(verdict),
+        None => finish(alloc, problem, book, budget),
+    }
+}

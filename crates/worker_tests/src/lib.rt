@@ -1,0 +1,5 @@
+//! A problem that workers on threads share, with ample memory.
+#![tactic(auto)]
+
+#[cfg(test)]
+mod shared;

@@ -1,0 +1,42 @@
+//! Two workers that meet, and more workers than there is work.
+use book_core::Verdict;
+use std::alloc::{AllocError, Global};
+use std::test::Fail;
+use steal_search::{HoldSecond, NoGate, solve_shared};
+use stn_core::{Clause, Clauses, Literal, Problem};
+
+const FIRST: [Literal; 2] = [Literal { x: 1, y: 2, c: -1 }, Literal { x: 2, y: 1, c: -1 }];
+
+const SECOND: [Literal; 2] = [Literal { x: 3, y: 4, c: -1 }, Literal { x: 4, y: 3, c: -1 }];
+
+const THIRD: [Literal; 2] = [Literal { x: 5, y: 6, c: -1 }, Literal { x: 6, y: 5, c: -1 }];
+
+const FOURTH: [Literal; 2] = [Literal { x: 7, y: 8, c: -1 }, Literal { x: 8, y: 7, c: -1 }];
+
+/// Four pairs of points, each in one of two orders.
+fn four_pairs(alloc: Global) -> Result<Problem, AllocError> {
+    let first = Clause::new(FIRST.to_vec(alloc)?);
+    let second = Clause::new(SECOND.to_vec(alloc)?);
+    let third = Clause::new(THIRD.to_vec(alloc)?);
+    let fourth = Clause::new(FOURTH.to_vec(alloc)?);
+    let clauses = Clauses::new(vec![in alloc; first, second, third, fourth]?);
+    Ok(Problem { points: 9, clauses })
+}
+
+fn is_sat(verdict: &Verdict) -> bool {
+    match verdict {
+        Verdict::Sat(_) => true,
+        Verdict::Unsat(_) => false,
+    }
+}
+
+#[test]
+fn two_meet(rt: HostRuntime) -> Result<(), Fail> {
+    let alloc = rt.alloc();
+    let problem = four_pairs(alloc)?;
+    let gate = HoldSecond::new(100_000_000);
+    let found = is_sat(&solve_shared(&rt, alloc, &problem, 2, 1, &gate)?);
+    assert_eq!(rt; (found, gate.met()), (true, true));
+    assert!(rt; is_sat(&solve_shared(&rt, alloc, &problem, 8, 1, &NoGate)?));
+    Ok(())
+}
