@@ -1,9 +1,10 @@
 use std::alloc::{AllocError, AllocFailed};
 
-/// What is wrong with a step, or with a list of lemmas.
+/// What is wrong with a step, with a kept lemma, or with a list of lemmas.
 #[derive(Clone, Copy, Debug, PartialEq, Eq)]
 pub enum FlawKind {
-    /// A literal of a lemma's clause or of an `Either` step names a time point that the problem hasn't.
+    /// A literal of a lemma's clause or of an `Either` step names a time point that the problem hasn't; or a kept lemma
+    /// or one that it rests on has such a literal.
     NoSuchPoint,
     /// An `Input` or `Clash` step whose number is no clause's, or a `Lemma` step whose number is no earlier lemma's.
     NoSuchClause,
@@ -17,13 +18,18 @@ pub enum FlawKind {
     StepsMissing,
     /// The tree ends before the steps do.
     StepsLeftOver,
+    /// A kept lemma whose numbers are no earlier entry's and no item's of it.
+    NoSuchKeptLemma,
+    /// A kept lemma that rests on a clause which isn't one of the problem.
+    NotActive,
     /// All lemmas are refuted, and the last has a literal, or there is none.
     LastLemmaNotEmpty,
 }
 
 /// The first flaw, in the order of the lemmas, and of the steps in each: the numbers of the lemma and of the step, from
-/// 0. A lemma's own literals come before its steps, with the step number 0. Where steps are missing, the step number is
-/// their count. At `LastLemmaNotEmpty` the lemma number is the count of the lemmas, and the step number is 0.
+/// 0. A lemma's own literals come before its steps, with the step number 0, which is also that of a kept lemma's flaw.
+/// Where steps are missing, the step number is their count. At `LastLemmaNotEmpty` the lemma number is the count of the
+/// lemmas, and the step number is 0.
 #[derive(Clone, Copy, Debug, PartialEq, Eq)]
 pub struct Flaw {
     pub lemma: usize,

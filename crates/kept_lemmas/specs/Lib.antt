@@ -1,0 +1,3 @@
+pub mod Facts
+pub mod Entries
+pub mod Laws

@@ -1,0 +1,4 @@
+pub mod Clauses
+pub mod ItemFlaws
+pub mod Lowering
+pub mod Tables

