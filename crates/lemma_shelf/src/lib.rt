@@ -6,7 +6,9 @@
 #![tactic(auto)]
 
 mod check;
+mod laws;
 mod shelf;
 
 pub use check::check_items;
+pub use laws::flaw_law;
 pub use shelf::Shelf;
