@@ -14,11 +14,16 @@ use Rattle.stn_core.specs.declared.named.NamedValue.TheVariants.{Int, Truth}
 use Rattle.refute_tree.specs.declared.step.Step.{Step}
 use Rattle.refute_tree.specs.declared.step.Step.TheVariants.{Cycle, Input, Lemma as Earlier, Clash, Either}
 use Rattle.refute_tree.specs.declared.lemma.Lemma.{Lemma}
+use Rattle.kept_lemmas.specs.declared.item.Kept.{Kept}
+use Rattle.kept_lemmas.specs.declared.item.Item.{Item}
+use Rattle.kept_lemmas.specs.declared.item.Item.TheVariants.{Own, Keep}
+use Rattle.cert_text.specs.declared.entry.Version.TheVariants.{One, Two}
 use Rattle.cert_text.specs.declared.entry.Entry.TheVariants.{Sat, Unsat}
-use Rattle.cert_text.specs.Form.{numeral_text, numeral, bound_sexprs, number_of_value, literal_sexpr, step_sexpr, lemma_sexpr, value_sexpr, entry_sexpr, line_of}
+use Rattle.cert_text.specs.declared.entry.FileEntry.TheVariants as file
+use Rattle.cert_text.specs.Form.{numeral_text, numeral, bound_sexprs, number_of_value, literal_sexpr, step_sexpr, lemma_sexpr, kept_sexpr, item_sexpr, value_sexpr, header_sexpr, entry_sexpr, file_entry_sexpr, line_of}
 use Rattle.smt_sexpr.specs.Shapes.{items_of}
-use Rattle.cert_text.specs.Laws.{OneEntry, OneLine}
-use Rattle.cert_text.proofs.Writable.{entry_back}
+use Rattle.cert_text.specs.Laws.{LineReadsBack, OneHeader, OneEntry, OneLine, OneFileEntry, OneFileLine}
+use Rattle.cert_text.proofs.Writable.{entry_back, file_entry_back}
 
 -- ---- the value of a numeral
 
@@ -113,6 +118,18 @@ lemma_one l k e =
     let steps = each_one step_sexpr step_one l.steps k.steps (ap (λ x. others (others (parts x))) e) in
     λ i. record { clause = clause i; steps = steps i }
 
+kept_one : (l k : Kept) → kept_sexpr l ≡ kept_sexpr k → l ≡ k
+kept_one l k e =
+    let entry = numeral_one l.entry k.entry (ap (λ x. first (others (parts x))) e) in
+    let item = numeral_one l.item k.item (ap (λ x. first (others (others (parts x)))) e) in
+    λ i. record { entry = entry i; item = item i }
+
+item_one : (l k : Item) → item_sexpr l ≡ item_sexpr k → l ≡ k
+item_one (Own l) (Own k) e = ap Own (lemma_one l k e)
+item_one (Keep l) (Keep k) e = ap Keep (kept_one l k e)
+item_one (Own l) (Keep k) e = absurd (omega (arith, ap first_byte e))
+item_one (Keep l) (Own k) e = absurd (omega (arith, ap first_byte e))
+
 -- a number is a numeral or a list, a truth value a symbol that begins with no digit
 value_one : (v w : NamedValue) → value_sexpr v ≡ value_sexpr w → v ≡ w
 value_one (Int m) (Int n) e = ap Int (number_one m n e)
@@ -135,13 +152,33 @@ entry_one (Unsat ls) (Unsat ks) e = ap Unsat (each_one lemma_sexpr lemma_one ls 
 entry_one (Sat vs) (Unsat ks) e = absurd (omega (arith, ap first_byte e))
 entry_one (Unsat ls) (Sat ws) e = absurd (omega (arith, ap first_byte e))
 
+pub file_entry_one : OneFileEntry
+file_entry_one (file.Sat vs) (file.Sat ws) e = ap file.Sat (each_one value_sexpr value_one vs ws (ap (λ x. others (parts x)) e))
+file_entry_one (file.Unsat ls) (file.Unsat ks) e = ap file.Unsat (each_one item_sexpr item_one ls ks (ap (λ x. others (parts x)) e))
+file_entry_one (file.Sat vs) (file.Unsat ks) e = absurd (omega (arith, ap first_byte e))
+file_entry_one (file.Unsat ls) (file.Sat ws) e = absurd (omega (arith, ap first_byte e))
+
+pub header_one : OneHeader
+header_one One One e = refl
+header_one Two Two e = refl
+header_one One Two e = absurd (omega (arith, numeral_one 1 2 (ap (λ x. first (others (parts x))) e)))
+header_one Two One e = absurd (omega (arith, numeral_one 2 1 (ap (λ x. first (others (parts x))) e)))
+
 -- ---- lines
+
+same_line : OneValue → (x y : Sexpr) → LineReadsBack x → LineReadsBack y → line_of x ≡ line_of y → x ≡ y
+same_line one x y back_x back_y same =
+    let m = length (text_of x) in
+    let n = length (text_of y) in
+    let here : Spells (line_of x ++ []) 0 x (0 + m) = back_x [] [] in
+    let there : Spells (line_of y ++ []) 0 y (0 + n) = back_y [] [] in
+    let moved : Spells (line_of x ++ []) 0 y (0 + n) = subst (λ bytes. Spells (bytes ++ []) 0 y (0 + n)) (sym same) there in
+    (one (line_of x ++ []) 0 x y (0 + m) (0 + n) here moved).0
 
 pub line_one : OneValue → SexprReadsBack → OneLine
 line_one one back e f same =
-    let m = length (text_of (entry_sexpr e)) in
-    let n = length (text_of (entry_sexpr f)) in
-    let here : Spells (line_of (entry_sexpr e) ++ []) 0 (entry_sexpr e) (0 + m) = entry_back back e [] [] in
-    let there : Spells (line_of (entry_sexpr f) ++ []) 0 (entry_sexpr f) (0 + n) = entry_back back f [] [] in
-    let moved : Spells (line_of (entry_sexpr e) ++ []) 0 (entry_sexpr f) (0 + n) = subst (λ bytes. Spells (bytes ++ []) 0 (entry_sexpr f) (0 + n)) (sym same) there in
-    entry_one e f (one (line_of (entry_sexpr e) ++ []) 0 (entry_sexpr e) (entry_sexpr f) (0 + m) (0 + n) here moved).0
+    entry_one e f (same_line one (entry_sexpr e) (entry_sexpr f) (entry_back back e) (entry_back back f) same)
+
+pub file_line_one : OneValue → SexprReadsBack → OneFileLine
+file_line_one one back e f same =
+    file_entry_one e f (same_line one (file_entry_sexpr e) (file_entry_sexpr f) (file_entry_back back e) (file_entry_back back f) same)

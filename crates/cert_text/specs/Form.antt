@@ -1,17 +1,19 @@
 -- The s-expressions of a certificate, which answers the checks of a script one by one, each with values or with a
--- refutation. The format is this project's own:
+-- refutation. The format is this project's own, and has two versions:
 --
---     (dtp-certificate 1)                     the header
+--     (dtp-certificate 1)                     the header of version 1
+--     (dtp-certificate 2)                     of version 2
 --     (sat v ..)                              an entry: the values of the active declared names, in order
---     (unsat lemma ..)                        or a refutation
+--     (unsat item ..)                         or a refutation
 --     (end)                                   behind the last entry
 --
---     lemma    (lemma (literal ..) step ..)   its clause and its tree in preorder
+--     item     (lemma (literal ..) step ..)   a lemma: its clause and its tree in preorder
+--              (keep e j)                     version 2 alone: the item j, from 0, of the earlier entry e, from 1
 --     step     (cycle literal ..), (input i), (lemma j), (either x y c)
+--              (clash i)                      version 2 alone
 --     literal  (x y c)                        x - y <= c
 --     v        a number, true or false
 --
--- A step (clash i) is no part of a certificate of this version: a lemma is lengthened before it is written.
 -- A number is a numeral, or (- n) where it is below 0. Each line holds one s-expression.
 use Rattle.std.specs.Prelude.{ℕ, suc, ◌+◌, ◌==◌, ℤ, pos, negsuc, true, false, if◌then◌else◌, List, [], ◌∷◌, ◌++◌, map, codes}
 use Rattle.std.specs.Int.Digits.{digits_of}
@@ -25,8 +27,15 @@ use Rattle.stn_core.specs.declared.named.NamedValue.TheVariants.{Int, Truth}
 use Rattle.refute_tree.specs.declared.step.Step.{Step}
 use Rattle.refute_tree.specs.declared.step.Step.TheVariants.{Cycle, Input, Lemma as Earlier, Clash, Either}
 use Rattle.refute_tree.specs.declared.lemma.Lemma.{Lemma}
+use Rattle.kept_lemmas.specs.declared.item.Kept.{Kept}
+use Rattle.kept_lemmas.specs.declared.item.Item.{Item}
+use Rattle.kept_lemmas.specs.declared.item.Item.TheVariants.{Own, Keep}
+use Rattle.cert_text.specs.declared.entry.Version.{Version}
+use Rattle.cert_text.specs.declared.entry.Version.TheVariants.{One, Two}
 use Rattle.cert_text.specs.declared.entry.Entry.{Entry}
 use Rattle.cert_text.specs.declared.entry.Entry.TheVariants.{Sat, Unsat}
+use Rattle.cert_text.specs.declared.entry.FileEntry.{FileEntry}
+use Rattle.cert_text.specs.declared.entry.FileEntry.TheVariants as file
 
 -- ---- numerals
 
@@ -63,6 +72,13 @@ step_sexpr (Either l) = form (codes "either") (bound_sexprs l)
 abbrev pub lemma_sexpr : Lemma → Sexpr
 lemma_sexpr lemma = form (codes "lemma") (clause_sexpr lemma.clause ∷ map step_sexpr lemma.steps)
 
+abbrev pub kept_sexpr : Kept → Sexpr
+kept_sexpr kept = form (codes "keep") (numeral kept.entry ∷ numeral kept.item ∷ [])
+
+abbrev pub item_sexpr : Item → Sexpr
+item_sexpr (Own lemma) = lemma_sexpr lemma
+item_sexpr (Keep kept) = kept_sexpr kept
+
 abbrev pub value_sexpr : NamedValue → Sexpr
 value_sexpr (Int n) = number_of_value n
 value_sexpr (Truth true) = symbol (codes "true")
@@ -70,12 +86,25 @@ value_sexpr (Truth false) = symbol (codes "false")
 
 -- ---- the lines
 
-abbrev pub header_sexpr : Sexpr
-header_sexpr = form (codes "dtp-certificate") (numeral 1 ∷ [])
+abbrev pub version_number : Version → ℕ
+version_number One = 1
+version_number Two = 2
+
+abbrev pub header_sexpr : Version → Sexpr
+header_sexpr version = form (codes "dtp-certificate") (numeral (version_number version) ∷ [])
 
 abbrev pub entry_sexpr : Entry → Sexpr
 entry_sexpr (Sat values) = form (codes "sat") (map value_sexpr values)
 entry_sexpr (Unsat lemmas) = form (codes "unsat") (map lemma_sexpr lemmas)
+
+abbrev pub file_entry_sexpr : FileEntry → Sexpr
+file_entry_sexpr (file.Sat values) = form (codes "sat") (map value_sexpr values)
+file_entry_sexpr (file.Unsat items) = form (codes "unsat") (map item_sexpr items)
+
+-- what decides a check, as an entry that keeps no lemmas
+abbrev pub file_entry_of : Entry → FileEntry
+file_entry_of (Sat values) = file.Sat values
+file_entry_of (Unsat lemmas) = file.Unsat (map Own lemmas)
 
 abbrev pub end_sexpr : Sexpr
 end_sexpr = form (codes "end") []

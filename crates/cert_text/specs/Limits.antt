@@ -1,4 +1,4 @@
--- The numbers that a certificate may have: its points are below a number, the values of names are within a limit of
+-- The numbers that a certificate of a version may have: its points are below a number, the values of names are within a limit of
 -- their own, and all other numbers within the limit both ways.
 use Rattle.std.specs.Prelude.{ℕ, ◌<◌, ◌≤◌, ◌^◌, ◌-◌, ℤ, All, unsigned_abs}
 use Rattle.stn_core.specs.declared.literal.Literal.{Literal}
@@ -7,7 +7,13 @@ use Rattle.stn_core.specs.Named.{IsWithinLimit}
 use Rattle.refute_tree.specs.declared.step.Step.{Step}
 use Rattle.refute_tree.specs.declared.step.Step.TheVariants.{Cycle, Input, Lemma as Earlier, Clash, Either}
 use Rattle.refute_tree.specs.declared.lemma.Lemma.{Lemma}
+use Rattle.kept_lemmas.specs.declared.item.Item.{Item}
+use Rattle.kept_lemmas.specs.declared.item.Item.TheVariants.{Own, Keep}
+use Rattle.cert_text.specs.declared.entry.Version.{Version}
+use Rattle.cert_text.specs.declared.entry.Version.TheVariants.{One, Two}
 use Rattle.cert_text.specs.declared.entry.Entry.{Entry}
+use Rattle.cert_text.specs.declared.entry.FileEntry.{FileEntry}
+use Rattle.cert_text.specs.declared.entry.FileEntry.TheVariants as file
 use Rattle.cert_text.specs.declared.number.TheConstants.{NUMBER_LIMIT}
 use Rattle.cert_text.specs.declared.entry.Entry.TheVariants.{Sat, Unsat}
 
@@ -22,29 +28,51 @@ pub record LiteralWithin (points : ℕ) (l : Literal) : Type 0 where
   pub y : l.y < points
   pub c : NumberFits l.c
 
--- a clash is in no certificate
-abbrev pub StepWithin : ℕ → Step → Type 0
-StepWithin points (Cycle literals) = All (LiteralWithin points) literals
-StepWithin points (Input i) = i ≤ limit
-StepWithin points (Earlier j) = j ≤ limit
-StepWithin points (Clash i) = ⊥
-StepWithin points (Either l) = LiteralWithin points l
+-- what only version 2 has
+abbrev pub OnlyInTwo : Version → Type 0 → Type 0
+OnlyInTwo One holds = ⊥
+OnlyInTwo Two holds = holds
 
-pub record LemmaWithin (points : ℕ) (lemma : Lemma) : Type 0 where
+abbrev pub StepWithin : Version → ℕ → Step → Type 0
+StepWithin version points (Cycle literals) = All (LiteralWithin points) literals
+StepWithin version points (Input i) = i ≤ limit
+StepWithin version points (Earlier j) = j ≤ limit
+StepWithin version points (Clash i) = OnlyInTwo version (i ≤ limit)
+StepWithin version points (Either l) = LiteralWithin points l
+
+pub record LemmaWithin (version : Version) (points : ℕ) (lemma : Lemma) : Type 0 where
   pub clause : All (LiteralWithin points) lemma.clause
-  pub steps : All (StepWithin points) lemma.steps
+  pub steps : All (StepWithin version points) lemma.steps
+
+abbrev pub ItemWithin : Version → ℕ → Item → Type 0
+ItemWithin version points (Own lemma) = LemmaWithin version points lemma
+ItemWithin version points (Keep kept) = OnlyInTwo version ((kept.entry ≤ limit) × (kept.item ≤ limit))
 
 abbrev pub ValueFits : NamedValue → Type 0
 ValueFits value = IsWithinLimit value
 
-abbrev pub EntryWithin : ℕ → Entry → Type 0
-EntryWithin points (Sat values) = All ValueFits values
-EntryWithin points (Unsat lemmas) = All (LemmaWithin points) lemmas
+-- ---- what decides a check
+
+abbrev pub EntryWithin : Version → ℕ → Entry → Type 0
+EntryWithin version points (Sat values) = All ValueFits values
+EntryWithin version points (Unsat lemmas) = All (LemmaWithin version points) lemmas
 
 -- what is written is read again
-abbrev pub EntryFits : Entry → Type 0
-EntryFits e = EntryWithin (2 ^ 32) e
+abbrev pub EntryFits : Version → Entry → Type 0
+EntryFits version e = EntryWithin version (2 ^ 32) e
 
 -- the greatest point, as which all greater ones are read, isn't in it
-abbrev pub IsPlain : Entry → Type 0
-IsPlain e = EntryWithin (2 ^ 32 - 1) e
+abbrev pub IsPlain : Version → Entry → Type 0
+IsPlain version e = EntryWithin version (2 ^ 32 - 1) e
+
+-- ---- the same of an entry of a certificate
+
+abbrev pub FileEntryWithin : Version → ℕ → FileEntry → Type 0
+FileEntryWithin version points (file.Sat values) = All ValueFits values
+FileEntryWithin version points (file.Unsat items) = All (ItemWithin version points) items
+
+abbrev pub FileEntryFits : Version → FileEntry → Type 0
+FileEntryFits version e = FileEntryWithin version (2 ^ 32) e
+
+abbrev pub IsPlainFileEntry : Version → FileEntry → Type 0
+IsPlainFileEntry version e = FileEntryWithin version (2 ^ 32 - 1) e

@@ -5,11 +5,21 @@ ghost use Rattle.std.specs.Prelude.{◌≡◌, ◌++◌, OnOk, OnErr};
 ghost use Rattle.cert_text.specs.Form.{header_sexpr, end_sexpr, line_of};
 
 use bstr::ByteVec;
+use kept_lemmas::Items;
 use refute_tree::Refutation;
 use std::alloc::AllocError;
 use stn_core::NamedValues;
 
-/// What a certificate holds for one check of a script.
+/// The versions of the format.
+#[derive(Clone, Copy, Debug, PartialEq, Eq)]
+pub enum Version {
+    /// Each entry stands alone.
+    One,
+    /// An entry may keep lemmas of earlier ones, and a step may be a clash.
+    Two,
+}
+
+/// What decides one check of a script.
 #[derive(Drop)]
 pub enum Entry {
     /// The check answered sat: one value for each active declared name, in the order of declaration.
@@ -18,13 +28,25 @@ pub enum Entry {
     Unsat(Refutation),
 }
 
-/// Appends the first line of a certificate, or nothing where memory ends.
+/// What a certificate holds for one check of a script.
+#[derive(Drop)]
+pub enum FileEntry {
+    /// The check answered sat: one value for each active declared name, in the order of declaration.
+    Sat(NamedValues),
+    /// The check answered unsat: why there is no solution, over the entries before it.
+    Unsat(Items),
+}
+
+/// Appends the first line of a certificate of this version, or nothing where memory ends.
 #[tactic(auto, unfolding(smt_lex::specs::Bytes::is_symbol_byte, crate::specs::Form::numeral_text))]
-pub fn write_header(out: &mut Vec<u8>) -> Result<(), AllocError>
-    ensures ok { OnOk result (out.new.items ≡ out.old.items ++ line_of header_sexpr) }
+pub fn write_header(version: Version, out: &mut Vec<u8>) -> Result<(), AllocError>
+    ensures ok { OnOk result (out.new.items ≡ out.old.items ++ line_of (header_sexpr version)) }
     ensures err { OnErr result (out.new.items ≡ out.old.items) }
 {
-    out.push_str(b"(dtp-certificate 1)\n")
+    match version {
+        Version::One => out.push_str(b"(dtp-certificate 1)\n"),
+        Version::Two => out.push_str(b"(dtp-certificate 2)\n"),
+    }
 }
 
 /// Appends the last line of a certificate, or nothing where memory ends.

@@ -5,13 +5,14 @@ ghost use Rattle.std.specs.Prelude.{◌≡◌, ◌++◌, ◌∷◌, [], map, tak
 ghost use Rattle.std.specs.Vec.{vec_len};
 ghost use Rattle.smt_sexpr.specs.Tree.{Sexpr};
 ghost use Rattle.smt_sexpr.specs.Printing.{text_of, text_behind};
-ghost use Rattle.cert_text.specs.Form.{numeral, number_of_value, clause_sexpr, literal_sexpr, step_sexpr};
+ghost use Rattle.cert_text.specs.Form.{numeral, number_of_value, clause_sexpr, literal_sexpr, step_sexpr, kept_sexpr};
 ghost use Rattle.refute_tree.specs.declared.step.Step.TheVariants.{Cycle as CycleStep};
 ghost use Rattle.refute_tree.specs.Views.{literals_of, step_seen};
 ghost use Rattle.smt_sexpr.specs.Shapes.{items_of};
 
 use crate::number::{write_number, write_numeral};
 use bstr::ByteVec;
+use kept_lemmas::{Item, Kept};
 use refute_tree::{Cycle, Lemma, Reader, StepView};
 use std::alloc::AllocError;
 use stn_core::{Literal, NamedValue, Value, negate};
@@ -157,6 +158,31 @@ impl Part for Lemma {
         out.push_str(b"(lemma ")?;
         write_clause(self.clause.as_slice(), out)?;
         write_steps(self.steps.reader(), out)
+    }
+}
+
+/// Appends a lemma of an earlier entry, by its place.
+fn write_kept(kept: Kept, out: &mut Vec<u8>) -> Result<(), AllocError>
+    ensures ok { OnOk result (out.new.items ≡ out.old.items ++ text_of (kept_sexpr kept)) }
+    ensures front { take (vec_len out.old) out.new.items ≡ out.old.items }
+{
+    out.push_str(b"(keep ")?;
+    write_numeral(kept.entry as u128, out)?;
+    out.push_str(b" ")?;
+    write_numeral(kept.item as u128, out)?;
+    out.push_str(b")")
+}
+
+impl Part for Item {
+    ghost use Rattle.cert_text.specs.Form.{item_sexpr};
+
+    ghost sexpr = { item_sexpr };
+
+    fn write(&self, out: &mut Vec<u8>) -> Result<(), AllocError> {
+        match self {
+            Item::Own(lemma) => lemma.write(out),
+            Item::Keep(kept) => write_kept(*kept, out),
+        }
     }
 }
 

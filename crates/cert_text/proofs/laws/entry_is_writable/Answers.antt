@@ -1,5 +1,5 @@
-use Rattle.cert_text.proofs.Writable.{header_writable, entry_writable, end_writable}
+use Rattle.cert_text.proofs.Writable.{header_writable, entry_writable, file_entry_writable, end_writable}
 use Rattle.cert_text.proofs.laws.entry_is_writable.Goals as goal
 
 pub returns : goal.returns
-returns c = record { header = header_writable; entry = entry_writable; end = end_writable }
+returns c = record { header = header_writable; entry = entry_writable; file_entry = file_entry_writable; end = end_writable }

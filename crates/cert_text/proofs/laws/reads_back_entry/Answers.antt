@@ -1,10 +1,11 @@
-use Rattle.cert_text.specs.Form.{header_sexpr, end_sexpr}
-use Rattle.cert_text.proofs.Writable.{line_back, entry_back, header_writable, end_writable}
+use Rattle.cert_text.specs.Form.{end_sexpr}
+use Rattle.cert_text.proofs.Writable.{line_back, header_back, entry_back, file_entry_back, end_writable}
 use Rattle.cert_text.proofs.laws.reads_back_entry.Goals as goal
 
 pub returns : goal.returns
 returns c = record {
-  header = line_back c.reads_back.ensures header_sexpr (λ rest. tt) header_writable;
+  header = header_back c.reads_back.ensures;
   entry = entry_back c.reads_back.ensures;
+  file_entry = file_entry_back c.reads_back.ensures;
   end = line_back c.reads_back.ensures end_sexpr (λ rest. tt) end_writable;
 }
