@@ -1,5 +1,5 @@
 -- The text of a certificate, line by line.
-use Rattle.std.proofs.Common.{◌≡◌, ◌≢◌, ◌∙◌, refl, sym, ap, subst, ℕ, ◌+◌, List, [], ◌∷◌, ◌++◌, length, Option, Some, None, Result, Ok, Err}
+use Rattle.std.proofs.Common.{◌≡◌, ◌≢◌, ◌∙◌, refl, sym, ap, subst, ℕ, List, [], ◌∷◌, ◌++◌, length, Option, Some, None, Result, Ok, Err}
 use Rattle.smt_lex.specs.Grammar.{Reads}
 use Rattle.smt_sexpr.specs.declared.error.SexprError.{SexprError}
 use Rattle.smt_sexpr.specs.declared.error.SexprError.TheVariants as sexpr
@@ -7,25 +7,25 @@ use Rattle.smt_sexpr.specs.declared.error.SexprRefusal.{SexprRefusal}
 use Rattle.smt_sexpr.specs.Tree.{Sexpr}
 use Rattle.smt_sexpr.specs.Table.{Table, Means}
 use Rattle.smt_sexpr.specs.Reading.{Spells, Outcome, expression, finished, refused, Outcomes, Explains, Finds, failed_of}
-use Rattle.cert_text.specs.declared.entry.Entry.{Entry}
+use Rattle.cert_text.specs.declared.entry.Version.{Version}
+use Rattle.cert_text.specs.declared.entry.FileEntry.{FileEntry}
 use Rattle.cert_text.specs.Form.{header_sexpr, end_sexpr}
 use Rattle.cert_read.specs.Parts.{entry_of}
 use Rattle.cert_read.specs.declared.error.CertReadError.{CertReadError}
 use Rattle.cert_read.specs.declared.error.CertReadError.TheVariants.{Refused, OutOfMemory}
 use Rattle.cert_read.specs.declared.error.CertificateRefusal.TheVariants.{NoHeader, IllFormed, NoEnd, TextAfterEnd}
 use Rattle.cert_read.specs.Certificates.{certificate, no_certificate, HoldsEntries, RefusesBehind, ReadsEntries, LacksHeader, ReadsCertificate, ErrorSays}
-use Rattle.cert_read.specs.declared.certificate.Line.{Line}
-use Rattle.cert_read.specs.declared.certificate.Line.TheVariants.{Shown, End}
-use Rattle.cert_read.specs.declared.error.PartError.{PartError}
-use Rattle.cert_read.specs.declared.error.PartError.TheVariants.{OutOfMemory as NoSpace, IllFormed as NoPart}
-use Rattle.cert_read.specs.Shapes.{Lacks, LineIs, told_as}
+use Rattle.cert_read.specs.declared.line.Line.{Line}
+use Rattle.cert_read.specs.declared.line.Line.TheVariants.{Shown, End}
+use Rattle.cert_read.specs.Lines.{LineIs}
+use Rattle.cert_read.specs.Shapes.{told_as}
 
 -- ---- entries
 
 -- one entry more
-pub holds_more : (bytes : List ℕ) (place here mid : ℕ) (es : List Entry) (e : Entry) (x : Sexpr) → HoldsEntries bytes place es here → Spells bytes here x mid → entry_of x ≡ Some e → HoldsEntries bytes place (es ++ e ∷ []) mid
-holds_more bytes place here mid [] e x same spells is = (x, mid, subst (λ (p : ℕ). Spells bytes p x mid) (sym same) spells, is, refl)
-holds_more bytes place here mid (f ∷ es) e x (y, next, spelt, meant, rest) spells is = (y, next, spelt, meant, holds_more bytes next here mid es e x rest spells is)
+pub holds_more : (version : Version) (bytes : List ℕ) (place here mid : ℕ) (es : List FileEntry) (e : FileEntry) (x : Sexpr) → HoldsEntries version bytes place es here → Spells bytes here x mid → entry_of version x ≡ Some e → HoldsEntries version bytes place (es ++ e ∷ []) mid
+holds_more version bytes place here mid [] e x same spells is = (x, mid, subst (λ (p : ℕ). Spells bytes p x mid) (sym same) spells, is, refl)
+holds_more version bytes place here mid (f ∷ es) e x (y, next, spelt, meant, rest) spells is = (y, next, spelt, meant, holds_more version bytes next here mid es e x rest spells is)
 
 -- ---- what a call of the reader of s-expressions finds
 
@@ -58,84 +58,71 @@ module _ (t : Table) (bytes : List ℕ) (same : t.bytes ≡ bytes) (place after 
 
 -- ---- refusals
 
--- it can't be read
-strange : (bytes : List ℕ) (place after count : ℕ) (why : SexprRefusal) → Outcomes bytes place (refused why) after → RefusesBehind bytes count place (IllFormed (count + 1))
-strange bytes place after count why h = (refused why, after, h, tt, refl)
-
-pub refuses_error : (bytes : List ℕ) (place after count : ℕ) (error : SexprError) → Explains bytes place error after → ErrorSays (RefusesBehind bytes count place) (told_as (IllFormed (count + 1)) error)
-refuses_error bytes place after count (sexpr.Refused why) h = strange bytes place after count why h
-refuses_error bytes place after count sexpr.OutOfMemory h = tt
-
 no_header_in : (bytes : List ℕ) (place after : ℕ) (why : SexprRefusal) → Outcomes bytes place (refused why) after → LacksHeader bytes place
-no_header_in bytes place after why h = (refused why, after, h, λ r. absurd cc)
+no_header_in bytes place after why h = (refused why, after, h, λ version r. absurd cc)
 
 pub no_header_error : (bytes : List ℕ) (place after : ℕ) (error : SexprError) → Explains bytes place error after → ErrorSays (λ why. ReadsCertificate bytes place (no_certificate why)) (told_as NoHeader error)
 no_header_error bytes place after (sexpr.Refused why) h = no_header_in bytes place after why h
 no_header_error bytes place after sexpr.OutOfMemory h = tt
 
 pub no_header_at_end : (bytes : List ℕ) (place after : ℕ) → Outcomes bytes place finished after → LacksHeader bytes place
-no_header_at_end bytes place after h = (finished, after, h, λ r. absurd cc)
+no_header_at_end bytes place after h = (finished, after, h, λ version r. absurd cc)
 
 expression_same : (x y : Sexpr) → ◌≡◌ {A = Outcome} (expression x) (expression y) → x ≡ y
 expression_same x y e = cc
 
-pub another_first : (bytes : List ℕ) (place after : ℕ) (x : Sexpr) → Spells bytes place x after → x ≢ header_sexpr → LacksHeader bytes place
-another_first bytes place after x h other = (expression x, after, h, λ e. other (expression_same x header_sexpr e))
+pub another_first : (bytes : List ℕ) (place after : ℕ) (x : Sexpr) → Spells bytes place x after → ((version : Version) → x ≢ header_sexpr version) → LacksHeader bytes place
+another_first bytes place after x h other = (expression x, after, h, λ version e. other version (expression_same x (header_sexpr version) e))
 
--- what is refused behind the header
-behind : (bytes : List ℕ) (place here count : ℕ) (es : List Entry) (error : CertReadError) → HoldsEntries bytes place es here → count ≡ length es → ErrorSays (RefusesBehind bytes count here) error → ErrorSays (λ why. ReadsEntries bytes place (no_certificate why)) error
-behind bytes place here count es (Refused NoHeader) held same h = absurd h
-behind bytes place here count es (Refused (IllFormed k)) held same h = (es, here, held, subst (λ (n : ℕ). RefusesBehind bytes n here (IllFormed k)) same h)
-behind bytes place here count es (Refused NoEnd) held same h = (es, here, held, h)
-behind bytes place here count es (Refused TextAfterEnd) held same h = (es, here, held, h)
-behind bytes place here count es OutOfMemory held same h = tt
+module _ (version : Version) where
+  -- what is refused behind the header
+  behind : (bytes : List ℕ) (place here count : ℕ) (es : List FileEntry) (error : CertReadError) → HoldsEntries version bytes place es here → count ≡ length es → ErrorSays (RefusesBehind version bytes count here) error → ErrorSays (λ why. ReadsEntries version bytes place (no_certificate why)) error
+  behind bytes place here count es (Refused NoHeader) held same h = absurd h
+  behind bytes place here count es (Refused (IllFormed k)) held same h = (es, here, held, subst (λ (n : ℕ). RefusesBehind version bytes n here (IllFormed k)) same h)
+  behind bytes place here count es (Refused NoEnd) held same h = (es, here, held, h)
+  behind bytes place here count es (Refused TextAfterEnd) held same h = (es, here, held, h)
+  behind bytes place here count es OutOfMemory held same h = tt
 
-pub refused_behind : (text bytes : List ℕ) (place here count : ℕ) (es : List Entry) (error : CertReadError) → text ≡ bytes → HoldsEntries bytes place es here → count ≡ length es → ErrorSays (RefusesBehind text count here) error → ErrorSays (λ why. ReadsEntries bytes place (no_certificate why)) error
-refused_behind text bytes place here count es error same held counted h =
-    behind bytes place here count es error held counted (subst (λ (b : List ℕ). ErrorSays (RefusesBehind b count here) error) same h)
+  pub refused_behind : (text bytes : List ℕ) (place here count : ℕ) (es : List FileEntry) (error : CertReadError) → text ≡ bytes → HoldsEntries version bytes place es here → count ≡ length es → ErrorSays (RefusesBehind version text count here) error → ErrorSays (λ why. ReadsEntries version bytes place (no_certificate why)) error
+  refused_behind text bytes place here count es error same held counted h =
+      behind bytes place here count es error held counted (subst (λ (b : List ℕ). ErrorSays (RefusesBehind version b count here) error) same h)
 
--- what is refused with the header
-with_header : (bytes : List ℕ) (place mid : ℕ) (error : CertReadError) → Spells bytes place header_sexpr mid → ErrorSays (λ why. ReadsEntries bytes mid (no_certificate why)) error → ErrorSays (λ why. ReadsCertificate bytes place (no_certificate why)) error
-with_header bytes place mid (Refused NoHeader) header (es, here, held, h) = absurd h
-with_header bytes place mid (Refused (IllFormed k)) header h = (mid, header, h)
-with_header bytes place mid (Refused NoEnd) header h = (mid, header, h)
-with_header bytes place mid (Refused TextAfterEnd) header h = (mid, header, h)
-with_header bytes place mid OutOfMemory header h = tt
+  -- what is refused with the header
+  with_header : (bytes : List ℕ) (place mid : ℕ) (error : CertReadError) → Spells bytes place (header_sexpr version) mid → ErrorSays (λ why. ReadsEntries version bytes mid (no_certificate why)) error → ErrorSays (λ why. ReadsCertificate bytes place (no_certificate why)) error
+  with_header bytes place mid (Refused NoHeader) header (es, here, held, h) = absurd h
+  with_header bytes place mid (Refused (IllFormed k)) header h = (version, mid, header, h)
+  with_header bytes place mid (Refused NoEnd) header h = (version, mid, header, h)
+  with_header bytes place mid (Refused TextAfterEnd) header h = (version, mid, header, h)
+  with_header bytes place mid OutOfMemory header h = tt
 
-header_at : (bytes : List ℕ) (place mid : ℕ) (x : Sexpr) → Spells bytes place x mid → x ≡ header_sexpr → Spells bytes place header_sexpr mid
-header_at bytes place mid x h e = subst (λ (y : Sexpr). Spells bytes place y mid) e h
+  header_at : (bytes : List ℕ) (place mid : ℕ) (x : Sexpr) → Spells bytes place x mid → x ≡ header_sexpr version → Spells bytes place (header_sexpr version) mid
+  header_at bytes place mid x h e = subst (λ (y : Sexpr). Spells bytes place y mid) e h
 
-pub refused_with_header : (text bytes : List ℕ) (place mid : ℕ) (x : Sexpr) (error : CertReadError) → text ≡ bytes → Spells bytes place x mid → x ≡ header_sexpr → ErrorSays (λ why. ReadsEntries text mid (no_certificate why)) error → ErrorSays (λ why. ReadsCertificate bytes place (no_certificate why)) error
-refused_with_header text bytes place mid x error same h e says =
-    with_header bytes place mid error (header_at bytes place mid x h e) (subst (λ (b : List ℕ). ErrorSays (λ why. ReadsEntries b mid (no_certificate why)) error) same says)
+  pub refused_with_header : (text bytes : List ℕ) (place mid : ℕ) (x : Sexpr) (error : CertReadError) → text ≡ bytes → Spells bytes place x mid → x ≡ header_sexpr version → ErrorSays (λ why. ReadsEntries version text mid (no_certificate why)) error → ErrorSays (λ why. ReadsCertificate bytes place (no_certificate why)) error
+  refused_with_header text bytes place mid x error same h e says =
+      with_header bytes place mid error (header_at bytes place mid x h e) (subst (λ (b : List ℕ). ErrorSays (λ why. ReadsEntries version b mid (no_certificate why)) error) same says)
 
-pub certificate_with_header : (text bytes : List ℕ) (place mid : ℕ) (x : Sexpr) (es : List Entry) → text ≡ bytes → Spells bytes place x mid → x ≡ header_sexpr → ReadsEntries text mid (certificate es) → ReadsCertificate bytes place (certificate es)
-certificate_with_header text bytes place mid x es same h e reads =
-    (mid, header_at bytes place mid x h e, subst (λ (b : List ℕ). ReadsEntries b mid (certificate es)) same reads)
+  pub certificate_with_header : (text bytes : List ℕ) (place mid : ℕ) (x : Sexpr) (es : List FileEntry) → text ≡ bytes → Spells bytes place x mid → x ≡ header_sexpr version → ReadsEntries version text mid (certificate version es) → ReadsCertificate bytes place (certificate version es)
+  certificate_with_header text bytes place mid x es same h e reads =
+      (version, mid, header_at bytes place mid x h e, subst (λ (b : List ℕ). ReadsEntries version b mid (certificate version es)) same reads)
 
--- ---- lines
+  -- ---- lines
 
-shown : (text : List ℕ) (here mid : ℕ) (line : Line) (e : Entry) → LineIs text here line mid → line ≡ Shown e → (x : Sexpr) × Spells text here x mid × (entry_of x ≡ Some e)
-shown text here mid (Shown f) e (x, spells, is) same =
-    let entries : f ≡ e = cc in
-    (x, spells, is ∙ ap Some entries)
-shown text here mid End e h same = absurd cc
+  shown : (text : List ℕ) (here mid : ℕ) (line : Line) (e : FileEntry) → LineIs version text here line mid → line ≡ Shown e → (x : Sexpr) × Spells text here x mid × (entry_of version x ≡ Some e)
+  shown text here mid (Shown f) e (x, spells, is) same =
+      let entries : f ≡ e = cc in
+      (x, spells, is ∙ ap Some entries)
+  shown text here mid End e h same = absurd cc
 
-pub holds_line : (text bytes : List ℕ) (place here mid : ℕ) (es : List Entry) (line : Line) (e : Entry) → text ≡ bytes → HoldsEntries bytes place es here → LineIs text here line mid → line ≡ Shown e → HoldsEntries bytes place (es ++ e ∷ []) mid
-holds_line text bytes place here mid es line e same held is shows =
-    let h = shown text here mid line e is shows in
-    holds_more bytes place here mid es e h.0 held (subst (λ (b : List ℕ). Spells b here h.0 mid) same h.1) h.2
+  pub holds_line : (text bytes : List ℕ) (place here mid : ℕ) (es : List FileEntry) (line : Line) (e : FileEntry) → text ≡ bytes → HoldsEntries version bytes place es here → LineIs version text here line mid → line ≡ Shown e → HoldsEntries version bytes place (es ++ e ∷ []) mid
+  holds_line text bytes place here mid es line e same held is shows =
+      let h = shown text here mid line e is shows in
+      holds_more version bytes place here mid es e h.0 held (subst (λ (b : List ℕ). Spells b here h.0 mid) same h.1) h.2
 
-ended : (text : List ℕ) (here mid : ℕ) (line : Line) → LineIs text here line mid → line ≡ End → Spells text here end_sexpr mid
-ended text here mid (Shown f) h same = absurd cc
-ended text here mid End h same = h
+  ended : (text : List ℕ) (here mid : ℕ) (line : Line) → LineIs version text here line mid → line ≡ End → Spells text here end_sexpr mid
+  ended text here mid (Shown f) h same = absurd cc
+  ended text here mid End h same = h
 
-pub certificate_ends : (text later bytes : List ℕ) (place here mid after : ℕ) (es : List Entry) (line : Line) → text ≡ bytes → later ≡ bytes → HoldsEntries bytes place es here → LineIs text here line mid → line ≡ End → Reads later mid (Ok None) after → ReadsEntries bytes place (certificate es)
-certificate_ends text later bytes place here mid after es line same also held is end rest =
-    (here, mid, after, held, subst (λ (b : List ℕ). Spells b here end_sexpr mid) same (ended text here mid line is end), subst (λ (b : List ℕ). Reads b mid (Ok None) after) also rest)
-
--- ---- parts
-
-pub lacks_any : {A : Type 0} (meant : Option A) (error : PartError) → error ≡ NoPart → Lacks meant error → meant ≡ None
-lacks_any meant NoPart e h = h
-lacks_any meant NoSpace e h = absurd cc
+  pub certificate_ends : (text later bytes : List ℕ) (place here mid after : ℕ) (es : List FileEntry) (line : Line) → text ≡ bytes → later ≡ bytes → HoldsEntries version bytes place es here → LineIs version text here line mid → line ≡ End → Reads later mid (Ok None) after → ReadsEntries version bytes place (certificate version es)
+  certificate_ends text later bytes place here mid after es line same also held is end rest =
+      (refl, here, mid, after, held, subst (λ (b : List ℕ). Spells b here end_sexpr mid) same (ended text here mid line is end), subst (λ (b : List ℕ). Reads b mid (Ok None) after) also rest)

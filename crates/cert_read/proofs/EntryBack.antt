@@ -13,14 +13,17 @@ use Rattle.stn_core.specs.declared.named.NamedValue.{NamedValue}
 use Rattle.stn_core.specs.declared.named.NamedValue.TheVariants.{Int, Truth}
 use Rattle.refute_tree.specs.declared.step.Step.{Step}
 use Rattle.refute_tree.specs.declared.step.Step.TheVariants.{Cycle, Input, Lemma as Earlier, Clash, Either}
-use Rattle.refute_tree.specs.declared.lemma.Lemma.{Lemma}
-use Rattle.cert_text.specs.declared.entry.Entry.TheVariants.{Sat, Unsat}
-use Rattle.cert_text.specs.Form.{numeral, bound_sexprs, number_of_value, literal_sexpr, step_sexpr, lemma_sexpr, value_sexpr}
+use Rattle.kept_lemmas.specs.declared.item.Item.{Item}
+use Rattle.kept_lemmas.specs.declared.item.Item.TheVariants.{Own, Keep}
+use Rattle.cert_text.specs.declared.entry.Version.{Version}
+use Rattle.cert_text.specs.declared.entry.Version.TheVariants.{One, Two}
+use Rattle.cert_text.specs.declared.entry.FileEntry.TheVariants.{Sat, Unsat}
+use Rattle.cert_text.specs.Form.{numeral, bound_sexprs, number_of_value, literal_sexpr, step_sexpr, item_sexpr, value_sexpr}
 use Rattle.smt_sexpr.specs.Shapes.{items_of}
 use Rattle.cert_text.proofs.OneEntry.{numeral_value}
 use Rattle.cert_read.specs.Laws.{EntryIsItsForm}
-use Rattle.cert_read.specs.Parts.{limit, limited, numeral_within, index_of, point_of, number_within, number_of, each_of, bound_of, literal_of, step_of, lemma_of, named_value_of}
-use Rattle.cert_read.specs.Written.{NumberFits, LiteralWithin, StepWithin, LemmaWithin, ValueFits}
+use Rattle.cert_read.specs.Parts.{limit, limited, numeral_within, index_of, point_of, number_within, number_of, each_of, bound_of, literal_of, step_of, item_of, named_value_of}
+use Rattle.cert_read.specs.Written.{NumberFits, LiteralWithin, StepWithin, ItemWithin, ValueFits}
 
 -- ---- numbers
 
@@ -60,11 +63,11 @@ least_size most (negsuc n) h = omega (arith, ints, h.0, h.1)
 abbrev LiteralFits : Literal → Type 0
 LiteralFits l = LiteralWithin (2 ^ 32) l
 
-abbrev StepFits : Step → Type 0
-StepFits s = StepWithin (2 ^ 32) s
+abbrev StepFits : Version → Step → Type 0
+StepFits version s = StepWithin version (2 ^ 32) s
 
-abbrev LemmaFits : Lemma → Type 0
-LemmaFits l = LemmaWithin (2 ^ 32) l
+abbrev ItemFits : Version → Item → Type 0
+ItemFits version item = ItemWithin version (2 ^ 32) item
 
 each_from : {A : Type 0} (f : Sexpr → Option A) (g : A → Sexpr) (P : A → Type 0) → ((x : A) → P x → f (g x) ≡ Some x) → (xs : List A) → AllByRecursion P xs → each_of f (items_of (map g xs)) ≡ Some xs
 each_from f g P back [] h = refl
@@ -79,15 +82,18 @@ bound_back l h = rw (point_back l.x h.x, point_back l.y h.y, number_back l.c h.c
 literals_back : (ls : List Literal) → All LiteralFits ls → each_of literal_of (items_of (map literal_sexpr ls)) ≡ Some ls
 literals_back ls h = each_back literal_of literal_sexpr LiteralFits bound_back ls h
 
-step_back : (s : Step) → StepFits s → step_of (step_sexpr s) ≡ Some s
-step_back (Cycle ls) h = rw (literals_back ls h) refl
-step_back (Input i) h = rw (index_back i h) refl
-step_back (Earlier j) h = rw (index_back j h) refl
-step_back (Clash i) h = absurd h
-step_back (Either l) h = rw (bound_back l h) refl
+step_back : (version : Version) (s : Step) → StepFits version s → step_of version (step_sexpr s) ≡ Some s
+step_back version (Cycle ls) h = rw (literals_back ls h) refl
+step_back version (Input i) h = rw (index_back i h) refl
+step_back version (Earlier j) h = rw (index_back j h) refl
+step_back One (Clash i) h = absurd h
+step_back Two (Clash i) h = rw (index_back i h) refl
+step_back version (Either l) h = rw (bound_back l h) refl
 
-lemma_back : (l : Lemma) → LemmaFits l → lemma_of (lemma_sexpr l) ≡ Some l
-lemma_back l h = rw (literals_back l.clause h.clause, each_back step_of step_sexpr StepFits step_back l.steps h.steps) refl
+item_back : (version : Version) (item : Item) → ItemFits version item → item_of version (item_sexpr item) ≡ Some item
+item_back version (Own l) h = rw (literals_back l.clause h.clause, each_back (step_of version) step_sexpr (StepFits version) (step_back version) l.steps h.steps) refl
+item_back One (Keep k) h = absurd h
+item_back Two (Keep k) h = rw (index_back k.entry h.0, index_back k.item h.1) refl
 
 value_back : (v : NamedValue) → ValueFits v → named_value_of (value_sexpr v) ≡ Some v
 value_back (Int n) h = rw (within_back named_value_limit n (least_size named_value_limit n h)) refl
@@ -95,5 +101,5 @@ value_back (Truth true) h = refl
 value_back (Truth false) h = refl
 
 pub entry_back : EntryIsItsForm
-entry_back (Sat values) h = rw (each_back named_value_of value_sexpr ValueFits value_back values h) refl
-entry_back (Unsat lemmas) h = rw (each_back lemma_of lemma_sexpr LemmaFits lemma_back lemmas h) refl
+entry_back version (Sat values) h = rw (each_back named_value_of value_sexpr ValueFits value_back values h) refl
+entry_back version (Unsat items) h = rw (each_back (item_of version) item_sexpr (ItemFits version) (item_back version) items h) refl

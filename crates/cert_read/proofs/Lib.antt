@@ -1,6 +1,8 @@
 pub mod EachItem
 pub mod NegativeNumbers
 pub mod HeaderAndEnd
+pub mod ItemByItem
+pub mod OpenedLines
 pub mod CertificateLines
 pub mod OneCertificate
 pub mod EntryBack

@@ -18,14 +18,19 @@ use Rattle.stn_core.specs.declared.literal.Literal.{Literal}
 use Rattle.stn_core.specs.declared.named.NamedValue.{NamedValue}
 use Rattle.stn_core.specs.declared.named.NamedValue.TheVariants.{Int, Truth}
 use Rattle.refute_tree.specs.declared.step.Step.{Step}
-use Rattle.refute_tree.specs.declared.step.Step.TheVariants.{Cycle, Input, Lemma as Earlier, Either}
+use Rattle.refute_tree.specs.declared.step.Step.TheVariants.{Cycle, Input, Lemma as Earlier, Clash, Either}
 use Rattle.refute_tree.specs.declared.lemma.Lemma.{Lemma}
-use Rattle.cert_text.specs.declared.entry.Entry.{Entry}
-use Rattle.cert_text.specs.declared.entry.Entry.TheVariants.{Sat, Unsat}
-use Rattle.cert_text.specs.Form.{numeral_text, numeral, bound_sexprs, number_of_value, literal_sexpr, clause_sexpr, step_sexpr, lemma_sexpr, value_sexpr, entry_sexpr}
+use Rattle.kept_lemmas.specs.declared.item.Kept.{Kept}
+use Rattle.kept_lemmas.specs.declared.item.Item.{Item}
+use Rattle.kept_lemmas.specs.declared.item.Item.TheVariants.{Own, Keep}
+use Rattle.cert_text.specs.declared.entry.Version.{Version}
+use Rattle.cert_text.specs.declared.entry.Version.TheVariants.{One, Two}
+use Rattle.cert_text.specs.declared.entry.FileEntry.{FileEntry}
+use Rattle.cert_text.specs.declared.entry.FileEntry.TheVariants.{Sat, Unsat}
+use Rattle.cert_text.specs.Form.{numeral_text, numeral, bound_sexprs, number_of_value, literal_sexpr, clause_sexpr, step_sexpr, item_sexpr, value_sexpr, file_entry_sexpr}
 use Rattle.smt_sexpr.specs.Shapes.{symbol, items_of, is_symbol, headed_of}
-use Rattle.cert_read.specs.Parts.{limit, numeral_within, index_of, point_of, negative, negative_within, number_within, number_of, whole_of, put, each_of, literal_with, bound_of, literal_of, clause_of, single_of, step_named, step_of, lemma_with, lemma_named, lemma_of, truth_named, named_value_of, entry_named, entry_of}
-use Rattle.cert_read.specs.Written.{NumberFits, LiteralWithin, StepWithin, LemmaWithin, ValueFits, EntryFits, IsPlain}
+use Rattle.cert_read.specs.Parts.{limit, numeral_within, index_of, point_of, negative, negative_within, number_within, number_of, whole_of, put, each_of, literal_with, bound_of, literal_of, clause_of, single_of, only_in_two, step_named, step_of, lemma_with, lemma_from, kept_with, kept_from, item_named, item_of, truth_named, named_value_of, entry_named, entry_of}
+use Rattle.cert_read.specs.Written.{NumberFits, LiteralWithin, StepWithin, LemmaWithin, ItemWithin, ValueFits, FileEntryFits, IsPlainFileEntry}
 use Rattle.cert_read.proofs.HeaderAndEnd.{symbol_is}
 use Rattle.cert_read.proofs.NumeralTexts.{text_of_value}
 
@@ -216,37 +221,53 @@ single_only none n w e = absurd (none_some n e)
 single_only (more x none) n w e = let h = index_only x n w.0 e in (h.0, ap (λ (y : Sexpr). more y none) h.1)
 single_only (more x (more y ys)) n w e = absurd (none_some n e)
 
-abbrev StepOnly : Sexpr → Step → Type 0
-StepOnly x s = StepWithin (2 ^ 32) s × (StepWithin (2 ^ 32 - 1) s → x ≡ step_sexpr s)
+abbrev StepOnly : Version → Sexpr → Step → Type 0
+StepOnly version x s = StepWithin version (2 ^ 32) s × (StepWithin version (2 ^ 32 - 1) s → x ≡ step_sexpr s)
 
-module _ (x : Sexpr) (name : List ℕ) (xs : Items) (is : x ≡ list (more (symbol name) xs)) (w : AreWritable xs) where
-  cycle_only : (s : Step) → bytes_eq name (codes "cycle") ≡ true → option_map Cycle (each_of literal_of xs) ≡ Some s → StepOnly x s
+-- what is read as only version 2 has it
+two_only : {A : Type 0} (version : Version) (o : Option A) (y : A) → only_in_two version o ≡ Some y → (version ≡ Two) × (o ≡ Some y)
+two_only One o y e = absurd (none_some y e)
+two_only Two o y e = (refl, e)
+
+module _ (version : Version) (x : Sexpr) (name : List ℕ) (xs : Items) (is : x ≡ list (more (symbol name) xs)) (w : AreWritable xs) where
+  cycle_only : (s : Step) → bytes_eq name (codes "cycle") ≡ true → option_map Cycle (each_of literal_of xs) ≡ Some s → StepOnly version x s
   cycle_only s test e =
       let m = mapped Cycle (each_of literal_of xs) s e in
       let h = literals_only xs m.0 w m.1 in
-      subst (StepOnly x) m.2 (h.0, λ plain. named x name (codes "cycle") xs (items_of (map literal_sexpr m.0)) is test (h.1 plain))
+      subst (StepOnly version x) m.2 (h.0, λ plain. named x name (codes "cycle") xs (items_of (map literal_sexpr m.0)) is test (h.1 plain))
 
-  input_only : (s : Step) → bytes_eq name (codes "input") ≡ true → option_map Input (single_of xs) ≡ Some s → StepOnly x s
+  input_only : (s : Step) → bytes_eq name (codes "input") ≡ true → option_map Input (single_of xs) ≡ Some s → StepOnly version x s
   input_only s test e =
       let m = mapped Input (single_of xs) s e in
       let h = single_only xs m.0 w m.1 in
-      subst (StepOnly x) m.2 (h.0, λ plain. named x name (codes "input") xs (items_of (numeral m.0 ∷ [])) is test h.1)
+      subst (StepOnly version x) m.2 (h.0, λ plain. named x name (codes "input") xs (items_of (numeral m.0 ∷ [])) is test h.1)
 
-  earlier_only : (s : Step) → bytes_eq name (codes "lemma") ≡ true → option_map Earlier (single_of xs) ≡ Some s → StepOnly x s
+  earlier_only : (s : Step) → bytes_eq name (codes "lemma") ≡ true → option_map Earlier (single_of xs) ≡ Some s → StepOnly version x s
   earlier_only s test e =
       let m = mapped Earlier (single_of xs) s e in
       let h = single_only xs m.0 w m.1 in
-      subst (StepOnly x) m.2 (h.0, λ plain. named x name (codes "lemma") xs (items_of (numeral m.0 ∷ [])) is test h.1)
+      subst (StepOnly version x) m.2 (h.0, λ plain. named x name (codes "lemma") xs (items_of (numeral m.0 ∷ [])) is test h.1)
 
-  either_only : (s : Step) → bytes_eq name (codes "either") ≡ true → option_map Either (bound_of xs) ≡ Some s → StepOnly x s
+  clash_by : (s : Step) (i : ℕ) → bytes_eq name (codes "clash") ≡ true → (i ≤ limit) × (xs ≡ items_of (numeral i ∷ [])) → version ≡ Two → Clash i ≡ s → StepOnly version x s
+  clash_by s i test h two is_step =
+      subst (λ (v : Version). StepOnly v x s) (sym two) (subst (StepOnly Two x) is_step (h.0, λ plain. named x name (codes "clash") xs (items_of (numeral i ∷ [])) is test h.1))
+
+  clash_only : (s : Step) → bytes_eq name (codes "clash") ≡ true → option_map Clash (only_in_two version (single_of xs)) ≡ Some s → StepOnly version x s
+  clash_only s test e =
+      let m = mapped Clash (only_in_two version (single_of xs)) s e in
+      let two = two_only version (single_of xs) m.0 m.1 in
+      clash_by s m.0 test (single_only xs m.0 w two.1) two.0 m.2
+
+  either_only : (s : Step) → bytes_eq name (codes "either") ≡ true → option_map Either (bound_of xs) ≡ Some s → StepOnly version x s
   either_only s test e =
       let m = mapped Either (bound_of xs) s e in
       let h = bound_only xs m.0 w m.1 in
-      subst (StepOnly x) m.2 (h.0, λ plain. named x name (codes "either") xs (items_of (bound_sexprs m.0)) is test (h.1 plain))
+      subst (StepOnly version x) m.2 (h.0, λ plain. named x name (codes "either") xs (items_of (bound_sexprs m.0)) is test (h.1 plain))
 
-  step_cases : (s : Step) → step_named name xs ≡ Some s → StepOnly x s
+  step_cases : (s : Step) → step_named version name xs ≡ Some s → StepOnly version x s
   step_cases s e =
-      let fourth = if bytes_eq name (codes "either") then option_map Either (bound_of xs) else None in
+      let fifth = if bytes_eq name (codes "either") then option_map Either (bound_of xs) else None in
+      let fourth = if bytes_eq name (codes "clash") then option_map Clash (only_in_two version (single_of xs)) else fifth in
       let third = if bytes_eq name (codes "lemma") then option_map Earlier (single_of xs) else fourth in
       let second = if bytes_eq name (codes "input") then option_map Input (single_of xs) else third in
       elim (branch (bytes_eq name (codes "cycle")) (option_map Cycle (each_of literal_of xs)) second s e) [
@@ -255,21 +276,21 @@ module _ (x : Sexpr) (name : List ℕ) (xs : Items) (is : x ≡ list (more (symb
           | inl h ↦ input_only s h.0 h.1
           | inr e3 ↦ elim (branch (bytes_eq name (codes "lemma")) (option_map Earlier (single_of xs)) fourth s e3) [
             | inl h ↦ earlier_only s h.0 h.1
-            | inr e4 ↦ (let h = tested (bytes_eq name (codes "either")) (option_map Either (bound_of xs)) s e4 in either_only s h.0 h.1)
+            | inr e4 ↦ elim (branch (bytes_eq name (codes "clash")) (option_map Clash (only_in_two version (single_of xs))) fifth s e4) [
+              | inl h ↦ clash_only s h.0 h.1
+              | inr e5 ↦ (let h = tested (bytes_eq name (codes "either")) (option_map Either (bound_of xs)) s e5 in either_only s h.0 h.1)
+            ]
           ]
         ]
       ]
 
-step_only : Only step_of step_sexpr (StepWithin (2 ^ 32)) (StepWithin (2 ^ 32 - 1))
-step_only x s w e =
-    let c = chained (λ (p : List ℕ × Items). step_named p.0 p.1) (headed_of x) s e in
+step_only : (version : Version) → Only (step_of version) step_sexpr (StepWithin version (2 ^ 32)) (StepWithin version (2 ^ 32 - 1))
+step_only version x s w e =
+    let c = chained (λ (p : List ℕ × Items). step_named version p.0 p.1) (headed_of x) s e in
     let h = headed_only x c.0.0 c.0.1 w c.1 in
-    step_cases x c.0.0 c.0.1 h.0 h.1 s c.2
+    step_cases version x c.0.0 c.0.1 h.0 h.1 s c.2
 
--- ---- lemmas
-
-abbrev LemmaOnly : Sexpr → Lemma → Type 0
-LemmaOnly x l = LemmaWithin (2 ^ 32) l × (LemmaWithin (2 ^ 32 - 1) l → x ≡ lemma_sexpr l)
+-- ---- items
 
 lemma_parts : (o : Option (List Literal)) (p : Option (List Step)) (l : Lemma) → lemma_with o p ≡ Some l → (o ≡ Some l.clause) × (p ≡ Some l.steps)
 lemma_parts None p l e = absurd (none_some l e)
@@ -278,22 +299,72 @@ lemma_parts (Some clause) (Some steps) l e =
     let same = some_same (record { clause = clause; steps = steps }) l e in
     (ap (λ (k : Lemma). Some k.clause) same, ap (λ (k : Lemma). Some k.steps) same)
 
-lemma_cases : (x : Sexpr) (name : List ℕ) (xs : Items) (l : Lemma) → x ≡ list (more (symbol name) xs) → AreWritable xs → lemma_named name xs ≡ Some l → LemmaOnly x l
-lemma_cases x name none l is w e = absurd (none_some l e)
-lemma_cases x name (more clause steps) l is w e =
-    let t = tested (bytes_eq name (codes "lemma")) (lemma_with (clause_of clause) (each_of step_of steps)) l e in
-    let parts = lemma_parts (clause_of clause) (each_of step_of steps) l t.1 in
+abbrev lemma_items : Lemma → Items
+lemma_items l = more (clause_sexpr l.clause) (items_of (map step_sexpr l.steps))
+
+lemma_only : (version : Version) (xs : Items) (l : Lemma) → AreWritable xs → lemma_from version xs ≡ Some l → LemmaWithin version (2 ^ 32) l × (LemmaWithin version (2 ^ 32 - 1) l → xs ≡ lemma_items l)
+lemma_only version none l w e = absurd (none_some l e)
+lemma_only version (more clause steps) l w e =
+    let parts = lemma_parts (clause_of clause) (each_of (step_of version) steps) l e in
     let c = clause_only clause l.clause w.0 parts.0 in
-    let s = each_only step_of step_sexpr (StepWithin (2 ^ 32)) (StepWithin (2 ^ 32 - 1)) step_only steps l.steps w.1 parts.1 in (
+    let s = each_only (step_of version) step_sexpr (StepWithin version (2 ^ 32)) (StepWithin version (2 ^ 32 - 1)) (step_only version) steps l.steps w.1 parts.1 in (
       record { clause = c.0; steps = s.0 },
-      λ plain. named x name (codes "lemma") (more clause steps) (more (clause_sexpr l.clause) (items_of (map step_sexpr l.steps))) is t.0 (more_same clause (clause_sexpr l.clause) steps (items_of (map step_sexpr l.steps)) (c.1 plain.clause) (s.1 plain.steps)),
+      λ plain. more_same clause (clause_sexpr l.clause) steps (items_of (map step_sexpr l.steps)) (c.1 plain.clause) (s.1 plain.steps),
     )
 
-lemma_only : Only lemma_of lemma_sexpr (LemmaWithin (2 ^ 32)) (LemmaWithin (2 ^ 32 - 1))
-lemma_only x l w e =
-    let c = chained (λ (p : List ℕ × Items). lemma_named p.0 p.1) (headed_of x) l e in
+kept_parts : (o p : Option ℕ) (k : Kept) → kept_with o p ≡ Some k → (o ≡ Some k.entry) × (p ≡ Some k.item)
+kept_parts None p k e = absurd (none_some k e)
+kept_parts (Some entry) None k e = absurd (none_some k e)
+kept_parts (Some entry) (Some item) k e =
+    let same = some_same (record { entry = entry; item = item }) k e in
+    (ap (λ (l : Kept). Some l.entry) same, ap (λ (l : Kept). Some l.item) same)
+
+abbrev kept_items : Kept → Items
+kept_items k = items_of (numeral k.entry ∷ numeral k.item ∷ [])
+
+kept_only : (xs : Items) (k : Kept) → AreWritable xs → kept_from xs ≡ Some k → ((k.entry ≤ limit) × (k.item ≤ limit)) × (xs ≡ kept_items k)
+kept_only none k w e = absurd (none_some k e)
+kept_only (more x none) k w e = absurd (none_some k e)
+kept_only (more x (more y none)) k w e =
+    let parts = kept_parts (index_of x) (index_of y) k e in
+    let entry = index_only x k.entry w.0 parts.0 in
+    let item = index_only y k.item w.1.0 parts.1 in
+    ((entry.0, item.0), λ i. more (entry.1 i) (more (item.1 i) none))
+kept_only (more x (more y (more z zs))) k w e = absurd (none_some k e)
+
+abbrev ItemOnly : Version → Sexpr → Item → Type 0
+ItemOnly version x item = ItemWithin version (2 ^ 32) item × (ItemWithin version (2 ^ 32 - 1) item → x ≡ item_sexpr item)
+
+module _ (version : Version) (x : Sexpr) (name : List ℕ) (xs : Items) (is : x ≡ list (more (symbol name) xs)) (w : AreWritable xs) where
+  own_only : (item : Item) → bytes_eq name (codes "lemma") ≡ true → option_map Own (lemma_from version xs) ≡ Some item → ItemOnly version x item
+  own_only item test e =
+      let m = mapped Own (lemma_from version xs) item e in
+      let h = lemma_only version xs m.0 w m.1 in
+      subst (ItemOnly version x) m.2 (h.0, λ plain. named x name (codes "lemma") xs (lemma_items m.0) is test (h.1 plain))
+
+  keep_by : (item : Item) (k : Kept) → bytes_eq name (codes "keep") ≡ true → ((k.entry ≤ limit) × (k.item ≤ limit)) × (xs ≡ kept_items k) → version ≡ Two → Keep k ≡ item → ItemOnly version x item
+  keep_by item k test h two is_item =
+      subst (λ (v : Version). ItemOnly v x item) (sym two) (subst (ItemOnly Two x) is_item (h.0, λ plain. named x name (codes "keep") xs (kept_items k) is test h.1))
+
+  keep_only : (item : Item) → bytes_eq name (codes "keep") ≡ true → option_map Keep (only_in_two version (kept_from xs)) ≡ Some item → ItemOnly version x item
+  keep_only item test e =
+      let m = mapped Keep (only_in_two version (kept_from xs)) item e in
+      let two = two_only version (kept_from xs) m.0 m.1 in
+      keep_by item m.0 test (kept_only xs m.0 w two.1) two.0 m.2
+
+  item_cases : (item : Item) → item_named version name xs ≡ Some item → ItemOnly version x item
+  item_cases item e =
+      let second = if bytes_eq name (codes "keep") then option_map Keep (only_in_two version (kept_from xs)) else None in
+      elim (branch (bytes_eq name (codes "lemma")) (option_map Own (lemma_from version xs)) second item e) [
+        | inl h ↦ own_only item h.0 h.1
+        | inr e2 ↦ (let h = tested (bytes_eq name (codes "keep")) (option_map Keep (only_in_two version (kept_from xs))) item e2 in keep_only item h.0 h.1)
+      ]
+
+item_only : (version : Version) → Only (item_of version) item_sexpr (ItemWithin version (2 ^ 32)) (ItemWithin version (2 ^ 32 - 1))
+item_only version x item w e =
+    let c = chained (λ (p : List ℕ × Items). item_named version p.0 p.1) (headed_of x) item e in
     let h = headed_only x c.0.0 c.0.1 w c.1 in
-    lemma_cases x c.0.0 c.0.1 l h.0 h.1 c.2
+    item_cases version x c.0.0 c.0.1 h.0 h.1 item c.2
 
 -- ---- values
 
@@ -319,30 +390,30 @@ value_only x v w e = elim (value_from (whole_of x) (option_and_then truth_named 
 
 -- ---- entries
 
-abbrev EntryOnly : Sexpr → Entry → Type 0
-EntryOnly x e = EntryFits e × (IsPlain e → x ≡ entry_sexpr e)
+abbrev EntryOnly : Version → Sexpr → FileEntry → Type 0
+EntryOnly version x e = FileEntryFits version e × (IsPlainFileEntry version e → x ≡ file_entry_sexpr e)
 
-module _ (x : Sexpr) (name : List ℕ) (xs : Items) (is : x ≡ list (more (symbol name) xs)) (w : AreWritable xs) where
-  sat_only : (entry : Entry) → bytes_eq name (codes "sat") ≡ true → option_map Sat (each_of named_value_of xs) ≡ Some entry → EntryOnly x entry
+module _ (version : Version) (x : Sexpr) (name : List ℕ) (xs : Items) (is : x ≡ list (more (symbol name) xs)) (w : AreWritable xs) where
+  sat_only : (entry : FileEntry) → bytes_eq name (codes "sat") ≡ true → option_map Sat (each_of named_value_of xs) ≡ Some entry → EntryOnly version x entry
   sat_only entry test e =
       let m = mapped Sat (each_of named_value_of xs) entry e in
       let h = each_only named_value_of value_sexpr ValueFits ValueFits value_only xs m.0 w m.1 in
-      subst (EntryOnly x) m.2 (h.0, λ plain. named x name (codes "sat") xs (items_of (map value_sexpr m.0)) is test (h.1 plain))
+      subst (EntryOnly version x) m.2 (h.0, λ plain. named x name (codes "sat") xs (items_of (map value_sexpr m.0)) is test (h.1 plain))
 
-  unsat_only : (entry : Entry) → bytes_eq name (codes "unsat") ≡ true → option_map Unsat (each_of lemma_of xs) ≡ Some entry → EntryOnly x entry
+  unsat_only : (entry : FileEntry) → bytes_eq name (codes "unsat") ≡ true → option_map Unsat (each_of (item_of version) xs) ≡ Some entry → EntryOnly version x entry
   unsat_only entry test e =
-      let m = mapped Unsat (each_of lemma_of xs) entry e in
-      let h = each_only lemma_of lemma_sexpr (LemmaWithin (2 ^ 32)) (LemmaWithin (2 ^ 32 - 1)) lemma_only xs m.0 w m.1 in
-      subst (EntryOnly x) m.2 (h.0, λ plain. named x name (codes "unsat") xs (items_of (map lemma_sexpr m.0)) is test (h.1 plain))
+      let m = mapped Unsat (each_of (item_of version) xs) entry e in
+      let h = each_only (item_of version) item_sexpr (ItemWithin version (2 ^ 32)) (ItemWithin version (2 ^ 32 - 1)) (item_only version) xs m.0 w m.1 in
+      subst (EntryOnly version x) m.2 (h.0, λ plain. named x name (codes "unsat") xs (items_of (map item_sexpr m.0)) is test (h.1 plain))
 
-  entry_cases : (entry : Entry) → entry_named name xs ≡ Some entry → EntryOnly x entry
-  entry_cases entry e = elim (branch (bytes_eq name (codes "sat")) (option_map Sat (each_of named_value_of xs)) (if bytes_eq name (codes "unsat") then option_map Unsat (each_of lemma_of xs) else None) entry e) [
+  entry_cases : (entry : FileEntry) → entry_named version name xs ≡ Some entry → EntryOnly version x entry
+  entry_cases entry e = elim (branch (bytes_eq name (codes "sat")) (option_map Sat (each_of named_value_of xs)) (if bytes_eq name (codes "unsat") then option_map Unsat (each_of (item_of version) xs) else None) entry e) [
     | inl h ↦ sat_only entry h.0 h.1
-    | inr e2 ↦ (let h = tested (bytes_eq name (codes "unsat")) (option_map Unsat (each_of lemma_of xs)) entry e2 in unsat_only entry h.0 h.1)
+    | inr e2 ↦ (let h = tested (bytes_eq name (codes "unsat")) (option_map Unsat (each_of (item_of version) xs)) entry e2 in unsat_only entry h.0 h.1)
   ]
 
-pub entry_only : (x : Sexpr) (entry : Entry) → IsWritable x → entry_of x ≡ Some entry → EntryOnly x entry
-entry_only x entry w e =
-    let c = chained (λ (p : List ℕ × Items). entry_named p.0 p.1) (headed_of x) entry e in
+pub entry_only : (version : Version) (x : Sexpr) (entry : FileEntry) → IsWritable x → entry_of version x ≡ Some entry → EntryOnly version x entry
+entry_only version x entry w e =
+    let c = chained (λ (p : List ℕ × Items). entry_named version p.0 p.1) (headed_of x) entry e in
     let h = headed_only x c.0.0 c.0.1 w c.1 in
-    entry_cases x c.0.0 c.0.1 h.0 h.1 entry c.2
+    entry_cases version x c.0.0 c.0.1 h.0 h.1 entry c.2

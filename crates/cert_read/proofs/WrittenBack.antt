@@ -11,12 +11,13 @@ use Rattle.smt_lex.specs.Grammar.{is_gap, LongestGap, ReadsBehind, Reads}
 use Rattle.smt_sexpr.specs.Tree.{Sexpr, leaf, list}
 use Rattle.smt_sexpr.specs.Reading.{Spells}
 use Rattle.smt_sexpr.specs.Printing.{text_of}
-use Rattle.cert_text.specs.declared.entry.Entry.{Entry}
-use Rattle.cert_text.specs.Form.{header_sexpr, entry_sexpr, end_sexpr, line_of}
-use Rattle.cert_text.specs.Laws.{EntryReadsBack, LineReadsBack}
+use Rattle.cert_text.specs.declared.entry.Version.{Version}
+use Rattle.cert_text.specs.declared.entry.FileEntry.{FileEntry}
+use Rattle.cert_text.specs.Form.{header_sexpr, file_entry_sexpr, end_sexpr, line_of}
+use Rattle.cert_text.specs.Laws.{HeaderReadsBack, FileEntryReadsBack, LineReadsBack}
 use Rattle.cert_read.specs.Laws.{CertificateReadsBack}
 use Rattle.cert_read.specs.Certificates.{certificate, ReadsEntries, ReadsCertificate}
-use Rattle.cert_read.specs.Written.{entries_text, certificate_text, IsClosedGap, EntryFits}
+use Rattle.cert_read.specs.Written.{entries_text, certificate_text, IsClosedGap, FileEntryFits}
 use Rattle.cert_read.proofs.EntryBack.{entry_back}
 
 -- ---- what stands behind a gap is read in front of it
@@ -76,53 +77,53 @@ rest_back bytes before place e p =
     let count : place + 1 ≡ length bytes = omega (arith, ap length e, length-append before (10 ∷ [])) in
     (1, subst (λ (text : List ℕ). LongestGap text 1) (sym rest) gap, (count, refl))
 
-module _ (back : EntryReadsBack) (end : LineReadsBack end_sexpr) where
+module _ (back : FileEntryReadsBack) (end : LineReadsBack end_sexpr) (version : Version) where
   -- the bytes before the next line feed
   behind_line : (before rest : List ℕ) (x : Sexpr) → before ++ (10 ∷ (line_of x ++ rest)) ≡ (before ++ (10 ∷ text_of x)) ++ (10 ∷ rest)
   behind_line before rest x = ap (λ (text : List ℕ). before ++ (10 ∷ text)) (line_parts x rest) ∙ sym (append_assoc before (10 ∷ text_of x) (10 ∷ rest))
 
-  lines_back : (es : List Entry) (bytes before : List ℕ) (place : ℕ) → AllByRecursion EntryFits es → bytes ≡ before ++ (10 ∷ (entries_text es ++ line_of end_sexpr)) → place ≡ length before → ReadsEntries bytes place (certificate es)
+  lines_back : (es : List FileEntry) (bytes before : List ℕ) (place : ℕ) → AllByRecursion (FileEntryFits version) es → bytes ≡ before ++ (10 ∷ (entries_text es ++ line_of end_sexpr)) → place ≡ length before → ReadsEntries version bytes place (certificate version es)
   lines_back [] bytes before place fits e p =
       let mid = place + 1 + length (text_of end_sexpr) in
       let ended : bytes ≡ before ++ (10 ∷ (line_of end_sexpr ++ [])) = e ∙ ap (λ (text : List ℕ). before ++ (10 ∷ text)) (sym (append-nil (line_of end_sexpr))) in
       let spells = line_back end_sexpr end bytes before [] place ended p in
       let count : mid ≡ length (before ++ (10 ∷ text_of end_sexpr)) = omega (arith, length-append before (10 ∷ text_of end_sexpr)) in
-      (place, mid, mid + 1, refl, spells, rest_back bytes (before ++ (10 ∷ text_of end_sexpr)) mid (ended ∙ behind_line before [] end_sexpr) count)
+      (refl, place, mid, mid + 1, refl, spells, rest_back bytes (before ++ (10 ∷ text_of end_sexpr)) mid (ended ∙ behind_line before [] end_sexpr) count)
   lines_back (entry ∷ es) bytes before place fits e p =
-      let x = entry_sexpr entry in
+      let x = file_entry_sexpr entry in
       let rest = entries_text es ++ line_of end_sexpr in
       let mid = place + 1 + length (text_of x) in
       let grouped : bytes ≡ before ++ (10 ∷ (line_of x ++ rest)) = e ∙ ap (λ (text : List ℕ). before ++ (10 ∷ text)) (append_assoc (line_of x) (entries_text es) (line_of end_sexpr)) in
       let spells = line_back x (back entry) bytes before rest place grouped p in
       let count : mid ≡ length (before ++ (10 ∷ text_of x)) = omega (arith, length-append before (10 ∷ text_of x)) in
       let others = lines_back es bytes (before ++ (10 ∷ text_of x)) mid fits.1 (grouped ∙ behind_line before rest x) count in
-      (others.0, others.1, others.2, (x, mid, spells, entry_back entry fits.0, others.3), others.4, others.5)
+      (refl, others.1, others.2, others.3, (x, mid, spells, entry_back version entry fits.0, others.4), others.5, others.6)
 
-  module _ (header : LineReadsBack header_sexpr) where
-    text_back : (es : List Entry) (bytes before : List ℕ) (place : ℕ) → AllByRecursion EntryFits es → bytes ≡ before ++ certificate_text es → place ≡ length before → ReadsCertificate bytes place (certificate es)
+  module _ (header : LineReadsBack (header_sexpr version)) where
+    text_back : (es : List FileEntry) (bytes before : List ℕ) (place : ℕ) → AllByRecursion (FileEntryFits version) es → bytes ≡ before ++ certificate_text version es → place ≡ length before → ReadsCertificate bytes place (certificate version es)
     text_back es bytes before place fits e p =
         let rest = entries_text es ++ line_of end_sexpr in
-        let mid = place + length (text_of header_sexpr) in
-        let spells : Spells bytes place header_sexpr mid = subst (λ (k : ℕ). Spells bytes k header_sexpr (k + length (text_of header_sexpr))) (sym p) (subst (λ (text : List ℕ). Spells text (length before) header_sexpr (length before + length (text_of header_sexpr))) (sym e) (header before rest)) in
-        let opened = before ++ text_of header_sexpr in
-        let grouped : bytes ≡ opened ++ (10 ∷ rest) = e ∙ ap (λ (text : List ℕ). before ++ text) (line_parts header_sexpr rest) ∙ sym (append_assoc before (text_of header_sexpr) (10 ∷ rest)) in
-        let count : mid ≡ length opened = omega (arith, length-append before (text_of header_sexpr)) in
-        (mid, spells, lines_back es bytes opened mid fits grouped count)
+        let mid = place + length (text_of (header_sexpr version)) in
+        let spells : Spells bytes place (header_sexpr version) mid = subst (λ (k : ℕ). Spells bytes k (header_sexpr version) (k + length (text_of (header_sexpr version)))) (sym p) (subst (λ (text : List ℕ). Spells text (length before) (header_sexpr version) (length before + length (text_of (header_sexpr version)))) (sym e) (header before rest)) in
+        let opened = before ++ text_of (header_sexpr version) in
+        let grouped : bytes ≡ opened ++ (10 ∷ rest) = e ∙ ap (λ (text : List ℕ). before ++ text) (line_parts (header_sexpr version) rest) ∙ sym (append_assoc before (text_of (header_sexpr version)) (10 ∷ rest)) in
+        let count : mid ≡ length opened = omega (arith, length-append before (text_of (header_sexpr version))) in
+        (version, mid, spells, lines_back es bytes opened mid fits grouped count)
 
     -- behind a gap
-    behind_gap : (es : List Entry) (bytes gap : List ℕ) (place there : ℕ) → IsClosedGap gap → there ≡ place + length gap → drop place bytes ≡ gap ++ drop there bytes → ReadsCertificate bytes there (certificate es) → ReadsCertificate bytes place (certificate es)
-    behind_gap es bytes gap place there closed e same (mid, spells, rest) = (mid, spells_before bytes gap closed place there e same header_sexpr mid spells, rest)
+    behind_gap : (es : List FileEntry) (bytes gap : List ℕ) (place there : ℕ) → IsClosedGap gap → there ≡ place + length gap → drop place bytes ≡ gap ++ drop there bytes → ReadsCertificate bytes there (certificate version es) → ReadsCertificate bytes place (certificate version es)
+    behind_gap es bytes gap place there closed e same (found, mid, spells, rest) = (found, mid, spells_before bytes gap closed place there e same (header_sexpr found) mid spells, rest)
 
-pub certificate_back : EntryReadsBack → LineReadsBack end_sexpr → LineReadsBack header_sexpr → CertificateReadsBack
-certificate_back back end header es bytes gap place fits closed e =
+pub certificate_back : FileEntryReadsBack → LineReadsBack end_sexpr → HeaderReadsBack → CertificateReadsBack
+certificate_back back end header version es bytes gap place fits closed e =
     let there = place + length gap in
-    let text = certificate_text es in
+    let text = certificate_text version es in
     let whole : bytes ≡ (take place bytes ++ gap) ++ text = sym (take-append-drop place bytes) ∙ ap (λ (rest : List ℕ). take place bytes ++ rest) e ∙ sym (append_assoc (take place bytes) gap text) in
-    let some : 0 < length text = omega (arith, length-append (line_of header_sexpr) (entries_text es ++ line_of end_sexpr), length-append (text_of header_sexpr) (10 ∷ [])) in
+    let some : 0 < length text = omega (arith, length-append (line_of (header_sexpr version)) (entries_text es ++ line_of end_sexpr), length-append (text_of (header_sexpr version)) (10 ∷ [])) in
     let left : length bytes - place ≡ length gap + length text = sym (length-drop place bytes) ∙ ap length e ∙ length-append gap text in
     let short : place ≤ length bytes = omega arith in
     let front : length (take place bytes) ≡ place = omega (arith, length-take place bytes, short) in
     let count : there ≡ length (take place bytes ++ gap) = omega (arith, length-append (take place bytes) gap, front) in
     let rest : drop there bytes ≡ text = ap (drop there) whole ∙ drop_at (take place bytes ++ gap) text there (sym count) in
-    behind_gap back end header es bytes gap place there closed refl (e ∙ ap (λ (t : List ℕ). gap ++ t) (sym rest))
-    (text_back back end header es bytes (take place bytes ++ gap) there (recursion_from_All EntryFits es fits) whole count)
+    behind_gap back end version (header version) es bytes gap place there closed refl (e ∙ ap (λ (t : List ℕ). gap ++ t) (sym rest))
+    (text_back back end version (header version) es bytes (take place bytes ++ gap) there (recursion_from_All (FileEntryFits version) es fits) whole count)

@@ -5,9 +5,10 @@ use Rattle.smt_lex.specs.Grammar.{IsToken}
 use Rattle.smt_lex.specs.Numbers.{value_of}
 use Rattle.smt_sexpr.specs.Printing.{IsWritable}
 use Rattle.smt_sexpr.specs.Tree.{Sexpr}
-use Rattle.cert_text.specs.declared.entry.Entry.{Entry}
-use Rattle.cert_text.specs.Form.{entry_sexpr, numeral_text}
-use Rattle.cert_text.specs.Limits.{EntryFits, IsPlain}
+use Rattle.cert_text.specs.declared.entry.Version.{Version}
+use Rattle.cert_text.specs.declared.entry.FileEntry.{FileEntry}
+use Rattle.cert_text.specs.Form.{file_entry_sexpr, numeral_text}
+use Rattle.cert_text.specs.Limits.{FileEntryFits, IsPlainFileEntry}
 use Rattle.cert_read.specs.Certificates.{CertificateOutcome, ReadsCertificate, ReadsEntries, certificate}
 use Rattle.cert_read.specs.Parts.{entry_of}
 use Rattle.cert_read.specs.Written.{IsClosedGap, certificate_text}
@@ -19,25 +20,29 @@ OneCertificate = (bytes : List ℕ) (place : ℕ) (o p : CertificateOutcome)
 
 -- and as what stands behind a header
 abbrev pub OneRest : Type 0
-OneRest = (bytes : List ℕ) (place : ℕ) (o p : CertificateOutcome)
-    → ReadsEntries bytes place o → ReadsEntries bytes place p → o ≡ p
+OneRest = (version : Version) (bytes : List ℕ) (place : ℕ) (o p : CertificateOutcome)
+    → ReadsEntries version bytes place o → ReadsEntries version bytes place p → o ≡ p
 
 -- a certificate that is written behind a gap, up to the end of the text, is read as the entries that were written
 abbrev pub CertificateReadsBack : Type 0
-CertificateReadsBack = (entries : List Entry) (bytes gap : List ℕ) (place : ℕ) → All EntryFits entries → IsClosedGap gap
-    → drop place bytes ≡ gap ++ certificate_text entries → ReadsCertificate bytes place (certificate entries)
+CertificateReadsBack = (version : Version) (entries : List FileEntry) (bytes gap : List ℕ) (place : ℕ)
+    → All (FileEntryFits version) entries → IsClosedGap gap
+    → drop place bytes ≡ gap ++ certificate_text version entries → ReadsCertificate bytes place (certificate version entries)
 
 -- the s-expression of an entry within the limits stands for this entry
 abbrev pub EntryIsItsForm : Type 0
-EntryIsItsForm = (entry : Entry) → EntryFits entry → entry_of (entry_sexpr entry) ≡ Some entry
+EntryIsItsForm = (version : Version) (entry : FileEntry)
+    → FileEntryFits version entry → entry_of version (file_entry_sexpr entry) ≡ Some entry
 
 -- what is read as an entry is within the limits
 abbrev pub ReadEntryFits : Type 0
-ReadEntryFits = (x : Sexpr) (entry : Entry) → IsWritable x → entry_of x ≡ Some entry → EntryFits entry
+ReadEntryFits = (version : Version) (x : Sexpr) (entry : FileEntry)
+    → IsWritable x → entry_of version x ≡ Some entry → FileEntryFits version entry
 
 -- and has the entry's own form, where no point in it is the greatest one
 abbrev pub ReadEntryIsForm : Type 0
-ReadEntryIsForm = (x : Sexpr) (entry : Entry) → IsWritable x → entry_of x ≡ Some entry → IsPlain entry → x ≡ entry_sexpr entry
+ReadEntryIsForm = (version : Version) (x : Sexpr) (entry : FileEntry)
+    → IsWritable x → entry_of version x ≡ Some entry → IsPlainFileEntry version entry → x ≡ file_entry_sexpr entry
 
 -- a numeral's digits are those of its value
 abbrev pub TextOfValue : Type 0

@@ -3,6 +3,7 @@ pub mod Certificates
 pub mod Written
 pub mod WorkedForms
 pub mod Shapes
+pub mod Lines
 pub mod Laws
 pub use Rattle.smt_lex.specs.Grammar
 pub use Rattle.smt_lex.specs.Lexing

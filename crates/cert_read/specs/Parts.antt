@@ -1,14 +1,16 @@
--- What the s-expressions of a certificate stand for, part by part. The format is this project's own:
+-- What the s-expressions of a certificate stand for, part by part, in each version. The format is this project's own:
 --
---     entry    (sat v ..), (unsat lemma ..)
---     lemma    (lemma (literal ..) step ..)   its clause and its tree in preorder
+--     entry    (sat v ..), (unsat item ..)
+--     item     (lemma (literal ..) step ..)   a lemma: its clause and its tree in preorder
+--              (keep e j)                     version 2 alone: the item j, from 0, of the earlier entry e, from 1
 --     step     (cycle literal ..), (input i), (lemma j), (either x y c)
+--              (clash i)                      version 2 alone
 --     literal  (x y c)                        x - y <= c
 --     v        a number, true or false
 --
--- A number is a numeral, or (- n) with n at least 1. The indices i and j and the points x and y are numerals. No number
+-- A number is a numeral, or (- n) with n at least 1. The indices e, i and j and the points x and y are numerals. No number
 -- and no numeral goes beyond the limit, which is another one for the values v. What has none of these forms stands for
--- nothing; so does a step (clash i), which is of a later version.
+-- nothing.
 use Rattle.std.specs.Prelude.{ℕ, zero, suc, min, nat_le, ℤ, pos, negsuc, true, false, if◌then◌else◌, List, [], ◌∷◌, codes, Option, Some, None, option_map, option_and_then}
 use Rattle.std.specs.Option.{option_or}
 use Rattle.std.specs.Str.{bytes_eq}
@@ -19,12 +21,17 @@ use Rattle.stn_core.specs.declared.literal.Literal.{Literal}
 use Rattle.stn_core.specs.declared.named.NamedValue.{NamedValue}
 use Rattle.stn_core.specs.declared.named.NamedValue.TheVariants.{Int, Truth}
 use Rattle.refute_tree.specs.declared.step.Step.{Step}
-use Rattle.refute_tree.specs.declared.step.Step.TheVariants.{Cycle, Input, Lemma as Earlier, Either}
+use Rattle.refute_tree.specs.declared.step.Step.TheVariants.{Cycle, Input, Lemma as Earlier, Clash, Either}
 use Rattle.refute_tree.specs.declared.lemma.Lemma.{Lemma}
-use Rattle.cert_text.specs.declared.entry.Entry.{Entry}
+use Rattle.kept_lemmas.specs.declared.item.Kept.{Kept}
+use Rattle.kept_lemmas.specs.declared.item.Item.{Item}
+use Rattle.kept_lemmas.specs.declared.item.Item.TheVariants.{Own, Keep}
+use Rattle.cert_text.specs.declared.entry.Version.{Version}
+use Rattle.cert_text.specs.declared.entry.Version.TheVariants.{One, Two}
+use Rattle.cert_text.specs.declared.entry.FileEntry.{FileEntry}
+use Rattle.cert_text.specs.declared.entry.FileEntry.TheVariants.{Sat, Unsat}
 pub use Rattle.cert_text.specs.Limits.{limit}
 use Rattle.stn_core.specs.Limits.{named_value_limit}
-use Rattle.cert_text.specs.declared.entry.Entry.TheVariants.{Sat, Unsat}
 
 -- ---- numbers
 
@@ -98,27 +105,49 @@ abbrev pub single_of : Items → Option ℕ
 single_of (more x none) = index_of x
 single_of _ = None
 
-abbrev pub step_named : List ℕ → Items → Option Step
-step_named name xs =
+-- what only version 2 has
+abbrev pub only_in_two : {A : Type 0} → Version → Option A → Option A
+only_in_two One o = None
+only_in_two Two o = o
+
+abbrev pub step_named : Version → List ℕ → Items → Option Step
+step_named version name xs =
     if bytes_eq name (codes "cycle") then option_map Cycle (each_of literal_of xs)
     else (if bytes_eq name (codes "input") then option_map Input (single_of xs)
     else (if bytes_eq name (codes "lemma") then option_map Earlier (single_of xs)
+    else (if bytes_eq name (codes "clash") then option_map Clash (only_in_two version (single_of xs))
     else (if bytes_eq name (codes "either") then option_map Either (bound_of xs)
-    else None)))
+    else None))))
 
-abbrev pub step_of : Sexpr → Option Step
-step_of x = option_and_then (λ (p : List ℕ × Items). step_named p.0 p.1) (headed_of x)
+abbrev pub step_of : Version → Sexpr → Option Step
+step_of version x = option_and_then (λ (p : List ℕ × Items). step_named version p.0 p.1) (headed_of x)
 
 abbrev pub lemma_with : Option (List Literal) → Option (List Step) → Option Lemma
 lemma_with (Some clause) (Some steps) = Some (record { clause = clause; steps = steps })
 lemma_with _ _ = None
 
-abbrev pub lemma_named : List ℕ → Items → Option Lemma
-lemma_named name none = None
-lemma_named name (more clause steps) = if bytes_eq name (codes "lemma") then lemma_with (clause_of clause) (each_of step_of steps) else None
+-- a clause, and the steps behind it
+abbrev pub lemma_from : Version → Items → Option Lemma
+lemma_from version none = None
+lemma_from version (more clause steps) = lemma_with (clause_of clause) (each_of (step_of version) steps)
 
-abbrev pub lemma_of : Sexpr → Option Lemma
-lemma_of x = option_and_then (λ (p : List ℕ × Items). lemma_named p.0 p.1) (headed_of x)
+abbrev pub kept_with : Option ℕ → Option ℕ → Option Kept
+kept_with (Some entry) (Some item) = Some (record { entry = entry; item = item })
+kept_with _ _ = None
+
+-- e and j
+abbrev pub kept_from : Items → Option Kept
+kept_from (more entry (more item none)) = kept_with (index_of entry) (index_of item)
+kept_from _ = None
+
+abbrev pub item_named : Version → List ℕ → Items → Option Item
+item_named version name xs =
+    if bytes_eq name (codes "lemma") then option_map Own (lemma_from version xs)
+    else (if bytes_eq name (codes "keep") then option_map Keep (only_in_two version (kept_from xs))
+    else None)
+
+abbrev pub item_of : Version → Sexpr → Option Item
+item_of version x = option_and_then (λ (p : List ℕ × Items). item_named version p.0 p.1) (headed_of x)
 
 abbrev pub truth_named : List ℕ → Option NamedValue
 truth_named name =
@@ -129,11 +158,11 @@ truth_named name =
 abbrev pub named_value_of : Sexpr → Option NamedValue
 named_value_of x = option_or (option_map Int (whole_of x)) (option_and_then truth_named (symbol_of x))
 
-abbrev pub entry_named : List ℕ → Items → Option Entry
-entry_named name xs =
+abbrev pub entry_named : Version → List ℕ → Items → Option FileEntry
+entry_named version name xs =
     if bytes_eq name (codes "sat") then option_map Sat (each_of named_value_of xs)
-    else (if bytes_eq name (codes "unsat") then option_map Unsat (each_of lemma_of xs)
+    else (if bytes_eq name (codes "unsat") then option_map Unsat (each_of (item_of version) xs)
     else None)
 
-abbrev pub entry_of : Sexpr → Option Entry
-entry_of x = option_and_then (λ (p : List ℕ × Items). entry_named p.0 p.1) (headed_of x)
+abbrev pub entry_of : Version → Sexpr → Option FileEntry
+entry_of version x = option_and_then (λ (p : List ℕ × Items). entry_named version p.0 p.1) (headed_of x)

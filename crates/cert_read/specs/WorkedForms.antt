@@ -50,6 +50,22 @@ beyond_values = leaf Numeral (codes "1237940039285380274899124225")
 abbrev pub clash_sexpr : Sexpr
 clash_sexpr = form (codes "clash") (zero ∷ [])
 
+-- (clash 0 1)
+abbrev pub clash_of_two : Sexpr
+clash_of_two = form (codes "clash") (zero ∷ one ∷ [])
+
+-- (keep 2 0)
+abbrev pub keep_sexpr : Sexpr
+keep_sexpr = form (codes "keep") (two ∷ zero ∷ [])
+
+-- (keep 2)
+abbrev pub keep_of_one : Sexpr
+keep_of_one = form (codes "keep") (two ∷ [])
+
+-- (unsat (keep 2 0))
+abbrev pub kept_entry_sexpr : Sexpr
+kept_entry_sexpr = form (codes "unsat") (keep_sexpr ∷ [])
+
 -- (end 1)
 abbrev pub end_with_more : Sexpr
 end_with_more = form (codes "end") (one ∷ [])

@@ -5,7 +5,7 @@ use std::alloc::{AllocError, AllocFailed};
 /// Why a text is no certificate.
 #[derive(Clone, Copy, Debug, PartialEq, Eq)]
 pub enum CertificateRefusal {
-    /// The text doesn't begin with `(dtp-certificate 1)`.
+    /// The text doesn't begin with `(dtp-certificate 1)` or `(dtp-certificate 2)`.
     NoHeader,
     /// What stands in place of this entry, counted from 1, is no entry and not the end, or can't be read.
     IllFormed(usize),

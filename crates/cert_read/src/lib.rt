@@ -1,7 +1,7 @@
 //! The reader of certificates: the text that `cert_text` writes, from the bytes to the entries.
 //!
 //! [`read_certificate`] reads a certificate to the end of the text, [`read_entries`] what stands behind the header, and
-//! [`is_header`] tells the header from other s-expressions. `specs/Parts.antt` says what each s-expression stands for,
+//! [`header_version`] tells the headers of both versions from other s-expressions. `specs/Parts.antt` says what each s-expression stands for,
 //! and `specs/Certificates.antt` which texts are certificates, and why another is refused. The laws: a text is one thing
 //! at most ([`one_certificate`]), what was written is read again ([`certificate_reads_back`]), and nothing but the form of
 //! an entry is read as one ([`only_entries`]).
@@ -10,9 +10,10 @@
 mod certificate;
 mod error;
 mod laws;
+mod line;
 mod number;
 mod part;
 
-pub use certificate::{is_header, read_certificate, read_entries};
+pub use certificate::{Certificate, header_version, read_certificate, read_entries};
 pub use error::{CertReadError, CertificateRefusal};
 pub use laws::{certificate_reads_back, examples_law, numeral_law, one_certificate, only_entries};

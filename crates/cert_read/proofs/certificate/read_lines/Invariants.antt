@@ -7,7 +7,7 @@ invariant-entries l = record {
   fresh : l.lexer.failed ≡ None;
   bytes : l.lexer.bytes ≡ l.initial.lexer.bytes;
   table_bytes : l.table.bytes ≡ l.initial.lexer.bytes;
-  held : HoldsEntries l.initial.lexer.bytes l.initial.lexer.place l.entries.items l.lexer.place;
+  held : HoldsEntries l.version l.initial.lexer.bytes l.initial.lexer.place l.entries.items l.lexer.place;
 }
 
 abbrev pub decreases-entries : goal.decreases-entries

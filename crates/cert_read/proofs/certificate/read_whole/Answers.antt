@@ -1,6 +1,6 @@
-use Rattle.std.proofs.Common.{◌≡◌, ◌∙◌, sym, ap, Ok, Some, None, false, true≢false, rules}
-use Rattle.cert_text.specs.Form.{header_sexpr}
+use Rattle.std.proofs.Common.{◌≡◌, ◌∙◌, sym, ap, Ok, Some, None, rules}
 use Rattle.cert_read.proofs.CertificateLines.{still_fresh, finds_end, finds_one, finds_error, no_header_error, no_header_at_end, another_first, refused_with_header, certificate_with_header}
+use Rattle.cert_read.proofs.HeaderAndEnd.{header_found, header_missing}
 use Rattle.cert_read.proofs.certificate.read_whole.Goals as goal
 
 pub returns-in-Ok-None-clause-refused : goal.returns-in-Ok-None-clause-refused
@@ -15,28 +15,27 @@ returns-in-Err-clause-refused c = λ fresh.
     rw c.told_as.ensures (no_header_error c.args.lexer.now.bytes c.args.lexer.now.place c.read_one.new.lexer.place c.in-Err.error
     (finds_error c.read_one.new.self c.args.lexer.now.bytes same c.args.lexer.now.place c.read_one.new.lexer.place c.read_one.result c.in-Err.error c.in-Err.is (c.read_one.ensures.finds fresh)))
 
-pub returns-then-not-is_header-clause-refused : goal.returns-then-not-is_header-clause-refused
-returns-then-not-is_header-clause-refused c = λ fresh.
+pub returns-in-None-clause-refused : goal.returns-in-None-clause-refused
+returns-in-None-clause-refused c = λ fresh.
     let same = c.read_one.ensures.grows.bytes ∙ ap (λ t. t.bytes) c.new-table.ensures ∙ c.bytes.ensures in
     let is = c.in-Ok-Some.is ∙ ap Ok c.in-Ok-Some.field-0-is ∙ ap (λ k. Ok (Some k)) (sym c.in-Ok-Some.id-is) in
     let found = finds_one c.read_one.new.self c.args.lexer.now.bytes same c.args.lexer.now.place c.read_one.new.lexer.place c.read_one.result c.in-Ok-Some.id is (c.read_one.ensures.finds fresh) in
-    let other : c.is_header.result ≡ false = c.if-not-is_header.true in
-    another_first c.args.lexer.now.bytes c.args.lexer.now.place c.read_one.new.lexer.place found.0 found.2 (λ e. true≢false (sym ((c.is_header.ensures found.0 found.1).1 e) ∙ other))
+    another_first c.args.lexer.now.bytes c.args.lexer.now.place c.read_one.new.lexer.place found.0 found.2 (header_missing found.0 c.header_version.result c.in-None.is (c.header_version.ensures found.0 found.1))
 
-pub returns-in_err-entries-clause-refused : goal.returns-in_err-entries-clause-refused
-returns-in_err-entries-clause-refused c = λ fresh.
+pub returns-in_err-entries-in-Some-clause-refused : goal.returns-in_err-entries-in-Some-clause-refused
+returns-in_err-entries-in-Some-clause-refused c = λ fresh.
     let same = c.read_one.ensures.grows.bytes ∙ ap (λ t. t.bytes) c.new-table.ensures ∙ c.bytes.ensures in
     let is = c.in-Ok-Some.is ∙ ap Ok c.in-Ok-Some.field-0-is ∙ ap (λ k. Ok (Some k)) (sym c.in-Ok-Some.id-is) in
     let found = finds_one c.read_one.new.self c.args.lexer.now.bytes same c.args.lexer.now.place c.read_one.new.lexer.place c.read_one.result c.in-Ok-Some.id is (c.read_one.ensures.finds fresh) in
-    let header : found.0 ≡ header_sexpr = (c.is_header.ensures found.0 found.1).0 c.if-not-is_header.false in
+    let header = header_found found.0 c.header_version.result c.in-Some.version c.in-Some.is (c.header_version.ensures found.0 found.1) in
     let later : c.read_one.new.lexer.failed ≡ None = c.read_one.ensures.failed fresh ∙ still_fresh c.read_one.result c.in-Ok-Some.id is in
-    search (rules, refused_with_header c.read_one.new.lexer.bytes c.args.lexer.now.bytes c.args.lexer.now.place c.read_one.new.lexer.place found.0 _ c.read_one.ensures.bytes found.2 header (c.in_err-entries.ensures.refused later))
+    search (rules, refused_with_header c.in-Some.version c.read_one.new.lexer.bytes c.args.lexer.now.bytes c.args.lexer.now.place c.read_one.new.lexer.place found.0 _ c.read_one.ensures.bytes found.2 header (c.in_err-entries-in-Some.ensures.refused later))
 
 pub returns-clause-entries : goal.returns-clause-entries
 returns-clause-entries c = λ fresh.
     let same = c.read_one.ensures.grows.bytes ∙ ap (λ t. t.bytes) c.new-table.ensures ∙ c.bytes.ensures in
     let is = c.in-Ok-Some.is ∙ ap Ok c.in-Ok-Some.field-0-is ∙ ap (λ k. Ok (Some k)) (sym c.in-Ok-Some.id-is) in
     let found = finds_one c.read_one.new.self c.args.lexer.now.bytes same c.args.lexer.now.place c.read_one.new.lexer.place c.read_one.result c.in-Ok-Some.id is (c.read_one.ensures.finds fresh) in
-    let header : found.0 ≡ header_sexpr = (c.is_header.ensures found.0 found.1).0 c.if-not-is_header.false in
+    let header = header_found found.0 c.header_version.result c.in-Some.version c.in-Some.is (c.header_version.ensures found.0 found.1) in
     let later : c.read_one.new.lexer.failed ≡ None = c.read_one.ensures.failed fresh ∙ still_fresh c.read_one.result c.in-Ok-Some.id is in
-    certificate_with_header c.read_one.new.lexer.bytes c.args.lexer.now.bytes c.args.lexer.now.place c.read_one.new.lexer.place found.0 c.in_ok-entries.entries.items c.read_one.ensures.bytes found.2 header (c.in_ok-entries.ensures.entries later)
+    certificate_with_header c.in-Some.version c.read_one.new.lexer.bytes c.args.lexer.now.bytes c.args.lexer.now.place c.read_one.new.lexer.place found.0 c.in_ok-entries-in-Some.entries.items c.read_one.ensures.bytes found.2 header (c.in_ok-entries-in-Some.ensures.entries later)

@@ -4,4 +4,20 @@ use Rattle.cert_read.proofs.laws.examples_law.Goals as goal
 
 pub returns : goal.returns
 unfolding value_from
-returns c = record { entry = refl; minus_zero = refl; beyond_points = refl; beyond_limit = refl; greatest_value = refl; beyond_values = refl; clash = refl; end = refl; end_with_more = refl }
+returns c = record {
+  entry = refl;
+  minus_zero = refl;
+  beyond_points = refl;
+  beyond_limit = refl;
+  greatest_value = refl;
+  beyond_values = refl;
+  clash_in_one = refl;
+  clash_in_two = refl;
+  clash_of_two = refl;
+  keep_in_one = refl;
+  keep_in_two = refl;
+  keep_of_one = refl;
+  kept_entry = refl;
+  end = refl;
+  end_with_more = refl;
+}

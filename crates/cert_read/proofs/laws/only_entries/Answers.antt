@@ -3,6 +3,6 @@ use Rattle.cert_read.proofs.laws.only_entries.Goals as goal
 
 pub returns : goal.returns
 returns c = record {
-  fits = λ x entry w e. (entry_only x entry w e).0;
-  form = λ x entry w e plain. (entry_only x entry w e).1 plain;
+  fits = λ version x entry w e. (entry_only version x entry w e).0;
+  form = λ version x entry w e plain. (entry_only version x entry w e).1 plain;
 }

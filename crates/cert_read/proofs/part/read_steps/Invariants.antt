@@ -3,4 +3,4 @@ use Rattle.cert_read.proofs.EachItem.{IsReadUpTo}
 use Rattle.cert_read.proofs.part.read_steps.Given as goal
 
 abbrev pub invariant-loop-id : goal.invariant-loop-id
-invariant-loop-id l = IsReadUpTo step_of l.table l.ids l.id-index l.steps
+invariant-loop-id l = IsReadUpTo (step_of l.version) l.table l.ids l.id-index l.steps

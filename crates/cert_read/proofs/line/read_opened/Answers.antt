@@ -1,0 +1,56 @@
+use Rattle.std.proofs.Common.{◌∙◌, sym, rules}
+use Rattle.cert_read.proofs.ItemByItem.{next_some, next_none}
+use Rattle.cert_read.proofs.OpenedLines.{empty_list, opened_sat, opened_unsat, opened_end, no_values, no_items, not_alone, other_head, no_line_behind}
+use Rattle.cert_read.proofs.line.read_opened.Goals as goal
+
+pub returns-in-None-clause-err : goal.returns-in-None-clause-err
+returns-in-None-clause-err c =
+    empty_list c.args.version c.args.lexer.now.bytes c.args.lexer.now.place c.next_item.new.lexer.place
+    (next_none c.next_item.new.table c.args.lexer.now.bytes c.args.lexer.now.place c.next_item.new.lexer.place c.in_ok-next_item.field-0 c.in-None.is c.in_ok-next_item.ensures.next)
+
+pub returns-in_err-values-in-Sat-clause-err : goal.returns-in_err-values-in-Sat-clause-err
+returns-in_err-values-in-Sat-clause-err c =
+    let next = next_some c.next_item.new.table c.args.lexer.now.bytes c.args.lexer.now.place c.next_item.new.lexer.place c.in_ok-next_item.field-0 c.in-Some.id c.in-Some.is c.in_ok-next_item.ensures.next in
+    let head = sym (c.head_of.ensures next.0 next.1) ∙ c.in-Sat.is in
+    search (rules, no_values c.args.version c.args.lexer.now.bytes c.args.lexer.now.place c.next_item.new.lexer.place next.0 next.2 _ head (rw c.next_item.ensures.lexer_bytes at c.in_err-values-in-Sat.ensures.err))
+
+pub returns-in_err-items-in-Unsat-clause-err : goal.returns-in_err-items-in-Unsat-clause-err
+returns-in_err-items-in-Unsat-clause-err c =
+    let next = next_some c.next_item.new.table c.args.lexer.now.bytes c.args.lexer.now.place c.next_item.new.lexer.place c.in_ok-next_item.field-0 c.in-Some.id c.in-Some.is c.in_ok-next_item.ensures.next in
+    let head = sym (c.head_of.ensures next.0 next.1) ∙ c.in-Unsat.is in
+    search (rules, no_items c.args.version c.args.lexer.now.bytes c.args.lexer.now.place c.next_item.new.lexer.place next.0 next.2 _ head (rw c.next_item.ensures.lexer_bytes at c.in_err-items-in-Unsat.ensures.err))
+
+pub returns-in_err-read_close-in-End-clause-err : goal.returns-in_err-read_close-in-End-clause-err
+returns-in_err-read_close-in-End-clause-err c =
+    let next = next_some c.next_item.new.table c.args.lexer.now.bytes c.args.lexer.now.place c.next_item.new.lexer.place c.in_ok-next_item.field-0 c.in-Some.id c.in-Some.is c.in_ok-next_item.ensures.next in
+    let head = sym (c.head_of.ensures next.0 next.1) ∙ c.in-End.is in
+    search (rules, not_alone c.args.version c.args.lexer.now.bytes c.args.lexer.now.place c.next_item.new.lexer.place next.0 next.2 _ head (rw c.next_item.ensures.lexer_bytes at c.in_err-read_close-in-End.ensures.err))
+
+pub returns-in_err-skip_items-in-Other-clause-err : goal.returns-in_err-skip_items-in-Other-clause-err
+returns-in_err-skip_items-in-Other-clause-err c =
+    let next = next_some c.next_item.new.table c.args.lexer.now.bytes c.args.lexer.now.place c.next_item.new.lexer.place c.in_ok-next_item.field-0 c.in-Some.id c.in-Some.is c.in_ok-next_item.ensures.next in
+    search (rules, no_line_behind c.args.version c.args.lexer.now.bytes c.args.lexer.now.place c.next_item.new.lexer.place next.0 next.2 _ (rw c.next_item.ensures.lexer_bytes at c.in_err-skip_items-in-Other.ensures.err))
+
+pub returns-in_ok-values-in-Sat-clause-ok : goal.returns-in_ok-values-in-Sat-clause-ok
+returns-in_ok-values-in-Sat-clause-ok c =
+    let next = next_some c.next_item.new.table c.args.lexer.now.bytes c.args.lexer.now.place c.next_item.new.lexer.place c.in_ok-next_item.field-0 c.in-Some.id c.in-Some.is c.in_ok-next_item.ensures.next in
+    let head = sym (c.head_of.ensures next.0 next.1) ∙ c.in-Sat.is in
+    rw c.new.ensures (opened_sat c.args.version c.args.lexer.now.bytes c.args.lexer.now.place c.next_item.new.lexer.place next.0 next.2 c.in_ok-values-in-Sat.values.items c.read_items.new.lexer.place head (rw c.next_item.ensures.lexer_bytes at c.in_ok-values-in-Sat.ensures.ok))
+
+pub returns-in_ok-items-in-Unsat-clause-ok : goal.returns-in_ok-items-in-Unsat-clause-ok
+returns-in_ok-items-in-Unsat-clause-ok c =
+    let next = next_some c.next_item.new.table c.args.lexer.now.bytes c.args.lexer.now.place c.next_item.new.lexer.place c.in_ok-next_item.field-0 c.in-Some.id c.in-Some.is c.in_ok-next_item.ensures.next in
+    let head = sym (c.head_of.ensures next.0 next.1) ∙ c.in-Unsat.is in
+    rw c.new-in-Unsat.ensures (opened_unsat c.args.version c.args.lexer.now.bytes c.args.lexer.now.place c.next_item.new.lexer.place next.0 next.2 c.in_ok-items-in-Unsat.items.items c.read_items-in-Unsat.new.lexer.place head (rw c.next_item.ensures.lexer_bytes at c.in_ok-items-in-Unsat.ensures.ok))
+
+pub returns-in_ok-read_close-in-End-clause-ok : goal.returns-in_ok-read_close-in-End-clause-ok
+returns-in_ok-read_close-in-End-clause-ok c =
+    let next = next_some c.next_item.new.table c.args.lexer.now.bytes c.args.lexer.now.place c.next_item.new.lexer.place c.in_ok-next_item.field-0 c.in-Some.id c.in-Some.is c.in_ok-next_item.ensures.next in
+    let head = sym (c.head_of.ensures next.0 next.1) ∙ c.in-End.is in
+    opened_end c.args.version c.args.lexer.now.bytes c.args.lexer.now.place c.next_item.new.lexer.place next.0 next.2 c.read_close.new.lexer.place head (rw c.next_item.ensures.lexer_bytes at c.in_ok-read_close-in-End.ensures.ok)
+
+pub returns-in_ok-skip_items-in-Other-clause-err : goal.returns-in_ok-skip_items-in-Other-clause-err
+returns-in_ok-skip_items-in-Other-clause-err c =
+    let next = next_some c.next_item.new.table c.args.lexer.now.bytes c.args.lexer.now.place c.next_item.new.lexer.place c.in_ok-next_item.field-0 c.in-Some.id c.in-Some.is c.in_ok-next_item.ensures.next in
+    let head = sym (c.head_of.ensures next.0 next.1) ∙ c.in-Other.is in
+    other_head c.args.version c.args.lexer.now.bytes c.args.lexer.now.place c.next_item.new.lexer.place next.0 next.2 c.skip_items.new.lexer.place head (rw c.next_item.ensures.lexer_bytes at c.in_ok-skip_items-in-Other.ensures.ok)

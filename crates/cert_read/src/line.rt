@@ -1,0 +1,213 @@
+//! What stands in place of an entry, read item by item: the table never holds more than one item of the entry.
+ghost use Rattle.std.specs.Prelude.{◌≡◌, ◌^◌, ◌-◌, ◌<◌, ◌≤◌, length, None};
+ghost use Rattle.std.specs.Prelude.{IfOk, OnOk, IfErr};
+ghost use Rattle.smt_sexpr.specs.Tree.{Sexpr, Items as Several, none};
+ghost use Rattle.smt_sexpr.specs.Table.{Means, HasMeaning};
+ghost use Rattle.cert_read.specs.Certificates.{ErrorSays, RefusesBehind};
+ghost use Rattle.cert_read.specs.Lines.{LineIs, IsNext, Closed, NeverCloses, IsListOf, LacksList, HasItems};
+ghost use Rattle.cert_read.specs.Lines.{head_of, IsLineOf, IsNoLine, IfIllFormed};
+
+use crate::error::{CertReadError, CertificateRefusal, PartError};
+use crate::part::Part;
+use cert_text::{FileEntry, Version};
+use kept_lemmas::Items;
+use smt_lex::{Lexer, TokenKind};
+use smt_sexpr::{SexprError, SexprId, SexprRefusal, Sexprs};
+use std::alloc::Global;
+use stn_core::NamedValues;
+
+/// What stands in place of an entry.
+pub(crate) enum Line {
+    Shown(FileEntry),
+    End,
+}
+
+/// What a list is by its first item.
+#[derive(Clone, Copy)]
+enum Head {
+    Sat,
+    Unsat,
+    End,
+    Other,
+}
+
+fn head_of(table: &Sexprs, id: SexprId) -> Head
+    requires { HasMeaning table.now id }
+    ensures { (x : Sexpr) → Means table.now id x → result ≡ head_of x }
+{
+    if table.is_symbol(id, b"sat") {
+        Head::Sat
+    } else if table.is_symbol(id, b"unsat") {
+        Head::Unsat
+    } else if table.is_symbol(id, b"end") {
+        Head::End
+    } else {
+        Head::Other
+    }
+}
+
+/// The next item of an open list, alone in the table, or `None` where the list's own parenthesis was next and is read.
+fn next_item(table: &mut Sexprs, lexer: &mut Lexer) -> Result<Option<SexprId>, PartError>
+    requires fresh { lexer.old.failed ≡ None }
+    requires same { lexer.old.bytes ≡ table.old.bytes }
+    ensures next { IfOk result (λ next. IsNext table.new lexer.old.bytes lexer.old.place next lexer.new.place) }
+    ensures err { IfErr result (IfIllFormed (NeverCloses lexer.old.bytes lexer.old.place)) }
+    ensures fresh { OnOk result (lexer.new.failed ≡ None) }
+    ensures forward { OnOk result (lexer.old.place < lexer.new.place) }
+    ensures within { OnOk result (lexer.new.place ≤ length lexer.new.bytes) }
+    ensures lexer_bytes { lexer.new.bytes ≡ lexer.old.bytes }
+    ensures table_bytes { table.new.bytes ≡ table.old.bytes }
+{
+    table.clear();
+    match table.read_one(lexer) {
+        Ok(Some(id)) => Ok(Some(id)),
+        Ok(None) => Err(PartError::IllFormed),
+        Err(SexprError::Refused(SexprRefusal::StrayClose(_))) => Ok(None),
+        Err(SexprError::Refused(SexprRefusal::UnclosedList(_))) => Err(PartError::IllFormed),
+        Err(SexprError::Refused(SexprRefusal::Lex(_))) => Err(PartError::IllFormed),
+        Err(SexprError::OutOfMemory) => Err(PartError::OutOfMemory),
+    }
+}
+
+/// Reads an open list to its end, whatever its items are.
+fn skip_items(table: &mut Sexprs, lexer: &mut Lexer) -> Result<(), PartError>
+    requires fresh { lexer.old.failed ≡ None }
+    requires same { lexer.old.bytes ≡ table.old.bytes }
+    ensures ok { OnOk result ((xs : Several) × Closed lexer.old.bytes lexer.old.place xs lexer.new.place) }
+    ensures err { IfErr result (IfIllFormed (NeverCloses lexer.old.bytes lexer.old.place)) }
+    ensures fresh { OnOk result (lexer.new.failed ≡ None) }
+    ensures within { OnOk result (lexer.new.place ≤ length lexer.new.bytes) }
+    ensures lexer_bytes { lexer.new.bytes ≡ lexer.old.bytes }
+    ensures table_bytes { table.new.bytes ≡ table.old.bytes }
+{
+    while let Some(_) = next_item(table, lexer)? {}
+    Ok(())
+}
+
+/// What the items of an open list stand for, to the list's end.
+///
+/// A list with an item that stands for nothing is read to its end too, since it may have none.
+fn read_items<T: Part + Drop>(
+    alloc: Global,
+    version: Version,
+    table: &mut Sexprs,
+    lexer: &mut Lexer,
+) -> Result<Vec<T>, PartError>
+    requires fresh { lexer.old.failed ≡ None }
+    requires same { lexer.old.bytes ≡ table.old.bytes }
+    ensures ok { IfOk result (λ parts. IsListOf (T.meant version) lexer.old.bytes lexer.old.place parts.items lexer.new.place) }
+    ensures err { IfErr result (IfIllFormed (LacksList (T.meant version) lexer.old.bytes lexer.old.place)) }
+    ensures fresh { OnOk result (lexer.new.failed ≡ None) }
+    ensures within { OnOk result (lexer.new.place ≤ length lexer.new.bytes) }
+    ensures lexer_bytes { lexer.new.bytes ≡ lexer.old.bytes }
+    ensures table_bytes { table.new.bytes ≡ table.old.bytes }
+{
+    let mut parts = Vec::new(alloc);
+    while let Some(id) = next_item(table, lexer)? {
+        match T::read(alloc, version, table, id) {
+            Ok(part) => parts.push(part)?,
+            Err(PartError::IllFormed) => {
+                skip_items(table, lexer)?;
+                return Err(PartError::IllFormed);
+            }
+            Err(PartError::OutOfMemory) => return Err(PartError::OutOfMemory),
+        }
+    }
+    Ok(parts)
+}
+
+/// Reads the end of a list that has no more items.
+fn read_close(table: &mut Sexprs, lexer: &mut Lexer) -> Result<(), PartError>
+    requires fresh { lexer.old.failed ≡ None }
+    requires same { lexer.old.bytes ≡ table.old.bytes }
+    ensures ok { OnOk result (Closed lexer.old.bytes lexer.old.place none lexer.new.place) }
+    ensures err { IfErr result (IfIllFormed (HasItems lexer.old.bytes lexer.old.place)) }
+    ensures fresh { OnOk result (lexer.new.failed ≡ None) }
+    ensures within { OnOk result (lexer.new.place ≤ length lexer.new.bytes) }
+    ensures lexer_bytes { lexer.new.bytes ≡ lexer.old.bytes }
+    ensures table_bytes { table.new.bytes ≡ table.old.bytes }
+{
+    match next_item(table, lexer)? {
+        None => Ok(()),
+        Some(_) => {
+            skip_items(table, lexer)?;
+            Err(PartError::IllFormed)
+        }
+    }
+}
+
+/// The entry or the end, behind its opening parenthesis.
+fn read_opened(
+    alloc: Global,
+    version: Version,
+    table: &mut Sexprs,
+    lexer: &mut Lexer,
+) -> Result<Line, PartError>
+    requires fresh { lexer.old.failed ≡ None }
+    requires same { lexer.old.bytes ≡ table.old.bytes }
+    ensures ok { IfOk result (λ line. IsLineOf version lexer.old.bytes lexer.old.place line lexer.new.place) }
+    ensures err { IfErr result (IfIllFormed (IsNoLine version lexer.old.bytes lexer.old.place)) }
+    ensures fresh { OnOk result (lexer.new.failed ≡ None) }
+    ensures within { OnOk result (lexer.new.place ≤ length lexer.new.bytes) }
+    ensures lexer_bytes { lexer.new.bytes ≡ lexer.old.bytes }
+    ensures table_bytes { table.new.bytes ≡ table.old.bytes }
+{
+    let id = match next_item(table, lexer)? {
+        None => return Err(PartError::IllFormed),
+        Some(id) => id,
+    };
+    match head_of(table, id) {
+        Head::Sat => {
+            let values = read_items(alloc, version, table, lexer)?;
+            Ok(Line::Shown(FileEntry::Sat(NamedValues::new(values))))
+        }
+        Head::Unsat => {
+            let items = read_items(alloc, version, table, lexer)?;
+            Ok(Line::Shown(FileEntry::Unsat(Items::new(items))))
+        }
+        Head::End => {
+            read_close(table, lexer)?;
+            Ok(Line::End)
+        }
+        Head::Other => {
+            skip_items(table, lexer)?;
+            Err(PartError::IllFormed)
+        }
+    }
+}
+
+/// The entry that is next, or the end. There are `count` entries before it.
+pub(crate) fn read_line(
+    alloc: Global,
+    version: Version,
+    table: &mut Sexprs,
+    lexer: &mut Lexer,
+    count: usize,
+) -> Result<Line, CertReadError>
+    requires fresh { lexer.old.failed ≡ None }
+    requires same { lexer.old.bytes ≡ table.old.bytes }
+    requires few { count < 2 ^ 64 - 1 }
+    ensures line { IfOk result (λ line. LineIs version lexer.old.bytes lexer.old.place line lexer.new.place) }
+    ensures refused { IfErr result (ErrorSays (RefusesBehind version lexer.old.bytes count lexer.old.place)) }
+    ensures fresh { OnOk result (lexer.new.failed ≡ None) }
+    ensures forward { OnOk result (lexer.old.place < lexer.new.place) }
+    ensures within { OnOk result (lexer.new.place ≤ length lexer.new.bytes) }
+    ensures lexer_bytes { lexer.new.bytes ≡ lexer.old.bytes }
+    ensures table_bytes { table.new.bytes ≡ table.old.bytes }
+{
+    let ill_formed = CertReadError::Refused(CertificateRefusal::IllFormed(count + 1));
+    let opening = match lexer.next() {
+        Ok(Some(token)) => token,
+        Ok(None) => return Err(CertReadError::Refused(CertificateRefusal::NoEnd)),
+        Err(_) => return Err(ill_formed),
+    };
+    match opening.kind {
+        TokenKind::Left => {}
+        _ => return Err(ill_formed),
+    }
+    match read_opened(alloc, version, table, lexer) {
+        Ok(line) => Ok(line),
+        Err(PartError::IllFormed) => Err(ill_formed),
+        Err(PartError::OutOfMemory) => Err(CertReadError::OutOfMemory),
+    }
+}
