@@ -1,2 +1,7 @@
 pub mod Tested
 pub mod Unflawed
+pub mod Lists
+pub mod Books
+pub mod Presence
+pub mod Few
+pub mod Ends

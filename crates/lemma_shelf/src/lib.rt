@@ -5,9 +5,13 @@
 //! are clauses of the problem. `specs/ItemFlaws.antt` has the first flaw of items.
 #![tactic(auto)]
 
+mod book;
 mod check;
 mod laws;
+mod present;
+mod reached;
 mod shelf;
+mod stated;
 
 pub use check::check_items;
 pub use laws::flaw_law;

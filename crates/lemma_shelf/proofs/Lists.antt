@@ -1,0 +1,47 @@
+-- Lists, by place.
+use Rattle.std.proofs.Common.{arith, ◌≡◌, ℕ, zero, suc, ◌<◌, ◌≤◌, ◌+◌, List, [], ◌∷◌, ◌++◌, length, take, drop, Option, Some, None, All, Contains, refl, sym, ap, subst, ◌∙◌}
+use Rattle.std.specs.Prelude.{slice_get, MatchOption}
+use Rattle.std.proofs.lemmas.Option.{slice_get_within, slice_get-get_or}
+
+pub get_longer : {A : Type 0} (xs ys : List A) (j : ℕ) (x : A) → slice_get xs j ≡ Some x → slice_get (xs ++ ys) j ≡ Some x
+get_longer [] ys j x e = absurd (cc)
+get_longer (z ∷ xs) ys zero x e = e
+get_longer (z ∷ xs) ys (suc j) x e = get_longer xs ys j x e
+
+pub get_behind : {A : Type 0} (xs ys : List A) (j : ℕ) → slice_get (xs ++ ys) (length xs + j) ≡ slice_get ys j
+get_behind [] ys j = ap (slice_get ys) (omega arith)
+get_behind (z ∷ xs) ys j =
+    let k : length (z ∷ xs) + j ≡ suc (length xs + j) = omega arith in
+    ap (slice_get ((z ∷ xs) ++ ys)) k ∙ get_behind xs ys j
+
+pub get_last : {A : Type 0} (xs : List A) (x : A) → slice_get (xs ++ x ∷ []) (length xs) ≡ Some x
+get_last xs x = let k : length xs ≡ length xs + 0 = omega arith in ap (slice_get (xs ++ x ∷ [])) k ∙ get_behind xs (x ∷ []) 0
+
+pub get_take : {A : Type 0} (n : ℕ) (xs : List A) (j : ℕ) → j < n → slice_get (take n xs) j ≡ slice_get xs j
+get_take zero xs j lt = absurd (omega arith)
+get_take (suc n) [] j lt = refl
+get_take (suc n) (x ∷ xs) zero lt = refl
+get_take (suc n) (x ∷ xs) (suc j) lt = get_take n xs j (omega arith)
+
+pub get_taken : {A : Type 0} (n : ℕ) (xs : List A) (j : ℕ) (x : A) → slice_get (take n xs) j ≡ Some x → slice_get xs j ≡ Some x
+get_taken zero xs j x e = absurd (cc)
+get_taken (suc n) [] j x e = absurd (cc)
+get_taken (suc n) (y ∷ xs) zero x e = e
+get_taken (suc n) (y ∷ xs) (suc j) x e = get_taken n xs j x e
+
+pub take_more : {A : Type 0} (xs : List A) (k : ℕ) (x : A) → slice_get xs k ≡ Some x → take (k + 1) xs ≡ take k xs ++ x ∷ []
+take_more [] k x e = absurd (cc)
+take_more (y ∷ xs) zero x e = let s : y ≡ x = cc in let k : zero + 1 ≡ suc zero = omega arith in ap (λ n. take n (y ∷ xs)) k ∙ ap (λ z. z ∷ []) s
+take_more (y ∷ xs) (suc k) x e = let n : suc k + 1 ≡ suc (k + 1) = omega arith in ap (λ m. take m (y ∷ xs)) n ∙ ap (λ zs. y ∷ zs) (take_more xs k x e)
+
+pub at_contained : {A : Type 0} (xs : List A) (k : ℕ) (x : A) → slice_get xs k ≡ Some x → Contains xs x
+at_contained [] k x e = absurd (cc)
+at_contained (y ∷ ys) zero x e = let s : y ≡ x = cc in (0, omega arith, s)
+at_contained (y ∷ ys) (suc k) x e = let h = at_contained ys k x e in (suc h.0, omega (arith, h.1), h.2)
+
+pub contained_at : {A : Type 0} (xs : List A) (x : A) → Contains xs x → (k : ℕ) × (slice_get xs k ≡ Some x)
+contained_at xs x h = (h.0, slice_get-get_or xs h.0 x h.1 ∙ ap (λ z. Some z) h.2)
+
+pub none_of : (A : Type 0) (found : Option ℕ) (P : ℕ → Type 0) → MatchOption found A P → ((n : ℕ) → found ≡ Some n → ⊥) → A
+none_of A None P h not_some = h
+none_of A (Some n) P h not_some = absurd (not_some n refl)

@@ -1,0 +1,54 @@
+//! Lemmas that a walk has come to.
+ghost use Rattle.std.specs.Prelude.{◌≡◌, ◌≤◌, ◌<◌, ℕ, [], length, All, slice_get, Some, OnOk, OnErr};
+ghost use Rattle.lemma_shelf.specs.Tables.{with_number};
+
+use indexmap::IndexSet;
+use std::alloc::{AllocError, Global};
+use std::marker::Model;
+
+/// Numbers of lemmas, each once, in the order in which they came.
+#[derive(Drop)]
+pub struct Reached {
+    set: IndexSet<usize>,
+}
+
+impl Model for Reached {
+    ghost use Rattle.std.specs.Prelude.{List, ℕ};
+
+    ghost Value = { List ℕ };
+
+    ghost view = { λ r. r.set.keys };
+}
+
+impl Reached {
+    pub fn new(alloc: Global) -> Self
+        ensures { result ≡ [] }
+    {
+        Reached {
+            set: IndexSet::new(alloc),
+        }
+    }
+
+    pub fn len(&self) -> usize
+        ensures len { result ≡ length self.now }
+        ensures few { (bound : ℕ) → All (λ n. n < bound) self.now → result ≤ bound }
+    {
+        self.set.len()
+    }
+
+    pub fn at(&self, place: usize) -> usize
+        requires { place < length self.now }
+        ensures { slice_get self.now place ≡ Some result }
+    {
+        *self.set.get_index(place).unwrap()
+    }
+
+    /// One more, unless it is there.
+    pub fn add(&mut self, number: usize) -> Result<(), AllocError>
+        ensures ok { OnOk result (self.new ≡ with_number self.old number) }
+        ensures err { OnErr result (self.new ≡ self.old) }
+    {
+        self.set.insert(number)?;
+        Ok(())
+    }
+}
