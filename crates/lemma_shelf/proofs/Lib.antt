@@ -5,3 +5,5 @@ pub mod Books
 pub mod Presence
 pub mod Few
 pub mod Ends
+pub mod TableFacts
+pub mod Walking

@@ -1,6 +1,7 @@
 -- Lists, by place.
-use Rattle.std.proofs.Common.{arith, ◌≡◌, ℕ, zero, suc, ◌<◌, ◌≤◌, ◌+◌, List, [], ◌∷◌, ◌++◌, length, take, drop, Option, Some, None, All, Contains, refl, sym, ap, subst, ◌∙◌}
+use Rattle.std.proofs.Common.{arith, ◌≡◌, ℕ, zero, suc, ◌<◌, ◌≤◌, ◌+◌, List, [], ◌∷◌, ◌++◌, length, take, drop, Option, Some, None, All, Contains, flat_map, ◌⊎◌, inl, inr, refl, sym, ap, subst, ◌∙◌}
 use Rattle.std.specs.Prelude.{slice_get, MatchOption}
+use Rattle.std.proofs.lemmas.List.Elements.{All-nil, All-cons, All-head, All-tail, All-append}
 use Rattle.std.proofs.lemmas.Option.{slice_get_within, slice_get-get_or}
 
 pub get_longer : {A : Type 0} (xs ys : List A) (j : ℕ) (x : A) → slice_get xs j ≡ Some x → slice_get (xs ++ ys) j ≡ Some x
@@ -45,3 +46,35 @@ contained_at xs x h = (h.0, slice_get-get_or xs h.0 x h.1 ∙ ap (λ z. Some z) 
 pub none_of : (A : Type 0) (found : Option ℕ) (P : ℕ → Type 0) → MatchOption found A P → ((n : ℕ) → found ≡ Some n → ⊥) → A
 none_of A None P h not_some = h
 none_of A (Some n) P h not_some = absurd (not_some n refl)
+
+pub get_parts : {A : Type 0} (xs ys : List A) (k : ℕ) (x : A) → slice_get (xs ++ ys) k ≡ Some x → ((k < length xs) × (slice_get xs k ≡ Some x)) ⊎ ((length xs ≤ k) × Contains ys x)
+get_parts [] ys k x e = inr (omega arith, at_contained ys k x e)
+get_parts (z ∷ xs) ys zero x e = inl (omega arith, e)
+get_parts (z ∷ xs) ys (suc k) x e = elim (get_parts xs ys k x e) [
+  | inl h ↦ let lt = h.0 in inl (omega (arith, lt), h.1)
+  | inr h ↦ let le = h.0 in inr (omega (arith, le), h.1)
+]
+
+pub some_there : {A : Type 0} (xs : List A) (k : ℕ) → k < length xs → (x : A) × (slice_get xs k ≡ Some x)
+some_there [] k lt = absurd (omega arith)
+some_there (x ∷ xs) zero lt = (x, refl)
+some_there (x ∷ xs) (suc k) lt = some_there xs k (omega arith)
+
+pub all_flat : {X Y : Type 0} (P : Y → Type 0) (f : X → List Y) (xs : List X) → All (λ (x : X). All P (f x)) xs → All P (flat_map f xs)
+all_flat P f [] all = All-nil P
+all_flat {X} P f (x ∷ xs) all =
+    let Q : X → Type 0 = λ (z : X). All P (f z) in
+    All-append P (f x) (flat_map f xs) (All-head Q x xs all) (all_flat P f xs (All-tail Q x xs all))
+
+before : {Y : Type 0} (P : Y → Type 0) (xs ys : List Y) → All P (xs ++ ys) → All P xs
+before P [] ys h = All-nil P
+before P (x ∷ xs) ys h = All-cons P x xs (All-head P x (xs ++ ys) h) (before P xs ys (All-tail P x (xs ++ ys) h))
+
+behind : {Y : Type 0} (P : Y → Type 0) (xs ys : List Y) → All P (xs ++ ys) → All P ys
+behind P [] ys h = h
+behind P (x ∷ xs) ys h = behind P xs ys (All-tail P x (xs ++ ys) h)
+
+pub all_parts : {X Y : Type 0} (P : Y → Type 0) (f : X → List Y) (xs : List X) → All P (flat_map f xs) → All (λ (x : X). All P (f x)) xs
+all_parts {X} P f [] all = All-nil (λ (x : X). All P (f x))
+all_parts {X} P f (x ∷ xs) all =
+    All-cons (λ (z : X). All P (f z)) x xs (before P (f x) (flat_map f xs) all) (all_parts P f xs (behind P (f x) (flat_map f xs) all))

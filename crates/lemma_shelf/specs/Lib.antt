@@ -3,3 +3,4 @@ pub mod ItemFlaws
 pub mod Laws
 pub mod Lowering
 pub mod Tables
+pub mod Walks

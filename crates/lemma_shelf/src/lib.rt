@@ -12,6 +12,8 @@ mod present;
 mod reached;
 mod shelf;
 mod stated;
+mod table;
+mod walk;
 
 pub use check::check_items;
 pub use laws::flaw_law;

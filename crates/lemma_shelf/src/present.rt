@@ -8,10 +8,11 @@ use indexmap::IndexMap;
 use std::alloc::{AllocError, Global};
 use stn_core::Clause;
 
-/// For each clause of the book that a problem has its number there.
+/// For each clause of the book that is one of these clauses of a problem its number there.
 #[derive(Drop)]
-pub struct Present {
-    map: IndexMap<usize, usize>,
+pub struct Present<'a> {
+    pub clauses: &'a [Clause],
+    pub map: IndexMap<usize, usize>,
 }
 
 /// Notes the number of a clause that the book has.
@@ -31,23 +32,17 @@ fn note(
     Ok(())
 }
 
-impl Present {
-    /// Of no problem. It takes no memory yet.
-    pub fn none(alloc: Global) -> Self {
-        Present {
-            map: IndexMap::new(alloc),
-        }
-    }
-
+impl<'a> Present<'a> {
     /// Goes over the clauses once, and looks for each in the book by hash.
-    pub fn new(alloc: Global, book: &Book, clauses: &[Clause]) -> Result<Self, AllocError>
-        ensures { IfOk result (λ p. IsPresent book.now clauses.now clauses.now (get nat_eq p.map)) }
+    pub fn new(alloc: Global, book: &Book, clauses: &'a [Clause]) -> Result<Self, AllocError>
+        ensures clauses { IfOk result (λ p. p.clauses.now ≡ clauses.now) }
+        ensures present { IfOk result (λ p. IsPresent book.now clauses.now clauses.now (get nat_eq p.map)) }
     {
         let mut map = IndexMap::new(alloc);
         for i in 0..clauses.len() {
             note(&mut map, book, clauses, i)?;
         }
-        Ok(Present { map })
+        Ok(Present { clauses, map })
     }
 
     /// The number in the problem of the clause with this number in the book.

@@ -1,0 +1,28 @@
+-- Of the code and not of the meaning: the table and the walk over it, as the code has them.
+use Rattle.std.specs.Prelude.{◌≡◌, ℕ, List, Option, nat_eq}
+use Rattle.indexmap.specs.IndexMap.{get}
+use Rattle.stn_core.specs.declared.literal.Literal.{Literal}
+use Rattle.kept_lemmas.specs.Facts.{Facts}
+use Rattle.lemma_shelf.specs.declared.present.Present.{Present}
+use Rattle.lemma_shelf.specs.declared.table.Table.{Table}
+use Rattle.lemma_shelf.specs.declared.walk.Walk.{Walk}
+use Rattle.lemma_shelf.specs.Tables.{table_facts, IsTable, IsPresent, AreClosed}
+
+abbrev pub facts_in : Table → Facts
+facts_in table = table_facts table.book table.lemmas.items
+
+abbrev pub IsWhole : Table → Type 0
+IsWhole table = IsTable table.book table.lemmas.items table.points.items
+
+abbrev pub places : Present → ℕ → Option ℕ
+places present = get nat_eq present.map
+
+-- the table of numbers is of the clauses that it has
+abbrev pub IsOf : Table → Present → Type 0
+IsOf table present = IsPresent table.book present.clauses.now present.clauses.now (places present)
+
+-- the walk is over the table, in the problem with these clauses, and has closed all that it has reached
+pub record Knows (table : Table) (clauses : List (List Literal)) (walk : Walk) : Type 0 where
+  pub of : walk.present.clauses.now ≡ clauses
+  pub present : IsOf table walk.present
+  pub closed : AreClosed table.lemmas.items (places walk.present) walk.reached

@@ -1,0 +1,14 @@
+//! The lemmas that are some entry's own.
+use crate::book::Book;
+use refute_tree::Lemma;
+
+/// Each lemma that is an entry's own, once, in the order in which they came.
+#[derive(Drop)]
+pub struct Table {
+    /// The clauses of problems that the lemmas rest on.
+    pub book: Book,
+    /// The lemmas, whose steps name clauses by their numbers in the book, and lemmas by their numbers in this list.
+    pub lemmas: Vec<Lemma>,
+    /// Of each lemma how many time points a problem must have for it and all that it rests on.
+    pub points: Vec<u32>,
+}
