@@ -7,3 +7,4 @@ pub mod Few
 pub mod Ends
 pub mod TableFacts
 pub mod Walking
+pub mod Keeping

@@ -227,17 +227,17 @@ module _ (book : List (List Literal)) (lemmas : List Lemma) (points : List ℕ) 
       closed k n below got =
           let w = with_number_longer reached root in
           elim (get_parts reached w.more k n got) [
-          | inl h ↦ all_closed_longer place reached w.more now (steps_at lemmas n) (e ∙ w.longer) (all_at (IsClosed lemmas place reached) reached k n c.closed h.1)
-          | inr h ↦ absurd (omega (arith, h.0, below))
-        ]
+            | inl h ↦ all_closed_longer place reached w.more now (steps_at lemmas n) (e ∙ w.longer) (all_at (IsClosed lemmas place reached) reached k n c.closed h.1)
+            | inr h ↦ absurd (omega (arith, h.0, below))
+          ]
 
       needed : (k n : ℕ) → length reached ≤ k → slice_get (reached ++ (with_number_longer reached root).more) k ≡ Some n → Active root → Active n
       needed k n above got a =
           let w = with_number_longer reached root in
           elim (get_parts reached w.more k n got) [
-          | inl h ↦ absurd (omega (arith, h.0, above))
-          | inr h ↦ subst Active (sym (All-contains (λ (m : ℕ). m ≡ root) w.more n w.sources h.1)) a
-        ]
+            | inl h ↦ absurd (omega (arith, h.0, above))
+            | inr h ↦ subst Active (sym (All-contains (λ (m : ℕ). m ≡ root) w.more n w.sources h.1)) a
+          ]
 
   module _ (root : ℕ) (reached : List ℕ) (at n : ℕ) (w : Walks root reached at) (got : slice_get reached at ≡ Some n) where
     number_within : n < length lemmas
@@ -279,9 +279,9 @@ module _ (book : List (List Literal)) (lemmas : List Lemma) (points : List ℕ) 
             | inr h ↦ let in_reached = slice_get_within reached at n got in absurd (omega (arith, h.0, lt, in_reached))
           ]
           | inr ge ↦
-            let same : k ≡ at = omega (arith, below, ge) in
-            let here : n ≡ m = same_Some n m (sym (get_longer reached longer.more at n got) ∙ ap (λ (i : ℕ). slice_get (reached ++ longer.more) i) (sym same) ∙ is) in
-            subst (IsClosed lemmas place now) here (subst (λ (xs : List ℕ). All (StepIsClosed place xs) (steps_at lemmas n)) (sym e) (closes place reached (steps_at lemmas n) passes))
+              let same : k ≡ at = omega (arith, below, ge) in
+              let here : n ≡ m = same_Some n m (sym (get_longer reached longer.more at n got) ∙ ap (λ (i : ℕ). slice_get (reached ++ longer.more) i) (sym same) ∙ is) in
+              subst (IsClosed lemmas place now) here (subst (λ (xs : List ℕ). All (StepIsClosed place xs) (steps_at lemmas n)) (sym e) (closes place reached (steps_at lemmas n) passes))
         ]
 
         needed : (k m : ℕ) → at + 1 ≤ k → slice_get (reached ++ longer.more) k ≡ Some m → Active root → Active m

@@ -1,6 +1,10 @@
 //! The lemmas that are some entry's own.
+ghost use Rattle.std.specs.Prelude.{◌≡◌, []};
+ghost use Rattle.lemma_shelf.specs.Walks.{IsWhole};
+
 use crate::book::Book;
 use refute_tree::Lemma;
+use std::alloc::Global;
 
 /// Each lemma that is an entry's own, once, in the order in which they came.
 #[derive(Drop)]
@@ -11,4 +15,17 @@ pub struct Table {
     pub lemmas: Vec<Lemma>,
     /// Of each lemma how many time points a problem must have for it and all that it rests on.
     pub points: Vec<u32>,
+}
+
+impl Table {
+    pub fn new(alloc: Global) -> Self
+        ensures none { result.lemmas.items ≡ [] }
+        ensures whole { IsWhole result }
+    {
+        Table {
+            book: Book::new(alloc),
+            lemmas: Vec::new(alloc),
+            points: Vec::new(alloc),
+        }
+    }
 }

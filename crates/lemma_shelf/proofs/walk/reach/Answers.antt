@@ -23,9 +23,9 @@ index-requires c =
 pub returns-then-not-branch-clause-active : goal.returns-then-not-branch-clause-active
 returns-then-not-branch-clause-active c =
     let steps : c.reader.result ≡ steps_at c.args.table.now.lemmas.items c.at-number.result = steps_are c.args.table.now.lemmas.items c.at-number.result c.index.result.now c.reader.result
-        (slice_get_read c.args.table.now.lemmas.items (length c.args.table.now.lemmas.items) c.at-number.result c.index.result.now refl
-        (number_in c.args.table.now.book c.args.table.now.lemmas.items c.args.present.now.clauses.now (places c.args.present.now) c.args.root c.walk.reached c.walk.at c.at-number.result c.walk.invariant c.at-number.ensures) c.index.ensures)
-        c.reader.ensures in
+    (slice_get_read c.args.table.now.lemmas.items (length c.args.table.now.lemmas.items) c.at-number.result c.index.result.now refl
+    (number_in c.args.table.now.book c.args.table.now.lemmas.items c.args.present.now.clauses.now (places c.args.present.now) c.args.root c.walk.reached c.walk.at c.at-number.result c.walk.invariant c.at-number.ensures) c.index.ensures)
+    c.reader.ensures in
     stopped c.args.table.now.book c.args.table.now.lemmas.items c.args.table.now.points.items c.requires.table c.args.present.now.clauses.now (places c.args.present.now) c.requires.present
     c.args.root c.walk.reached c.walk.at c.at-number.result c.walk.invariant c.at-number.ensures
     (ap (list_all (step_passes (places c.args.present.now))) (sym steps) ∙ sym c.in_ok-visit.ensures.passes ∙ c.if-not-branch.true)
@@ -39,9 +39,9 @@ walk-smaller c =
 pub walk-preserved : goal.walk-preserved
 walk-preserved c =
     let steps : c.reader.result ≡ steps_at c.args.table.now.lemmas.items c.at-number.result = steps_are c.args.table.now.lemmas.items c.at-number.result c.index.result.now c.reader.result
-        (slice_get_read c.args.table.now.lemmas.items (length c.args.table.now.lemmas.items) c.at-number.result c.index.result.now refl
-        (number_in c.args.table.now.book c.args.table.now.lemmas.items c.args.present.now.clauses.now (places c.args.present.now) c.args.root c.walk.reached c.walk.at c.at-number.result c.walk.invariant c.at-number.ensures) c.index.ensures)
-        c.reader.ensures in
+    (slice_get_read c.args.table.now.lemmas.items (length c.args.table.now.lemmas.items) c.at-number.result c.index.result.now refl
+    (number_in c.args.table.now.book c.args.table.now.lemmas.items c.args.present.now.clauses.now (places c.args.present.now) c.args.root c.walk.reached c.walk.at c.at-number.result c.walk.invariant c.at-number.ensures) c.index.ensures)
+    c.reader.ensures in
     turn c.args.table.now.book c.args.table.now.lemmas.items c.args.table.now.points.items c.requires.table c.args.present.now.clauses.now (places c.args.present.now) c.requires.present
     c.args.root c.walk.reached c.walk.at c.at-number.result c.walk.invariant c.at-number.ensures
     c.visit.new.reached
