@@ -143,6 +143,50 @@ def deep(opening, depth, innermost="p", formula="{}"):
     return f"(declare-const p Bool) (declare-const x Int) (assert {formula.format(term)}) (check-sat)\n"
 
 
+def conditions(count):
+    return "".join(f"(declare-const p{i} Bool) " for i in range(count)) + "(declare-const x Int) (declare-const y Int)\n"
+
+
+def choices(depth):
+    """Int `ite` in one another."""
+    term = "".join(f"(ite p{i} y " for i in range(depth)) + "x" + ")" * depth
+    return conditions(depth) + f"(assert (<= {term} 0)) (check-sat)\n"
+
+
+def chained_choices(depth):
+    """Lets in lets; each variable is an Int `ite` of the one before it."""
+    lets = "".join(f"(let ((v{i + 1} (ite p{i} y {f'v{i}' if i else 'x'}))) " for i in range(depth))
+    return conditions(depth) + f"(assert {lets}(<= v{depth} 0){')' * depth}) (check-sat)\n"
+
+
+def stepped_choices(depth):
+    """Int `ite` and sums in one another."""
+    term = "".join(f"(+ 1 (ite p{i} y " for i in range(depth)) + "x" + "))" * depth
+    return conditions(depth) + f"(assert (<= {term} 0)) (check-sat)\n"
+
+
+def long_choice(summands):
+    """A sum of twelve Int `ite` and then of so many numerals; it is no difference."""
+    terms = [f"(ite p{i} x {i})" for i in range(12)] + [str(i) for i in range(summands)]
+    return conditions(12) + f"(assert (<= (+ {' '.join(terms)}) 0)) (check-sat)\n"
+
+
+def nested_sums(names):
+    """Sums of different names in one another, less all names but one."""
+    for i in range(names):
+        yield f"(declare-const n{i} Int)\n"
+    term = "".join(f"(+ n{i} " for i in range(names)) + "0" + ")" * names
+    yield f"(assert (<= (- {term} " + " ".join(f"n{i}" for i in range(1, names)) + ") 0))\n(check-sat)\n"
+
+
+def chained_sums(names):
+    """Lets in lets; each variable is the sum of one more name and the one before it."""
+    for i in range(names):
+        yield f"(declare-const n{i} Int)\n"
+    lets = "".join(f"(let ((s{i + 1} (+ n{i} {f's{i}' if i else '0'}))) " for i in range(names))
+    yield f"(assert {lets}(<= (- s{names} " + " ".join(f"n{i}" for i in range(1, names)) + ") 0)" + ")" * names + ")\n(check-sat)\n"
+
+
 def run(command, path, kept=None):
     with open(path, "rb") as script, open(kept, "wb+") if kept else tempfile.TemporaryFile() as out:
         start = time.monotonic()
@@ -181,6 +225,15 @@ def main():
         ("300,000 nested and", deep("and", 300_000)),
         ("100,000 nested ite", deep("ite p p", 100_000)),
         ("100,000 nested +", deep("+ 1", 100_000, "x", "(< {} 0)")),
+        ("1,000 nested ite of Int", choices(1_000)),
+        ("2,000 nested ite of Int", choices(2_000)),
+        ("4,095 nested ite of Int", choices(4_095)),
+        ("4,095 nested lets of such ite", chained_choices(4_095)),
+        ("2,000 nested ite and sums", stepped_choices(2_000)),
+        ("1,000 summands behind twelve ite", long_choice(1_000)),
+        ("20,000 summands behind twelve ite", long_choice(20_000)),
+        ("16,000 nested sums of names", nested_sums(16_000)),
+        ("8,000 nested lets of such sums", chained_sums(8_000)),
     ]
     certified = [
         ("8 jobs on one machine, 1 too little", machine(8, 35)),

@@ -22,6 +22,7 @@ PROFILE = 'opt-level = 3\ndebug = 1\nlto = "fat"\ncodegen-units = 1\npanic = "ab
 # what std has with an allocator, by the stand-in
 STAND_INS = [
     (r"#!?\[tactic\([^\]]*\)\]", ""),
+    (r"#\[cycle\([^\]]*\)\]", ""),
     (r"#\[derive\(Drop\)\]", ""),
     (r"(#\[derive\([^\]]*), Drop\)\]", r"\1)]"),
     (r"vec!\[in ", "shim::vec_in![in "),

@@ -1,3 +1,4 @@
 pub mod NamesKept
 pub mod NamesFound
 pub mod LocalsKept
+pub mod CasesUnfolded

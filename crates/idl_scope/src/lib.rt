@@ -6,10 +6,14 @@ mod locals;
 mod lowered;
 mod names;
 mod scope;
+mod shape;
+mod unfolding;
 
-pub use cases::{CASES_LIMIT, Case, Cases, branches};
+pub use cases::{CASES_LIMIT, Cases};
 pub use idl_linear::NAMES_LIMIT;
 pub use locals::Locals;
 pub use lowered::Lowered;
 pub use names::Names;
 pub use scope::{FoundName, Scope};
+pub use shape::Shape;
+pub use unfolding::{Case, Unfolded};

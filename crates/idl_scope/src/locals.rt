@@ -57,6 +57,9 @@ impl<'s, 'a> Locals<'s, 'a> {
         ensures is { FoundIs (found (scope_in self.now) name.now) result }
         ensures near { IsNearPlace result }
     {
+        if self.variables.is_empty() {
+            return self.scope.find(name);
+        }
         match self.latest.get(name) {
             Some(place) => FoundName::Bound(&self.variables[*place].term),
             None => self.scope.find(name),

@@ -6,7 +6,7 @@ ghost use Rattle.idl_scope.specs.Scopes.{linear_term, shown_term};
 use crate::cases::Cases;
 use idl_linear::Linear;
 use idl_node::Sort;
-use std::alloc::{AllocError, Global};
+use std::alloc::AllocError;
 
 /// What a term is made into.
 #[derive(Drop)]
@@ -19,10 +19,10 @@ pub enum Lowered {
 
 impl Lowered {
     /// An Int term without conditions.
-    pub fn number(alloc: Global, linear: Linear) -> Lowered
+    pub fn number(linear: Linear) -> Lowered
         ensures { shown_term result ≡ linear_term linear }
     {
-        Lowered::Number(Cases::plain(alloc, linear))
+        Lowered::Number(Cases::plain(linear))
     }
 
     /// An equal one in memory of its own.

@@ -1,5 +1,8 @@
 //! The names that terms may use.
-ghost use Rattle.std.specs.Prelude.{◌≡◌, ◌≤◌, ◌++◌, ◌∷◌, [], length, take, false, IfOk, OnOk, OnErr};
+ghost use Rattle.std.specs.Prelude.{◌≡◌, ◌<◌, ◌≤◌, ◌++◌, ◌∷◌, [], ℕ, List, length, take, false, is_some, IfSome, IfOk, OnOk, OnErr};
+ghost use Rattle.std.specs.List.{list_any, position};
+ghost use Rattle.std.specs.Str.{bytes_eq};
+ghost use denote.Ref.{Bor};
 ghost use Rattle.idl_scope.specs.Kept.{Declares, IsPlaceBelow, FoundIs};
 ghost use Rattle.idl_scope.specs.Scopes.{Scope as Meaning, found, is_known, shown_term};
 
@@ -44,6 +47,18 @@ impl<'a> Model for Scope<'a> {
     ghost invariant = { λ s. length s.defined.keys ≡ length s.terms.items };
 }
 
+/// The place of a name in a set. Where there is none in it, the name isn't hashed.
+fn place_among(set: &IndexSet<&[u8]>, name: &[u8]) -> Option<usize>
+    ensures index { result ≡ position (λ (k : Bor (List ℕ)). bytes_eq name.now k.now) set.now.keys }
+    ensures found { is_some result ≡ list_any (λ (k : Bor (List ℕ)). bytes_eq name.now k.now) set.now.keys }
+    ensures within { IfSome result (λ k. k < length set.now.keys) }
+{
+    if set.is_empty() {
+        return None;
+    }
+    set.get_index_of(name)
+}
+
 impl<'a> Scope<'a> {
     /// No names. It takes no memory yet.
     pub fn new(alloc: Global) -> Self
@@ -75,7 +90,7 @@ impl<'a> Scope<'a> {
         ensures found { FoundIs (found self.now name.now) result }
         ensures near { IsPlaceBelow (length self.now.declared) result }
     {
-        match self.defined.get_index_of(name) {
+        match place_among(&self.defined, name) {
             Some(place) => FoundName::Bound(&self.terms[place]),
             None => match self.names.find(name) {
                 Some((place, sort)) => FoundName::Declared(place, sort),
@@ -99,7 +114,7 @@ impl<'a> Scope<'a> {
         ensures ok { IfOk result (λ new. Declares self.old name.now sort new self.new) }
         ensures err { OnErr result (self.new ≡ self.old) }
     {
-        if self.defined.get_index_of(name).is_some() {
+        if place_among(&self.defined, name).is_some() {
             return Ok(false);
         }
         let new = self.names.add(name, sort)?;

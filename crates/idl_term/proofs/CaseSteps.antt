@@ -6,22 +6,18 @@ use Rattle.std.proofs.lemmas.Bool.Decides.{nat_tests}
 use Rattle.std.proofs.Math.Seq.{take-length}
 use Rattle.std.proofs.lemmas.List.{at_drop_more, length-append, length-map, map-append}
 use Rattle.std.proofs.lemmas.Option.{get_or_from_slice_get, slice_get_within}
-use Rattle.idl_linear.specs.Linear.{LinearValue, is_limited}
+use Rattle.idl_linear.specs.Linear.{LinearValue}
 use Rattle.idl_node.specs.Making.{disjoined}
 use Rattle.idl_node.specs.Nodes.{NodeValue, Placed}
-use Rattle.idl_scope.specs.Guarded.{CaseValue, plain_linear, unguarded, plain}
+use Rattle.idl_scope.specs.Guarded.{CaseValue}
 use Rattle.idl_scope.specs.Limits.{cases_limit}
-use Rattle.idl_term.specs.Applied.{a_number, as_number, linear_sum, sum_case, sum_cases, summed}
-use Rattle.idl_term.specs.Applying.{Sums, SumsTerms, plain_before, plain_linears}
-use Rattle.idl_term.specs.Choices.{Choice, with_case, with_term, choices_from, count_from, are_few, where_few}
+use Rattle.idl_term.specs.Choices.{Choice, with_case, with_term, choices_from, count_from, are_few}
 use Rattle.idl_term.specs.Comparing.{follows, or_too_large, compared, case_compared, both_cases, case_pairs, each_case_compared}
 use Rattle.idl_term.specs.Shapes.{GoesOn, Places}
 use Rattle.idl_term.specs.declared.comparing.Relation.{Relation}
 use Rattle.idl_term.specs.declared.error.TermError.{TermError}
 use Rattle.idl_term.specs.declared.error.TermError.TheVariants.{OutOfMemory, Refused}
 use Rattle.idl_term.specs.declared.error.TermRefusal.{TermRefusal}
-use Rattle.idl_term.specs.declared.error.TermRefusal.TheVariants.{BoundTooLarge}
-use Rattle.idl_term.specs.declared.operator.Sign.{Sign}
 use Rattle.idl_term.proofs.Arguments.{seen}
 
 -- ---- how many choices there are
@@ -64,98 +60,6 @@ count_taken terms i count capped term within at e =
     at_drop_more (λ (ts : List (Bor (List CaseValue))). are_few (count_from count (seen ts))) terms i term within
     ∙ ap (λ (b : Bor (List CaseValue)). are_few (count_from (count * length b.now) (seen (drop (i + 1) terms)))) at
     ∙ capped_by (count * length term.now) capped (seen (drop (i + 1) terms)) (nat_le (count * length term.now) cases_limit) refl e
-
--- ---- all choices
-
-more_left : {A : Type 0} (xs : List A) (ys : List A) → 0 < length xs → 0 < length (xs ++ ys)
-more_left [] ys h = absurd (omega (arith, h))
-more_left (x ∷ xs) ys h = omega arith
-
-some_mapped : {A B : Type 0} (f : A → B) (xs : List A) → 0 < length xs → 0 < length (map f xs)
-some_mapped f [] h = absurd (omega (arith, h))
-some_mapped f (x ∷ xs) h = omega arith
-
-some_with_term : (cs : List Choice) (cases : List CaseValue) → 0 < length cs → 0 < length cases → 0 < length (with_term cs cases)
-some_with_term [] cases h i = absurd (omega (arith, h))
-some_with_term (c ∷ cs) cases h i = more_left (map (with_case c) cases) (with_term cs cases) (some_mapped (with_case c) cases i)
-
--- one more term
-pub choices_taken : (all : List Choice) (so_far more : List Choice) (terms : List (Bor (List CaseValue))) (i : ℕ) (term : Bor (List CaseValue)) → i < length terms → get_or terms i term ≡ term
-    → all ≡ choices_from so_far (seen (drop i terms)) → more ≡ with_term so_far term.now → all ≡ choices_from more (seen (drop (i + 1) terms))
-choices_taken all so_far more terms i term within at e f =
-    e
-    ∙ at_drop_more (λ (ts : List (Bor (List CaseValue))). choices_from so_far (seen ts)) terms i term within
-    ∙ ap (λ (b : Bor (List CaseValue)). choices_from (with_term so_far b.now) (seen (drop (i + 1) terms))) at
-    ∙ ap (λ (cs : List Choice). choices_from cs (seen (drop (i + 1) terms))) (sym f)
-
-pub choices_some : (so_far more : List Choice) (cases : List CaseValue) → more ≡ with_term so_far cases → 0 < length so_far → 0 < length cases → 0 < length more
-choices_some so_far more cases e h i =
-    let same = ap length e in
-    let some = some_with_term so_far cases h i in
-    omega (arith, same, some)
-
--- ---- sums of terms without conditions
-
-abbrev case_of : List ℕ → LinearValue → CaseValue
-case_of guards l = record { guards = guards; linear = l }
-
-unguarded_is : (guards : List ℕ) (l m : LinearValue) → unguarded guards l ≡ Some m → case_of guards l ≡ case_of [] m
-unguarded_is [] l m e =
-    let same : l ≡ m = cc in
-    ap (case_of []) same
-unguarded_is (g ∷ guards) l m e = absurd cc
-
-pub plain_is : (cases : List CaseValue) (l : LinearValue) → plain_linear cases ≡ Some l → cases ≡ plain l
-plain_is [] l e = absurd cc
-plain_is (case ∷ []) l e = ap (λ (c : CaseValue). c ∷ []) (unguarded_is case.guards case.linear l e)
-plain_is (case ∷ other ∷ cases) l e = absurd cc
-
-before_is : (first : Option LinearValue) (rest : Option (List LinearValue)) (ls : List LinearValue) → plain_before first rest ≡ Some ls → (l : LinearValue) × (ms : List LinearValue) × (first ≡ Some l) × (rest ≡ Some ms) × (l ∷ ms ≡ ls)
-before_is None rest ls e = absurd cc
-before_is (Some l) None ls e = absurd cc
-before_is (Some l) (Some ms) ls e = let same : l ∷ ms ≡ ls = cc in (l, ms, refl, refl, same)
-
-plains_are : (terms : List (List CaseValue)) (ls : List LinearValue) → plain_linears terms ≡ Some ls → terms ≡ map plain ls
-plains_are [] ls e =
-    let same : [] ≡ ls = cc in
-    ap (map plain) same
-plains_are (cases ∷ terms) ls e =
-    let is = before_is (plain_linear cases) (plain_linears terms) ls e in
-    ap (λ (c : List CaseValue). c ∷ terms) (plain_is cases is.0 is.2)
-    ∙ ap (λ (ts : List (List CaseValue)). plain is.0 ∷ ts) (plains_are terms is.1 is.3)
-    ∙ ap (map plain) is.4
-
-plain_count : (ls : List LinearValue) → count_from 1 (map plain ls) ≡ 1
-plain_count [] = refl
-plain_count (l ∷ ls) = plain_count ls
-
-abbrev only_choice : List LinearValue → List Choice
-only_choice ls = record { guards = []; linears = ls } ∷ []
-
-plain_choices : (before ls : List LinearValue) → choices_from (only_choice before) (map plain ls) ≡ only_choice (before ++ ls)
-plain_choices before [] = ap only_choice (sym (append-nil before))
-plain_choices before (l ∷ ls) = plain_choices (before ++ l ∷ []) ls ∙ ap only_choice (append_assoc before (l ∷ []) ls)
-
-plain_summed : (s : Sign) (terms : List (List CaseValue)) (ls : List LinearValue) (nodes : List NodeValue) → plain_linears terms ≡ Some ls → summed s nodes terms ≡ as_number nodes (plain (linear_sum s ls))
-plain_summed s terms ls nodes e =
-    ap (summed s nodes) (plains_are terms ls e)
-    ∙ ap (λ (n : ℕ). where_few n (as_number nodes (sum_cases s (map plain ls)))) (plain_count ls)
-    ∙ ap (λ (cs : List Choice). as_number nodes (map (sum_case s) cs)) (plain_choices [] ls)
-
-pub plain_ok : (s : Sign) (terms : List (List CaseValue)) (ls : List LinearValue) (l : LinearValue) (cases : List CaseValue) → plain_linears terms ≡ Some ls → (l ≡ linear_sum s ls) × (is_limited (linear_sum s ls) ≡ true) → cases ≡ plain l
-    → (nodes : List NodeValue) → summed s nodes terms ≡ Ok (a_number nodes cases)
-plain_ok s terms ls l cases e h f nodes =
-    plain_summed s terms ls nodes e
-    ∙ ap (λ (b : Bool). cond (b && true) (Ok (a_number nodes (plain (linear_sum s ls)))) (Err BoundTooLarge)) h.1
-    ∙ ap (λ (m : LinearValue). Ok (a_number nodes (plain m))) (sym h.0)
-    ∙ ap (λ (cs : List CaseValue). Ok (a_number nodes cs)) (sym f)
-
-pub plain_err : (s : Sign) (terms : List (List CaseValue)) (ls : List LinearValue) (error : TermError) → plain_linears terms ≡ Some ls → Sums (linear_sum s ls) (Err error) → SumsTerms s terms (Err error)
-plain_err s terms ls OutOfMemory e h = tt
-plain_err s terms ls (Refused why) e h = λ nodes.
-    plain_summed s terms ls nodes e
-    ∙ ap (λ (b : Bool). cond (b && true) (Ok (a_number nodes (plain (linear_sum s ls)))) (Err BoundTooLarge)) h.1
-    ∙ ap (λ (w : TermRefusal). Err w) (sym h.0)
 
 -- ---- the pair in a case of each of its terms
 
@@ -239,36 +143,6 @@ module _ (r : Relation) (firsts bs : List CaseValue) (k : ℕ) (a : CaseValue) (
   pub rows_fail : (whole : Result Placed TermRefusal) (after : Result Placed TermRefusal) (now : List NodeValue) (error : TermError) → whole ≡ rows nodes members (drop k firsts) → GoesOn (row nodes members) after (Err error) → Places now whole (Err error)
   rows_fail whole after now OutOfMemory e h = tt
   rows_fail whole after now (Refused why) e h = e ∙ rows_at ∙ h
-
--- ---- one more choice
-
-take_at : {A : Type 0} (xs : List A) (k : ℕ) (x : A) → slice_get xs k ≡ Some x → take (suc k) xs ≡ take k xs ++ x ∷ []
-take_at [] k x e = absurd cc
-take_at (y ∷ ys) zero x e =
-    let same : y ≡ x = cc in
-    ap (λ z. z ∷ []) same
-take_at {A} (y ∷ ys) (suc k) x e = ap (λ (zs : List A). y ∷ zs) (take_at ys k x e)
-
-taken_more : (c : Choice) (cases : List CaseValue) (k : ℕ) (case : CaseValue) → slice_get cases k ≡ Some case → (old : List Choice) → (old ++ map (with_case c) (take k cases)) ++ with_case c case ∷ [] ≡ old ++ map (with_case c) (take (k + 1) cases)
-taken_more c cases k case at old =
-    let next : k + 1 ≡ suc k = omega arith in
-    append_assoc old (map (with_case c) (take k cases)) (with_case c case ∷ [])
-    ∙ ap (λ (cs : List Choice). old ++ cs) (sym (map-append (with_case c) (take k cases) (case ∷ [])) ∙ ap (λ (xs : List CaseValue). map (with_case c) xs) (sym (ap (λ (n : ℕ). take n cases) next ∙ take_at cases k case at)))
-
-pub copy_pushed : (c : Choice) (cases : List CaseValue) (k : ℕ) (case : CaseValue) → slice_get cases k ≡ Some case → (old before after : List Choice) (copied made : Choice) → copied ≡ c → made ≡ with_case copied case
-    → before ≡ old ++ map (with_case c) (take k cases) → after ≡ before ++ made ∷ [] → after ≡ old ++ map (with_case c) (take (k + 1) cases)
-copy_pushed c cases k case at old before after copied made e f g h =
-    h
-    ∙ ap (λ (m : Choice). before ++ m ∷ []) (f ∙ ap (λ (d : Choice). with_case d case) e)
-    ∙ ap (λ (cs : List Choice). cs ++ with_case c case ∷ []) g
-    ∙ taken_more c cases k case at old
-
-pub last_pushed : (c : Choice) (cases : List CaseValue) (case : CaseValue) (count : ℕ) → slice_get cases (count - 1) ≡ Some case → count ≡ length cases → 0 < length cases → (old before after : List Choice) (made : Choice) → made ≡ with_case c case
-    → before ≡ old ++ map (with_case c) (take (count - 1) cases) → after ≡ before ++ made ∷ [] → after ≡ old ++ map (with_case c) cases
-last_pushed c cases case count at counted some old before after made f g h =
-    let whole : (count - 1) + 1 ≡ length cases = omega (arith, counted, some) in
-    copy_pushed c cases (count - 1) case at old before after c made refl f g h
-    ∙ ap (λ (xs : List CaseValue). old ++ map (with_case c) xs) (ap (λ (n : ℕ). take n cases) whole ∙ take-length cases)
 
 -- ---- how many there are
 

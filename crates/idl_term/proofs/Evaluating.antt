@@ -1,5 +1,5 @@
 -- The value of a linear term, summand by summand, and how large it may be; and values of the names' sorts.
-use Rattle.std.proofs.Common.{refl, ap, sym, subst, ◌∙◌, arith, ◌≡◌, ◌<◌, ◌≤◌, ◌+◌, ◌*◌, ℕ, zero, suc, List, [], ◌∷◌, length, drop, get_or, slice_get, Bool, cond, Some, true, false, ℤ, pos, negsuc, neg_ℤ, ◌+ℤ◌, ◌*ℤ◌, ◌≤ℤ◌, FitsSigned, w64, to_z, of_z, unsigned_abs}
+use Rattle.std.proofs.Common.{refl, ap, sym, subst, ◌∙◌, arith, ◌≡◌, ◌<◌, ◌≤◌, ◌+◌, ◌*◌, ℕ, zero, suc, List, [], ◌∷◌, ◌++◌, length, map, drop, get_or, Bool, ◌&&◌, cond, Option, Some, None, true, false, ℤ, pos, negsuc, neg_ℤ, ◌+ℤ◌, ◌*ℤ◌, ◌≤ℤ◌, FitsSigned, w64, to_z, of_z, unsigned_abs}
 use Rattle.std.proofs.lemmas.Int.{ints, unsigned_abs-mul, fits_signed_mul, to_z-of_z}
 use Rattle.std.specs.Int.{w128}
 use Rattle.idl_linear.proofs.Merging.{within_low, within_high}
@@ -12,8 +12,9 @@ use Rattle.stn_core.specs.declared.named.NamedValue.TheVariants.{Int, Truth}
 use Rattle.stn_core.specs.Limits.{named_value_limit}
 use Rattle.stn_core.specs.Named.{IsWithinLimit, AreWithinLimit}
 use Rattle.idl_node.specs.Truth.{point_value, point_values, truth, AreTruths}
-use Rattle.idl_term.specs.Evaluating.{product_limit, IsCaseOver}
-use Rattle.std.proofs.lemmas.Option.{get_or_from_slice_get, slice_get_within}
+use Rattle.std.specs.Prelude.{is_some, unwrap_or}
+use Rattle.idl_term.specs.Evaluating.{product_limit, IsCaseOver, first_value}
+use Rattle.std.proofs.lemmas.Option.{slice_get_within}
 use Rattle.idl_node.specs.declared.sort.Sort.{Sort}
 use Rattle.idl_node.specs.declared.sort.Sort.TheVariants as sort
 use Rattle.idl_node.specs.Nodes.{NodeValue}
@@ -21,8 +22,8 @@ use Rattle.idl_node.specs.Sorts.{IsIntPoint, IsAtomFor, AreOfSorts}
 use Rattle.idl_node.specs.Tables.{IsTableOf, IsTableOver}
 use Rattle.idl_node.proofs.Keeping.{table_of-better}
 use Rattle.idl_node.proofs.Truths.{list_all-agree}
-use Rattle.idl_term.specs.Meanings.{holds, cases_value, IsCaseIn, IsTermIn}
-use Rattle.idl_scope.specs.Guarded.{CaseValue}
+use Rattle.idl_term.specs.Meanings.{cases_value, IsCaseIn, IsTermIn}
+use Rattle.idl_scope.specs.Guarded.{CaseValue, plain, guarded, branched}
 use Rattle.idl_scope.specs.Scopes.{numeric}
 use Rattle.idl_linear.specs.declared.summand.Summand.{Summand}
 use Rattle.idl_linear.specs.Forms.{AscendAbove, IsLinear}
@@ -159,29 +160,105 @@ module _ (sorts : List Sort) (values : List NamedValue) (fits : AreOfSorts sorts
 
 -- ---- the case whose guards are true
 
-pub all_at : {A : Type 0} (P : A → Type 0) (xs : List A) (k : ℕ) (x : A) → AllByRecursion P xs → slice_get xs k ≡ Some x → P x
-all_at P [] k x h e = absurd cc
-all_at P (y ∷ ys) zero x h e =
-    let same : y ≡ x = cc in
-    subst P same h.0
-all_at P (y ∷ ys) (suc k) x h e = all_at P ys k x h.1 e
+module _ (test : ℕ → Bool) (values : List ℤ) where
+  abbrev first : List CaseValue → Option ℤ
+  first cases = first_value test values cases
+
+  -- the first one's, where there is one, else the second one's
+  abbrev either_one : Option ℤ → Option ℤ → Option ℤ
+  either_one (Some z) other = Some z
+  either_one None other = other
+
+  either_by : (b : Bool) (z : ℤ) (o p : Option ℤ) → cond b (Some z) (either_one o p) ≡ either_one (cond b (Some z) o) p
+  either_by true z o p = refl
+  either_by false z o p = refl
+
+  first-append : (xs ys : List CaseValue) → first (xs ++ ys) ≡ either_one (first xs) (first ys)
+  first-append [] ys = refl
+  first-append (x ∷ xs) ys =
+      ap (λ (o : Option ℤ). cond (list_all test x.guards) (Some (linear_value values x.linear)) o) (first-append xs ys)
+      ∙ either_by (list_all test x.guards) (linear_value values x.linear) (first xs) (first ys)
+
+  pub first_here : (g : ℕ) (xs : List CaseValue) → test g ≡ true → first (map (guarded g) xs) ≡ first xs
+  first_here g [] e = refl
+  first_here g (x ∷ xs) e =
+      ap (λ (b : Bool). cond (b && list_all test x.guards) (Some (linear_value values x.linear)) (first (map (guarded g) xs))) e
+      ∙ ap (λ (o : Option ℤ). cond (list_all test x.guards) (Some (linear_value values x.linear)) o) (first_here g xs e)
+
+  pub first_not_here : (g : ℕ) (xs : List CaseValue) → test g ≡ false → first (map (guarded g) xs) ≡ None
+  first_not_here g [] e = refl
+  first_not_here g (x ∷ xs) e =
+      ap (λ (b : Bool). cond (b && list_all test x.guards) (Some (linear_value values x.linear)) (first (map (guarded g) xs))) e ∙ first_not_here g xs e
+
+  module _ (cases a b : List CaseValue) (c d : ℕ) (e : cases ≡ branched c d a b) where
+    of_both : first cases ≡ either_one (first (map (guarded c) a)) (first (map (guarded d) b))
+    of_both = ap first e ∙ first-append (map (guarded c) a) (map (guarded d) b)
+
+    pub in_first : (found : Option ℤ) → is_some found ≡ true → found ≡ first (map (guarded c) a) → found ≡ first cases
+    in_first (Some z) t f = sym (of_both ∙ ap (λ (o : Option ℤ). either_one o (first (map (guarded d) b))) (sym f))
+    in_first None t f = absurd cc
+
+    pub in_second : (found other : Option ℤ) → is_some found ≡ false → found ≡ first (map (guarded c) a) → other ≡ first (map (guarded d) b) → other ≡ first cases
+    in_second (Some z) other t f h = absurd cc
+    in_second None other t f h = h ∙ sym (of_both ∙ ap (λ (o : Option ℤ). either_one o (first (map (guarded d) b))) (sym f))
+
+-- both branches are over the time points and the nodes, and so are their guards
+module _ (count nodes : ℕ) where
+  abbrev AreOver : List CaseValue → Type 0
+  AreOver cases = AllByRecursion (IsCaseOver count nodes) cases
+
+  first_part : (xs ys : List CaseValue) → AreOver (xs ++ ys) → AreOver xs
+  first_part [] ys h = tt
+  first_part (x ∷ xs) ys h = (h.0, first_part xs ys h.1)
+
+  second_part : (xs ys : List CaseValue) → AreOver (xs ++ ys) → AreOver ys
+  second_part [] ys h = h
+  second_part (x ∷ xs) ys h = second_part xs ys h.1
+
+  without_guard : (g : ℕ) (xs : List CaseValue) → AreOver (map (guarded g) xs) → AreOver xs
+  without_guard g [] h = tt
+  without_guard g (x ∷ xs) h = (record { guards = h.0.guards.1; points = h.0.points }, without_guard g xs h.1)
+
+  guard_over : (g : ℕ) (xs : List CaseValue) → 0 < length xs → AreOver (map (guarded g) xs) → g < nodes
+  guard_over g [] some h = absurd (omega (arith, some))
+  guard_over g (x ∷ xs) some h = h.0.guards.0
+
+  module _ (cases a b : List CaseValue) (c d : ℕ) (e : cases ≡ branched c d a b) (h : AreOver cases) where
+    both_over : AreOver (map (guarded c) a ++ map (guarded d) b)
+    both_over = subst AreOver e h
+
+    pub first_over : AreOver a
+    first_over = without_guard c a (first_part (map (guarded c) a) (map (guarded d) b) both_over)
+
+    pub second_over : AreOver b
+    second_over = without_guard d b (second_part (map (guarded c) a) (map (guarded d) b) both_over)
+
+    pub first_guard : 0 < length a → c < nodes
+    first_guard some = guard_over c a some (first_part (map (guarded c) a) (map (guarded d) b) both_over)
+
+    pub second_guard : 0 < length b → d < nodes
+    second_guard some = guard_over d b some (second_part (map (guarded c) a) (map (guarded d) b) both_over)
+
+  pub plain_over : (cases : List CaseValue) (l : LinearValue) → cases ≡ plain l → AreOver cases → AllByRecursion (λ (s : Summand). s.point < count) l.summands
+  plain_over cases l e h = (subst AreOver e h).0.points
 
 module _ (nodes : List NodeValue) (values : List ℤ) where
-  -- marks that tell the truth tell it of guards
-  pub marks_tell : (marks : List Bool) (guards : List ℕ) → AreTruths nodes values marks → AllByRecursion (λ g. g < length marks) guards → list_all (λ j. get_or marks j false) guards ≡ list_all (truth nodes values) guards
-  marks_tell marks guards truths there = list_all-agree (λ j. get_or marks j false) (truth nodes values) (length marks) truths.each guards there
+  -- the value of the first case, or 0
+  found_by : (b : Bool) (z m : ℤ) (o : Option ℤ) → unwrap_or o (pos 0) ≡ m → unwrap_or (cond b (Some z) o) (pos 0) ≡ cond b z m
+  found_by true z m o f = refl
+  found_by false z m o f = f
 
-  module _ (cases : List CaseValue) (k : ℕ) (case : CaseValue) (at : slice_get cases k ≡ Some case) where
-    value_at_case : (b : Bool) → b ≡ holds nodes values case → cases_value nodes values (drop k cases) ≡ cond b (linear_value values case.linear) (cases_value nodes values (drop (k + 1) cases))
-    value_at_case b e =
-        at_drop_more (cases_value nodes values) cases k case (slice_get_within cases k case at)
-        ∙ ap (λ (c : CaseValue). cases_value nodes values (c ∷ drop (k + 1) cases)) (get_or_from_slice_get cases k case case at)
-        ∙ ap (λ (u : Bool). cond u (linear_value values case.linear) (cases_value nodes values (drop (k + 1) cases))) (sym e)
+  found_in : (cases : List CaseValue) → unwrap_or (first_value (truth nodes values) values cases) (pos 0) ≡ cases_value nodes values cases
+  found_in [] = refl
+  found_in (x ∷ xs) = found_by (list_all (truth nodes values) x.guards) (linear_value values x.linear) (cases_value nodes values xs) (first_value (truth nodes values) values xs) (found_in xs)
 
-    -- the case's guards are true, or some of them isn't
-    pub value_here : (b : Bool) (l : LinearValue) (z : ℤ) → b ≡ holds nodes values case → b ≡ true → l ≡ case.linear → z ≡ linear_value values l → cases_value nodes values cases ≡ cases_value nodes values (drop k cases) → z ≡ cases_value nodes values cases
-    value_here b l z e f g h i =
-        h ∙ ap (linear_value values) g ∙ sym (i ∙ value_at_case b e ∙ ap (λ (u : Bool). cond u (linear_value values case.linear) (cases_value nodes values (drop (k + 1) cases))) f)
+  pub value_found : (cases : List CaseValue) (found : Option ℤ) (n : ℤ) → found ≡ first_value (truth nodes values) values cases → n ≡ unwrap_or found (pos 0) → n ≡ cases_value nodes values cases
+  value_found cases found n e f = f ∙ ap (λ (o : Option ℤ). unwrap_or o (pos 0)) e ∙ found_in cases
 
-    pub value_behind : (b : Bool) → b ≡ holds nodes values case → b ≡ false → cases_value nodes values cases ≡ cases_value nodes values (drop k cases) → cases_value nodes values cases ≡ cases_value nodes values (drop (k + 1) cases)
-    value_behind b e f i = i ∙ value_at_case b e ∙ ap (λ (u : Bool). cond u (linear_value values case.linear) (cases_value nodes values (drop (k + 1) cases))) f
+  -- marks that tell the truth find the same case
+  pub first_told : (marks : List Bool) (cases : List CaseValue) (count : ℕ) → AreTruths nodes values marks → AllByRecursion (IsCaseOver count (length marks)) cases
+      → first_value (λ g. get_or marks g false) values cases ≡ first_value (truth nodes values) values cases
+  first_told marks [] count truths h = refl
+  first_told marks (x ∷ xs) count truths h =
+      ap (λ (b : Bool). cond b (Some (linear_value values x.linear)) (first_value (λ g. get_or marks g false) values xs)) (list_all-agree (λ j. get_or marks j false) (truth nodes values) (length marks) truths.each x.guards h.0.guards)
+      ∙ ap (λ (o : Option ℤ). cond (list_all (truth nodes values) x.guards) (Some (linear_value values x.linear)) o) (first_told marks xs count truths h.1)

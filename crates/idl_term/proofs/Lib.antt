@@ -12,6 +12,7 @@ pub mod Arguments
 pub mod ComparisonNodes
 pub mod PairsCompared
 pub mod CaseSteps
+pub mod ChoiceSums
 pub mod SumsOfTerms
 pub mod Leaves
 pub mod TreesOfIds

@@ -1,5 +1,5 @@
 -- What the code's own calls give on the way to an application. These are words of the code, and no part of the meaning.
-use Rattle.std.specs.Prelude.{◌≡◌, List, [], ◌∷◌, true, false, Option, Some, None, Result, Ok, Err}
+use Rattle.std.specs.Prelude.{◌≡◌, ℕ, List, [], ◌∷◌, true, false, Option, Result, Ok, Err}
 use Rattle.stn_core.specs.declared.literal.Literal.{Literal}
 use Rattle.idl_linear.specs.declared.error.DifferenceRefusal.{DifferenceRefusal}
 use Rattle.idl_linear.specs.declared.error.LinearRefusal.{LinearRefusal}
@@ -10,8 +10,9 @@ use Rattle.idl_node.specs.declared.error.NodeError.TheVariants as node
 use Rattle.idl_node.specs.declared.error.NodeRefusal.TheVariants as full
 use Rattle.idl_node.specs.Making.{then}
 use Rattle.idl_node.specs.Nodes.{NodeValue, atom, conjunction, disjunction, Placed, placed}
-use Rattle.idl_scope.specs.Guarded.{CaseValue, plain_linear}
+use Rattle.idl_scope.specs.Guarded.{CaseValue}
 use Rattle.idl_term.specs.Applied.{a_number, are_limited, summed}
+use Rattle.idl_term.specs.Choices.{choices_from, count_from, only_choice}
 use Rattle.idl_term.specs.Comparing.{refusal_of}
 use Rattle.idl_term.specs.declared.operator.Sign.{Sign}
 use Rattle.idl_term.specs.declared.error.TermError.{TermError}
@@ -42,12 +43,7 @@ both_atoms nodes l m = then (placed nodes (atom l)) (λ p. then (placed p.nodes 
 abbrev pub either_atom : List NodeValue → Literal → Literal → Option Placed
 either_atom nodes l m = then (placed nodes (atom l)) (λ p. then (placed p.nodes (atom m)) (λ q. placed q.nodes (disjunction (p.number ∷ q.number ∷ []))))
 
--- the sum in one choice, in each of some, and of some terms, where it is within the limits; want of memory says nothing
-abbrev pub SumsCase : CaseValue → Result CaseValue TermError → Type 0
-SumsCase case (Ok c) = (c ≡ case) × (is_limited case.linear ≡ true)
-SumsCase case (Err (Refused why)) = (why ≡ BoundTooLarge) × (is_limited case.linear ≡ false)
-SumsCase case (Err OutOfMemory) = Unit {0}
-
+-- the sums in some choices, and of some terms, where they are within the limits; want of memory says nothing
 abbrev pub SumsCases : List CaseValue → Result (List CaseValue) TermError → Type 0
 SumsCases cases (Ok cs) = (cs ≡ cases) × (are_limited cases ≡ true)
 SumsCases cases (Err (Refused why)) = (why ≡ BoundTooLarge) × (are_limited cases ≡ false)
@@ -58,11 +54,7 @@ SumsTerms s terms (Ok cs) = (nodes : List NodeValue) → summed s nodes terms �
 SumsTerms s terms (Err (Refused why)) = (nodes : List NodeValue) → summed s nodes terms ≡ Err why
 SumsTerms s terms (Err OutOfMemory) = Unit {0}
 
--- the linear terms of terms without conditions
-abbrev pub plain_before : Option LinearValue → Option (List LinearValue) → Option (List LinearValue)
-plain_before (Some l) (Some ls) = Some (l ∷ ls)
-plain_before _ _ = None
-
-abbrev pub plain_linears : List (List CaseValue) → Option (List LinearValue)
-plain_linears [] = Some []
-plain_linears (cases ∷ terms) = plain_before (plain_linear cases) (plain_linears terms)
+-- the choices of some terms behind these linear terms are those of the rest behind more of them, and as many
+pub record GoesPast (old new : List LinearValue) (terms rest : List (List CaseValue)) : Type 0 where
+  pub choices : choices_from (only_choice old) terms ≡ choices_from (only_choice new) rest
+  pub count : (k : ℕ) → count_from k terms ≡ count_from k rest

@@ -42,3 +42,11 @@ are_few count = nat_le count cases_limit
 -- what is made of so many cases, where they aren't too many
 abbrev pub where_few : {A : Type 0} → ℕ → Result A TermRefusal → Result A TermRefusal
 where_few count made = if are_few count then made else Err TooManyCases
+
+-- a choice of linear terms alone
+abbrev pub only_choice : List LinearValue → List Choice
+only_choice ls = record { guards = []; linears = ls } ∷ []
+
+-- with each case of one more term
+abbrev pub with_each : List LinearValue → List CaseValue → List Choice
+with_each ls cases = map (with_case (record { guards = []; linears = ls })) cases

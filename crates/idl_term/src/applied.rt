@@ -11,7 +11,7 @@ use crate::comparing::{Relation, compare_all};
 use crate::error::{TermError, TermRefusal};
 use crate::operator::{Connective, Equality, Operator, Order, Sign};
 use idl_node::{NodeError, Nodes};
-use idl_scope::{CASES_LIMIT, Cases, Lowered, branches};
+use idl_scope::{CASES_LIMIT, Cases, Lowered};
 use std::alloc::{AllocFailed, Global};
 
 /// The nodes of terms that are all Bool.
@@ -226,7 +226,7 @@ fn choose_number(
         return Err(TermError::Refused(TermRefusal::TooManyCases));
     }
     let denial = nodes.negate(condition)?;
-    let cases = branches(alloc, condition, denial, yes, no)?;
+    let cases = Cases::branched(alloc, condition, denial, yes.copy()?, no.copy()?)?;
     Ok(Lowered::Number(cases))
 }
 

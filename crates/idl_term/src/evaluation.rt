@@ -1,6 +1,6 @@
 //! The value of an Int term.
-ghost use Rattle.std.specs.Prelude.{◌≡◌, ◌<◌, ◌+◌, ◌*ℤ◌, ◌≤ℤ◌, neg_ℤ, pos, IfOk, List, length, slice_index_or, true, false};
-ghost use Rattle.std.specs.List.{AllByRecursion, list_all};
+ghost use Rattle.std.specs.Prelude.{◌≡◌, ◌<◌, ◌+◌, ◌*ℤ◌, ◌≤ℤ◌, neg_ℤ, pos, IfOk, List, length, map, slice_index_or, true, false};
+ghost use Rattle.std.specs.List.{AllByRecursion};
 ghost use Rattle.stn_core.specs.Literal.{value_at};
 ghost use Rattle.stn_core.specs.Named.{AreWithinLimit};
 ghost use Rattle.idl_linear.specs.Limits.{coefficient_limit};
@@ -10,12 +10,13 @@ ghost use Rattle.idl_linear.specs.declared.summand.Summand.{Summand as OneSumman
 ghost use Rattle.idl_node.specs.Nodes.{NodeValue};
 ghost use Rattle.idl_node.specs.Tables.{IsTableOver};
 ghost use Rattle.idl_node.specs.Truth.{point_values, truth, AreTruths};
-ghost use Rattle.idl_term.specs.Evaluating.{product_limit, IsCaseOver};
+ghost use Rattle.idl_scope.specs.Guarded.{guarded};
+ghost use Rattle.idl_term.specs.Evaluating.{product_limit, IsCaseOver, first_value};
 ghost use Rattle.idl_term.specs.Meanings.{cases_value};
 
 use idl_linear::{Linear, Summand};
 use idl_node::{Nodes, eval, eval_on, point_value};
-use idl_scope::Cases;
+use idl_scope::{Cases, Shape};
 use std::alloc::AllocError;
 use stn_core::{NamedValue, NamedValues, Value};
 
@@ -48,17 +49,43 @@ fn eval_linear(linear: &Linear, values: &NamedValues) -> Value
     sum
 }
 
-/// Whether all of the guards are true, by the marks of the nodes.
-fn all_marked(guards: &[u32], marks: &[bool]) -> bool
-    requires { AllByRecursion (λ g. g < length marks.now) guards.now }
-    ensures { result ≡ list_all (λ j. slice_index_or marks.now j false) guards.now }
+/// The value of the first case whose guards are all true, by the marks of the nodes.
+#[cycle(marked)]
+fn first_marked(cases: &Cases, values: &NamedValues, marks: &[bool]) -> Option<Value>
+    requires cases { AllByRecursion (IsCaseOver (length values.now + 1) (length marks.now)) cases.now }
+    requires within { AreWithinLimit values.now }
+    ensures { result ≡ first_value (λ g. slice_index_or marks.now g false) (point_values values.now) cases.now }
 {
-    for guard in guards {
-        if !marks[*guard as usize] {
-            return false;
+    match cases.shape() {
+        Shape::Plain(linear) => Some(eval_linear(linear, values)),
+        Shape::Branched {
+            condition,
+            denial,
+            yes,
+            no,
+        } => {
+            let first = first_behind(condition, yes, values, marks);
+            if first.is_some() {
+                return first;
+            }
+            first_behind(denial, no, values, marks)
         }
     }
-    true
+}
+
+/// The same of cases behind one more guard.
+#[cycle(marked)]
+fn first_behind(guard: u32, cases: &Cases, values: &NamedValues, marks: &[bool]) -> Option<Value>
+    requires guard { guard < length marks.now }
+    requires cases { AllByRecursion (IsCaseOver (length values.now + 1) (length marks.now)) cases.now }
+    requires within { AreWithinLimit values.now }
+    ensures { result ≡ first_value (λ g. slice_index_or marks.now g false) (point_values values.now) (map (guarded guard) cases.now) }
+{
+    if marks[guard as usize] {
+        first_marked(cases, values, marks)
+    } else {
+        None
+    }
 }
 
 /// The value of the case whose guards are true, by the marks of the nodes.
@@ -68,13 +95,7 @@ fn eval_marked(cases: &Cases, values: &NamedValues, marks: &[bool]) -> Value
     ensures { (nodes : List NodeValue) → AreTruths nodes (point_values values.now) marks.now
         → result ≡ cases_value nodes (point_values values.now) cases.now }
 {
-    for k in 0..cases.len() {
-        let case = cases.at(k);
-        if all_marked(case.guards(), marks) {
-            return eval_linear(case.linear(), values);
-        }
-    }
-    0
+    first_marked(cases, values, marks).unwrap_or(0)
 }
 
 /// The value of an Int term of the table where the names have these values: that of the case whose guards are true. `marks` is
@@ -95,25 +116,63 @@ pub fn eval_int(cases: &Cases, nodes: &Nodes, values: &NamedValues, marks: &mut 
     eval_marked(cases, values, marks)
 }
 
-/// Whether all of the guards are true. `marks` tells the truth of the table's first nodes, and then that of as many as were asked for.
-fn all_true(
-    guards: &[u32],
+/// The value of the first case whose guards are all true. `marks` tells the truth of the table's first nodes, and then that of as many
+/// as were asked for.
+#[cycle(asked)]
+fn first_true(
+    cases: &Cases,
     nodes: &Nodes,
     values: &NamedValues,
     marks: &mut Vec<bool>,
-) -> Result<bool, AllocError>
+) -> Result<Option<Value>, AllocError>
     requires table { IsTableOver (length values.now + 1) nodes.now }
-    requires guards { AllByRecursion (λ g. g < length nodes.now) guards.now }
+    requires cases { AllByRecursion (IsCaseOver (length values.now + 1) (length nodes.now)) cases.now }
+    requires within { AreWithinLimit values.now }
     requires marks { AreTruths nodes.now (point_values values.now) marks.old.items }
-    ensures truth { IfOk result (λ b. b ≡ list_all (truth nodes.now (point_values values.now)) guards.now) }
+    ensures value { IfOk result (λ o. o
+        ≡ first_value (truth nodes.now (point_values values.now)) (point_values values.now) cases.now) }
     ensures marks { AreTruths nodes.now (point_values values.now) marks.new.items }
 {
-    for guard in guards {
-        if !eval_on(nodes, *guard, values, marks)? {
-            return Ok(false);
+    match cases.shape() {
+        Shape::Plain(linear) => Ok(Some(eval_linear(linear, values))),
+        Shape::Branched {
+            condition,
+            denial,
+            yes,
+            no,
+        } => {
+            let first = first_true_behind(condition, yes, nodes, values, marks)?;
+            if first.is_some() {
+                return Ok(first);
+            }
+            first_true_behind(denial, no, nodes, values, marks)
         }
     }
-    Ok(true)
+}
+
+/// The same of cases behind one more guard.
+#[cycle(asked)]
+fn first_true_behind(
+    guard: u32,
+    cases: &Cases,
+    nodes: &Nodes,
+    values: &NamedValues,
+    marks: &mut Vec<bool>,
+) -> Result<Option<Value>, AllocError>
+    requires table { IsTableOver (length values.now + 1) nodes.now }
+    requires guard { guard < length nodes.now }
+    requires cases { AllByRecursion (IsCaseOver (length values.now + 1) (length nodes.now)) cases.now }
+    requires within { AreWithinLimit values.now }
+    requires marks { AreTruths nodes.now (point_values values.now) marks.old.items }
+    ensures value { IfOk result (λ o. o ≡ first_value (truth nodes.now (point_values values.now))
+        (point_values values.now) (map (guarded guard) cases.now)) }
+    ensures marks { AreTruths nodes.now (point_values values.now) marks.new.items }
+{
+    if eval_on(nodes, guard, values, marks)? {
+        first_true(cases, nodes, values, marks)
+    } else {
+        Ok(None)
+    }
 }
 
 /// The value of an Int term of the table where the names have these values: that of the case whose guards are true. `marks` tells
@@ -131,11 +190,6 @@ pub fn eval_int_on(
     ensures value { IfOk result (λ n. n ≡ cases_value nodes.now (point_values values.now) cases.now) }
     ensures marks { AreTruths nodes.now (point_values values.now) marks.new.items }
 {
-    for k in 0..cases.len() {
-        let case = cases.at(k);
-        if all_true(case.guards(), nodes, values, marks)? {
-            return Ok(eval_linear(case.linear(), values));
-        }
-    }
-    Ok(0)
+    let found = first_true(cases, nodes, values, marks)?;
+    Ok(found.unwrap_or(0))
 }

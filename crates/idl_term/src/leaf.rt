@@ -25,7 +25,7 @@ use std::alloc::Global;
 use stn_core::Literal;
 
 /// What a name stands for.
-fn lower_found(alloc: Global, meaning: FoundName, nodes: &mut Nodes) -> Result<Lowered, TermError>
+fn lower_found(meaning: FoundName, nodes: &mut Nodes) -> Result<Lowered, TermError>
     requires near { IsNearPlace meaning }
     ensures makes { (found : Found) → FoundIs found meaning.entry
         → Lowers nodes.new (lowered_found nodes.old found) result }
@@ -35,7 +35,7 @@ fn lower_found(alloc: Global, meaning: FoundName, nodes: &mut Nodes) -> Result<L
         FoundName::Declared(place, sort) => {
             let point = place as u32 + 1;
             match sort {
-                Sort::Int => Ok(Lowered::number(alloc, Linear::point(point))),
+                Sort::Int => Ok(Lowered::number(Linear::point(point))),
                 Sort::Bool => as_formula(nodes.place(Node::Atom(Literal {
                     x: point,
                     y: 0,
@@ -50,7 +50,6 @@ fn lower_found(alloc: Global, meaning: FoundName, nodes: &mut Nodes) -> Result<L
 
 /// A symbol, with what it was found to be. After an error the table may be longer.
 pub fn lower_symbol(
-    alloc: Global,
     name: &[u8],
     meaning: FoundName,
     nodes: &mut Nodes,
@@ -69,7 +68,7 @@ pub fn lower_symbol(
     if is_reserved(name) {
         return Err(TermError::Refused(TermRefusal::IllFormedTerm));
     }
-    lower_found(alloc, meaning, nodes)
+    lower_found(meaning, nodes)
 }
 
 /// The number that digits stand for.
@@ -79,7 +78,7 @@ fn lower_numeral(alloc: Global, digits: &[u8]) -> Result<Lowered, TermError>
 {
     match numeral_value(digits) {
         Some(value) if value <= CONSTANT_LIMIT => {
-            Ok(Lowered::number(alloc, Linear::number(alloc, value as i64)))
+            Ok(Lowered::number(Linear::number(alloc, value as i64)))
         }
         _ => Err(TermError::Refused(TermRefusal::BoundTooLarge)),
     }

@@ -24,7 +24,7 @@ pub use evaluation::{eval_int, eval_int_on};
 pub use examples::{worked_terms, worked_values};
 pub use idl_linear::Linear;
 pub use idl_node::{Node, Nodes, Sort, eval};
-pub use idl_scope::{CASES_LIMIT, Case, Cases, FoundName, Lowered, Names, Scope};
+pub use idl_scope::{CASES_LIMIT, Cases, FoundName, Lowered, Names, Scope};
 pub use laws::{cases_law, context_law, lowered_law};
 pub use lowering::lower;
 pub use operator::{Connective, Equality, Operator, Order, Sign};

@@ -104,7 +104,7 @@ impl<'s, 'a> Machine<'s, 'a> {
         ensures front { take (length nodes.old) nodes.new ≡ nodes.old }
     {
         let value = match kind {
-            TokenKind::Symbol => lower_symbol(self.alloc, text, self.locals.find(text), nodes)?,
+            TokenKind::Symbol => lower_symbol(text, self.locals.find(text), nodes)?,
             _ => lower_token(self.alloc, kind, text)?,
         };
         self.values.push(value)?;

@@ -10,7 +10,7 @@ ghost use Rattle.idl_term.specs.declared.comparing.Relation.{Relation as Relatio
 use crate::comparing::{Relation, compare_two, conjoin, disjoin};
 use crate::error::{TermError, TermRefusal};
 use idl_node::Nodes;
-use idl_scope::{CASES_LIMIT, Case, Cases};
+use idl_scope::{CASES_LIMIT, Case, Cases, Unfolded};
 use std::alloc::Global;
 
 /// The denials of the guards, behind the members.
@@ -50,7 +50,7 @@ fn compare_each(
     nodes: &mut Nodes,
     relation: Relation,
     a: &Case,
-    b: &Cases,
+    b: &Unfolded,
     parts: &mut Vec<u32>,
 ) -> Result<(), TermError>
     ensures goes { (rest : List (CaseValue × CaseValue))
@@ -69,8 +69,8 @@ fn compare_all_cases(
     alloc: Global,
     nodes: &mut Nodes,
     relation: Relation,
-    a: &Cases,
-    b: &Cases,
+    a: &Unfolded,
+    b: &Unfolded,
 ) -> Result<u32, TermError>
     ensures makes { Places nodes.new
         (each_case_compared relation nodes.old [] (case_pairs a.now b.now)) result }
@@ -100,5 +100,7 @@ pub(crate) fn compare_cases(
     if a.len().saturating_mul(b.len()) > CASES_LIMIT {
         return Err(TermError::Refused(TermRefusal::TooManyCases));
     }
-    compare_all_cases(alloc, nodes, relation, a, b)
+    let first = a.unfolded(alloc)?;
+    let second = b.unfolded(alloc)?;
+    compare_all_cases(alloc, nodes, relation, &first, &second)
 }

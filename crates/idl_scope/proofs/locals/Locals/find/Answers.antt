@@ -27,4 +27,4 @@ returns-in-None-clause-is c =
     let is : found (scope_in c.args.self.now) c.args.name.now ≡ found c.self.inside.scope.now c.args.name.now =
     ap (λ (i : Inner). found (scope_in i) c.args.name.now) (sym c.self.view_is)
     ∙ found_outside c.args.name.now c.self.inside.variables.items c.self.inside.scope.now.bound c.self.inside.scope.now.declared none in
-    rw is c.find.ensures.found
+    rw is c.find-in-None.ensures.found
