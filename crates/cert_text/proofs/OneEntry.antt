@@ -20,7 +20,7 @@ use Rattle.kept_lemmas.specs.declared.item.Item.TheVariants.{Own, Keep}
 use Rattle.cert_text.specs.declared.entry.Version.TheVariants.{One, Two}
 use Rattle.cert_text.specs.declared.entry.Entry.TheVariants.{Sat, Unsat}
 use Rattle.cert_text.specs.declared.entry.FileEntry.TheVariants as file
-use Rattle.cert_text.specs.Form.{numeral_text, numeral, bound_sexprs, number_of_value, literal_sexpr, step_sexpr, lemma_sexpr, kept_sexpr, item_sexpr, value_sexpr, header_sexpr, entry_sexpr, file_entry_sexpr, line_of}
+use Rattle.cert_text.specs.Form.{numeral_text, numeral, bound_sexprs, number_of_value, literal_sexpr, step_sexpr, lemma_sexpr, kept_sexpr, item_sexpr, value_sexpr, entry_sexpr, file_entry_sexpr, line_of}
 use Rattle.smt_sexpr.specs.Shapes.{items_of}
 use Rattle.cert_text.specs.Laws.{LineReadsBack, OneHeader, OneEntry, OneLine, OneFileEntry, OneFileLine}
 use Rattle.cert_text.proofs.Writable.{entry_back, file_entry_back}
