@@ -8,3 +8,5 @@ pub mod Ends
 pub mod TableFacts
 pub mod Walking
 pub mod Keeping
+pub mod Alike
+pub mod Fitting

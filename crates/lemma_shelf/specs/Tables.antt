@@ -2,7 +2,7 @@
 -- book. The lemmas that are some entry's own stand in another, and their steps name clauses by their numbers in the book
 -- and lemmas by their numbers in the list. An entry is a list of numbers of lemmas.
 use Rattle.std.specs.Prelude.{◌≡◌, ℕ, zero, suc, ◌<◌, Bool, true, nat_le, is_some, option_and_then, List, [], ◌∷◌, ◌++◌, length, map, take, All, Contains, Option, None, Some, MatchOption, ◌==◌, if◌then◌else◌, slice_get, slice_index_or}
-use Rattle.std.specs.List.{list_all, list_any}
+use Rattle.std.specs.List.{list_all, list_any, AllZip}
 use Rattle.stn_core.specs.declared.literal.Literal.{Literal}
 use Rattle.stn_core.specs.Literal.{negation_of}
 use Rattle.refute_tree.specs.declared.step.Step.{Step}
@@ -114,3 +114,40 @@ pub record AreClosed (lemmas : List Lemma) (place : ℕ → Option ℕ) (reached
 -- whether what the lemma of this number rests on is all active
 abbrev pub is_active : List (List Literal) → Facts → ℕ → Bool
 is_active clauses table number = list_all (is_clause_of clauses) (fact_at table number).support
+
+-- ---- a lemma that comes to the table
+
+-- the same step by other numbers: a clause's number in the book, and of a lemma the one that its own number stands for
+pub data IsRenumbered (clauses : List (List Literal)) (numbers : List ℕ) (book : List (List Literal)) : Step → Step → Type 0 where
+  to_input : {i n : ℕ} {clause : List Literal} → slice_get clauses i ≡ Some clause → slice_get book n ≡ Some clause → IsRenumbered clauses numbers book (Input i) (Input n)
+  to_clash : {i n : ℕ} {clause : List Literal} → slice_get clauses i ≡ Some clause → slice_get book n ≡ Some clause → IsRenumbered clauses numbers book (Clash i) (Clash n)
+  to_earlier : {j n : ℕ} → slice_get numbers j ≡ Some n → IsRenumbered clauses numbers book (Earlier j) (Earlier n)
+  keeps_cycle : {literals : List Literal} → IsRenumbered clauses numbers book (Cycle literals) (Cycle literals)
+  keeps_either : {l : Literal} → IsRenumbered clauses numbers book (Either l) (Either l)
+
+abbrev pub AreRenumbered : List (List Literal) → List ℕ → List (List Literal) → List Step → List Step → Type 0
+AreRenumbered clauses numbers book steps others = AllZip (IsRenumbered clauses numbers book) steps others
+
+-- a list begins as another
+pub record BeginsAs {A : Type 0} (before now : List A) : Type 0 where
+  pub more : List A
+  pub longer : now ≡ before ++ more
+
+abbrev pub CitesBelow : ℕ → Step → Type 0
+CitesBelow count (Earlier n) = n < count
+CitesBelow count (Input i) = Unit {0}
+CitesBelow count (Clash i) = Unit {0}
+CitesBelow count (Cycle cycle) = Unit {0}
+CitesBelow count (Either l) = Unit {0}
+
+-- whether so many time points are enough for what a step names
+abbrev pub step_fits : List ℕ → ℕ → Step → Bool
+step_fits points count (Either l) = is_on_points count l
+step_fits points count (Earlier n) = nat_le (slice_index_or points n 0) count
+step_fits points count (Input i) = true
+step_fits points count (Clash i) = true
+step_fits points count (Cycle cycle) = true
+
+-- so many are the least that are enough
+abbrev pub NeedsOf : ℕ → (ℕ → Bool) → Type 0
+NeedsOf needs fits = (count : ℕ) → nat_le needs count ≡ fits count

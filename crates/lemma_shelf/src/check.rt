@@ -109,7 +109,7 @@ fn check_kept<'a>(
     let Some(number) = find(entries, kept) else {
         return Err(KeptError::Refused(FlawKind::NoSuchKeptLemma));
     };
-    if table.points[number] > problem.points {
+    if table.points[number] > u64::from(problem.points) {
         return Err(KeptError::Refused(FlawKind::NoSuchPoint));
     }
     if !is_active(alloc, table, problem, walk, number)? {

@@ -8,6 +8,7 @@
 mod book;
 mod check;
 mod laws;
+mod needs;
 mod present;
 mod reached;
 mod shelf;

@@ -6,13 +6,13 @@ ghost use Rattle.lemma_shelf.specs.ItemFlaws.{items_flaw};
 ghost use Rattle.lemma_shelf.specs.Lowering.{Refutes};
 ghost use Rattle.refute_tree.specs.Trees.{IsRefutation};
 
+use crate::table::Table;
 use cert_check::CheckError;
-use indexmap::IndexSet;
 use kept_lemmas::Item;
-use refute_tree::{Lemma, Refutation};
+use refute_tree::Refutation;
 use std::alloc::{AllocError, Global};
 use std::marker::Model;
-use stn_core::{Literal, Problem};
+use stn_core::Problem;
 
 /// What the entries before the next one state and rest on.
 ///
@@ -20,24 +20,21 @@ use stn_core::{Literal, Problem};
 /// problems may be let go.
 #[derive(Drop)]
 pub struct Shelf {
-    /// The clauses of problems that lemmas rest on.
-    book: IndexSet<Vec<Literal>>,
-    /// Each lemma that is an entry's own, with the numbers of clauses in the book, and of lemmas in this list.
-    lemmas: Vec<Lemma>,
-    /// Of each lemma how many time points a problem has to have for it.
-    points: Vec<u32>,
-    /// Of each entry the numbers of its items' lemmas.
+    table: Table,
+    /// Of each entry the numbers of its items' lemmas in the table.
     entries: Vec<Vec<usize>>,
 }
 
 impl Model for Shelf {
     ghost use Rattle.std.specs.Prelude.{map};
     ghost use Rattle.kept_lemmas.specs.Facts.{Shelf as KeptShelf};
-    ghost use Rattle.lemma_shelf.specs.Tables.{shelf_by};
+    ghost use Rattle.lemma_shelf.specs.Walks.{shelf_in, IsWhole, AreWithin};
 
     ghost Value = { KeptShelf };
 
-    ghost view = { λ s. shelf_by (map (λ k. k.items) s.book.keys) s.lemmas.items (map (λ n. n.items) s.entries.items) };
+    ghost view = { λ s. shelf_in s.table (map (λ n. n.items) s.entries.items) };
+
+    ghost invariant = { λ s. IsWhole s.table × AreWithin s.table (map (λ n. n.items) s.entries.items) };
 }
 
 impl Shelf {
@@ -46,11 +43,16 @@ impl Shelf {
         ensures { result ≡ [] }
     {
         Shelf {
-            book: IndexSet::new(alloc),
-            lemmas: Vec::new(alloc),
-            points: Vec::new(alloc),
+            table: Table::new(alloc),
             entries: Vec::new(alloc),
         }
+    }
+
+    /// How many entries there are.
+    pub fn len(&self) -> usize
+        ensures { result ≡ length self.now }
+    {
+        self.entries.len()
     }
 
     /// Checks the items of the next entry against its problem, and puts the entry on the shelf where they refute it.

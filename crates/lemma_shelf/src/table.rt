@@ -14,7 +14,7 @@ pub struct Table {
     /// The lemmas, whose steps name clauses by their numbers in the book, and lemmas by their numbers in this list.
     pub lemmas: Vec<Lemma>,
     /// Of each lemma how many time points a problem must have for it and all that it rests on.
-    pub points: Vec<u32>,
+    pub points: Vec<u64>,
 }
 
 impl Table {
