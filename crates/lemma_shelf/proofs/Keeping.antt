@@ -36,7 +36,7 @@ module _ (table : Facts) (entries : List (List ℕ)) where
   at_entry item None = refl
   at_entry item (Some ns) = slice_get-map (fact_at table) ns item
 
-  by_entry : (entry item : ℕ) → kept_fact (map (facts_at table) entries) (record { entry = entry; item = item }) ≡ option_map (fact_at table) (number_of entries (record { entry = entry; item = item }))
+  pub by_entry : (entry item : ℕ) → kept_fact (map (facts_at table) entries) (record { entry = entry; item = item }) ≡ option_map (fact_at table) (number_of entries (record { entry = entry; item = item }))
   by_entry zero item = refl
   by_entry (suc k) item = ap (option_and_then (λ (facts : Facts). slice_get facts item)) (slice_get-map (facts_at table) entries k) ∙ at_entry item (slice_get entries k)
 

@@ -10,3 +10,7 @@ pub mod Walking
 pub mod Keeping
 pub mod Alike
 pub mod Fitting
+pub mod MoreLemmas
+pub mod MoreItems
+pub mod Steps
+pub mod Refuting

@@ -78,3 +78,12 @@ pub all_parts : {X Y : Type 0} (P : Y → Type 0) (f : X → List Y) (xs : List 
 all_parts {X} P f [] all = All-nil (λ (x : X). All P (f x))
 all_parts {X} P f (x ∷ xs) all =
     All-cons (λ (z : X). All P (f z)) x xs (before P (f x) (flat_map f xs) all) (all_parts P f xs (behind P (f x) (flat_map f xs) all))
+
+pub take_before : {A : Type 0} (n : ℕ) (xs ys : List A) → n ≤ length xs → take n (xs ++ ys) ≡ take n xs
+take_before zero xs ys le = refl
+take_before (suc n) [] ys le = absurd (omega arith)
+take_before (suc n) (x ∷ xs) ys le = ap (λ zs. x ∷ zs) (take_before n xs ys (omega arith))
+
+pub take_front : {A : Type 0} (xs ys : List A) → take (length xs) (xs ++ ys) ≡ xs
+take_front [] ys = refl
+take_front (x ∷ xs) ys = ap (λ zs. x ∷ zs) (take_front xs ys)

@@ -4,3 +4,4 @@ pub mod Laws
 pub mod Lowering
 pub mod Tables
 pub mod Walks
+pub mod Additions

@@ -151,3 +151,8 @@ step_fits points count (Cycle cycle) = true
 -- so many are the least that are enough
 abbrev pub NeedsOf : ℕ → (ℕ → Bool) → Type 0
 NeedsOf needs fits = (count : ℕ) → nat_le needs count ≡ fits count
+
+-- a step by the book's and the table's numbers comes behind the others
+abbrev pub AddsStep : List (List Literal) → List ℕ → List (List Literal) → Step → List Step → List Step → Type 0
+AddsStep clauses numbers book step before after =
+    (other : Step) × (after ≡ before ++ other ∷ []) × IsRenumbered clauses numbers book step other

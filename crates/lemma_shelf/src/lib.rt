@@ -5,8 +5,10 @@
 //! are clauses of the problem. `specs/ItemFlaws.antt` has the first flaw of items.
 #![tactic(auto)]
 
+mod adding;
 mod book;
 mod check;
+mod entry;
 mod laws;
 mod needs;
 mod present;

@@ -6,9 +6,12 @@ ghost use Rattle.lemma_shelf.specs.ItemFlaws.{items_flaw};
 ghost use Rattle.lemma_shelf.specs.Lowering.{Refutes};
 ghost use Rattle.refute_tree.specs.Trees.{IsRefutation};
 
+use crate::check::check;
+use crate::entry::add_items;
+use crate::laws::flaw_law;
 use crate::table::Table;
 use cert_check::CheckError;
-use kept_lemmas::Item;
+use kept_lemmas::{Item, usable_law};
 use refute_tree::Refutation;
 use std::alloc::{AllocError, Global};
 use std::marker::Model;
@@ -71,7 +74,45 @@ impl Shelf {
             (Refutes self.new (length self.old) problem.now.points problem.now.clauses) }
         ensures err { OnErr result (self.new ≡ self.old) }
     {
-        Err(CheckError::OutOfMemory)
+        flaw_law();
+        usable_law();
+        let alloc = *self.entries.allocator();
+        check(alloc, &self.table, self.entries.as_slice(), problem, items)?;
+        self.add_entry(alloc, problem, items)?;
+        Ok(())
+    }
+
+    // Puts a checked entry on the shelf.
+    fn add_entry(
+        &mut self,
+        alloc: Global,
+        problem: &Problem,
+        items: &[Item],
+    ) -> Result<(), AllocError>
+        requires { AreRight self.old problem.now.points problem.now.clauses items.now }
+        ensures ok { OnOk result
+            (self.new ≡ self.old ++ facts_of self.old problem.now.clauses items.now ∷ []) }
+        ensures err { OnErr result (self.new ≡ self.old) }
+    {
+        self.entries.reserve(1)?;
+        let clauses = self.table.book.len();
+        let lemmas = self.table.lemmas.len();
+        match add_items(
+            &mut self.table,
+            alloc,
+            self.entries.as_slice(),
+            problem,
+            items,
+        ) {
+            Ok(numbers) => {
+                self.entries.push_reserved(numbers);
+                Ok(())
+            }
+            Err(error) => {
+                self.table.cut(clauses, lemmas);
+                Err(error)
+            }
+        }
     }
 
     /// An entry without items, of which nothing can be kept.

@@ -1,5 +1,5 @@
 //! The lemmas that are some entry's own.
-ghost use Rattle.std.specs.Prelude.{◌≡◌, []};
+ghost use Rattle.std.specs.Prelude.{◌≡◌, [], take};
 ghost use Rattle.lemma_shelf.specs.Walks.{IsWhole};
 
 use crate::book::Book;
@@ -27,5 +27,16 @@ impl Table {
             lemmas: Vec::new(alloc),
             points: Vec::new(alloc),
         }
+    }
+
+    /// The first clauses and lemmas stay.
+    pub fn cut(&mut self, clauses: usize, lemmas: usize)
+        ensures book { self.new.book ≡ take clauses self.old.book }
+        ensures lemmas { self.new.lemmas.items ≡ take lemmas self.old.lemmas.items }
+        ensures points { self.new.points.items ≡ take lemmas self.old.points.items }
+    {
+        self.book.cut(clauses);
+        self.lemmas.truncate(lemmas);
+        self.points.truncate(lemmas);
     }
 }
