@@ -19,13 +19,6 @@ abbrev pub IsReadUpTo : {A : Type 0} → (Sexpr → Option A) → Table → List
 IsReadUpTo f t ids i parts = (xs : Items) → MeansEach t ids xs → IsLeft f t (drop i ids) parts xs
 
 module _ {A : Type 0} (f : Sexpr → Option A) (t : Table) where
-  nothing_before : (o : Option (List A)) → o ≡ option_map (λ (zs : List A). [] ++ zs) o
-  nothing_before None = refl
-  nothing_before (Some xs) = refl
-
-  pub each_starts : (ids : List ℕ) (parts : List A) → parts ≡ [] → IsReadUpTo f t ids 0 parts
-  each_starts ids parts e xs h = (xs, h, rw e (nothing_before (each_of f xs)))
-
   one_more : (parts : List A) (part : A) (o : Option (List A)) → option_map (λ (zs : List A). parts ++ zs) (put (Some part) o) ≡ option_map (λ (zs : List A). (parts ++ part ∷ []) ++ zs) o
   one_more parts part None = refl
   one_more parts part (Some zs) = ap Some (sym (append_assoc parts (part ∷ []) zs))

@@ -29,9 +29,6 @@ numeral_is text (list xs) e = absurd (true≢false (sym e))
 pub is_end_line : (x : Sexpr) → is_symbol (codes "end") x ≡ true → list (more x none) ≡ end_sexpr
 is_end_line x e = ap (λ (y : Sexpr). list (more y none)) (symbol_is (codes "end") x e)
 
-pub end_begins : (x : Sexpr) (xs : Items) → list (more x xs) ≡ end_sexpr → is_symbol (codes "end") x ≡ true
-end_begins x xs e = ap (λ (y : Sexpr). is_symbol (codes "end") (first (parts y))) e ∙ is_itself (codes "end")
-
 pub end_alone : (x : Sexpr) (xs : Items) → list (more x xs) ≡ end_sexpr → xs ≡ none
 end_alone x xs e = ap (λ (y : Sexpr). others (parts y)) e
 

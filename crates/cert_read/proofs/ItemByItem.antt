@@ -1,7 +1,7 @@
 -- An open list, read item by item.
 use Rattle.std.proofs.Common.{◌≡◌, ◌≢◌, ◌∙◌, inl, inr, refl, sym, ap, subst, arith, ℕ, ◌<◌, List, [], ◌∷◌, ◌++◌, Option, Some, None}
 use Rattle.smt_lex.specs.declared.token.LexError.{LexError}
-use Rattle.smt_sexpr.specs.declared.error.SexprRefusal.TheVariants.{Lex, UnclosedList, StrayClose}
+use Rattle.smt_sexpr.specs.declared.error.SexprRefusal.TheVariants.{Lex, UnclosedList}
 use Rattle.smt_sexpr.specs.Table.{Table, Means}
 use Rattle.smt_sexpr.specs.Tree.{Sexpr, Items, none, more}
 use Rattle.smt_sexpr.specs.Reading.{Spells, SpellsEach, Outcomes, finished, refused, IsOpen, IsInside, reached, behind, deeper}
@@ -11,7 +11,7 @@ use Rattle.cert_read.specs.declared.error.PartError.{PartError}
 use Rattle.cert_read.specs.declared.error.PartError.TheVariants.{OutOfMemory, IllFormed}
 use Rattle.cert_read.specs.Parts.{put, each_of}
 use Rattle.cert_read.specs.Shapes.{Lacks}
-use Rattle.cert_read.specs.Lines.{IfIllFormed, IsNext, IsClosing, Closed, NeverCloses, IsListOf, LacksList, HasItems}
+use Rattle.cert_read.specs.Lines.{IfIllFormed, IsNext, IsClosing, Closed, NeverCloses, LacksList, HasItems}
 
 -- ---- two lists of items
 
@@ -108,12 +108,6 @@ module _ (bytes : List ℕ) where
   pub never_unclosed : (place after outer : ℕ) → Outcomes bytes place (refused (UnclosedList outer)) after → NeverCloses bytes place
   never_unclosed place after outer (here, is_open, reads) = (here, after, inside_open place outer here is_open, inl reads)
 
-  pub stray_closes : (place after start : ℕ) → Outcomes bytes place (refused (StrayClose start)) after → IsClosing bytes place after
-  stray_closes place after start (token, reads, right, at) = (token, reads, right)
-
-  pub closing_forward : (place after : ℕ) → IsClosing bytes place after → place < after
-  closing_forward place after (token, reads, right) = token_forward bytes place token after reads
-
   -- ---- items that are passed over
 
   abbrev pub Passed : ℕ → ℕ → Type 0
@@ -125,9 +119,6 @@ module _ (bytes : List ℕ) where
 
   pub passed_more : (place here mid : ℕ) (x : Sexpr) → Passed place here → Spells bytes here x mid → Passed place mid
   passed_more place here mid x (xs, each) s = (join xs (more x none), spells_join place here mid xs (more x none) each (spells_one here mid x s))
-
-  pub passed_closes : (place here after : ℕ) → Passed place here → IsClosing bytes here after → (xs : Items) × Closed bytes place xs after
-  passed_closes place here after (xs, each) h = (xs, (here, each, h))
 
   pub passed_breaks : (place here : ℕ) (error : PartError) → Passed place here → IfIllFormed (NeverCloses bytes here) error → IfIllFormed (NeverCloses bytes place) error
   passed_breaks place here IllFormed (xs, each) h = never_each place here xs each h
@@ -150,9 +141,6 @@ module _ (bytes : List ℕ) where
       each_join f xs (more x none) ∙ ap (λ (o : Option (List A)). both o (each_of f (more x none))) are ∙ ap (λ (o : Option A). both (Some parts) (put o (Some []))) is,
     )
 
-    pub read_closes : (place here after : ℕ) (parts : List A) → ReadTo place parts here → IsClosing bytes here after → IsListOf f bytes place parts after
-    read_closes place here after parts (xs, each, are) h = (xs, (here, each, h), are)
-
     pub read_breaks : (place here : ℕ) (parts : List A) (error : PartError) → ReadTo place parts here → IfIllFormed (NeverCloses bytes here) error → IfIllFormed (LacksList f bytes place) error
     read_breaks place here parts IllFormed (xs, each, are) h = inl (never_each place here xs each h)
     read_breaks place here parts OutOfMemory read h = tt
@@ -174,10 +162,6 @@ module _ (bytes : List ℕ) where
         )
 
   -- ---- items where none may stand
-
-  pub breaks_first : (place : ℕ) (error : PartError) → IfIllFormed (NeverCloses bytes place) error → IfIllFormed (HasItems bytes place) error
-  breaks_first place IllFormed h = inl h
-  breaks_first place OutOfMemory h = tt
 
   pub breaks_behind : (place mid : ℕ) (x : Sexpr) (error : PartError) → Spells bytes place x mid → IfIllFormed (NeverCloses bytes mid) error → IfIllFormed (HasItems bytes place) error
   breaks_behind place mid x IllFormed s h = inl (never_more place mid x s h)

@@ -117,10 +117,6 @@ module _ (version : Version) (bytes : List ℕ) (place mid : ℕ) (x : Sexpr) (s
   no_line_behind IllFormed h = inl (never_more bytes place mid x s h)
   no_line_behind OutOfMemory h = tt
 
-pub no_line_first : (version : Version) (bytes : List ℕ) (place : ℕ) (error : PartError) → IfIllFormed (NeverCloses bytes place) error → IfIllFormed (IsNoLine version bytes place) error
-no_line_first version bytes place IllFormed h = inl h
-no_line_first version bytes place OutOfMemory h = tt
-
 nothing_not_end : list none ≢ end_sexpr
 nothing_not_end e = absurd cc
 
