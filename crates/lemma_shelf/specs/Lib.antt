@@ -1,4 +1,5 @@
 pub mod Clauses
+pub mod Examples
 pub mod ItemFlaws
 pub mod Laws
 pub mod Lowering

@@ -10,6 +10,7 @@ mod book;
 mod check;
 mod entry;
 mod laws;
+mod lowering;
 mod needs;
 mod present;
 mod reached;
@@ -19,5 +20,5 @@ mod table;
 mod walk;
 
 pub use check::check_items;
-pub use laws::flaw_law;
+pub use laws::{examples_law, flaw_law};
 pub use shelf::Shelf;

@@ -1,5 +1,5 @@
 //! Lemmas that a walk has come to.
-ghost use Rattle.std.specs.Prelude.{◌≡◌, ◌≤◌, ◌<◌, ℕ, [], length, All, slice_get, Some, OnOk, OnErr};
+ghost use Rattle.std.specs.Prelude.{◌≡◌, ◌≤◌, ◌<◌, ℕ, [], length, All, slice_get, Some, OnOk, OnErr, IfOk};
 ghost use Rattle.lemma_shelf.specs.Tables.{with_number};
 
 use indexmap::IndexSet;
@@ -50,5 +50,17 @@ impl Reached {
     {
         self.set.insert(number)?;
         Ok(())
+    }
+
+    /// The place of a number, if it is there.
+    pub fn place(&self, number: usize) -> Option<usize> {
+        self.set.get_index_of(&number)
+    }
+
+    /// The numbers, in the order in which they came.
+    pub fn to_vec(&self, alloc: Global) -> Result<Vec<usize>, AllocError>
+        ensures { IfOk result (λ numbers. numbers.items ≡ self.now) }
+    {
+        Vec::from_slice(alloc, self.set.as_slice())
     }
 }

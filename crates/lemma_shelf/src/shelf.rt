@@ -9,13 +9,20 @@ ghost use Rattle.refute_tree.specs.Trees.{IsRefutation};
 use crate::check::check;
 use crate::entry::add_items;
 use crate::laws::flaw_law;
+use crate::lowering::lowered;
 use crate::table::Table;
-use cert_check::CheckError;
+use cert_check::{CheckError, check_refutation};
 use kept_lemmas::{Item, usable_law};
 use refute_tree::Refutation;
 use std::alloc::{AllocError, Global};
 use std::marker::Model;
 use stn_core::Problem;
+
+// The number of the entry's last item.
+fn last_number(entries: &[Vec<usize>], entry: usize) -> Option<usize> {
+    let numbers = entries.get(entry)?;
+    numbers.last().copied()
+}
 
 /// What the entries before the next one state and rest on.
 ///
@@ -138,7 +145,19 @@ impl Shelf {
         requires { Refutes self.now entry problem.now.points problem.now.clauses }
         ensures { IfOk result (IsRefutation problem.now.points problem.now.clauses) }
     {
-        let _alloc = alloc;
-        Err(AllocError)
+        let Some(root) = last_number(self.entries.as_slice(), entry) else {
+            return Err(AllocError);
+        };
+        if root >= self.table.lemmas.len() {
+            return Err(AllocError);
+        }
+        let Some(lemmas) = lowered(alloc, &self.table, problem, root)? else {
+            return Err(AllocError);
+        };
+        let refutation = Refutation::new(lemmas);
+        match check_refutation(alloc, problem, &refutation) {
+            Ok(()) => Ok(refutation),
+            Err(_) => Err(AllocError),
+        }
     }
 }
