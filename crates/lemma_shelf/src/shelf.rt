@@ -136,6 +136,10 @@ impl Shelf {
     ///
     /// Its lemmas are those that the entry's last item needs, each once, in the order in which they came to the shelf:
     /// kept ones before the entry's own, and those that are cited before those that cite them. No literal is changed.
+    ///
+    /// It goes over the problem's clauses once and over the steps of these lemmas, and `cert_check::check_refutation`
+    /// checks them before they are answered. The one error is want of memory; that is also the answer to lemmas that were
+    /// no refutation, which those of an entry that refutes the problem always are.
     pub fn lower(
         &self,
         alloc: Global,
