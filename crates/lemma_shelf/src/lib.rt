@@ -22,3 +22,6 @@ mod walk;
 pub use check::check_items;
 pub use laws::{examples_law, flaw_law};
 pub use shelf::Shelf;
+
+#[cfg(test)]
+mod tests;
