@@ -1,19 +1,17 @@
 -- The same lemma by other numbers.
-use Rattle.std.proofs.Common.{arith, ◌≡◌, ℕ, zero, suc, ◌<◌, ◌≤◌, ◌+◌, List, [], ◌∷◌, ◌++◌, length, map, flat_map, take, Option, Some, None, All, Contains, refl, sym, ap, subst, ◌∙◌}
-use Rattle.std.specs.Prelude.{slice_get, slice_index_or, option_map}
+use Rattle.std.proofs.Common.{◌≡◌, ℕ, ◌<◌, List, [], ◌∷◌, ◌++◌, length, map, flat_map, Some, All, refl, sym, ap, subst, ◌∙◌}
+use Rattle.std.specs.Prelude.{slice_get, option_map}
 use Rattle.std.specs.List.{AllZip}
-use Rattle.std.proofs.lemmas.List.Elements.{All-nil, All-cons, All-head, All-tail}
+use Rattle.std.proofs.lemmas.List.Elements.{All-cons}
 use Rattle.std.proofs.lemmas.Option.{slice_get-map, slice_get_within, slice_get-get_or}
 use Rattle.stn_core.specs.declared.literal.Literal.{Literal}
-use Rattle.stn_core.specs.Literal.{negation_of}
 use Rattle.refute_tree.specs.declared.step.Step.{Step}
 use Rattle.refute_tree.specs.declared.step.Step.TheVariants.{Cycle, Input, Lemma as Earlier, Clash, Either}
-use Rattle.refute_tree.specs.declared.lemma.Lemma.{Lemma}
 use Rattle.refute_tree.specs.Trees.{clause_of, Tree, Forest, leaf, clash, cases, none, more}
 use Rattle.kept_lemmas.specs.Facts.{Fact, Facts, stated_by, no_fact, support_of_clause, support_of_fact, named_by_fact, step_support, step_named, own_fact}
 use Rattle.kept_lemmas.proofs.FactLists.{all_at}
 use Rattle.lemma_shelf.specs.Tables.{fact_at, facts_at, IsKnownStep, IsRenumbered, to_input, to_clash, to_earlier, keeps_cycle, keeps_either, AreRenumbered}
-use Rattle.lemma_shelf.proofs.Lists.{get_longer, some_there}
+use Rattle.lemma_shelf.proofs.Lists.{get_longer}
 
 -- two steps name the same clauses and cite lemmas that state the same and rest on the same
 pub data Alike (clauses : List (List Literal)) (facts : Facts) (book : List (List Literal)) (table : Facts) : Step → Step → Type 0 where

@@ -1,5 +1,5 @@
 -- Whether the last clause has no literals, looked at where it stands.
-use Rattle.std.proofs.Common.{arith, ◌≡◌, ◌-◌, ℕ, suc, List, [], ◌∷◌, length, map, Some, Bool, ◌==◌, sym, ap, ◌∙◌}
+use Rattle.std.proofs.Common.{arith, ◌≡◌, ◌-◌, ℕ, suc, List, [], ◌∷◌, length, map, Some, Bool, ◌==◌, ap, ◌∙◌}
 use Rattle.std.specs.Prelude.{slice_get}
 use Rattle.stn_core.specs.declared.literal.Literal.{Literal}
 use Rattle.cert_check.specs.Flaws.{ends_empty}

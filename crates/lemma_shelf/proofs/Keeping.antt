@@ -1,20 +1,19 @@
 -- Kept items.
-use Rattle.std.proofs.Common.{arith, ◌≡◌, ℕ, zero, suc, ◌<◌, ◌≤◌, ◌+◌, List, [], ◌∷◌, ◌++◌, length, map, Option, Some, None, Bool, true, false, All, refl, sym, ap, subst, ◌∙◌}
+use Rattle.std.proofs.Common.{arith, ◌≡◌, ℕ, zero, suc, ◌<◌, ◌≤◌, List, [], ◌∷◌, ◌++◌, length, map, Option, Some, None, Bool, true, false, All, refl, sym, ap, ◌∙◌}
 use Rattle.std.specs.Prelude.{slice_get, slice_index_or, option_map, option_and_then, nat_le, if◌then◌else◌}
 use Rattle.std.specs.List.{list_all}
-use Rattle.std.proofs.lemmas.Bool.{leb-true, le-leb, both_ways}
+use Rattle.std.proofs.lemmas.Bool.{leb-true, le-leb}
 use Rattle.std.proofs.lemmas.List.Elements.{All-head, All-tail}
-use Rattle.std.proofs.lemmas.Option.{slice_get-map, same_Some, get_or_from_slice_get}
+use Rattle.std.proofs.lemmas.Option.{slice_get-map}
 use Rattle.stn_core.specs.declared.literal.Literal.{Literal}
 use Rattle.refute_tree.specs.declared.lemma.Lemma.{Lemma}
-use Rattle.refute_tree.specs.Trees.{stated}
 use Rattle.cert_check.specs.declared.flaw.FlawKind.{FlawKind}
-use Rattle.cert_check.specs.declared.flaw.FlawKind.TheVariants.{NoSuchPoint, NotActive, NoSuchKeptLemma}
+use Rattle.cert_check.specs.declared.flaw.FlawKind.TheVariants.{NoSuchPoint, NotActive}
 use Rattle.cert_check.specs.Tests.{is_on_points}
 use Rattle.kept_lemmas.specs.declared.item.Kept.{Kept}
 use Rattle.kept_lemmas.specs.declared.item.Item.{Item}
 use Rattle.kept_lemmas.specs.declared.item.Item.TheVariants.{Own, Keep}
-use Rattle.kept_lemmas.specs.Facts.{Fact, Facts, Shelf, stated_by, kept_fact, fact_or_none}
+use Rattle.kept_lemmas.specs.Facts.{Fact, Facts, Shelf, kept_fact, fact_or_none}
 use Rattle.kept_lemmas.specs.Entries.{IsOwn}
 use Rattle.kept_lemmas.proofs.FactLists.{all_at}
 use Rattle.cert_check.specs.Flaws.{first_of}

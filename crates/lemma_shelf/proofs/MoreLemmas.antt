@@ -1,8 +1,8 @@
 -- One more lemma on the table.
-use Rattle.std.proofs.Common.{arith, ◌≡◌, ℕ, zero, suc, ◌<◌, ◌≤◌, ◌+◌, ◌⊎◌, inl, inr, List, [], ◌∷◌, ◌++◌, length, map, flat_map, take, Option, Some, None, Bool, true, false, All, Contains, refl, sym, ap, subst, ◌∙◌, length-append, append-nil}
+use Rattle.std.proofs.Common.{arith, ◌≡◌, ℕ, suc, ◌<◌, inl, inr, List, [], ◌∷◌, ◌++◌, length, map, flat_map, take, Option, Some, Bool, true, false, All, refl, sym, ap, subst, ◌∙◌, length-append}
 use Rattle.std.specs.Prelude.{slice_get, slice_index_or, nat_le, ◌&&◌}
 use Rattle.std.specs.List.{list_all, AllZip}
-use Rattle.std.proofs.lemmas.List.{map-append, length-take-le}
+use Rattle.std.proofs.lemmas.List.{length-take-le}
 use Rattle.std.proofs.lemmas.List.Elements.{All-nil, All-cons, All-head, All-tail, All-weaker}
 use Rattle.std.proofs.lemmas.Option.{slice_get_within, get_or_from_slice_get, same_Some, slice_get-get_or}
 use Rattle.stn_core.specs.declared.literal.Literal.{Literal}
@@ -12,7 +12,7 @@ use Rattle.refute_tree.specs.declared.step.Step.TheVariants.{Cycle, Input, Lemma
 use Rattle.refute_tree.specs.declared.lemma.Lemma.{Lemma}
 use Rattle.refute_tree.specs.Trees.{Tree, IsRefuted, stated}
 use Rattle.cert_check.specs.Tests.{is_on_points}
-use Rattle.kept_lemmas.specs.Facts.{Fact, Facts, stated_by, no_fact, support_of_clause, named_by_fact, step_support, step_named, own_fact, facts_from, facts_of}
+use Rattle.kept_lemmas.specs.Facts.{Fact, Facts, stated_by, no_fact, support_of_clause, named_by_fact, step_support, step_named, own_fact, facts_from}
 use Rattle.kept_lemmas.proofs.FactLists.{all_at}
 use Rattle.lemma_shelf.specs.Tables.{own_item, table_facts, fact_at, facts_at, IsKnownStep, IsOnTable, IsTable, IsRenumbered, to_input, to_clash, to_earlier, keeps_cycle, keeps_either, AreRenumbered, step_fits, NeedsOf, CitesBelow}
 use Rattle.lemma_shelf.proofs.Lists.{get_longer, get_last, get_parts, some_there, take_front, take_before}

@@ -1,13 +1,13 @@
 -- Steps by the numbers of the book and of the table, one after the other.
-use Rattle.std.proofs.Common.{arith, ◌≡◌, ℕ, zero, suc, ◌<◌, ◌≤◌, ◌+◌, List, [], ◌∷◌, ◌++◌, length, map, Some, All, refl, sym, ap, subst, ◌∙◌, append-nil, append_assoc, length-append}
+use Rattle.std.proofs.Common.{◌≡◌, ℕ, ◌<◌, List, [], ◌∷◌, ◌++◌, length, map, All, sym, ap, subst, ◌∙◌, append-nil, append_assoc, length-append}
 use Rattle.std.specs.Prelude.{slice_get, slice_index_or, Result, Ok, Err, OnOk, ◌&&◌}
-use Rattle.std.specs.List.{AllZip, list_all}
+use Rattle.std.specs.List.{list_all}
 use Rattle.std.proofs.lemmas.List.{length-map}
-use Rattle.std.proofs.lemmas.List.Elements.{All-nil, All-weaker, AllZip-push}
+use Rattle.std.proofs.lemmas.List.Elements.{All-nil, AllZip-push}
 use Rattle.std.proofs.lemmas.Option.{slice_get-get_or}
 use Rattle.stn_core.specs.declared.literal.Literal.{Literal}
 use Rattle.refute_tree.specs.declared.step.Step.{Step}
-use Rattle.refute_tree.specs.declared.step.Step.TheVariants.{Cycle, Input, Lemma as Earlier, Clash, Either}
+use Rattle.refute_tree.specs.declared.step.Step.TheVariants.{Input, Lemma as Earlier, Clash}
 use Rattle.refute_tree.specs.declared.lemma.Lemma.{Lemma}
 use Rattle.refute_tree.specs.Trees.{Tree, IsRefuted}
 use Rattle.cert_check.specs.Tests.{is_on_points}

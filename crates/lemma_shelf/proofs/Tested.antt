@@ -1,8 +1,8 @@
 -- The tests answer what the definitions say.
-use Rattle.std.proofs.Common.{arith, ◌≡◌, ℕ, zero, suc, ◌<◌, inl, inr, List, [], ◌∷◌, true, Bool, refl, sym, subst, ap, ◌∙◌}
-use Rattle.std.specs.Prelude.{All, Contains, ◌&&◌}
+use Rattle.std.proofs.Common.{arith, ◌≡◌, zero, suc, inl, inr, List, [], ◌∷◌, true, refl, sym, subst}
+use Rattle.std.specs.Prelude.{All, Contains}
 use Rattle.std.specs.Bool.{Decides}
-use Rattle.std.specs.List.{list_all, list_any}
+use Rattle.std.specs.List.{list_all}
 use Rattle.std.proofs.lemmas.Bool.{and_parts, and_from, or_cases, or_left, or_right}
 use Rattle.std.proofs.lemmas.Bool.Decides.{Decides-by_and}
 use Rattle.stn_core.specs.declared.literal.Literal.{Literal}

@@ -1,26 +1,25 @@
 -- Items have no flaw exactly where they are right.
-use Rattle.std.proofs.Common.{arith, ◌≡◌, ◌↔◌, ◌<◌, ◌-◌, ℕ, zero, suc, List, [], ◌∷◌, ◌++◌, length, map, take, Option, Some, None, Bool, true, false, ◌==◌, All, refl, sym, ap, ◌∙◌, subst, append-nil, append_assoc, length-append}
+use Rattle.std.proofs.Common.{arith, ◌≡◌, ◌<◌, ◌-◌, ℕ, zero, suc, List, [], ◌∷◌, ◌++◌, length, map, take, Option, Some, None, Bool, true, false, refl, sym, ap, ◌∙◌, subst}
 use Rattle.std.specs.Prelude.{slice_get, if◌then◌else◌}
 use Rattle.std.specs.List.{list_all}
-use Rattle.std.proofs.lemmas.Bool.{eqb-true, eq-eqb, both_ways}
+use Rattle.std.proofs.lemmas.Bool.{eqb-true, eq-eqb}
 use Rattle.std.proofs.lemmas.List.{map-append}
 use Rattle.stn_core.specs.declared.literal.Literal.{Literal}
 use Rattle.refute_tree.specs.declared.lemma.Lemma.{Lemma}
-use Rattle.refute_tree.specs.Trees.{IsOnPoints}
 use Rattle.cert_check.specs.declared.flaw.FlawKind.{FlawKind}
 use Rattle.cert_check.specs.declared.flaw.FlawKind.TheVariants.{NoSuchPoint, NotActive, LastLemmaNotEmpty}
 use Rattle.cert_check.specs.declared.flaw.Flaw.{Flaw}
 use Rattle.cert_check.specs.Tests.{is_on_points}
-use Rattle.cert_check.specs.Flaws.{flaw_at, lemma_flaw, ends_empty, first_of, lemmas_flaw, refutation_flaw}
+use Rattle.cert_check.specs.Flaws.{flaw_at, lemma_flaw, ends_empty, first_of, lemmas_flaw}
 use Rattle.cert_check.proofs.Decided.{all_on_points_decides}
 use Rattle.cert_check.proofs.Reading.{unflawed_lemma, refuted_lemma}
 use Rattle.kept_lemmas.specs.declared.item.Item.{Item}
 use Rattle.kept_lemmas.specs.declared.item.Item.TheVariants.{Own, Keep}
-use Rattle.kept_lemmas.specs.Facts.{Fact, Facts, Shelf, stated_by, kept_fact, fact_or_none, item_fact, facts_from, facts_of}
-use Rattle.kept_lemmas.specs.Entries.{IsUsable, IsKeptRightly, IsItemRight, AreRight}
+use Rattle.kept_lemmas.specs.Facts.{Fact, Facts, Shelf, stated_by, kept_fact, item_fact, facts_from, facts_of}
+use Rattle.kept_lemmas.specs.Entries.{IsUsable, IsItemRight, AreRight}
 use Rattle.kept_lemmas.proofs.FactLists.{facts-length}
 use Rattle.lemma_shelf.specs.Clauses.{is_clause_of}
-use Rattle.lemma_shelf.specs.ItemFlaws.{fact_flaw, kept_flaw, flaw_there, item_clause, item_flaw, end_flaw, items_flaw_from, items_flaw}
+use Rattle.lemma_shelf.specs.ItemFlaws.{fact_flaw, kept_flaw, flaw_there, item_clause, item_flaw, items_flaw_from, items_flaw}
 use Rattle.lemma_shelf.proofs.Tested.{all_clauses_decide}
 
 -- of two, the first and then the other

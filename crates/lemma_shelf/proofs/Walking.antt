@@ -1,20 +1,19 @@
 -- A walk over what a lemma rests on.
-use Rattle.std.proofs.Common.{arith, ◌≡◌, ℕ, zero, suc, ◌<◌, ◌≤◌, ◌+◌, ◌⊎◌, inl, inr, List, [], ◌∷◌, ◌++◌, length, map, flat_map, take, Option, Some, None, Bool, true, false, ◌==◌, All, Contains, refl, sym, ap, subst, ◌∙◌, append-nil, append_assoc}
-use Rattle.std.specs.Prelude.{slice_get, slice_index_or, is_some, MatchOption, ◌&&◌, if◌then◌else◌}
+use Rattle.std.proofs.Common.{arith, ◌≡◌, ℕ, zero, suc, ◌<◌, ◌≤◌, ◌+◌, inl, inr, List, [], ◌∷◌, ◌++◌, length, take, Option, Some, None, Bool, true, false, ◌==◌, All, Contains, refl, sym, ap, subst, ◌∙◌, append-nil, append_assoc}
+use Rattle.std.specs.Prelude.{slice_get, is_some, MatchOption, if◌then◌else◌}
 use Rattle.std.specs.List.{list_all, list_any}
 use Rattle.std.proofs.lemmas.Bool.{both_ways, and_parts, and_from, or_cases, eqb-true, cases_lt}
 use Rattle.std.proofs.lemmas.List.{length-take-le}
-use Rattle.std.proofs.lemmas.List.Elements.{All-nil, All-cons, All-head, All-tail, All-append, All-weaker, All-contains, Contains-append_left, Contains-append_right}
+use Rattle.std.proofs.lemmas.List.Elements.{All-nil, All-cons, All-head, All-tail, All-append, All-weaker, All-contains, Contains-append_left}
 use Rattle.std.proofs.lemmas.Option.{slice_get_within, get_or_from_slice_get, same_Some}
 use Rattle.stn_core.specs.declared.literal.Literal.{Literal}
 use Rattle.refute_tree.specs.declared.step.Step.{Step}
 use Rattle.refute_tree.specs.declared.step.Step.TheVariants.{Cycle, Input, Lemma as Earlier, Clash, Either}
 use Rattle.refute_tree.specs.declared.lemma.Lemma.{Lemma}
-use Rattle.kept_lemmas.specs.Facts.{Fact, Facts, no_fact, support_of_clause, support_of_fact, step_support, own_fact}
+use Rattle.kept_lemmas.specs.Facts.{Fact, Facts, support_of_clause, support_of_fact, step_support}
 use Rattle.kept_lemmas.proofs.FactLists.{all_at}
-use Rattle.lemma_shelf.specs.Clauses.{is_clause_of}
 use Rattle.lemma_shelf.specs.Tables.{table_facts, fact_at, IsKnownStep, IsTable, IsPresent, with_number, step_passes, with_cited, with_all_cited, steps_at, StepIsClosed, IsClosed, AreClosed, is_active}
-use Rattle.lemma_shelf.proofs.Lists.{get_longer, get_last, get_parts, some_there, at_contained, contained_at, all_flat, all_parts}
+use Rattle.lemma_shelf.proofs.Lists.{get_longer, get_last, get_parts, some_there, at_contained, all_flat, all_parts}
 use Rattle.lemma_shelf.proofs.TableFacts.{table_length, table_fact, table_taken, fact_is}
 use Rattle.lemma_shelf.proofs.Tested.{all_clauses_decide}
 

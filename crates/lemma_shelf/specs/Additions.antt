@@ -2,7 +2,7 @@
 use Rattle.std.specs.Prelude.{◌≡◌, ℕ, ◌<◌, ◌≤◌, List, length, All}
 use Rattle.stn_core.specs.declared.literal.Literal.{Literal}
 use Rattle.kept_lemmas.specs.declared.item.Item.{Item}
-use Rattle.kept_lemmas.specs.Facts.{Facts, Shelf, item_fact, facts_of}
+use Rattle.kept_lemmas.specs.Facts.{Shelf, item_fact, facts_of}
 use Rattle.lemma_shelf.specs.declared.table.Table.{Table}
 use Rattle.lemma_shelf.specs.Tables.{fact_at, facts_at}
 use Rattle.lemma_shelf.specs.Walks.{facts_in, IsWhole}

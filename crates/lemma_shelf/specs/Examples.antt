@@ -1,5 +1,5 @@
 -- Worked entries over p and not p, where p is point 1, true where it is at most zero.
-use Rattle.std.specs.Prelude.{ℕ, pos, List, [], ◌∷◌}
+use Rattle.std.specs.Prelude.{pos, List, [], ◌∷◌}
 use Rattle.stn_core.specs.declared.literal.Literal.{Literal}
 use Rattle.refute_tree.specs.declared.step.Step.TheVariants.{Input, Clash, Either}
 use Rattle.refute_tree.specs.Examples.{literal, less}

@@ -1,7 +1,7 @@
 -- The first flaw of items that are to refute a problem over earlier entries. Item goes after item; a lemma's flaws are those
 -- that it has over the clauses of the items before it, and a kept item's stand at step 0, in the order: there is no such
 -- item; a point that it names isn't the problem's; a clause of its support isn't active.
-use Rattle.std.specs.Prelude.{◌≡◌, ℕ, List, [], ◌∷◌, ◌++◌, Option, Some, None, Bool, if◌then◌else◌}
+use Rattle.std.specs.Prelude.{ℕ, List, [], ◌∷◌, ◌++◌, Option, Some, None, if◌then◌else◌}
 use Rattle.std.specs.List.{list_all}
 use Rattle.stn_core.specs.declared.literal.Literal.{Literal}
 use Rattle.cert_check.specs.declared.flaw.FlawKind.{FlawKind}

@@ -1,4 +1,4 @@
-use Rattle.std.proofs.Common.{arith, ◌≡◌, ◌<◌, ◌≤◌, ℕ, length, map, sym, ap, ◌∙◌, refl}
+use Rattle.std.proofs.Common.{length, map, sym, ap, ◌∙◌, refl}
 use Rattle.std.proofs.lemmas.Option.{slice_get_read}
 use Rattle.lemma_shelf.specs.ItemFlaws.{item_clause}
 use Rattle.lemma_shelf.specs.Walks.{shelf_in}

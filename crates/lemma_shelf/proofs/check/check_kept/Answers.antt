@@ -1,5 +1,4 @@
-use Rattle.std.proofs.Common.{arith, ◌≡◌, ◌<◌, ◌≤◌, ℕ, length, map, sym, ◌∙◌}
-use Rattle.std.specs.Prelude.{slice_index_or}
+use Rattle.std.proofs.Common.{arith, map, sym, ◌∙◌}
 use Rattle.lemma_shelf.proofs.Keeping.{within, not_on_points, not_active, usable, at_most, above}
 use Rattle.lemma_shelf.proofs.check.check_kept.Goals as goal
 

@@ -1,4 +1,4 @@
-use Rattle.std.proofs.Common.{arith, ◌≡◌, ℕ, List, length, map, refl, sym, ap, subst, ◌∙◌, Some}
+use Rattle.std.proofs.Common.{arith, ◌≡◌, ℕ, List, length, map, refl, sym, subst, Some}
 use Rattle.std.specs.Prelude.{slice_get}
 use Rattle.std.proofs.lemmas.Option.{slice_get_read}
 use Rattle.kept_lemmas.specs.Entries.{IsItemRight}

@@ -1,4 +1,4 @@
-use Rattle.std.proofs.Common.{◌≡◌, ℕ, length, ◌-◌}
+use Rattle.std.proofs.Common.{length, ◌-◌}
 use Rattle.lemma_shelf.specs.Walks.{places}
 use Rattle.lemma_shelf.proofs.Walking.{IsWalking}
 use Rattle.lemma_shelf.proofs.walk.reach.Given as goal

@@ -1,4 +1,4 @@
-use Rattle.std.proofs.Common.{◌≡◌, ℕ, length}
+use Rattle.std.proofs.Common.{◌≡◌, length}
 use Rattle.std.specs.List.{list_all}
 use Rattle.lemma_shelf.specs.Tables.{step_passes, with_all_cited}
 use Rattle.lemma_shelf.specs.Walks.{places}

@@ -1,4 +1,3 @@
-use Rattle.std.proofs.Common.{arith, ◌≡◌, ◌≤◌, ◌<◌, ℕ, List, length, All, subst, sym, ◌∙◌}
 use Rattle.lemma_shelf.proofs.Few.{few}
 use Rattle.lemma_shelf.proofs.reached.Reached.len.Goals as goal
 

@@ -1,4 +1,4 @@
-use Rattle.std.proofs.Common.{arith, ◌≡◌, ◌<◌, ℕ, All, List, length, map, refl, ap, subst, ◌∙◌}
+use Rattle.std.proofs.Common.{arith, ◌<◌, ℕ, All, List, length, map, refl, ap, subst}
 use Rattle.std.proofs.lemmas.List.Elements.{All-weaker}
 use Rattle.stn_core.specs.Literal.{negation_of}
 use Rattle.refute_tree.specs.declared.step.Step.{Step}
