@@ -10,5 +10,5 @@ mod units;
 
 pub use base::decide_units;
 pub use delivery::Delivery;
-pub use solve::{doubled, finish, solve_one};
+pub use solve::{finish, solve_one};
 pub use tools::Tools;

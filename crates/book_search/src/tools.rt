@@ -43,6 +43,11 @@ impl Tools {
         })
     }
 
+    /// Whether a slice met a conflict yet.
+    pub fn met_conflict(&self) -> bool {
+        self.searcher.conflicts() > 0
+    }
+
     /// One slice of search under the cube, over these lemmas, as a delivery. The one error is want of memory.
     pub fn search(
         &mut self,

@@ -1,6 +1,6 @@
 -- What the cube alone comes to, over plain lists.
 use Rattle.std.proofs.Common.{arith, ◌≡◌, ℕ, zero, suc, ◌<◌, ◌+◌, inl, inr, List, [], ◌∷◌, ◌++◌, length, map, get_or, All, Contains, Option, Some, None, ℤ, subst, sym, ap, ◌∙◌, refl}
-use Rattle.std.specs.Prelude.{MatchOption}
+use Rattle.std.specs.Prelude.{MatchOption, IfSome}
 use Rattle.std.proofs.lemmas.Bool.{cases_eq}
 use Rattle.std.proofs.lemmas.List.Elements.{All-push, All-append, All-map, Contains-get_or, Contains-push_cases}
 use Rattle.stn_core.specs.declared.literal.Literal.{Literal}
@@ -27,7 +27,7 @@ use Rattle.branch_search.specs.Clauses.{IsFalseAt}
 use Rattle.conflict_analysis.specs.Proved.{IsClauseOver}
 use Rattle.branch_search.specs.Search.{Question, all_lemmas, AreProved, IsSearch, IsStuckSearch, IsSearchSettled}
 use Rattle.branch_search.specs.Slices.{IsModel}
-use Rattle.branch_search.specs.Divisions.{IsLive, IsLiveAt, IsSearchLiveness, HasLive, AreSearchLive, IsSplit}
+use Rattle.branch_search.specs.Divisions.{IsLive, IsLiveAt, IsSearchLiveness, HasLive, AreSearchLive, IsSplit, Divides}
 use Rattle.conflict_analysis.proofs.Spines.{negation_twice}
 use Rattle.branch_search.proofs.States.{state_pushed, stands_grown, stands_last}
 use Rattle.conflict_analysis.proofs.Denied.{denied_all}
@@ -95,6 +95,26 @@ live_more q own es levels literals first i live place h e same before =
 live_literal : (points : ℕ) (literals clause : List Literal) → HasLive points literals clause → (l : Literal) × Contains clause l × IsConsistent points (literals ++ l ∷ [])
 live_literal points literals clause h = (literal_at clause h.0, Contains-get_or clause h.0 no_literal h.1.within, h.1.consistent)
 
+get_or_is : (cs : List (List Literal)) (k : ℕ) (c : List Literal) → k < length cs → get_or cs k c ≡ c → get_or cs k [] ≡ c
+get_or_is [] k c lt e = absurd (omega arith)
+get_or_is (d ∷ cs) zero c lt e = e
+get_or_is (d ∷ cs) (suc k) c lt e = get_or_is cs k c (omega arith) e
+
+-- each clause has a literal that is consistent with the cube
+live_clauses : (q : Question) (literals : List Literal) → literals ≡ q.cube → ((k : ℕ) → k < length q.inputs → HasLive q.points literals (get_or q.inputs k [])) → (c : List Literal) → Contains q.inputs c → (l : Literal) × Contains c l × IsConsistent q.points (q.cube ++ l ∷ [])
+live_clauses q literals is all c c_in =
+    let k = c_in.0 in
+    let k_in : k < length q.inputs = c_in.1 in
+    let same_c : get_or q.inputs k [] ≡ c = get_or_is q.inputs k c k_in c_in.2 in
+    let h : HasLive q.points q.cube (get_or q.inputs k []) = subst (λ (ls : List Literal). HasLive q.points ls (get_or q.inputs k [])) is (all k k_in) in
+    live_literal q.points q.cube c (subst (HasLive q.points q.cube) same_c h)
+
+pub split_by : (q : Question) (others : ℕ) (literals : List Literal) (found : Option Literal) (l : Literal) → others ≡ q.points → literals ≡ q.cube → IfSome found (Divides others q.inputs literals) → found ≡ Some l → ((k : ℕ) → k < length q.inputs → HasLive q.points literals (get_or q.inputs k [])) → IsSplit q l
+split_by q others literals found l on is h e all =
+    let there : Divides others q.inputs literals l = subst (λ (o : Option Literal). IfSome o (Divides others q.inputs literals)) e h in
+    let d : Divides q.points q.inputs q.cube l = subst (λ (ls : List Literal). Divides q.points q.inputs ls l) is (subst (λ (n : ℕ). Divides n q.inputs literals l) on there) in
+    record { stated = d.stated; with_it = d.with_it; against = d.against; live = live_clauses q literals is all }
+
 pub split_of : (q : Question) (others : ℕ) (given : List (List Literal)) (literals after : List Literal) (values : List ℤ) (i place : ℕ) (l : Literal) → others ≡ q.points → given ≡ q.inputs → literals ≡ q.cube → after ≡ literals → IsBest others literals values → IsFalseAt values given i → IsLive q.points after (get_or q.inputs i []) place → ((k : ℕ) → k < length q.inputs → HasLive q.points literals (get_or q.inputs k [])) → l ≡ literal_at (get_or q.inputs i []) place → IsSplit q l
 split_of q others given literals after values i place l on same is kept best fails live all at =
     let clause = get_or q.inputs i [] in
@@ -108,18 +128,9 @@ split_of q others given literals after values i place l on same is kept best fai
       stated = (clause, Contains-get_or q.inputs i [] f.within, Contains-get_or clause place no_literal live.within);
       with_it = here.consistent;
       against = (values, record { count = s.count; at_most_0 = s.at_most_0; holds = All-push (Holds values) q.cube (negation_of m) s.holds (denied values m false_there) });
-      live = λ c c_in. (let k = c_in.0 in
-          let k_in : k < length q.inputs = c_in.1 in
-          let same_c : get_or q.inputs k [] ≡ c = get_or_is q.inputs k c k_in c_in.2 in
-          let h : HasLive q.points q.cube (get_or q.inputs k []) = subst (λ (ls : List Literal). HasLive q.points ls (get_or q.inputs k [])) is (all k k_in) in
-          live_literal q.points q.cube c (subst (HasLive q.points q.cube) same_c h));
+      live = live_clauses q literals is all;
     } in
     subst (IsSplit q) (sym at) split
-  where
-    get_or_is : (cs : List (List Literal)) (k : ℕ) (c : List Literal) → k < length cs → get_or cs k c ≡ c → get_or cs k [] ≡ c
-    get_or_is [] k c lt e = absurd (omega arith)
-    get_or_is (d ∷ cs) zero c lt e = e
-    get_or_is (d ∷ cs) (suc k) c lt e = get_or_is cs k c (omega arith) e
 
 pub are_live : (q : Question) (own : List Lemma) (es : List Entry) (levels : List Level) (literals : List Literal) (found : Option ℕ) → AreSearchLive q own es levels literals found → ((j : ℕ) → found ≡ Some j → ⊥) → IsSearch q own es levels literals × ((i : ℕ) → i < length q.inputs → HasLive q.points literals (get_or q.inputs i []))
 are_live q own es levels literals (Some j) h none = absurd (none j refl)

@@ -30,6 +30,16 @@ abbrev pub IsLiveAt : ℕ → List Literal → List Entry → List Literal → O
 IsLiveAt points literals entries clause None = AreDenied entries clause (length clause)
 IsLiveAt points literals entries clause (Some place) = IsLive points literals clause place
 
+-- the literal is in one of the clauses
+abbrev pub IsStated : List (List Literal) → Literal → Type 0
+IsStated clauses l = (clause : List Literal) × Contains clauses clause × Contains clause l
+
+-- so it is, and both the literal and its negation are consistent with the others
+pub record Divides (points : ℕ) (clauses : List (List Literal)) (literals : List Literal) (l : Literal) : Type 0 where
+  pub stated : IsStated clauses l
+  pub with_it : IsConsistent points (literals ++ l ∷ [])
+  pub against : IsConsistent points (literals ++ negation_of l ∷ [])
+
 -- both halves of the cube are consistent, and each clause of the problem has a literal that is consistent
 -- with the cube
 pub record IsSplit (q : Question) (l : Literal) : Type 0 where

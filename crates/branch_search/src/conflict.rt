@@ -78,7 +78,6 @@ impl State {
             wanted,
         )?;
         self.guide.add_lemma(lemma.clause.as_slice())?;
-        self.known = self.known.saturating_add(1);
         self.own.push(lemma)?;
         Ok(())
     }

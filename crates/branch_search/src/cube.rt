@@ -97,20 +97,6 @@ impl State {
         Ok(None)
     }
 
-    // The guide learns of the clause of the handed lemma with the number, if it doesn't know it.
-    fn tell(&mut self, j: usize, clause: &[Literal]) -> Result<(), AllocError>
-        ensures entries { self.new.entries.items ≡ self.old.entries.items }
-        ensures levels { self.new.levels.items ≡ self.old.levels.items }
-        ensures own { self.new.own.items ≡ self.old.own.items }
-    {
-        if j < self.known {
-            return Ok(());
-        }
-        self.guide.add_lemma(clause)?;
-        self.known = j.saturating_add(1);
-        Ok(())
-    }
-
     // The handed lemmas' clauses, which the guide learns of, and those of one literal.
     fn take_handed<E: Earlier, N: Net>(
         &mut self,
@@ -128,7 +114,7 @@ impl State {
     {
         'lemmas: for j in 0..handed.count() {
             let clause = handed.clause(j);
-            self.tell(j, clause)?;
+            self.guide.tell_lemma(j, clause)?;
             let taken = self.take_short(
                 problem,
                 handed,

@@ -72,15 +72,6 @@ impl State {
         Ok(left)
     }
 
-    // The hints' numbers of lemmas close up, so that the next slice goes on with them.
-    fn close_up(&mut self, seen: usize, needed: &[bool]) -> Result<(), AllocError> {
-        if self.guide.lemmas() == seen.saturating_add(needed.len()) {
-            self.guide.close_up(seen, needed)?;
-        }
-        self.known = self.guide.lemmas();
-        Ok(())
-    }
-
     /// The slice's answer, with those of the own lemmas that the search hasn't forgotten, and with what these
     /// cite.
     pub fn deliver<E: Earlier>(
@@ -99,7 +90,7 @@ impl State {
     {
         let seen = handed.count();
         let left = self.take_wanted(alloc, seen, excluding(&division))?;
-        self.close_up(seen, &left.needed)?;
+        self.guide.close_up(seen, &left.needed)?;
         match division {
             Division::Model(schedule) => Ok(Slice::Model(schedule, left.batch)),
             Division::Excluded(j) => {

@@ -1,14 +1,16 @@
 //! The end of a slice: with the cube alone, whether a clause has no literal that is consistent with it, and
 //! what to split on.
-ghost use Rattle.std.specs.Prelude.{◌≡◌, ◌<◌, ◌≤◌, ◌+◌, ◌^◌, ◌++◌, ◌∷◌, [], All, length, min, IfOk, OnOk};
+ghost use Rattle.std.specs.Prelude.{◌≡◌, ◌<◌, ◌≤◌, ◌+◌, ◌^◌, ◌++◌, ◌∷◌, [], All, length, min, true, IfOk, OnOk};
+ghost use Rattle.std.specs.Prelude.{IfSome};
 ghost use Rattle.stn_core.specs.Literal.{IsOver, negation_of};
+ghost use Rattle.stn_core.specs.Net.{IsConsistent};
 ghost use Rattle.conflict_analysis.specs.declared.entry.Reason.TheVariants.{Cycle as ByCycle};
 ghost use Rattle.branch_search.specs.Search.{question_of, IsState, adds_limit};
-ghost use Rattle.branch_search.specs.Divisions.{IsLiveAt, IsLiveness, AreLive, IsDivision};
+ghost use Rattle.branch_search.specs.Divisions.{IsLiveAt, IsLiveness, AreLive, IsDivision, IsStated, Divides};
 
 use crate::clauses::false_clause;
 use crate::state::State;
-use conflict_analysis::{Conflict, Reason, Source, clause_of};
+use conflict_analysis::{Conflict, Reason, Source, clause_of, is_over};
 use refute_tree::Earlier;
 use std::alloc::{AllocError, Global};
 use stn_core::{Added, Literal, Literals, Net, Problem, Schedule, negate};
@@ -28,6 +30,62 @@ pub enum Live {
     At(usize),
     /// None, and so the lemma with this number excludes the cube.
     Nowhere(usize),
+}
+
+// Whether the literal is within the limits and consistent with the net's.
+fn is_consistent<N: Net>(net: &mut N, literal: Literal) -> Result<bool, AllocError>
+    ensures points { N.points_of net.new ≡ N.points_of net.old }
+    ensures literals { OnOk result (N.literals_of net.new ≡ N.literals_of net.old) }
+    ensures consistent { IfOk result (λ b. b ≡ true → IsConsistent (N.points_of net.old)
+        (N.literals_of net.old ++ literal ∷ [])) }
+    ensures counts { OnOk result (min (N.adds_of net.old) adds_limit ≤ N.adds_of net.new) }
+{
+    if !is_over(literal, net.points()) {
+        return Ok(false);
+    }
+    let mark = net.mark();
+    match net.add(literal)? {
+        Added::Yes => {
+            net.retract(mark);
+            Ok(true)
+        }
+        Added::Cycle(_) => Ok(false),
+    }
+}
+
+// The literal at a place of a clause of the problem, if there is one.
+fn literal_of(problem: &Problem, place: Option<(usize, usize)>) -> Option<Literal>
+    ensures { IfSome result (IsStated problem.now.clauses) }
+{
+    let (clause, place) = place?;
+    let clauses = problem.clauses.as_slice();
+    if clause < clauses.len() && place < clauses[clause].as_slice().len() {
+        Some(clauses[clause].as_slice()[place])
+    } else {
+        None
+    }
+}
+
+// The literal at the place, if it and its negation are each consistent with the net's.
+fn divides_at<N: Net>(
+    problem: &Problem,
+    net: &mut N,
+    place: Option<(usize, usize)>,
+) -> Result<Option<Literal>, AllocError>
+    ensures points { N.points_of net.new ≡ N.points_of net.old }
+    ensures literals { OnOk result (N.literals_of net.new ≡ N.literals_of net.old) }
+    ensures divides { IfOk result (λ found. IfSome found
+        (Divides (N.points_of net.old) problem.now.clauses (N.literals_of net.old))) }
+    ensures counts { OnOk result (min (N.adds_of net.old) adds_limit ≤ N.adds_of net.new) }
+{
+    let Some(literal) = literal_of(problem, place) else {
+        return Ok(None);
+    };
+    if is_consistent(net, literal)? && is_consistent(net, negate(literal))? {
+        Ok(Some(literal))
+    } else {
+        Ok(None)
+    }
 }
 
 impl State {
@@ -143,7 +201,8 @@ impl State {
         Ok(None)
     }
 
-    /// The cube alone, of which the net has the literals.
+    /// The cube alone, of which the net has the literals. It is divided by the literal at the place of a clause of the
+    /// problem, where that does, and else by one of the first clause that doesn't hold on the net's schedule.
     pub fn divide<E: Earlier, N: Net>(
         &mut self,
         alloc: Global,
@@ -151,6 +210,7 @@ impl State {
         handed: &E,
         cube: &[Literal],
         net: &mut N,
+        place: Option<(usize, usize)>,
     ) -> Result<Division, AllocError>
         requires few { length (E.clauses handed.now) < 2 ^ 63 }
         requires points { N.points_of net.old ≡ problem.now.points }
@@ -171,6 +231,9 @@ impl State {
             let schedule = Schedule::new(Vec::from_slice(alloc, values)?);
             return Ok(Division::Model(schedule));
         };
+        if let Some(literal) = divides_at(problem, net, place)? {
+            return Ok(Division::Split(literal));
+        }
         match self.check_live(alloc, problem, handed, cube, net, i)? {
             Live::At(place) => {
                 let literal = clause_of(problem, handed, Source::Input(i))[place];

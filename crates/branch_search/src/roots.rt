@@ -94,7 +94,6 @@ impl State {
         )?;
         self.entries[k] = entry;
         self.guide.add_lemma(lemma.clause.as_slice())?;
-        self.known = self.known.saturating_add(1);
         self.own.push(lemma)?;
         Ok(())
     }

@@ -50,7 +50,17 @@ impl State {
         Ok(found)
     }
 
-    // The cube, and then what it alone comes to.
+    // Where to divide the cube. Without a conflict activities say nothing, and a slice is a step of one descent to a
+    // schedule.
+    fn dividing(&self) -> Option<(usize, usize)> {
+        if self.met_conflict {
+            self.guide.dividing()
+        } else {
+            None
+        }
+    }
+
+    // The cube, and then what it alone comes to. It is divided at the place, if that does.
     fn finish<E: Earlier, N: Net>(
         &mut self,
         alloc: Global,
@@ -58,6 +68,7 @@ impl State {
         handed: &E,
         cube: &[Literal],
         net: &mut N,
+        place: Option<(usize, usize)>,
     ) -> Result<Division, AllocError>
         requires few { length (E.clauses handed.now) < 2 ^ 63 }
         requires points { N.points_of net.old ≡ problem.now.points }
@@ -74,7 +85,7 @@ impl State {
         if let Some(j) = self.enter(alloc, problem, handed, cube, net)? {
             return Ok(Division::Excluded(j));
         }
-        let division = self.divide(alloc, problem, handed, cube, net)?;
+        let division = self.divide(alloc, problem, handed, cube, net, place)?;
         Ok(division)
     }
 }
@@ -114,11 +125,12 @@ fn divide_cube<E: Earlier, N: Net>(
     ensures answer { IfOk result (IsSlice (question_of problem.now (E.clauses handed.now) cube.now)) }
     ensures spent { OnOk result (target ≤ N.adds_of net.new) }
 {
+    let place = state.dividing();
     net.retract(Mark { length: 0 });
     spend(net, problem, target)?;
     net.retract(Mark { length: 0 });
     state.clear();
-    let division = state.finish(alloc, problem, handed, cube, net)?;
+    let division = state.finish(alloc, problem, handed, cube, net, place)?;
     let slice = state.deliver(alloc, problem, handed, cube, division)?;
     Ok(slice)
 }

@@ -32,20 +32,62 @@ pub struct State {
     pub measured: usize,
     /// whether there was a conflict in this slice
     pub met_conflict: bool,
-    /// how many lemmas the guide knows, of those that were handed and of the own ones
-    pub known: usize,
+    /// how many lemmas were handed to the last slice: behind them the guide knows the own ones
+    pub seen: usize,
     /// how many conflicts and decisions there were in all slices
     pub conflicts: u64,
     pub decisions: u64,
 }
 
-// Whether the guide has the same first literal for the clause of the lemma with this number, or has forgotten
-// it.
+// Whether the guide has as many literals and the same first one for the clause of the lemma with this number, or
+// doesn't watch it.
 fn has_clause(guide: &Guide, j: usize, clause: &[Literal]) -> bool {
-    match guide.number_at(search_guide::Source::Lemma(j), 0) {
-        Some(number) => guide.literal(number) == clause.first().copied(),
+    let numbers = guide.numbers_of(search_guide::Source::Lemma(j));
+    match numbers.first() {
+        Some(number) => {
+            numbers.len() == clause.len() && guide.literal(*number) == clause.first().copied()
+        }
         None => true,
     }
+}
+
+// Whether the guide's lemmas between two numbers are the handed ones from another number on.
+fn are_at<E: Earlier>(guide: &Guide, handed: &E, from: usize, to: usize, start: usize) -> bool {
+    for j in from..to {
+        let k = start.saturating_add(j - from);
+        if k >= handed.count() || !has_clause(guide, j, handed.clause(k)) {
+            return false;
+        }
+    }
+    true
+}
+
+// The first lemma from a number on whose clause the guide has, or how many it knows.
+fn first_watched(guide: &Guide, seen: usize) -> usize {
+    for j in seen..guide.lemmas() {
+        if !guide.numbers_of(search_guide::Source::Lemma(j)).is_empty() {
+            return j;
+        }
+    }
+    guide.lemmas()
+}
+
+// From which number on the handed lemmas are those that the guide knows behind the first `seen`.
+fn start_of_own<E: Earlier>(guide: &Guide, handed: &E, seen: usize) -> Option<usize> {
+    let known = guide.lemmas();
+    if known > handed.count() || !are_at(guide, handed, 0, seen, 0) {
+        return None;
+    }
+    // those before the first that is watched fit anywhere
+    let first = first_watched(guide, seen);
+    let before = first.saturating_sub(seen);
+    let last = handed.count().saturating_sub(known.saturating_sub(seen));
+    for start in seen..last.saturating_add(1) {
+        if are_at(guide, handed, first, known, start.saturating_add(before)) {
+            return Some(start);
+        }
+    }
+    None
 }
 
 // The literals from a place on leave the trail.
@@ -83,27 +125,14 @@ impl State {
             netted: 0,
             measured: 0,
             met_conflict: false,
-            known: 0,
+            seen: 0,
             conflicts: 0,
             decisions: 0,
         }
     }
 
-    // Whether the lemmas that the guide knows are the first of those that are handed.
-    fn knows<E: Earlier>(&self, handed: &E) -> bool {
-        if self.known > handed.count() {
-            return false;
-        }
-        for j in 0..self.known {
-            if !has_clause(&self.guide, j, handed.clause(j)) {
-                return false;
-            }
-        }
-        true
-    }
-
     /// Before another slice: no literal stands on the trail, and there are no own lemmas. The guide stays,
-    /// where the lemmas that it knows are the first of those that are handed.
+    /// where the lemmas that it knows are among those that are handed, and others may stand before its own.
     pub fn renew<E: Earlier>(
         &mut self,
         alloc: Global,
@@ -117,11 +146,15 @@ impl State {
         self.clear();
         self.own.truncate(0);
         self.met_conflict = false;
-        if !self.knows(handed) {
-            self.guide = Guide::with_policy(alloc, problem, self.guide.policy())?;
-            self.distances = Distances::new(alloc, &self.guide, problem.points)?;
-            self.known = 0;
+        match start_of_own(&self.guide, handed, self.seen) {
+            Some(start) => self.guide.renumber(self.seen, start, handed.count())?,
+            None => {
+                self.guide = Guide::with_policy(alloc, problem, self.guide.policy())?;
+                self.distances = Distances::new(alloc, &self.guide, problem.points)?;
+                self.guide.renumber(0, 0, handed.count())?;
+            }
         }
+        self.seen = handed.count();
         Ok(())
     }
 

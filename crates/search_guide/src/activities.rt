@@ -57,6 +57,11 @@ impl Activities {
         }
     }
 
+    /// The activity of the literal's atom.
+    pub fn of(&self, number: LiteralNumber) -> f64 {
+        self.activity(narrow(atom_of(number)))
+    }
+
     /// What a literal of a clause of the problem gains before the search. The heap isn't put in order.
     pub fn count_clause(&mut self, number: LiteralNumber, length: usize) {
         if let Some(activity) = self.activities.get_mut(atom_of(number)) {

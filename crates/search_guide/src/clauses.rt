@@ -1,6 +1,9 @@
 //! The clauses as numbers of literals, one after the other in one table: first the problem's, then the
 //! lemmas. Their order within a clause stays as it was given, so that a place tells a search which literal is
 //! meant; the two places that are watched stand beside it.
+//!
+//! Lemmas are numbered by their owner, and stand in the table in the order in which they came, so that lemmas
+//! of others can come in between the own ones later on. Not all of them stand there.
 use crate::closing::Closing;
 use crate::numbers::{LiteralNumber, narrow};
 use std::alloc::{AllocError, Global};
@@ -21,12 +24,27 @@ pub struct Span {
     pub second: u32,
 }
 
+/// What is known of the lemma with a number.
+#[derive(Clone, Copy, PartialEq, Eq)]
+enum Slot {
+    /// nothing yet
+    Untold,
+    /// it was told, and doesn't stand in the table
+    Absent,
+    /// it is this clause of the table
+    Clause(u32),
+}
+
 #[derive(Drop)]
 pub struct Clauses {
     numbers: Vec<LiteralNumber>,
     spans: Vec<Span>,
     /// how many of them are the problem's
     inputs: usize,
+    /// for each lemma's number
+    slots: Vec<Slot>,
+    /// for each clause behind the problem's the number of its lemma
+    lemmas: Vec<u32>,
 }
 
 impl Clauses {
@@ -35,6 +53,8 @@ impl Clauses {
             numbers: Vec::new(alloc),
             spans: Vec::new(alloc),
             inputs: 0,
+            slots: Vec::new(alloc),
+            lemmas: Vec::new(alloc),
         }
     }
 
@@ -47,34 +67,142 @@ impl Clauses {
         self.inputs
     }
 
-    /// How many lemmas there are.
+    /// How many numbers of lemmas there are.
     pub fn lemmas(&self) -> usize {
-        self.spans.len().saturating_sub(self.inputs)
+        self.slots.len()
     }
 
-    /// The clauses that don't stay are gone, and the indices of the others close up. Those that go have no
-    /// literals.
-    pub fn close_up(&mut self, closing: &Closing) {
-        let mut kept = 0usize;
+    /// How many lemmas stand in the table, or did before they were forgotten.
+    pub fn entries(&self) -> usize {
+        self.lemmas.len()
+    }
+
+    /// The clause of the table with this place among the lemmas.
+    pub fn entry(&self, place: usize) -> u32 {
+        narrow(self.inputs.saturating_add(place))
+    }
+
+    /// The clause's place among the lemmas of the table, if it is one.
+    pub fn place(&self, clause: u32) -> Option<usize> {
+        (clause as usize).checked_sub(self.inputs)
+    }
+
+    /// One more number, of the clause that comes next. A lemma that was told already keeps its number.
+    pub fn number_next(&mut self, lemma: usize) -> Result<(), AllocError> {
+        let clause = narrow(self.spans.len());
+        if lemma == self.slots.len() {
+            self.slots.push(Slot::Clause(clause))?;
+        } else if let Some(slot) = self.slots.get_mut(lemma) {
+            *slot = Slot::Clause(clause);
+        }
+        self.lemmas.push(narrow(lemma))?;
+        Ok(())
+    }
+
+    /// Whether nothing is known yet of the lemma with this number.
+    pub fn is_untold(&self, lemma: usize) -> bool {
+        self.slots.get(lemma).copied() == Some(Slot::Untold)
+    }
+
+    /// The lemma is known, and isn't to stand in the table.
+    pub fn pass_by(&mut self, lemma: usize) {
+        if let Some(slot) = self.slots.get_mut(lemma) {
+            *slot = Slot::Absent;
+        }
+    }
+
+    /// The lemmas from one number on have numbers from another on, and there are so many numbers in all.
+    pub fn renumber(&mut self, from: usize, to: usize, count: usize) -> Result<(), AllocError> {
+        let own = self.slots.len().saturating_sub(from);
+        let end = to.saturating_add(own);
+        for _lemma in self.slots.len()..count.max(end) {
+            self.slots.push(Slot::Untold)?;
+        }
+        if from == to {
+            return Ok(());
+        }
+        for back in 0..own {
+            let lemma = own - 1 - back;
+            let slot = self.slots.get(from.saturating_add(lemma)).copied();
+            let new = self.slots.get_mut(to.saturating_add(lemma));
+            if let (Some(slot), Some(new)) = (slot, new) {
+                *new = slot;
+            }
+        }
+        for lemma in from..to {
+            if let Some(slot) = self.slots.get_mut(lemma) {
+                *slot = Slot::Untold;
+            }
+        }
+        self.read_slots();
+        Ok(())
+    }
+
+    /// Each clause gets the number under which it is found.
+    fn read_slots(&mut self) {
+        for (lemma, slot) in self.slots.iter().enumerate() {
+            if let Slot::Clause(clause) = slot {
+                let place = (*clause as usize).saturating_sub(self.inputs);
+                if let Some(number) = self.lemmas.get_mut(place) {
+                    *number = narrow(lemma);
+                }
+            }
+        }
+    }
+
+    /// Of the lemmas from the first number on those that aren't kept are gone, and the numbers of the others
+    /// close up.
+    fn close_numbers(&mut self, first: usize, kept: &[bool], closing: &Closing) {
+        let mut next = 0usize;
+        for lemma in 0..self.slots.len() {
+            let own = lemma.checked_sub(first);
+            let stays = match own.and_then(|own| kept.get(own)) {
+                Some(stays) => *stays,
+                None => true,
+            };
+            let slot = self.slots.get(lemma).copied();
+            if let (true, Some(slot), Some(new)) = (stays, slot, self.slots.get_mut(next)) {
+                *new = match slot {
+                    Slot::Clause(clause) => match closing.place(clause) {
+                        Some(clause) => Slot::Clause(clause),
+                        None => Slot::Absent,
+                    },
+                    Slot::Untold | Slot::Absent => slot,
+                };
+                next = next.saturating_add(1);
+            }
+        }
+        self.slots.truncate(next);
+    }
+
+    /// Of the lemmas from the first number on those that aren't kept are gone, and the numbers of the others
+    /// close up; the clauses that don't stay are gone from the table.
+    pub fn close_up(&mut self, first: usize, kept: &[bool], closing: &Closing) {
+        let mut next = 0usize;
         for clause in 0..self.spans.len() {
             if closing.place(narrow(clause)).is_none() {
                 continue;
             }
             let span = self.spans.get(clause).copied();
-            if let (Some(span), Some(slot)) = (span, self.spans.get_mut(kept)) {
+            if let (Some(span), Some(slot)) = (span, self.spans.get_mut(next)) {
                 *slot = span;
             }
-            kept = kept.saturating_add(1);
+            next = next.saturating_add(1);
         }
-        self.spans.truncate(kept);
+        self.spans.truncate(next);
+        self.lemmas.truncate(next.saturating_sub(self.inputs));
+        self.close_numbers(first, kept, closing);
+        self.read_slots();
     }
 
     pub fn source(&self, clause: u32) -> Source {
         let clause = clause as usize;
         if clause < self.inputs {
-            Source::Input(clause)
-        } else {
-            Source::Lemma(clause - self.inputs)
+            return Source::Input(clause);
+        }
+        match self.lemmas.get(clause - self.inputs) {
+            Some(lemma) => Source::Lemma(*lemma as usize),
+            None => Source::Lemma(usize::MAX),
         }
     }
 
@@ -82,7 +210,10 @@ impl Clauses {
         match source {
             Source::Input(number) if number < self.inputs => Some(narrow(number)),
             Source::Input(_) => None,
-            Source::Lemma(number) => Some(narrow(self.inputs.saturating_add(number))),
+            Source::Lemma(number) => match self.slots.get(number) {
+                Some(Slot::Clause(clause)) => Some(*clause),
+                _ => None,
+            },
         }
     }
 

@@ -114,7 +114,7 @@ impl Forgetting {
         Ok(())
     }
 
-    /// The lemma took part in a conflict: its literals are denied, but at most one.
+    /// The lemma at this place of the table took part in a conflict: its literals are denied, but at most one.
     pub fn bump(&mut self, lemma: usize, literals: &[LiteralNumber], assignment: &Assignment) {
         let Some(merit) = self.merits.get(lemma).copied() else {
             return;
@@ -173,7 +173,7 @@ impl Forgetting {
         true
     }
 
-    /// For each lemma whether it is kept, and how many aren't that were.
+    /// For each lemma of the table whether it is kept, and how many aren't that were.
     pub fn select(
         &self,
         alloc: Global,
@@ -183,7 +183,7 @@ impl Forgetting {
         let mut kept = Vec::with_capacity(alloc, self.merits.len())?;
         let mut candidates = Vec::new(alloc);
         for (lemma, merit) in self.merits.iter().enumerate() {
-            let literals = clauses.literals_of(crate::clauses::Source::Lemma(lemma));
+            let literals = clauses.literals(clauses.entry(lemma));
             kept.push(!literals.is_empty())?;
             if merit.levels > FEW_LEVELS
                 && literals.len() > 2

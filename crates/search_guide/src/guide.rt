@@ -14,6 +14,9 @@ use crate::watches::{Proposal, Watches};
 use std::alloc::{AllocError, Global};
 use stn_core::{Literal, Problem, Value};
 
+/// Another's lemma of more literals isn't watched: the longer, the more seldom it says something.
+const MOST_SHARED: usize = 6;
+
 /// The hints of a search. It is told what happens on the trail (`set`, `unset`), what is learned
 /// (`add_lemma`) and what took part in conflicts (`bump`, `bump_clause`, `decay`, `after_conflict`), and
 /// answers what to look at. What it was told wrongly makes its hints worse, and nothing else.
@@ -136,12 +139,32 @@ impl Guide {
     /// The next lemma's clause. It is watched at the two places that leave the trail last. The one error is
     /// want of memory.
     pub fn add_lemma(&mut self, clause: &[Literal]) -> Result<(), AllocError> {
+        let next = self.clauses.lemmas();
+        self.enter_lemma(next, clause)
+    }
+
+    /// The clause of another's lemma with this number, if it isn't known yet. It is watched where it is short.
+    /// The one error is want of memory.
+    pub fn tell_lemma(&mut self, lemma: usize, clause: &[Literal]) -> Result<(), AllocError> {
+        if !self.clauses.is_untold(lemma) {
+            return Ok(());
+        }
+        if clause.len() > MOST_SHARED {
+            self.clauses.pass_by(lemma);
+            return Ok(());
+        }
+        self.enter_lemma(lemma, clause)
+    }
+
+    /// The clause of the lemma with this number, into the table and the watches.
+    fn enter_lemma(&mut self, lemma: usize, clause: &[Literal]) -> Result<(), AllocError> {
         self.watches.end();
         self.clauses.begin_clause();
         for literal in clause {
             let number = self.add_literal(*literal)?;
             self.clauses.push(number)?;
         }
+        self.clauses.number_next(lemma)?;
         let index = self.clauses.end_clause()?;
         let literals = self.clauses.literals(index);
         self.forgetting.push(literals, &self.assignment)?;
@@ -329,9 +352,12 @@ impl Guide {
 
     /// The clause took part in a conflict.
     pub fn bump_clause(&mut self, source: Source) {
-        if let Source::Lemma(lemma) = source {
-            let literals = self.clauses.literals_of(source);
-            self.forgetting.bump(lemma, literals, &self.assignment);
+        let Some(clause) = self.clauses.index(source) else {
+            return;
+        };
+        if let Some(place) = self.clauses.place(clause) {
+            let literals = self.clauses.literals(clause);
+            self.forgetting.bump(place, literals, &self.assignment);
         }
     }
 
@@ -385,17 +411,64 @@ impl Guide {
         Ok(dropped)
     }
 
-    /// How many lemmas it knows.
+    /// The place of a clause of the problem, by number and place, whose literal is the best to divide the search by: of
+    /// those that aren't fixed at the root the most active one.
+    pub fn dividing(&self) -> Option<(usize, usize)> {
+        let mut best = None;
+        let mut most = 0.0;
+        for clause in 0..self.clauses.inputs() {
+            for (place, literal) in self.clauses.literals(narrow(clause)).iter().enumerate() {
+                let merit = self.activities.of(*literal);
+                if merit > most && !self.is_fixed(*literal) {
+                    most = merit;
+                    best = Some((clause, place));
+                }
+            }
+        }
+        best
+    }
+
+    /// Whether the literal, or its negation, stands on the trail at the root.
+    fn is_fixed(&self, number: LiteralNumber) -> bool {
+        self.assignment.truth(number) != Truth::Open && self.assignment.level(number) == 0
+    }
+
+    /// How many numbers of lemmas there are: the next lemma gets this one.
     pub fn lemmas(&self) -> usize {
         self.clauses.lemmas()
     }
 
-    /// Of the lemmas from this number on those that aren't kept are gone, which are to be forgotten ones, and
-    /// the numbers of the others close up. The one error is want of memory.
+    /// The lemmas from one number on have numbers from another on, no smaller one, since lemmas of others
+    /// stand before them now. There are so many numbers in all, and of those that are new no lemma is known.
+    /// The one error is want of memory.
+    pub fn renumber(&mut self, from: usize, to: usize, count: usize) -> Result<(), AllocError> {
+        self.watches.end();
+        self.clauses.renumber(from, to, count)
+    }
+
+    /// For each lemma of the table whether it stays in it.
+    fn staying(&self, first: usize, kept: &[bool]) -> Result<Vec<bool>, AllocError> {
+        let count = self.clauses.entries();
+        let mut staying = Vec::with_capacity(self.alloc, count)?;
+        for place in 0..count {
+            let clause = self.clauses.entry(place);
+            let is_kept = match self.clauses.source(clause) {
+                Source::Lemma(lemma) if lemma >= first => kept.get(lemma - first).copied(),
+                _ => None,
+            };
+            let has_literals = !self.clauses.literals(clause).is_empty();
+            staying.push(has_literals && is_kept != Some(false))?;
+        }
+        Ok(staying)
+    }
+
+    /// Of the lemmas from this number on those that aren't kept are gone, and the numbers of the others close
+    /// up. Lemmas that were forgotten leave the table. The one error is want of memory.
     pub fn close_up(&mut self, first: usize, kept: &[bool]) -> Result<(), AllocError> {
+        let staying = self.staying(first, kept)?;
         let inputs = self.clauses.inputs();
-        let closing = Closing::new(self.alloc, inputs.saturating_add(first), kept)?;
-        self.clauses.close_up(&closing);
+        let closing = Closing::new(self.alloc, inputs, &staying)?;
+        self.clauses.close_up(first, kept, &closing);
         self.watches.close_up(&closing);
         self.forgetting.close_up(inputs, &closing);
         Ok(())

@@ -3,11 +3,17 @@ ghost use Rattle.std.specs.Prelude.{◌≡◌, IfOk, None};
 ghost use Rattle.steal_search.specs.Workers.{GoesOn, IsJustifiedThere, IsSearching};
 
 use book_lock::{Desk, Seat};
-use book_search::{Delivery, Tools, doubled};
+use book_search::{Delivery, Tools};
 use std::alloc::{AllocError, Global};
 use std::sync::Wait;
 use stn_core::Problem;
 use worker_gates::Gate;
+
+/// The greatest budget of a slice, where none was given that is greater.
+const BUDGET_LIMIT: u64 = 1_000_000;
+
+/// And once there was a conflict: the others wait for the slice's end, for its lemmas and for half of its cube.
+const SHORT_LIMIT: u64 = 32_000;
 
 /// What a worker keeps from slice to slice: its tools, the budget of its next slice, and how many it has made.
 #[derive(Drop)]
@@ -26,6 +32,16 @@ impl Pace {
             budget,
             slices: 0,
         })
+    }
+
+    // The budget of the slice after one that was divided.
+    fn next_budget(&self) -> u64 {
+        let limit = if self.tools.met_conflict() {
+            SHORT_LIMIT
+        } else {
+            BUDGET_LIMIT
+        };
+        self.budget.saturating_mul(2).min(limit.max(self.budget))
     }
 }
 
@@ -97,7 +113,7 @@ pub(crate) fn deal<R: Wait, G: Gate>(
             gate.pass(worker, pace.slices);
             pace.slices = pace.slices.saturating_add(1);
             if delivery.divides {
-                pace.budget = doubled(pace.budget);
+                pace.budget = pace.next_budget();
             }
             deliver(rt, desk, seat, delivery)
         }

@@ -92,7 +92,7 @@ pub(crate) fn go_on<R: Wait, G: Gate>(
 
 /// One worker, on a thread of the caller's: it takes cubes, the fetched ones first, searches each for a slice,
 /// passes the gate, delivers what it found, and pushes the halves of a cube that was divided. The slice after
-/// one that divided its cube has twice its budget, up to 1,000,000.
+/// one that divided its cube has twice its budget, up to 1,000,000, and up to 32,000 once there was a conflict.
 ///
 /// `Ok` comes where nothing is left to do. Where there is no memory for a slice or a delivery, the worker gives
 /// its cube back and ends. What the other workers deliver goes on, and the desk's book can be finished by

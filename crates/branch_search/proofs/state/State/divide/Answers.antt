@@ -2,7 +2,7 @@ use Rattle.std.proofs.Common.{◌∙◌, ap, List}
 use Rattle.stn_core.specs.declared.literal.Literal.{Literal}
 use Rattle.conflict_analysis.specs.Trails.{literal_at}
 use Rattle.branch_search.specs.Search.{question_of}
-use Rattle.branch_search.proofs.Splits.{modelled, is_none, are_live, live_at, split_of}
+use Rattle.branch_search.proofs.Splits.{modelled, is_none, are_live, live_at, split_by, split_of}
 use Rattle.branch_search.proofs.state.State.divide.Goals as goal
 
 pub returns-in_default-false_clause-clause-division : goal.returns-in_default-false_clause-clause-division
@@ -32,7 +32,20 @@ returns-in-At-clause-division g c =
       split_of q (net.points_of c.check_all.new.net) _ (net.literals_of c.check_all.new.net)
           (net.literals_of c.check_live.new.net) c.schedule-values.result.now c.in-Some-false_clause.i c.in-At.place _
           (c.in_ok-j.ensures.points ∙ c.requires.points) c.as_slice.ensures (c.in_ok-j.ensures.literals ∙ c.requires.cube)
-          c.in_ok-place.ensures.literals c.schedule-values.ensures c.in-Some-false_clause.ensures.found here.1 all.1
+          (c.in_ok-place.ensures.literals ∙ c.in_ok-literal.ensures.literals) c.schedule-values.ensures c.in-Some-false_clause.ensures.found here.1 all.1
           (ap (λ (ls : List Literal). literal_at ls c.in-At.place) c.clause_of.ensures),
       here.0.proved,
+    )
+
+pub returns-in-Some-2-clause-division : goal.returns-in-Some-2-clause-division
+returns-in-Some-2-clause-division g c =
+    let net = g.N.Net in
+    let q = question_of c.args.problem.now (g.E.Earlier.clauses c.args.handed.now) c.args.cube.now in
+    let all = are_live q c.check_all.new.self.own.items c.check_all.new.self.entries.items
+    c.check_all.new.self.levels.items (net.literals_of c.check_all.new.net) c.in_ok-j.field-0 c.in_ok-j.ensures.live
+    c.in_default.not-Some in (
+      split_by q (net.points_of c.check_all.new.net) (net.literals_of c.check_all.new.net) c.in_ok-literal.field-0
+          c.in-Some-2.literal (c.in_ok-j.ensures.points ∙ c.requires.points)
+          (c.in_ok-j.ensures.literals ∙ c.requires.cube) c.in_ok-literal.ensures.divides c.in-Some-2.is all.1,
+      all.0.proved,
     )
