@@ -6,10 +6,10 @@ ghost use Rattle.smt_sexpr.specs.Printing.{text_of, text_behind};
 ghost use Rattle.smt_sexpr.specs.Shapes.{items_of};
 ghost use Rattle.cert_text.specs.Form.{entry_sexpr, line_of};
 ghost use Rattle.dtp_entry.specs.Written.{WritesOne};
-ghost use Rattle.cert_stream.specs.Streams.{Streams};
+ghost use Rattle.cert_stream.specs.Streams.{Streams, entry_lines, whole_text};
 
 use bstr::ByteVec;
-use cert_text::{Entry, Part};
+use cert_text::{Entry, Part, Version, write_end, write_header};
 use dtp_entry::{SessionError, write_text};
 use dtp_io::Sink;
 use std::alloc::{AllocError, Global};
@@ -94,6 +94,55 @@ pub fn write_entry<K: Sink>(alloc: Global, entry: &Entry, sink: &mut K) -> Resul
 {
     let mut text = Vec::new(alloc);
     stream_entry(entry, &mut text, sink)?;
+    write_text(sink, text.as_slice())?;
+    Ok(())
+}
+
+// The lines of entries, one behind the other.
+fn stream_entries<K: Sink>(
+    entries: &[Entry],
+    text: &mut Vec<u8>,
+    sink: &mut K,
+) -> Result<(), SessionError>
+    ensures { Streams (entry_lines entries.now)
+        text.old.items text.new.items (K.holds sink.old) (K.holds sink.new)
+        (K.faults sink.old) (K.faults sink.new) result }
+{
+    for entry in entries {
+        stream_entry(entry, text, sink)?;
+    }
+    Ok(())
+}
+
+// A certificate: its header, the entries, and its end.
+fn stream_certificate<K: Sink>(
+    version: Version,
+    entries: &[Entry],
+    text: &mut Vec<u8>,
+    sink: &mut K,
+) -> Result<(), SessionError>
+    ensures { Streams (whole_text version entries.now)
+        text.old.items text.new.items (K.holds sink.old) (K.holds sink.new)
+        (K.faults sink.old) (K.faults sink.new) result }
+{
+    write_header(version, text)?;
+    stream_entries(entries, text, sink)?;
+    write_end(text)?;
+    Ok(())
+}
+
+/// Writes a whole certificate of the version, in pieces. Without memory for a piece, those before it are written.
+pub fn write_certificate<K: Sink>(
+    alloc: Global,
+    version: Version,
+    entries: &[Entry],
+    sink: &mut K,
+) -> Result<(), SessionError>
+    ensures { WritesOne (λ text. text ≡ whole_text version entries.now) (K.holds sink.old) (K.holds sink.new)
+        (K.faults sink.old) (K.faults sink.new) result }
+{
+    let mut text = Vec::new(alloc);
+    stream_certificate(version, entries, &mut text, sink)?;
     write_text(sink, text.as_slice())?;
     Ok(())
 }

@@ -48,8 +48,8 @@ refusal_no_expression why x h = cc
 -- two transcripts have the same text
 abbrev SameText : Report → Report → List ℕ → List ℕ → Type 0
 SameText Verdicts Verdicts a b = a ≡ b
-SameText Verdicts Certificate a b = Unit {0}
-SameText Certificate q a b = Unit {0}
+SameText Verdicts (Certificate w) a b = Unit {0}
+SameText (Certificate v) q a b = Unit {0}
 
 -- the text where there is a reason for it
 record Same (r q : Report) (Reason : Type 0) (a b : Output) : Type 0 where
@@ -69,13 +69,13 @@ same_by r q held other xs a b c d e f h = subst (λ (o : Output). SameAt r q hel
 
 text_append : (r q : Report) (a b c d : List ℕ) → SameText r q a b → SameText r q c d → SameText r q (a ++ c) (b ++ d)
 text_append Verdicts Verdicts a b c d e f = ap (λ (t : List ℕ). t ++ c) e ∙ ap (λ (t : List ℕ). b ++ t) f
-text_append Verdicts Certificate a b c d e f = tt
-text_append Certificate q a b c d e f = tt
+text_append Verdicts (Certificate w) a b c d e f = tt
+text_append (Certificate v) q a b c d e f = tt
 
 text_refl : (r q : Report) (a : List ℕ) → SameText r q a a
 text_refl Verdicts Verdicts a = refl
-text_refl Verdicts Certificate a = tt
-text_refl Certificate q a = tt
+text_refl Verdicts (Certificate w) a = tt
+text_refl (Certificate v) q a = tt
 
 verdicts_append : (a b : List Entry) → map verdict_of (a ++ b) ≡ map verdict_of a ++ map verdict_of b
 verdicts_append [] b = refl
@@ -99,8 +99,8 @@ decision_one Verdicts Verdicts (Sat a) (Sat b) h = refl
 decision_one Verdicts Verdicts (Sat a) (Unsat b) h = absurd cc
 decision_one Verdicts Verdicts (Unsat a) (Sat b) h = absurd cc
 decision_one Verdicts Verdicts (Unsat a) (Unsat b) h = refl
-decision_one Verdicts Certificate e f h = tt
-decision_one Certificate q e f h = tt
+decision_one Verdicts (Certificate w) e f h = tt
+decision_one (Certificate v) q e f h = tt
 
 -- what is held is told
 abbrev TellsHeld : Effect → Type 0
@@ -122,18 +122,18 @@ AgreeNow held other x = (held ≡ other) ⊎ (asks_verdict x ≡ false)
 told_one : (r q : Report) (held other : Held) (s : State) (x : Sexpr) (notice : Notice) → (asks_verdict x ≡ false → TellsHeld (Tell notice) → ⊥) → AgreeNow held other x → SameText r q (told r held s x notice) (told q other s x notice)
 told_one Verdicts Verdicts held other s x notice free (inl same) = ap (λ (h : Held). told Verdicts h s x notice) same
 told_one Verdicts Verdicts held other s x notice free (inr quiet) = told_quiet held other s x notice (free quiet)
-told_one Verdicts Certificate held other s x notice free agree = tt
-told_one Certificate q held other s x notice free agree = tt
+told_one Verdicts (Certificate w) held other s x notice free agree = tt
+told_one (Certificate v) q held other s x notice free agree = tt
 
 closing_one : (r q : Report) → SameText r q (closing r) (closing q)
 closing_one Verdicts Verdicts = refl
-closing_one Verdicts Certificate = tt
-closing_one Certificate q = tt
+closing_one Verdicts (Certificate w) = tt
+closing_one (Certificate v) q = tt
 
 opening_one : (r q : Report) → SameText r q (opening r) (opening q)
 opening_one Verdicts Verdicts = refl
-opening_one Verdicts Certificate = tt
-opening_one Certificate q = tt
+opening_one Verdicts (Certificate w) = tt
+opening_one (Certificate v) q = tt
 
 -- two answers to a command are alike
 record AlikeAnswers (r q : Report) (held other : Held) (x : Sexpr) (a b : Answered) : Type 0 where

@@ -1,5 +1,5 @@
 -- What a right entry says is so.
-use Rattle.std.proofs.Common.{arith, refl, sym, ap, subst, ◌≡◌, ◌+◌, ◌≤◌, ◌^◌, ℕ, suc, List, [], ◌∷◌, length}
+use Rattle.std.proofs.Common.{ℤ, arith, refl, sym, ap, subst, ◌≡◌, ◌+◌, ◌≤◌, ◌^◌, ℕ, suc, List, [], ◌∷◌, length}
 use Rattle.stn_core.specs.Literal.{IsOver}
 use Rattle.stn_core.specs.Problem.{ProblemHolds}
 use Rattle.refute_tree.specs.declared.lemma.Lemma.{Lemma}
@@ -32,12 +32,16 @@ sorts_count [] = refl
 sorts_count (d ∷ declared) = ap suc (sorts_count declared)
 
 module _ (c : Context) (context : IsContext c) where
-  -- where the problem is refuted, no schedule satisfies the assertions
-  pub refuted_unsatisfiable : ContextsHaveScopes → RootsAreNodes → RootsAreExact → ProblemFollows → RefutationLaw → (lemmas : List Lemma) → IsRefutation (points_of c) (problem_of c) lemmas → IsSatisfiable c → ⊥
-  refuted_unsatisfiable scope roots exact law refutes lemmas h sat =
+  -- where the problem holds on no values, no schedule satisfies the assertions
+  pub unsolvable_unsatisfiable : ContextsHaveScopes → RootsAreNodes → RootsAreExact → ProblemFollows → ((values : List ℤ) → ProblemHolds values (problem_of c) → ⊥) → IsSatisfiable c → ⊥
+  unsolvable_unsatisfiable scope roots exact law never sat =
       let sorts = sorts_of c.declared in
       let w = law sorts c.nodes c.roots sat.0 (scope c context).table (roots c context) sat.1 (roots_true c sat.0 c.assertions c.roots (exact c sat.0 context sat.1) sat.2) in
-      refutes (points_of c) (problem_of c) lemmas h w.0 (subst (λ (n : ℕ). ProblemHolds w.0 (clause_form.clauses_of (n + 1) c.nodes c.roots)) (sorts_count c.declared) w.3)
+      never w.0 (subst (λ (n : ℕ). ProblemHolds w.0 (clause_form.clauses_of (n + 1) c.nodes c.roots)) (sorts_count c.declared) w.3)
+
+  -- where it is refuted, none does
+  pub refuted_unsatisfiable : ContextsHaveScopes → RootsAreNodes → RootsAreExact → ProblemFollows → RefutationLaw → (lemmas : List Lemma) → IsRefutation (points_of c) (problem_of c) lemmas → IsSatisfiable c → ⊥
+  refuted_unsatisfiable scope roots exact law refutes lemmas h = unsolvable_unsatisfiable scope roots exact law (λ values holds. refutes (points_of c) (problem_of c) lemmas h values holds)
 
   pub few_points : ContextsHaveScopes → PointsAreFew → points_of c ≤ 2 ^ 32
   few_points scope few =

@@ -1,9 +1,13 @@
 -- What a certificate holds for a check-sat: a schedule that satisfies the assertions, or a refutation of their problem.
 -- The format is that of cert_text; what makes an entry right stands here.
-use Rattle.std.specs.Prelude.{ℕ, ◌+◌, List, length}
+use Rattle.std.specs.Prelude.{◌≡◌, ℕ, ◌+◌, List, length, All}
 use Rattle.std.specs.List.{AllByRecursion}
 use Rattle.stn_core.specs.declared.literal.Literal.{Literal}
+use Rattle.refute_tree.specs.declared.lemma.Lemma.{Lemma}
 use Rattle.refute_tree.specs.Trees.{IsRefutation}
+use Rattle.refute_tree.specs.Lengths.{shortened}
+use Rattle.cert_text.specs.declared.entry.Version.{Version}
+use Rattle.cert_text.specs.declared.entry.Version.TheVariants.{One, Two}
 use Rattle.cert_text.specs.declared.entry.Entry.{Entry}
 use Rattle.cert_text.specs.declared.entry.Entry.TheVariants.{Sat, Unsat}
 use Rattle.cert_text.specs.Limits.{EntryFits}
@@ -25,9 +29,20 @@ abbrev pub IsRight : Context → Entry → Type 0
 IsRight c (Sat schedule) = IsScheduleFor c schedule × AllByRecursion (IsTrueOn c schedule) c.assertions
 IsRight c (Unsat lemmas) = IsRefutation (points_of c) (problem_of c) lemmas
 
--- such an entry, whose numbers are within the limits of the format
-abbrev pub IsEntryOf : Context → Entry → Type 0
-IsEntryOf c entry = IsRight c entry × EntryFits entry
+-- no step of the lemma opens a clause whose cases are all closed by their literal and its negation: it would be a clash
+abbrev pub IsShort : List (List Literal) → Lemma → Type 0
+IsShort clauses lemma = shortened clauses lemma.steps ≡ lemma.steps
+
+-- The form of a version: in the first each clash is written out, which its limits say; in the second each lemma is short.
+abbrev pub IsInForm : Version → Context → Entry → Type 0
+IsInForm Two c (Unsat lemmas) = All (IsShort (problem_of c)) lemmas
+IsInForm version c entry = Unit {0}
+
+-- such an entry in the version's form, whose numbers are within the limits of the format
+pub record IsEntryOf (version : Version) (c : Context) (entry : Entry) : Type 0 where
+  pub right : IsRight c entry
+  pub fits : EntryFits version entry
+  pub form : IsInForm version c entry
 
 -- what an entry says
 abbrev pub verdict_of : Entry → Satisfiability

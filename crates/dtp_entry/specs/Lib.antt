@@ -1,3 +1,4 @@
+pub mod Reports
 pub mod Entries
 pub mod Laws
 pub mod Standing

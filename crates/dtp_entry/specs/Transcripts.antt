@@ -16,6 +16,7 @@ use Rattle.smt_script.specs.States.{State, Step, start_state, after, levels_of, 
 use Rattle.smt_answer.specs.Kinds.{kind_of, kind_of_unreadable}
 use Rattle.smt_answer.specs.Texts.{verdict_line, success_line, unsupported_line, model_lines, values_line, information_line, echo_line, error_line}
 use Rattle.smt_answer.specs.declared.kind.Kind.{Kind}
+use Rattle.cert_text.specs.declared.entry.Version.{Version}
 use Rattle.cert_text.specs.declared.entry.Entry.{Entry}
 use Rattle.cert_text.specs.declared.entry.Entry.TheVariants.{Sat, Unsat}
 use Rattle.cert_text.specs.Form.{header_sexpr, entry_sexpr, end_sexpr, line_of}
@@ -23,6 +24,7 @@ use Rattle.idl_term.specs.Contexts.{Context, environment, IsSatisfiable}
 use Rattle.idl_term.specs.Values.{value}
 use Rattle.dtp_entry.specs.declared.report.Report.{Report}
 use Rattle.dtp_entry.specs.declared.report.Report.TheVariants.{Verdicts, Certificate}
+use Rattle.dtp_entry.specs.Reports.{version_of}
 use Rattle.dtp_entry.specs.Entries.{IsEntryOf, verdict_of}
 use Rattle.dtp_entry.specs.Written.{IsFront}
 
@@ -31,17 +33,17 @@ use Rattle.dtp_entry.specs.Written.{IsFront}
 -- what is written before the first command, and at the end without an error
 abbrev pub opening : Report → List ℕ
 opening Verdicts = []
-opening Certificate = line_of header_sexpr
+opening (Certificate version) = line_of (header_sexpr version)
 
 abbrev pub closing : Report → List ℕ
 closing Verdicts = []
-closing Certificate = line_of end_sexpr
+closing (Certificate version) = line_of end_sexpr
 
 -- the line of a check-sat, by the entry that decides it
 abbrev pub decision_line : Report → Entry → List ℕ
 decision_line Verdicts (Sat schedule) = verdict_line true
 decision_line Verdicts (Unsat lemmas) = verdict_line false
-decision_line Certificate entry = line_of (entry_sexpr entry)
+decision_line (Certificate version) entry = line_of (entry_sexpr entry)
 
 -- what the mode holds: the entry that decided the last check-sat, of which models and proofs can be told
 abbrev pub Held : Type 0
@@ -69,7 +71,7 @@ told Verdicts held s x Values = told_values held s (asked_terms x)
 told Verdicts held s x Proof = told_proof held
 told Verdicts held s x (Inform information) = information_line information (levels_of s)
 told Verdicts held s x Echo = echo_line (echoed_text x)
-told Certificate held s x notice = []
+told (Certificate version) held s x notice = []
 
 -- ---- a command
 
@@ -78,9 +80,9 @@ abbrev pub IsVerdict : Context → Satisfiability → Type 0
 IsVerdict c verdict.Sat = IsSatisfiable c
 IsVerdict c verdict.Unsat = ¬ IsSatisfiable c
 
--- the entry decides the assertions: it is right, and what it says is so
-pub record Decides (c : Context) (entry : Entry) : Type 0 where
-  pub right : IsEntryOf c entry
+-- the entry decides the assertions: it is right, in the version's form, and what it says is so
+pub record Decides (version : Version) (c : Context) (entry : Entry) : Type 0 where
+  pub right : IsEntryOf version c entry
   pub so : IsVerdict c (verdict_of entry)
 
 -- an answer behind which the script goes on: its text, the entry of a check-sat, what the mode holds, and the state
@@ -107,7 +109,7 @@ checked report s entry = record {
 -- the answer to an effect of command x, in the state behind it
 abbrev pub Answers : Report → Held → State → Sexpr → Effect → Reply → Type 0
 Answers report held s x CheckSat reply =
-    (entry : Entry) × Decides s.context entry × (reply ≡ answered (checked report s entry))
+    (entry : Entry) × Decides (version_of report) s.context entry × (reply ≡ answered (checked report s entry))
 Answers report held s x (Tell notice) reply =
     reply ≡ answered (record { text = told report held s x notice; found = []; held = held; state = s })
 Answers report held s x Exit reply = reply ≡ last (closing report)
@@ -193,9 +195,9 @@ IsReport report script text status =
 abbrev pub IsTranscript : List ℕ → List ℕ → ℕ → Type 0
 IsTranscript script text status = IsReport Verdicts script text status
 
--- the certificate of a script: a header, an entry for each check-sat, and the end or the error line
-abbrev pub IsCertificate : List ℕ → List ℕ → ℕ → Type 0
-IsCertificate script text status = IsReport Certificate script text status
+-- the certificate of a script, of a version: its header, an entry for each check-sat, and the end or the error line
+abbrev pub IsCertificate : Version → List ℕ → List ℕ → ℕ → Type 0
+IsCertificate version script text status = IsReport (Certificate version) script text status
 
 -- ---- what a run that is cut short has written
 

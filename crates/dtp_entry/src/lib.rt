@@ -17,5 +17,5 @@ pub use entry::verdict_of;
 pub use error::SessionError;
 pub use kind::kind_of;
 pub use laws::one_transcript;
-pub use report::Report;
+pub use report::{Report, version_of};
 pub use write::write_text;

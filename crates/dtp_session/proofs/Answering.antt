@@ -23,7 +23,8 @@ use Rattle.dtp_entry.specs.declared.report.Report.{Report}
 use Rattle.dtp_entry.specs.declared.report.Report.TheVariants.{Verdicts, Certificate}
 use Rattle.dtp_entry.specs.Standing.{Stands}
 use Rattle.dtp_entry.proofs.Standing.{stands_after}
-use Rattle.dtp_entry.specs.Transcripts.{Held, closing, told, told_proof, decision_line, checked, Answered, Reply, answered, last, error, Answers, RepliesBy, Replies}
+use Rattle.dtp_entry.specs.Transcripts.{Held, closing, told, told_proof, decision_line, checked, Answered, Reply, answered, last, error, Answers, RepliesBy, Replies, Decides}
+use Rattle.dtp_entry.specs.Reports.{version_of}
 use Rattle.dtp_session.specs.declared.piece.Piece.{Piece}
 use Rattle.dtp_session.specs.declared.piece.Piece.TheVariants.{Opening, Decision, Proof, Told, Closing, Error}
 use Rattle.dtp_session.specs.declared.session.Session.{Session}
@@ -104,7 +105,7 @@ pub check_gives : (report : Report) (held : Held) (q : Session) (s : State) (x :
 check_gives report held q s x effect e same h =
     let a : Answered = checked report s h.entry in (
       a,
-      subst (λ (f : Effect). Answers report held s x f (answered a)) (sym e) (h.entry, h.decides, refl),
+      subst (λ (f : Effect). Answers report held s x f (answered a)) (sym e) (h.entry, subst (λ (r : Report). Decides (version_of r) s.context h.entry) same h.decides, refl),
       record { stands = h.stands; held = h.held; text = λ text w. w h.entry h.held ∙ ap (λ (r : Report). decision_line r h.entry) same },
     )
 

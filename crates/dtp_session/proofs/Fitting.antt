@@ -16,7 +16,9 @@ use Rattle.refute_tree.specs.Batches.{NamesOver, LemmaIsOver}
 use Rattle.refute_tree.specs.Laws.{LengthenedPlain}
 use Rattle.refute_tree.specs.Lengths.{pair_step, written_out, lengthened_step, lengthened, lengthened_lemma, IsNoClash}
 use Rattle.refute_tree.specs.Trees.{Tree, Forest, leaf, clash, cases, none, more, stated, IsRefutation}
-use Rattle.cert_text.specs.Limits.{limit, NumberFits, LiteralWithin, StepWithin, LemmaWithin}
+use Rattle.cert_text.specs.declared.entry.Version.{Version}
+use Rattle.cert_text.specs.declared.entry.Version.TheVariants.{One, Two}
+use Rattle.cert_text.specs.Limits.{limit, NumberFits, LiteralWithin, OnlyInTwo, StepWithin, LemmaWithin}
 
 -- ---- numbers
 
@@ -34,19 +36,27 @@ literal_within points l few h =
 
 -- ---- refutations
 
-abbrev Within : Step → Type 0
-Within s = StepWithin (2 ^ 32) s
+-- a clash stands in the second version alone
+abbrev pub MayStand : Version → Step → Type 0
+MayStand One s = IsNoClash s
+MayStand Two s = Unit {0}
 
--- the steps of a lemma have no clash
-abbrev pub HasNoClash : Lemma → Type 0
-HasNoClash lemma = All IsNoClash lemma.steps
+abbrev pub IsFormed : Version → Lemma → Type 0
+IsFormed version lemma = All (MayStand version) lemma.steps
 
-module _ (points : ℕ) where
-  -- what a step names is within the problem's limits, and it is no clash
+clash_within : (version : Version) (i : ℕ) → MayStand version (Clash i) → i ≤ limit → OnlyInTwo version (i ≤ limit)
+clash_within One i h few = absurd h
+clash_within Two i h few = few
+
+module _ (version : Version) (points : ℕ) where
+  abbrev Within : Step → Type 0
+  Within s = StepWithin version (2 ^ 32) s
+
+  -- what a step names is within the problem's limits, and it may stand in the version
   abbrev IsShown : Step → Type 0
-  IsShown s = NamesOver points s × IsNoClash s
+  IsShown s = NamesOver points s × MayStand version s
 
-  are_shown : (steps : List Step) → AllByRecursion (NamesOver points) steps → AllByRecursion IsNoClash steps → AllByRecursion IsShown steps
+  are_shown : (steps : List Step) → AllByRecursion (NamesOver points) steps → AllByRecursion (MayStand version) steps → AllByRecursion IsShown steps
   are_shown [] over plain = tt
   are_shown (s ∷ steps) over plain = ((over.0, plain.0), are_shown steps over.1 plain.1)
 
@@ -87,7 +97,7 @@ module _ (points : ℕ) where
       mutual
         tree_within : {assumed : List Literal} {steps rest : List Step} → Tree clauses earlier assumed steps rest → AreOver assumed → AllByRecursion IsShown steps → Continues steps rest
         tree_within {assumed = assumed} (leaf {cycle = cycle} among) all shown = (λ h. (cycle_within assumed cycle all among.given, h), shown.1)
-        tree_within (clash {i = i} e denied) all shown = absurd shown.0.1
+        tree_within (clash {clause = clause} {i = i} e denied) all shown = (λ h. (clash_within version i shown.0.1 (omega (arith, slice_get_within clauses i clause e, few)), h), shown.1)
         tree_within (cases {step = Cycle cycle} e forest) all shown = absurd cc
         tree_within (cases {clause = clause} {step = Input i} e forest) all shown =
             let r = forest_within forest all (found_over clauses i clause over e) shown.1 in
@@ -108,11 +118,11 @@ module _ (points : ℕ) where
             let others = forest_within forest (All-push (IsOver points) assumed (negation_of l) all (kept points l given.0)) given.1 first.1 in
             (λ h. first.0 (others.0 h), others.1)
 
-      lemma_within : (lemma : Lemma) → LemmaIsOver points lemma → HasNoClash lemma → Tree clauses earlier (map negation_of lemma.clause) lemma.steps [] → LemmaWithin (2 ^ 32) lemma
+      lemma_within : (lemma : Lemma) → LemmaIsOver points lemma → IsFormed version lemma → Tree clauses earlier (map negation_of lemma.clause) lemma.steps [] → LemmaWithin version (2 ^ 32) lemma
       lemma_within lemma h plain tree =
           let clause = recursion_from_All (IsOver points) lemma.clause h.clause in
           let assumed = All-from_recursion (IsOver points) (map negation_of lemma.clause) (negations_over lemma.clause clause) in
-          let shown = are_shown lemma.steps (recursion_from_All (NamesOver points) lemma.steps h.steps) (recursion_from_All IsNoClash lemma.steps plain) in
+          let shown = are_shown lemma.steps (recursion_from_All (NamesOver points) lemma.steps h.steps) (recursion_from_All (MayStand version) lemma.steps plain) in
           let r = tree_within tree assumed shown in
           record {
             clause = All-from_recursion (LiteralWithin (2 ^ 32)) lemma.clause (literals_within lemma.clause clause);
@@ -123,16 +133,16 @@ module _ (points : ℕ) where
     stated_over [] h = tt
     stated_over (lemma ∷ lemmas) h = (h.0.clause, stated_over lemmas h.1)
 
-    pub refutation_within : (lemmas : List Lemma) → length lemmas ≤ limit → IsRefutation points clauses lemmas → All (LemmaIsOver points) lemmas → All HasNoClash lemmas → All (LemmaWithin (2 ^ 32)) lemmas
+    pub refutation_within : (lemmas : List Lemma) → length lemmas ≤ limit → IsRefutation points clauses lemmas → All (LemmaIsOver points) lemmas → All (IsFormed version) lemmas → All (LemmaWithin version (2 ^ 32)) lemmas
     refutation_within lemmas count h all plain =
         let nothing : Lemma = record { clause = []; steps = [] } in
-        All-from_get_or (LemmaWithin (2 ^ 32)) lemmas nothing (λ j lt.
+        All-from_get_or (LemmaWithin version (2 ^ 32)) lemmas nothing (λ j lt.
         let lemma = get_or lemmas j nothing in
         let before = take j lemmas in
         let refuted = h.each j lemma (slice_get-get_or lemmas j nothing lt) in
         let few_before : length (map stated before) ≤ limit = omega (arith, length-map before stated, length-take j lemmas, count) in
         let before_over = All-from_recursion AreOver (map stated before) (stated_over before (recursion_from_All (LemmaIsOver points) before (All-take (LemmaIsOver points) j lemmas all))) in
-        lemma_within (map stated before) few_before before_over lemma (All-get_or (LemmaIsOver points) lemmas j nothing lt all) (All-get_or HasNoClash lemmas j nothing lt plain) refuted.tree)
+        lemma_within (map stated before) few_before before_over lemma (All-get_or (LemmaIsOver points) lemmas j nothing lt all) (All-get_or (IsFormed version) lemmas j nothing lt plain) refuted.tree)
 
 -- ---- lemmas that are written out
 
@@ -166,9 +176,9 @@ module _ (points : ℕ) (clauses : List (List Literal)) where
   written_lemmas_over lemmas h =
       All-from_recursion (LemmaIsOver points) (map (lengthened_lemma clauses) lemmas) (lemmas_over lemmas (recursion_from_All (LemmaIsOver points) lemmas h))
 
-  pub written_without_clash : LengthenedPlain → (lemmas : List Lemma) → IsRefutation points clauses lemmas → All HasNoClash (map (lengthened_lemma clauses) lemmas)
+  pub written_without_clash : LengthenedPlain → (lemmas : List Lemma) → IsRefutation points clauses lemmas → All (IsFormed One) (map (lengthened_lemma clauses) lemmas)
   written_without_clash law lemmas h =
       let nothing : Lemma = record { clause = []; steps = [] } in
-      All-map HasNoClash (lengthened_lemma clauses) lemmas (All-from_get_or (λ (lemma : Lemma). HasNoClash (lengthened_lemma clauses lemma)) lemmas nothing (λ j lt.
+      All-map (IsFormed One) (lengthened_lemma clauses) lemmas (All-from_get_or (λ (lemma : Lemma). IsFormed One (lengthened_lemma clauses lemma)) lemmas nothing (λ j lt.
       let lemma = get_or lemmas j nothing in
       law points clauses (map stated (take j lemmas)) lemma (h.each j lemma (slice_get-get_or lemmas j nothing lt))))

@@ -1,5 +1,6 @@
 pub mod Answering
 pub mod Fitting
+pub mod Shortening
 pub mod Looping
 pub mod Solving
 pub mod Transcribing

@@ -1,4 +1,5 @@
 pub mod Ends
+pub mod Forms
 pub mod Sessions
 pub mod Solving
 pub use Rattle.dtp_io.specs.Faults

@@ -20,6 +20,7 @@ use Rattle.smt_answer.specs.Texts.{error_line}
 use Rattle.smt_script.specs.States.{State, start_state, terms_refusal, settled}
 use Rattle.dtp_entry.specs.declared.report.Report.{Report}
 use Rattle.dtp_entry.specs.Entries.{verdict_of}
+use Rattle.dtp_entry.specs.Reports.{version_of}
 use Rattle.dtp_entry.specs.Standing.{Stands}
 use Rattle.dtp_entry.specs.Transcripts.{Held, opening, closing, decision_line, Answered, Reply, answered, last, error, Decides, Output, behind, TranscribesFrom, TranscribesPartFrom}
 use Rattle.dtp_entry.specs.Written.{IsFront}
@@ -116,7 +117,7 @@ Gives report q IsReply piece = (a : Answered) × IsReply (answered a) × IsAnswe
 -- a check-sat was decided in this state
 pub record IsChecked (q : Session) (s : State) : Type 0 where
   pub entry : Entry
-  pub decides : Decides s.context entry
+  pub decides : Decides (version_of q.report) s.context entry
   pub held : q.held ≡ Some entry
   pub stands : Holds q (settled (verdict_of entry) s)
 

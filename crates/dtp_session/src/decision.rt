@@ -1,17 +1,17 @@
 //! What decides a check-sat.
 ghost use Rattle.std.specs.Prelude.{◌≡◌, map, IfOk, OnOk};
-ghost use Rattle.refute_tree.specs.Lengths.{lengthened_lemma};
 ghost use Rattle.book_core.specs.Verdicts.{IsRight};
 ghost use Rattle.smt_script.specs.States.{State as Meaning};
 ghost use Rattle.dtp_entry.specs.Standing.{Stands};
 ghost use Rattle.dtp_entry.specs.Transcripts.{Decides};
+ghost use Rattle.dtp_session.specs.Forms.{formed};
 
 use crate::options::SearchOptions;
 use book_core::Verdict;
-use cert_text::{Entry, NUMBER_LIMIT};
+use cert_text::{Entry, NUMBER_LIMIT, Version};
 use clause_form::restrict;
 use dtp_entry::problem;
-use refute_tree::{Lemma, Refutation, lengthen};
+use refute_tree::{Lemma, Refutation, lengthen, shorten};
 use smt_script::State;
 use std::alloc::{AllocError, Global};
 use std::sync::Wait;
@@ -20,26 +20,47 @@ use steal_search::{Gate, solve_one, solve_shared};
 use stn_core::Problem;
 use trim_lemmas::trimmed;
 
-/// Writes out the clashes of each lemma, and lets the lemma as it was go.
-fn write_out_each(alloc: Global, problem: &Problem, lemmas: &mut [Lemma]) -> Result<(), AllocError>
-    ensures { OnOk result (lemmas.new ≡ map (lengthened_lemma problem.now.clauses) lemmas.old) }
+/// The lemma as the version shows it.
+fn formed(
+    alloc: Global,
+    version: Version,
+    problem: &Problem,
+    lemma: &Lemma,
+) -> Result<Lemma, AllocError>
+    ensures { IfOk result (λ shown. shown ≡ formed version problem.now.clauses lemma.now) }
+{
+    match version {
+        Version::One => lengthen(alloc, problem, lemma),
+        Version::Two => shorten(alloc, problem, lemma),
+    }
+}
+
+/// Puts in each lemma's place how the version shows it, and lets the lemma as it was go.
+fn form_each(
+    alloc: Global,
+    version: Version,
+    problem: &Problem,
+    lemmas: &mut [Lemma],
+) -> Result<(), AllocError>
+    ensures { OnOk result (lemmas.new ≡ map (formed version problem.now.clauses) lemmas.old) }
 {
     for lemma in lemmas.iter_mut() {
-        *lemma = lengthen(alloc, problem, lemma)?;
+        *lemma = formed(alloc, version, problem, lemma)?;
     }
     Ok(())
 }
 
-/// The refutation with each clash written out, which is how a certificate shows it.
-fn written_out(
+/// The refutation as a certificate of the version shows it.
+fn in_form(
     alloc: Global,
+    version: Version,
     problem: &Problem,
     refutation: Refutation,
 ) -> Result<Refutation, AllocError>
-    ensures { IfOk result (λ shown. shown ≡ map (lengthened_lemma problem.now.clauses) refutation) }
+    ensures { IfOk result (λ shown. shown ≡ map (formed version problem.now.clauses) refutation) }
 {
     let mut lemmas = refutation.into_vec();
-    write_out_each(alloc, problem, lemmas.as_mut_slice())?;
+    form_each(alloc, version, problem, lemmas.as_mut_slice())?;
     Ok(Refutation::new(lemmas))
 }
 
@@ -61,17 +82,18 @@ fn search<R: Threads + Wait + Sync, G: Gate>(
     }
 }
 
-/// Decides the assertions: a schedule that satisfies them, or a refutation of their problem. The time of the search may
-/// grow with the number of ways to choose a literal of each clause.
+/// Decides the assertions: a schedule that satisfies them, or a refutation of their problem, in the version's form.
+/// The time of the search may grow with the number of ways to choose a literal of each clause.
 pub fn decide<R: Threads + Wait + Sync, G: Gate>(
     rt: &R,
     alloc: Global,
     state: &State,
+    version: Version,
     options: SearchOptions,
     gate: &G,
 ) -> Result<Entry, AllocError>
     requires { (s : Meaning) × Stands state.now s }
-    ensures { IfOk result (λ entry. (s : Meaning) → Stands state.now s → Decides s.context entry) }
+    ensures { IfOk result (λ entry. (s : Meaning) → Stands state.now s → Decides version s.context entry) }
 {
     idl_term::context_law();
     clause_form::clause_form_law();
@@ -92,7 +114,7 @@ pub fn decide<R: Threads + Wait + Sync, G: Gate>(
             if count as u64 > NUMBER_LIMIT {
                 return Err(AllocError);
             }
-            let shown = written_out(alloc, &problem, shorter)?;
+            let shown = in_form(alloc, version, &problem, shorter)?;
             Ok(Entry::Unsat(shown))
         }
     }

@@ -164,7 +164,7 @@ impl<'a> Session<'a> {
     {
         self.text.clear();
         match self.report {
-            Report::Certificate => Ok(Piece::Told),
+            Report::Certificate(_) => Ok(Piece::Told),
             Report::Verdicts => {
                 let piece = self.tell_in_transcript(id, notice)?;
                 Ok(piece)

@@ -56,7 +56,7 @@ fn write_line<K: Sink>(
 {
     match report {
         Report::Verdicts => write_verdict(alloc, entry, sink),
-        Report::Certificate => write_entry(alloc, entry, sink),
+        Report::Certificate(_) => write_entry(alloc, entry, sink),
     }
 }
 
@@ -72,12 +72,12 @@ impl<'a> Session<'a> {
         match piece {
             Piece::Opening => match self.report {
                 Report::Verdicts => Ok(()),
-                Report::Certificate => write_header(text),
+                Report::Certificate(version) => write_header(version, text),
             },
             Piece::Decision | Piece::Proof | Piece::Told => Ok(()),
             Piece::Closing => match self.report {
                 Report::Verdicts => Ok(()),
-                Report::Certificate => write_end(text),
+                Report::Certificate(_) => write_end(text),
             },
             Piece::Error(kind) => error_text(self.command, kind, text),
         }

@@ -13,7 +13,7 @@ use crate::decision::decide;
 use crate::options::SearchOptions;
 use crate::piece::Piece;
 use cert_text::Entry;
-use dtp_entry::{Report, SessionError, kind_of, verdict_of};
+use dtp_entry::{Report, SessionError, kind_of, verdict_of, version_of};
 use dtp_io::Sink;
 use smt_answer::kind_of_unreadable;
 use smt_lex::Lexer;
@@ -202,7 +202,8 @@ impl<'a> Session<'a> {
         smt_script::state_law();
         self.held = None;
         self.marks.clear();
-        let entry = decide(rt, self.alloc, &self.state, self.options, gate)?;
+        let version = version_of(self.report);
+        let entry = decide(rt, self.alloc, &self.state, version, self.options, gate)?;
         self.state.settle(verdict_of(&entry));
         self.held = Some(entry);
         Ok(())

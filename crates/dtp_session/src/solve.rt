@@ -4,6 +4,7 @@ ghost use Rattle.dtp_session.specs.Solving.{IsSolved};
 
 use crate::options::SearchOptions;
 use crate::session::{Session, Solved};
+use cert_text::Version;
 use dtp_entry::{Report, SessionError};
 use dtp_io::Sink;
 use std::alloc::Global;
@@ -47,8 +48,8 @@ pub fn solve_script<R: Threads + Wait + Sync, K: Sink, G: Gate>(
     write_report(rt, alloc, bytes, sink, Report::Verdicts, options, gate)
 }
 
-/// Writes the certificate of a script: a header, for each check-sat a schedule or a refutation, and the end, or the
-/// first refusal's error line in its place.
+/// Writes the certificate of a script, of this version: a header, for each check-sat a schedule or a refutation, and
+/// the end, or the first refusal's error line in its place.
 ///
 /// The arguments are those of [`solve_script`].
 pub fn certify_script<R: Threads + Wait + Sync, K: Sink, G: Gate>(
@@ -58,9 +59,18 @@ pub fn certify_script<R: Threads + Wait + Sync, K: Sink, G: Gate>(
     sink: &mut K,
     options: SearchOptions,
     gate: &G,
+    version: Version,
 ) -> Result<Solved, SessionError>
-    ensures solved { IsSolved Certificate bytes.now (K.holds sink.old) (K.holds sink.new)
+    ensures solved { IsSolved (Certificate version) bytes.now (K.holds sink.old) (K.holds sink.new)
         (K.faults sink.old) (K.faults sink.new) result }
 {
-    write_report(rt, alloc, bytes, sink, Report::Certificate, options, gate)
+    write_report(
+        rt,
+        alloc,
+        bytes,
+        sink,
+        Report::Certificate(version),
+        options,
+        gate,
+    )
 }

@@ -3,7 +3,6 @@ use Rattle.std.specs.Prelude.{All}
 use Rattle.stn_core.specs.Schedule.{IsInRange}
 use Rattle.stn_core.specs.declared.literal.Literal.{Literal}
 use Rattle.refute_tree.specs.declared.lemma.Lemma.{Lemma}
-use Rattle.refute_tree.specs.Lengths.{lengthened_lemma}
 use Rattle.cert_text.specs.declared.entry.Entry.TheVariants.{Unsat}
 use Rattle.cert_text.specs.Limits.{limit}
 use Rattle.clause_form.specs.Restricting.{restricted}
@@ -12,6 +11,7 @@ use Rattle.idl_term.specs.Scopes.{Scope, sorts_of}
 use Rattle.book_core.specs.Books.{IsSolution}
 use Rattle.dtp_entry.specs.Entries.{points_of, problem_of}
 use Rattle.dtp_entry.specs.Transcripts.{Decides}
+use Rattle.dtp_session.specs.Forms.{formed}
 use Rattle.dtp_session.proofs.Verdicts.{as_found, holds_as, refuted_as, over_as, sat_decides, shown_within, unsat_decides}
 use Rattle.dtp_entry.proofs.Verdicts.{sorts_count}
 use Rattle.dtp_session.proofs.decision.decide.Goals as goal
@@ -42,7 +42,7 @@ returns-in-Sat g c = λ s stands.
     let values : c.in_ok-values-in-Sat.values ≡ restricted (sorts_of s.context.declared) c.in-Sat.schedule =
     c.in_ok-values-in-Sat.ensures.values ∙ ap (restricted c.sorts.result.now) c.as_slice.ensures ∙ ap (λ (sorts : List Sort). restricted sorts c.in-Sat.schedule) names in
     let holds = holds_as _ _ c.in-Sat.schedule e.1 found.holds in
-    sat_decides s.context stands.made.context laws.scope laws.roots laws.exact c.clause_form_law.ensures.schedule c.in-Sat.schedule c.in_ok-values-in-Sat.values (found.count ∙ e.0) holds values c.in_ok-values-in-Sat.ensures.within
+    sat_decides s.context stands.made.context c.args.version laws.scope laws.roots laws.exact c.clause_form_law.ensures.schedule c.in-Sat.schedule c.in_ok-values-in-Sat.values (found.count ∙ e.0) holds values c.in_ok-values-in-Sat.ensures.within
 
 pub returns : goal.returns
 returns g c = λ s stands.
@@ -59,8 +59,9 @@ returns g c = λ s stands.
     let count : length c.as_slice-lemmas.result.now ≡ length lemmas = ap (λ (lemmas : List Lemma). length lemmas) c.as_slice-lemmas.ensures in
     let few_clauses : length (problem_of s.context) ≤ limit = omega (arith, clauses) in
     let few_lemmas : length lemmas ≤ limit = omega (arith, count) in
-    let within = shown_within s.context stands.made.context lemmas refuted over laws.scope laws.roots form.over form.few c.negation_kept.ensures lengths.no_clash lengths.lengthened few_clauses few_lemmas in
-    let same : c.in_ok-shown-in-Unsat.shown ≡ map (lengthened_lemma (problem_of s.context)) lemmas =
-    c.in_ok-shown-in-Unsat.ensures ∙ ap (λ (cs : List (List Literal)). map (lengthened_lemma cs) lemmas) e.1 in
-    subst (λ (shown : List Lemma). Decides s.context (Unsat shown)) (sym same)
-    (unsat_decides s.context stands.made.context lemmas refuted over laws.scope laws.roots laws.exact form.holds c.refutation_law.ensures lengths.lengthened within)
+    let version = c.args.version in
+    let within = shown_within s.context stands.made.context lemmas refuted over version laws.scope laws.roots form.over form.few c.negation_kept.ensures lengths.no_clash lengths.lengthened lengths.shortened few_clauses few_lemmas in
+    let same : c.in_ok-shown-in-Unsat.shown ≡ map (formed version (problem_of s.context)) lemmas =
+    c.in_ok-shown-in-Unsat.ensures ∙ ap (λ (cs : List (List Literal)). map (formed version cs) lemmas) e.1 in
+    subst (λ (shown : List Lemma). Decides version s.context (Unsat shown)) (sym same)
+    (unsat_decides s.context stands.made.context lemmas refuted over version laws.scope laws.roots laws.exact form.holds c.refutation_law.ensures lengths.lengthened lengths.shortened within)
