@@ -1,5 +1,5 @@
 -- The judging of a script, command by command.
-use Rattle.std.proofs.Common.{refl, sym, ap, subst, arith, ◌∙◌, ◌≡◌, ◌≢◌, ◌<◌, ◌≤◌, ◌+◌, ◌==◌, ℕ, zero, suc, List, [], ◌∷◌, length, drop, get_or, Bool, true, false, Option, Some, None, Result, Ok, Err}
+use Rattle.std.proofs.Common.{refl, sym, ap, subst, arith, ◌∙◌, ◌≡◌, ◌≢◌, ◌<◌, ◌≤◌, ◌+◌, ◌==◌, ℕ, zero, suc, List, [], ◌∷◌, ◌++◌, length, drop, get_or, Bool, true, false, Option, Some, None, Result, Ok, Err}
 use Rattle.std.specs.Prelude.{if◌then◌else◌, option_map, slice_index_or}
 use Rattle.std.specs.List.{AllByRecursion}
 use Rattle.std.proofs.lemmas.Bool.Decides.{nat_tests}
@@ -9,7 +9,7 @@ use Rattle.stn_core.specs.declared.literal.Literal.{Literal}
 use Rattle.stn_core.specs.declared.named.NamedValue.{NamedValue}
 use Rattle.stn_core.specs.declared.named.NamedValue.TheVariants.{Int, Truth}
 use Rattle.stn_core.specs.Literal.{IsOver}
-use Rattle.cert_text.specs.declared.entry.Entry.{Entry}
+use Rattle.cert_text.specs.declared.entry.FileEntry.{FileEntry}
 use Rattle.idl_node.specs.declared.sort.Sort.{Sort}
 use Rattle.idl_node.specs.declared.sort.Sort.TheVariants as sorts
 use Rattle.idl_node.specs.Nodes.{NodeValue}
@@ -30,27 +30,30 @@ use Rattle.smt_script.specs.Commands.{is_exit}
 use Rattle.smt_script.specs.Kept.{Kept, StandsFor, Steps}
 use Rattle.smt_script.specs.States.{State, Step, IsMadeState, after, settled}
 use Rattle.smt_answer.specs.Kinds.{kind_of}
-use Rattle.dtp_entry.specs.Entries.{verdict_of}
+use Rattle.kept_lemmas.specs.Entries.{Placed}
 use Rattle.dtp_entry.specs.Standing.{Stands}
 use Rattle.smt_script.specs.Laws.{StepMade, SettledMade, OnlyExitEnds}
 use Rattle.dtp_entry.proofs.Standing.{stands_after}
 use Rattle.dtp_entry.proofs.Verdicts.{sorts_count, table_over}
 use Rattle.dtp_check.specs.declared.judge.Turn.{Turn}
 use Rattle.dtp_check.specs.declared.judge.Turn.TheVariants.{Going, Judged}
+use Rattle.dtp_check.specs.declared.earlier.Earlier.{Earlier}
+use Rattle.dtp_check.specs.declared.earlier.Earlier.TheVariants.{Unkept, Shelved}
+use Rattle.dtp_check.specs.Earlier.{KeepsNone, Holds, Suffices}
 use Rattle.dtp_check.specs.Turns.{IsCheckTurn, IsJudgedTurn}
 use Rattle.dtp_check.specs.declared.judgement.EntryFlaw.{EntryFlaw}
 use Rattle.dtp_check.specs.declared.judgement.EntryFlaw.TheVariants.{WrongCount, WrongSort, FalseAssertion}
 use Rattle.dtp_check.specs.declared.judgement.Judgement.TheVariants.{Script, Surplus}
-use Rattle.dtp_check.specs.Judged.{is_of_sort, first_of_wrong_sort, is_true, first_false, first_of_two, values_flaw, entry_flaw, surplus_of, judged_entry, judged_check, judged_effect, judged_after, judged}
+use Rattle.dtp_check.specs.Judged.{is_of_sort, first_of_wrong_sort, is_true, first_false, first_of_two, values_flaw, entry_flaw, placed, told_by, surplus_of, judged_entry, judged_check, judged_effect, judged_after, judged}
 use Rattle.dtp_check.specs.Roots.{first_unmarked}
 
 -- ---- entries that are left
 
-left_by : (n : ℕ) (es : List Entry) → 0 < length es → surplus_of n es ≡ Surplus n
+left_by : (n : ℕ) (es : List FileEntry) → 0 < length es → surplus_of n es ≡ Surplus n
 left_by n [] h = absurd (omega arith)
 left_by n (e ∷ es) h = refl
 
-pub entries_left : (n used : ℕ) (entries : List Entry) → used < length entries → surplus_of n (drop used entries) ≡ Surplus n
+pub entries_left : (n used : ℕ) (entries : List FileEntry) → used < length entries → surplus_of n (drop used entries) ≡ Surplus n
 entries_left n zero entries h = left_by n entries (omega arith)
 entries_left n (suc used) [] h = absurd (omega arith)
 entries_left n (suc used) (e ∷ entries) h = entries_left n used entries (omega arith)
@@ -183,33 +186,46 @@ module _ (kept : Kept) (s : State) (stands : Stands kept s) (values : List Named
 
 -- ---- a check-sat
 
+kept_at : (used : ℕ) (entries : List FileEntry) (entry : FileEntry) → AllByRecursion KeepsNone entries → used < length entries → entry ≡ get_or entries used entry → KeepsNone entry
+kept_at used [] entry h within there = absurd (omega (arith, within))
+kept_at zero (e ∷ entries) entry h within there = subst KeepsNone (sym there) h.0
+kept_at (suc used) (e ∷ entries) entry h within there = kept_at used entries entry h.1 (omega (arith, within)) there
+
+-- what suffices for all entries suffices for one of them
+pub suffices_at : (earlier : Earlier) (used : ℕ) (entries : List FileEntry) (entry : FileEntry) → Suffices earlier entries → used < length entries → entry ≡ get_or entries used entry → Suffices earlier (entry ∷ [])
+suffices_at Unkept used entries entry h within there = (kept_at used entries entry h within there, tt)
+suffices_at (Shelved shelf) used entries entry h within there = tt
+
 -- an entry without a flaw: the script goes on behind its verdict
-pub check_right : SettledMade → (s : State) (used : ℕ) (entries : List Entry) (entry : Entry) (kept : Kept) (verdict : Satisfiability) (flaw : Option EntryFlaw) → IsMadeState s → StandsFor kept (settled verdict s) → verdict ≡ verdict_of entry
-    → used < length entries → entry ≡ get_or entries used entry → flaw ≡ entry_flaw s.context entry → flaw ≡ None → IsCheckTurn s used entries kept (Going (used + 1))
-check_right law s used entries entry kept verdict flaw made stands e within there f none = (
-  settled (verdict_of entry) s,
-  record { stands = subst (λ (v : Satisfiability). StandsFor kept (settled v s)) e stands; made = law s (verdict_of entry) made },
+pub check_right : SettledMade → (s : State) (used : ℕ) (before : List Placed) (entries : List FileEntry) (entry : FileEntry) (kept : Kept) (later : Earlier) (verdict : Satisfiability) (flaw : Option EntryFlaw) → IsMadeState s → StandsFor kept (settled verdict s) → verdict ≡ told_by entry
+    → Holds later (before ++ placed s.context entry ∷ []) → used < length entries → entry ≡ get_or entries used entry → flaw ≡ entry_flaw before s.context entry → flaw ≡ None → IsCheckTurn s used before entries kept later (Going (used + 1))
+check_right law s used before entries entry kept later verdict flaw made stands e held within there f none = (
+  settled (told_by entry) s,
+  before ++ placed s.context entry ∷ [],
+  record { stands = subst (λ (v : Satisfiability). StandsFor kept (settled v s)) e stands; made = law s (told_by entry) made },
+  held,
   omega arith,
   λ others.
-      let left : drop used entries ≡ entry ∷ drop (used + 1) entries = drop_more entries used entry within ∙ ap (λ (first : Entry). first ∷ drop (used + 1) entries) (sym there) in
-      ap (λ (es : List Entry). judged_check s (used + 1) es others) left
-      ∙ ap (λ (found : Option EntryFlaw). judged_entry (used + 1) found (others (settled (verdict_of entry) s) (drop (used + 1) entries))) (sym f ∙ none),
+      let left : drop used entries ≡ entry ∷ drop (used + 1) entries = drop_more entries used entry within ∙ ap (λ (first : FileEntry). first ∷ drop (used + 1) entries) (sym there) in
+      ap (λ (es : List FileEntry). judged_check s (used + 1) before es others) left
+      ∙ ap (λ (found : Option EntryFlaw). judged_entry (used + 1) found (others (settled (told_by entry) s) (before ++ placed s.context entry ∷ []) (drop (used + 1) entries))) (sym f ∙ none),
   refl,
 )
 
 -- ---- a command
 
-pub judged_ok : (s : State) (k n : ℕ) (x : Sexpr) (xs : List Sexpr) (es : List Entry) (step : Step) → after s x ≡ Ok step → judged s k n (x ∷ xs) es ≡ judged_effect step.effect step.state n es (λ next m rest. judged next (k + 1) m xs rest)
+pub judged_ok : (s : State) (k n : ℕ) (before : List Placed) (x : Sexpr) (xs : List Sexpr) (es : List FileEntry) (step : Step) → after s x ≡ Ok step
+    → judged s k n before (x ∷ xs) es ≡ judged_effect step.effect step.state n before es (λ next m placed rest. judged next (k + 1) m placed xs rest)
 unfolding judged
-judged_ok s k n x xs es step e = ap (λ (r : Result Step Refusal). judged_after k n es r (λ next m rest. judged next (k + 1) m xs rest)) e
+judged_ok s k n before x xs es step e = ap (λ (r : Result Step Refusal). judged_after k n before es r (λ next m placed rest. judged next (k + 1) m placed xs rest)) e
 
-pub judged_err : (s : State) (k n : ℕ) (x : Sexpr) (xs : List Sexpr) (es : List Entry) (why : Refusal) → after s x ≡ Err why → judged s k n (x ∷ xs) es ≡ Script k (kind_of why)
+pub judged_err : (s : State) (k n : ℕ) (before : List Placed) (x : Sexpr) (xs : List Sexpr) (es : List FileEntry) (why : Refusal) → after s x ≡ Err why → judged s k n before (x ∷ xs) es ≡ Script k (kind_of why)
 unfolding judged
-judged_err s k n x xs es why e = ap (λ (r : Result Step Refusal). judged_after k n es r (λ next m rest. judged next (k + 1) m xs rest)) e
+judged_err s k n before x xs es why e = ap (λ (r : Result Step Refusal). judged_after k n before es r (λ next m placed rest. judged next (k + 1) m placed xs rest)) e
 
-pub judged_none : (s : State) (k n : ℕ) (es : List Entry) → judged s k n [] es ≡ surplus_of n es
+pub judged_none : (s : State) (k n : ℕ) (before : List Placed) (es : List FileEntry) → judged s k n before [] es ≡ surplus_of n es
 unfolding judged
-judged_none s k n es = refl
+judged_none s k n before es = refl
 
 false_by_test : (b : Bool) → (b ≡ true → ⊥) → b ≡ false
 false_by_test true h = absurd (h refl)
@@ -228,30 +244,34 @@ check_apart e = absurd cc
 abbrev pub step_of : State → Effect → Step
 step_of state effect = record { state = state; effect = effect }
 
-module _ (s : State) (k used : ℕ) (x : Sexpr) (entries : List Entry) (kept : Kept) where
-  pub notice_judged : StepMade → OnlyExitEnds → (notice : Notice) → used ≤ length entries → IsMadeState s → Steps s x (Tell notice) kept → IsJudgedTurn s k used entries x kept (Going used)
-  notice_judged law ends notice le made h = (
+module _ (s : State) (k used : ℕ) (before : List Placed) (x : Sexpr) (entries : List FileEntry) (kept : Kept) where
+  pub notice_judged : StepMade → OnlyExitEnds → (notice : Notice) (later : Earlier) → Holds later before → used ≤ length entries → IsMadeState s → Steps s x (Tell notice) kept → IsJudgedTurn s k used before entries x kept later (Going used)
+  notice_judged law ends notice later held le made h = (
     h.state,
+    before,
     stands_after law s x (Tell notice) kept h made,
+    held,
     not_exit ends s x (step_of h.state (Tell notice)) h.leads (told_apart notice),
     le,
-    λ xs. judged_ok s k (used + 1) x xs (drop used entries) (step_of h.state (Tell notice)) h.leads,
+    λ xs. judged_ok s k (used + 1) before x xs (drop used entries) (step_of h.state (Tell notice)) h.leads,
   )
 
-  pub exit_judged : (xs : List Sexpr) → Steps s x Exit kept → judged s k (used + 1) (x ∷ xs) (drop used entries) ≡ surplus_of (used + 1) (drop used entries)
-  exit_judged xs h = judged_ok s k (used + 1) x xs (drop used entries) (step_of h.state Exit) h.leads
+  pub exit_judged : (xs : List Sexpr) → Steps s x Exit kept → judged s k (used + 1) before (x ∷ xs) (drop used entries) ≡ surplus_of (used + 1) (drop used entries)
+  exit_judged xs h = judged_ok s k (used + 1) before x xs (drop used entries) (step_of h.state Exit) h.leads
 
   -- what is kept behind the verdict is `settled`
-  pub check_judged : OnlyExitEnds → (settled : Kept) (turn : Turn) (h : Steps s x CheckSat kept) → IsCheckTurn h.state used entries settled turn → IsJudgedTurn s k used entries x settled turn
-  check_judged ends settled (Going now) h (next, stands, le, same, one) = (
+  pub check_judged : OnlyExitEnds → (settled : Kept) (later : Earlier) (turn : Turn) (h : Steps s x CheckSat kept) → IsCheckTurn h.state used before entries settled later turn → IsJudgedTurn s k used before entries x settled later turn
+  check_judged ends settled later (Going now) h (next, placed, stands, held, le, same, one) = (
     next,
+    placed,
     stands,
+    held,
     not_exit ends s x (step_of h.state CheckSat) h.leads check_apart,
     le,
     λ xs.
-        judged_ok s k (used + 1) x xs (drop used entries) (step_of h.state CheckSat) h.leads
-        ∙ same (λ next rest. judged next (k + 1) ((used + 1) + 1) xs rest)
-        ∙ ap (λ (n : ℕ). judged next (k + 1) (n + 1) xs (drop now entries)) (sym one),
+        judged_ok s k (used + 1) before x xs (drop used entries) (step_of h.state CheckSat) h.leads
+        ∙ same (λ next placed rest. judged next (k + 1) ((used + 1) + 1) placed xs rest)
+        ∙ ap (λ (n : ℕ). judged next (k + 1) (n + 1) placed xs (drop now entries)) (sym one),
   )
-  check_judged ends settled (Judged judgement) h check = λ xs.
-      judged_ok s k (used + 1) x xs (drop used entries) (step_of h.state CheckSat) h.leads ∙ check (λ next rest. judged next (k + 1) ((used + 1) + 1) xs rest)
+  check_judged ends settled later (Judged judgement) h check = λ xs.
+      judged_ok s k (used + 1) before x xs (drop used entries) (step_of h.state CheckSat) h.leads ∙ check (λ next placed rest. judged next (k + 1) ((used + 1) + 1) placed xs rest)

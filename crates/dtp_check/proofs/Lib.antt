@@ -5,3 +5,5 @@ pub mod Telling
 pub mod Truths
 pub mod Accepting
 pub mod WholeExamples
+pub mod Held
+pub mod Lines

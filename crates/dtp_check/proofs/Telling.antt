@@ -1,7 +1,8 @@
 -- What stands behind the script, and the whole.
 use Rattle.std.proofs.Common.{refl, subst, ◌∙◌, ◌≡◌, ◌+◌, ℕ, List, [], length, Option, inl, inr}
 use Rattle.smt_sexpr.specs.Tree.{Sexpr}
-use Rattle.cert_text.specs.declared.entry.Entry.{Entry as Shown}
+use Rattle.cert_text.specs.declared.entry.Version.{Version}
+use Rattle.cert_text.specs.declared.entry.FileEntry.{FileEntry as Shown}
 use Rattle.cert_read.specs.Certificates.{certificate, no_certificate, ErrorSays}
 use Rattle.cert_read.specs.declared.error.CertReadError.{CertReadError}
 use Rattle.cert_read.specs.declared.error.CertReadError.TheVariants.{Refused}
@@ -30,15 +31,15 @@ refusal_told IsRefused error why e h = subst (λ (error : CertReadError). ErrorS
 -- ---- the whole
 
 module _ (bytes : List ℕ) (xs : List Sexpr) (behind : ℕ) where
-  pub judged_entries : (end : PartEnd) (entries : List Shown) (judgement : Judgement) → ScriptPart bytes 0 xs end behind → IsReadable end → CertificateBehind bytes end behind (certificate entries) → judgement ≡ judged start_state 1 1 xs entries → IsJudged bytes judgement
-  judged_entries part.Exit entries judgement h r b e = record { commands = xs; end = part.Exit; behind = behind; script = h; judged_part = (certificate entries, b, e) }
-  judged_entries part.Header entries judgement h r b e = record { commands = xs; end = part.Header; behind = behind; script = h; judged_part = (certificate entries, b, e) }
-  judged_entries part.End entries judgement h r b e = record { commands = xs; end = part.End; behind = behind; script = h; judged_part = (certificate entries, b, e) }
-  judged_entries (part.Unread kind) entries judgement h r b e = absurd r
+  pub judged_entries : (end : PartEnd) (version : Version) (entries : List Shown) (judgement : Judgement) → ScriptPart bytes 0 xs end behind → IsReadable end → CertificateBehind bytes end behind (certificate version entries) → judgement ≡ judged start_state 1 1 [] xs entries → IsJudged bytes judgement
+  judged_entries part.Exit version entries judgement h r b e = record { commands = xs; end = part.Exit; behind = behind; script = h; judged_part = (certificate version entries, b, e) }
+  judged_entries (part.Header v) version entries judgement h r b e = record { commands = xs; end = part.Header v; behind = behind; script = h; judged_part = (certificate version entries, b, e) }
+  judged_entries part.End version entries judgement h r b e = record { commands = xs; end = part.End; behind = behind; script = h; judged_part = (certificate version entries, b, e) }
+  judged_entries (part.Unread kind) version entries judgement h r b e = absurd r
 
   pub judged_refusal : (end : PartEnd) (why : CertificateRefusal) → ScriptPart bytes 0 xs end behind → IsReadable end → CertificateBehind bytes end behind (no_certificate why) → IsJudged bytes (Certificate why)
   judged_refusal part.Exit why h r b = record { commands = xs; end = part.Exit; behind = behind; script = h; judged_part = (no_certificate why, b, refl) }
-  judged_refusal part.Header why h r b = record { commands = xs; end = part.Header; behind = behind; script = h; judged_part = (no_certificate why, b, refl) }
+  judged_refusal (part.Header v) why h r b = record { commands = xs; end = part.Header v; behind = behind; script = h; judged_part = (no_certificate why, b, refl) }
   judged_refusal part.End why h r b = record { commands = xs; end = part.End; behind = behind; script = h; judged_part = (no_certificate why, b, refl) }
   judged_refusal (part.Unread kind) why h r b = absurd r
 
@@ -47,7 +48,7 @@ module _ (bytes : List ℕ) (xs : List Sexpr) (behind : ℕ) where
 
 pub readable_by : (end : PartEnd) → ((kind : Kind) → end ≡ part.Unread kind → ⊥) → IsReadable end
 readable_by part.Exit h = tt
-readable_by part.Header h = tt
+readable_by (part.Header v) h = tt
 readable_by part.End h = tt
 readable_by (part.Unread kind) h = h kind refl
 

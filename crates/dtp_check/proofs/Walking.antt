@@ -1,31 +1,30 @@
 -- The walk over the script's part of a source.
-use Rattle.std.proofs.Common.{refl, sym, subst, arith, ◌∙◌, ◌≡◌, ◌≢◌, ◌+◌, ℕ, List, [], ◌∷◌, length, Bool, true, false}
+use Rattle.std.proofs.Common.{refl, sym, subst, arith, ◌∙◌, ◌≡◌, ◌+◌, ℕ, List, [], ◌∷◌, length, Bool, true, false}
 use Rattle.smt_sexpr.specs.Tree.{Sexpr}
 use Rattle.smt_sexpr.specs.Table.{Table, Means}
 use Rattle.smt_sexpr.specs.Reading.{Spells}
-use Rattle.cert_text.specs.Form.{header_sexpr}
 use Rattle.dtp_check.specs.declared.script_part.PartEnd.{PartEnd}
 use Rattle.dtp_check.specs.declared.script_part.PartEnd.TheVariants as part
 use Rattle.dtp_check.specs.declared.script_part.Next.{Next}
 use Rattle.dtp_check.specs.declared.script_part.Next.TheVariants.{Command, Ended}
 use Rattle.dtp_check.specs.Parts.{IsNext, GoesOn}
 use Rattle.smt_script.specs.Commands.{is_exit}
-use Rattle.dtp_check.specs.Judged.{EndsPart, ExitEnds, FollowsExit, ScriptPart}
+use Rattle.dtp_check.specs.Judged.{EndsPart, IsApart, ExitEnds, FollowsExit, ScriptPart}
 
 pub part_ends : (bytes : List ℕ) (place : ℕ) (end : PartEnd) (behind : ℕ) → EndsPart bytes place end behind → ScriptPart bytes place [] end behind
 unfolding ScriptPart
 part_ends bytes place end behind h = h
 
-part_more : (bytes : List ℕ) (place mid : ℕ) (x : Sexpr) (xs : List Sexpr) (end : PartEnd) (behind : ℕ) → Spells bytes place x mid → x ≢ header_sexpr → FollowsExit (is_exit x) (ExitEnds mid xs end behind) (ScriptPart bytes mid xs end behind)
+part_more : (bytes : List ℕ) (place mid : ℕ) (x : Sexpr) (xs : List Sexpr) (end : PartEnd) (behind : ℕ) → Spells bytes place x mid → IsApart x → FollowsExit (is_exit x) (ExitEnds mid xs end behind) (ScriptPart bytes mid xs end behind)
     → ScriptPart bytes place (x ∷ xs) end behind
 unfolding ScriptPart
 part_more bytes place mid x xs end behind spells apart rest = (mid, spells, apart, rest)
 
-pub part_exits : (bytes : List ℕ) (place mid : ℕ) (x : Sexpr) → Spells bytes place x mid → x ≢ header_sexpr → is_exit x ≡ true → ScriptPart bytes place (x ∷ []) part.Exit mid
+pub part_exits : (bytes : List ℕ) (place mid : ℕ) (x : Sexpr) → Spells bytes place x mid → IsApart x → is_exit x ≡ true → ScriptPart bytes place (x ∷ []) part.Exit mid
 part_exits bytes place mid x spells apart e =
     part_more bytes place mid x [] part.Exit mid spells apart (subst (λ (b : Bool). FollowsExit b (ExitEnds mid [] part.Exit mid) (ScriptPart bytes mid [] part.Exit mid)) (sym e) (refl, refl, refl))
 
-pub part_goes_on : (bytes : List ℕ) (place mid : ℕ) (x : Sexpr) (xs : List Sexpr) (end : PartEnd) (behind : ℕ) → Spells bytes place x mid → x ≢ header_sexpr → is_exit x ≡ false → ScriptPart bytes mid xs end behind → ScriptPart bytes place (x ∷ xs) end behind
+pub part_goes_on : (bytes : List ℕ) (place mid : ℕ) (x : Sexpr) (xs : List Sexpr) (end : PartEnd) (behind : ℕ) → Spells bytes place x mid → IsApart x → is_exit x ≡ false → ScriptPart bytes mid xs end behind → ScriptPart bytes place (x ∷ xs) end behind
 part_goes_on bytes place mid x xs end behind spells apart e rest =
     part_more bytes place mid x xs end behind spells apart (subst (λ (b : Bool). FollowsExit b (ExitEnds mid xs end behind) (ScriptPart bytes mid xs end behind)) (sym e) rest)
 
@@ -36,7 +35,7 @@ pub record IsWalked (bytes : List ℕ) (place commands : ℕ) : Type 0 where
 pub walked_none : (bytes : List ℕ) → IsWalked bytes 0 0
 walked_none bytes = record { whole = λ rest end behind h. (rest, h, omega arith) }
 
-pub walked_more : (bytes : List ℕ) (place mid commands : ℕ) (x : Sexpr) → IsWalked bytes place commands → Spells bytes place x mid → x ≢ header_sexpr → is_exit x ≡ false → IsWalked bytes mid (commands + 1)
+pub walked_more : (bytes : List ℕ) (place mid commands : ℕ) (x : Sexpr) → IsWalked bytes place commands → Spells bytes place x mid → IsApart x → is_exit x ≡ false → IsWalked bytes mid (commands + 1)
 walked_more bytes place mid commands x h spells apart e = record {
   whole = λ rest end behind p.
       let w = h.whole (x ∷ rest) end behind (part_goes_on bytes place mid x rest end behind spells apart e p) in
@@ -49,7 +48,7 @@ pub record IsCommandAt (bytes : List ℕ) (place : ℕ) (t : Table) (id after : 
   pub x : Sexpr
   pub means : Means t id x
   pub spells : Spells bytes place x after
-  pub apart : x ≢ header_sexpr
+  pub apart : IsApart x
 
 pub command_read : (bytes : List ℕ) (place : ℕ) (t : Table) (after : ℕ) (next : Next) (id : ℕ) → next ≡ Command id → IsNext bytes place t after next → IsCommandAt bytes place t id after
 command_read bytes place t after next id e h =

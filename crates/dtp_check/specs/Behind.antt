@@ -3,11 +3,11 @@
 use Rattle.std.specs.Prelude.{ℕ, List}
 use Rattle.cert_read.specs.Certificates.{certificate, no_certificate}
 use Rattle.dtp_check.specs.declared.certificate_behind.Behind.{Behind as Found}
-use Rattle.dtp_check.specs.declared.certificate_behind.Behind.TheVariants.{Entries, Refused}
+use Rattle.dtp_check.specs.declared.certificate_behind.Behind.TheVariants.{Read, Refused}
 use Rattle.dtp_check.specs.declared.script_part.PartEnd.{PartEnd}
 use Rattle.dtp_check.specs.Judged.{CertificateBehind}
 
 -- what was found is what stands there
 abbrev pub IsBehind : List ℕ → PartEnd → ℕ → Found → Type 0
-IsBehind bytes end place (Entries entries) = CertificateBehind bytes end place (certificate entries.items)
+IsBehind bytes end place (Read found) = CertificateBehind bytes end place (certificate found.version found.entries.items)
 IsBehind bytes end place (Refused why) = CertificateBehind bytes end place (no_certificate why)

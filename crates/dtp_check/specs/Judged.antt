@@ -1,17 +1,19 @@
 -- What a script with its certificate comes to: accepted, or the first reason against it. The order of the reasons is this
 -- project's own. Sources: SMT-LIB 2.6, section 4.1 (a script), section 4.2.5 (check-sat).
-use Rattle.std.specs.Prelude.{◌≡◌, ◌≢◌, ℕ, ◌+◌, List, [], ◌∷◌, length, ◌==◌, Bool, true, false, if◌then◌else◌, Option, Some, None, option_map, Result, Ok, Err}
+use Rattle.std.specs.Prelude.{◌≡◌, ◌≢◌, ℕ, ◌+◌, List, [], ◌∷◌, ◌++◌, length, ◌==◌, Bool, true, false, if◌then◌else◌, Option, Some, None, option_map, Result, Ok, Err}
 use Rattle.smt_sexpr.specs.Tree.{Sexpr}
 use Rattle.smt_sexpr.specs.declared.error.SexprRefusal.{SexprRefusal}
 use Rattle.smt_sexpr.specs.Reading.{Spells, Outcomes, finished, refused}
 use Rattle.stn_core.specs.declared.named.NamedValue.{NamedValue}
 use Rattle.stn_core.specs.declared.named.NamedValue.TheVariants.{Int, Truth}
-use Rattle.cert_text.specs.declared.entry.Entry.{Entry}
-use Rattle.cert_text.specs.declared.entry.Entry.TheVariants.{Sat, Unsat}
+use Rattle.cert_text.specs.declared.entry.Version.{Version}
+use Rattle.cert_text.specs.declared.entry.FileEntry.{FileEntry}
+use Rattle.cert_text.specs.declared.entry.FileEntry.TheVariants.{Sat, Unsat}
 use Rattle.cert_text.specs.Form.{header_sexpr}
 use Rattle.cert_read.specs.declared.error.CertificateRefusal.TheVariants.{NoHeader}
 use Rattle.cert_read.specs.Certificates.{CertificateOutcome, certificate, no_certificate, ReadsEntries, ReadsCertificate}
-use Rattle.cert_check.specs.Flaws.{refutation_flaw}
+use Rattle.kept_lemmas.specs.Entries.{Placed, without_items, shelf_of}
+use Rattle.lemma_shelf.specs.ItemFlaws.{items_flaw}
 use Rattle.idl_node.specs.declared.sort.Sort.{Sort}
 use Rattle.idl_node.specs.declared.sort.Sort.TheVariants as sorts
 use Rattle.idl_term.specs.Contexts.{Context, environment}
@@ -23,7 +25,9 @@ use Rattle.smt_script.specs.Commands.{is_exit}
 use Rattle.smt_script.specs.declared.error.Refusal.{Refusal}
 use Rattle.smt_script.specs.States.{State, start_state, Step, after, settled}
 use Rattle.smt_answer.specs.Kinds.{kind_of, kind_of_unreadable}
-use Rattle.dtp_entry.specs.Entries.{points_of, problem_of, verdict_of}
+use Rattle.smt_script.specs.declared.state.Satisfiability.{Satisfiability}
+use Rattle.smt_script.specs.declared.state.Satisfiability.TheVariants as verdict
+use Rattle.dtp_entry.specs.Entries.{points_of, problem_of}
 use Rattle.dtp_check.specs.declared.judgement.EntryFlaw.{EntryFlaw}
 use Rattle.dtp_check.specs.declared.judgement.EntryFlaw.TheVariants.{WrongCount, WrongSort, FalseAssertion, Flawed}
 use Rattle.dtp_check.specs.declared.judgement.Judgement.{Judgement}
@@ -36,10 +40,14 @@ use Rattle.dtp_check.specs.declared.script_part.PartEnd.TheVariants as part
 -- what ends the script at the place, and the place behind it; an `(exit)` is the script's own last command
 abbrev pub EndsPart : List ℕ → ℕ → PartEnd → ℕ → Type 0
 EndsPart bytes place part.Exit behind = ⊥
-EndsPart bytes place part.Header behind = Spells bytes place header_sexpr behind
+EndsPart bytes place (part.Header version) behind = Spells bytes place (header_sexpr version) behind
 EndsPart bytes place part.End behind = Outcomes bytes place finished behind
 EndsPart bytes place (part.Unread kind) behind =
     (why : SexprRefusal) × Outcomes bytes place (refused why) behind × (kind_of_unreadable why ≡ kind)
+
+-- no header of any version
+abbrev pub IsApart : Sexpr → Type 0
+IsApart x = (version : Version) → x ≢ header_sexpr version
 
 -- behind an `(exit)` nothing of the script follows
 abbrev pub ExitEnds : ℕ → List Sexpr → PartEnd → ℕ → Type 0
@@ -54,13 +62,13 @@ FollowsExit false A B = B
 unfoldable pub ScriptPart : List ℕ → ℕ → List Sexpr → PartEnd → ℕ → Type 0
 ScriptPart bytes place [] end behind = EndsPart bytes place end behind
 ScriptPart bytes place (x ∷ xs) end behind =
-    (mid : ℕ) × Spells bytes place x mid × (x ≢ header_sexpr)
+    (mid : ℕ) × Spells bytes place x mid × IsApart x
     × FollowsExit (is_exit x) (ExitEnds mid xs end behind) (ScriptPart bytes mid xs end behind)
 
 -- what stands behind the script, as a certificate: the text behind an `(exit)`, or that from a header on
 abbrev pub CertificateBehind : List ℕ → PartEnd → ℕ → CertificateOutcome → Type 0
 CertificateBehind bytes part.Exit behind outcome = ReadsCertificate bytes behind outcome
-CertificateBehind bytes part.Header behind outcome = ReadsEntries bytes behind outcome
+CertificateBehind bytes (part.Header version) behind outcome = ReadsEntries version bytes behind outcome
 CertificateBehind bytes part.End behind outcome = outcome ≡ no_certificate NoHeader
 CertificateBehind bytes (part.Unread kind) behind outcome = ⊥
 
@@ -100,14 +108,24 @@ values_flaw c values =
     (option_map FalseAssertion (first_false (environment c values) 1 c.assertions))
     else Some WrongCount
 
--- what is wrong with the entry of a check-sat where these assertions are active
-abbrev pub entry_flaw : Context → Entry → Option EntryFlaw
-entry_flaw c (Sat values) = values_flaw c values
-entry_flaw c (Unsat lemmas) = option_map Flawed (refutation_flaw (points_of c) (problem_of c) lemmas)
+-- an entry where it stands, as later ones may keep its lemmas
+abbrev pub placed : Context → FileEntry → Placed
+placed c (Sat values) = without_items
+placed c (Unsat items) = record { points = points_of c; clauses = problem_of c; items = items }
+
+-- what is wrong with the entry of a check-sat where these assertions are active, behind these entries
+abbrev pub entry_flaw : List Placed → Context → FileEntry → Option EntryFlaw
+entry_flaw before c (Sat values) = values_flaw c values
+entry_flaw before c (Unsat items) = option_map Flawed (items_flaw (shelf_of before) (points_of c) (problem_of c) items)
+
+-- what an entry says
+abbrev pub told_by : FileEntry → Satisfiability
+told_by (Sat values) = verdict.Sat
+told_by (Unsat items) = verdict.Unsat
 
 -- ---- the whole
 
-abbrev pub surplus_of : ℕ → List Entry → Judgement
+abbrev pub surplus_of : ℕ → List FileEntry → Judgement
 surplus_of n [] = Accepted
 surplus_of n (entry ∷ entries) = Surplus n
 
@@ -116,32 +134,35 @@ abbrev pub judged_entry : ℕ → Option EntryFlaw → Judgement → Judgement
 judged_entry n None others = others
 judged_entry n (Some flaw) others = BadEntry n flaw
 
--- at a check-sat its entry, and then what follows in the state behind the entry's verdict
-abbrev pub judged_check : State → ℕ → List Entry → (State → List Entry → Judgement) → Judgement
-judged_check s n [] others = Missing n
-judged_check s n (entry ∷ entries) others =
-    judged_entry n (entry_flaw s.context entry) (others (settled (verdict_of entry) s) entries)
+-- at a check-sat its entry, over those before it, and then what follows in the state behind the entry's verdict
+abbrev pub judged_check : State → ℕ → List Placed → List FileEntry → (State → List Placed → List FileEntry → Judgement) → Judgement
+judged_check s n before [] others = Missing n
+judged_check s n before (entry ∷ entries) others =
+    judged_entry n (entry_flaw before s.context entry) (others (settled (told_by entry) s) (before ++ placed s.context entry ∷ []) entries)
 
-abbrev pub judged_effect : Effect → State → ℕ → List Entry → (State → ℕ → List Entry → Judgement) → Judgement
-judged_effect (Tell notice) s n entries others = others s n entries
-judged_effect CheckSat s n entries others = judged_check s n entries (λ next rest. others next (n + 1) rest)
-judged_effect Exit s n entries others = surplus_of n entries
+-- what judges the commands that follow, by the state, the number of the next entry, the entries before it, and those left
+abbrev pub Others : Type 0
+Others = State → ℕ → List Placed → List FileEntry → Judgement
+
+abbrev pub judged_effect : Effect → State → ℕ → List Placed → List FileEntry → Others → Judgement
+judged_effect (Tell notice) s n before entries others = others s n before entries
+judged_effect CheckSat s n before entries others = judged_check s n before entries (λ next placed rest. others next (n + 1) placed rest)
+judged_effect Exit s n before entries others = surplus_of n entries
 
 -- by what command k leads to
-abbrev pub judged_after : ℕ → ℕ → List Entry → Result Step Refusal
-    → (State → ℕ → List Entry → Judgement) → Judgement
-judged_after k n entries (Ok step) others = judged_effect step.effect step.state n entries others
-judged_after k n entries (Err why) others = Script k (kind_of why)
+abbrev pub judged_after : ℕ → ℕ → List Placed → List FileEntry → Result Step Refusal → Others → Judgement
+judged_after k n before entries (Ok step) others = judged_effect step.effect step.state n before entries others
+judged_after k n before entries (Err why) others = Script k (kind_of why)
 
--- command k and those behind it, in this state, with entry n and those behind it
-unfoldable pub judged : State → ℕ → ℕ → List Sexpr → List Entry → Judgement
-judged s k n [] entries = surplus_of n entries
-judged s k n (x ∷ xs) entries =
-    judged_after k n entries (after s x) (λ next m rest. judged next (k + 1) m xs rest)
+-- command k and those behind it, in this state, with entry n and those behind it, over the entries before
+unfoldable pub judged : State → ℕ → ℕ → List Placed → List Sexpr → List FileEntry → Judgement
+judged s k n before [] entries = surplus_of n entries
+judged s k n before (x ∷ xs) entries =
+    judged_after k n before entries (after s x) (λ next m placed rest. judged next (k + 1) m placed xs rest)
 
 -- the commands with what stands behind them
 abbrev pub judged_with : List Sexpr → CertificateOutcome → Judgement
-judged_with xs (certificate entries) = judged start_state 1 1 xs entries
+judged_with xs (certificate version entries) = judged start_state 1 1 [] xs entries
 judged_with xs (no_certificate why) = Certificate why
 
 abbrev pub JudgedPart : List ℕ → List Sexpr → PartEnd → ℕ → Judgement → Type 0

@@ -1,5 +1,6 @@
 -- What holds of every source.
 use Rattle.std.specs.Prelude.{◌≡◌, ◌++◌, ℕ, List}
+use Rattle.cert_text.specs.declared.entry.Version.{Version}
 use Rattle.dtp_entry.specs.declared.report.Report.TheVariants as report
 use Rattle.dtp_entry.specs.Transcripts.{IsReport}
 use Rattle.dtp_check.specs.declared.judgement.Judgement.{Judgement}
@@ -19,5 +20,5 @@ NothingFalseIsAccepted = (bytes : List ℕ) → IsJudged bytes Accepted → Says
 -- a script is accepted with the certificate that was written of it without an error
 abbrev pub CertifiedIsAccepted : Type 0
 CertifiedIsAccepted =
-    (script out : List ℕ)
-    → IsReport report.Certificate script out 0 → IsWhole script → IsJudged (script ++ out) Accepted
+    (version : Version) (script out : List ℕ)
+    → IsReport (report.Certificate version) script out 0 → IsWhole script → IsJudged (script ++ out) Accepted

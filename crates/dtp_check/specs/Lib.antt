@@ -1,4 +1,5 @@
 pub mod Judged
+pub mod Earlier
 pub mod Texts
 pub mod Answered
 pub mod Told

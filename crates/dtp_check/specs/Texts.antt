@@ -1,7 +1,7 @@
 -- The line that answers a script with its certificate. Its words are this project's own.
 use Rattle.std.specs.Prelude.{ℕ, List, ◌++◌, codes, decimal}
 use Rattle.cert_check.specs.declared.flaw.FlawKind.{FlawKind}
-use Rattle.cert_check.specs.declared.flaw.FlawKind.TheVariants.{NoSuchPoint, NoSuchClause, NotAssumed, NotACycle, NotDenied, StepsMissing, StepsLeftOver, LastLemmaNotEmpty}
+use Rattle.cert_check.specs.declared.flaw.FlawKind.TheVariants.{NoSuchPoint, NoSuchClause, NotAssumed, NotACycle, NotDenied, StepsMissing, StepsLeftOver, NoSuchKeptLemma, NotActive, LastLemmaNotEmpty}
 use Rattle.smt_answer.specs.Texts.{kind_text}
 use Rattle.cert_read.specs.declared.error.CertificateRefusal.{CertificateRefusal}
 use Rattle.cert_read.specs.declared.error.CertificateRefusal.TheVariants.{NoHeader, IllFormed, NoEnd, TextAfterEnd}
@@ -18,6 +18,8 @@ flaw_text NotACycle = codes "not a cycle"
 flaw_text NotDenied = codes "not denied"
 flaw_text StepsMissing = codes "steps missing"
 flaw_text StepsLeftOver = codes "steps left over"
+flaw_text NoSuchKeptLemma = codes "no such kept lemma"
+flaw_text NotActive = codes "not active"
 flaw_text LastLemmaNotEmpty = codes "last lemma not empty"
 
 abbrev pub certificate_line : CertificateRefusal → List ℕ
@@ -27,13 +29,16 @@ certificate_line (IllFormed entry) =
 certificate_line NoEnd = codes "refused: certificate: no end\n"
 certificate_line TextAfterEnd = codes "refused: certificate: text after the end\n"
 
+abbrev pub step_line : ℕ → ℕ → ℕ → List ℕ → List ℕ
+step_line entry lemma step text =
+    codes "refused: entry " ++ (decimal entry ++ (codes ": lemma " ++ (decimal lemma
+    ++ (codes ": step " ++ (decimal step ++ (codes ": " ++ (text ++ codes "\n")))))))
+
 -- the last kind is of all lemmas together
 abbrev pub lemma_line : ℕ → ℕ → ℕ → FlawKind → List ℕ
 lemma_line entry lemma step LastLemmaNotEmpty =
     codes "refused: entry " ++ (decimal entry ++ codes ": last lemma not empty\n")
-lemma_line entry lemma step kind =
-    codes "refused: entry " ++ (decimal entry ++ (codes ": lemma " ++ (decimal lemma
-    ++ (codes ": step " ++ (decimal step ++ (codes ": " ++ (flaw_text kind ++ codes "\n")))))))
+lemma_line entry lemma step kind = step_line entry lemma step (flaw_text kind)
 
 abbrev pub entry_line : ℕ → EntryFlaw → List ℕ
 entry_line entry WrongCount = codes "refused: entry " ++ (decimal entry ++ codes ": wrong count of values\n")

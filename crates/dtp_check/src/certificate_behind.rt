@@ -4,15 +4,14 @@ ghost use Rattle.dtp_check.specs.Behind.{IsBehind};
 ghost use Rattle.dtp_check.specs.Parts.{IsBefore, IsReadable};
 
 use crate::script_part::PartEnd;
-use cert_read::{CertReadError, CertificateRefusal, read_certificate, read_entries};
-use cert_text::Entry;
+use cert_read::{CertReadError, Certificate, CertificateRefusal, read_certificate, read_entries};
 use smt_lex::Lexer;
 use std::alloc::{AllocError, Global};
 
-/// What stands behind the script: the entries of a certificate, or no certificate.
+/// What stands behind the script: a certificate, or none.
 #[derive(Drop)]
 pub enum Behind {
-    Entries(Vec<Entry>),
+    Read(Certificate),
     Refused(CertificateRefusal),
 }
 
@@ -23,12 +22,12 @@ pub fn read_behind(alloc: Global, lexer: &mut Lexer, end: PartEnd) -> Result<Beh
 {
     match end {
         PartEnd::Exit => match read_certificate(alloc, lexer) {
-            Ok(entries) => Ok(Behind::Entries(entries)),
+            Ok(certificate) => Ok(Behind::Read(certificate)),
             Err(CertReadError::Refused(why)) => Ok(Behind::Refused(why)),
             Err(CertReadError::OutOfMemory) => Err(AllocError),
         },
-        PartEnd::Header => match read_entries(alloc, lexer) {
-            Ok(entries) => Ok(Behind::Entries(entries)),
+        PartEnd::Header(version) => match read_entries(alloc, version, lexer) {
+            Ok(entries) => Ok(Behind::Read(Certificate { version, entries })),
             Err(CertReadError::Refused(why)) => Ok(Behind::Refused(why)),
             Err(CertReadError::OutOfMemory) => Err(AllocError),
         },

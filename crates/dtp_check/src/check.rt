@@ -7,7 +7,7 @@ ghost use Rattle.dtp_check.specs.Judged.{IsJudged};
 ghost use Rattle.dtp_check.specs.Answered.{IsAnswer, IsAnswerPart};
 
 use crate::certificate_behind::{Behind, read_behind};
-use crate::judge::judge;
+use crate::judge::judge_script;
 use crate::judgement::Judgement;
 use crate::script_part::{PartEnd, read_part};
 use crate::text::judgement_line;
@@ -34,8 +34,8 @@ fn judgement_of(alloc: Global, bytes: &[u8]) -> Result<Judgement, AllocError>
         _ => {}
     }
     match read_behind(alloc, &mut lexer, part.end)? {
-        Behind::Entries(entries) => {
-            let judgement = judge(alloc, bytes, &entries)?;
+        Behind::Read(certificate) => {
+            let judgement = judge_script(alloc, bytes, &certificate.entries)?;
             Ok(judgement)
         }
         Behind::Refused(why) => Ok(Judgement::Certificate(why)),

@@ -1,22 +1,23 @@
 //! What is wrong with an entry.
-ghost use Rattle.std.specs.Prelude.{◌≡◌, ◌<◌, ◌+◌, ℕ, IfOk, length, false, option_map, slice_index_or};
+ghost use Rattle.std.specs.Prelude.{◌≡◌, ◌<◌, ◌+◌, [], ◌∷◌, ◌++◌, ℕ, List, IfOk, None, length, false, slice_index_or};
 ghost use Rattle.std.specs.List.{AllByRecursion};
-ghost use Rattle.cert_check.specs.Flaws.{refutation_flaw};
+ghost use Rattle.kept_lemmas.specs.Entries.{Placed as Place};
+ghost use Rattle.cert_text.specs.declared.entry.FileEntry.{FileEntry as Shown};
 ghost use Rattle.idl_node.specs.Tables.{IsTableOver};
 ghost use Rattle.idl_node.specs.Truth.{point_values, truth};
 ghost use Rattle.smt_script.specs.States.{State as Meaning};
-ghost use Rattle.dtp_entry.specs.Entries.{points_of, problem_of};
 ghost use Rattle.dtp_entry.specs.Standing.{Stands};
-ghost use Rattle.dtp_check.specs.declared.judgement.EntryFlaw.TheVariants.{Flawed};
-ghost use Rattle.dtp_check.specs.Judged.{is_of_sort, first_of_wrong_sort, values_flaw, entry_flaw};
+ghost use Rattle.dtp_check.specs.Earlier.{Holds, Suffices};
+ghost use Rattle.dtp_check.specs.Judged.{is_of_sort, first_of_wrong_sort, values_flaw, entry_flaw, placed};
 ghost use Rattle.dtp_check.specs.Roots.{first_unmarked};
 
+use crate::earlier::Earlier;
 use crate::judgement::EntryFlaw;
-use cert_check::{CheckError, check_refutation};
-use cert_text::Entry;
+use cert_check::CheckError;
+use cert_text::FileEntry;
 use dtp_entry::problem;
 use idl_node::{Nodes, Sort, eval};
-use refute_tree::Refutation;
+use kept_lemmas::Items;
 use smt_script::State;
 use std::alloc::{AllocError, Global};
 use stn_core::{NamedValue, NamedValues};
@@ -98,41 +99,52 @@ fn values_flaw(
     }
 }
 
-/// What is wrong with the entry of a check-sat in this state. It takes time of the order of the entry and the state.
+/// What is wrong with the entry of a check-sat in this state. Where nothing is, it is held for those that come. It takes
+/// time of the order of the entry and the state, and of what it keeps with what that cites.
 pub fn entry_flaw(
     alloc: Global,
     state: &State,
-    entry: &Entry,
+    earlier: &mut Earlier,
+    entry: &FileEntry,
 ) -> Result<Option<EntryFlaw>, AllocError>
-    requires { (s : Meaning) × Stands state.now s }
-    ensures { IfOk result (λ flaw. (s : Meaning) → Stands state.now s
-        → flaw ≡ entry_flaw s.context entry.now) }
+    requires stands { (s : Meaning) × Stands state.now s }
+    requires suffices { Suffices earlier.old (entry.now ∷ []) }
+    ensures flaw { IfOk result (λ flaw. (s : Meaning) (before : List Place) → Stands state.now s
+        → Holds earlier.old before → flaw ≡ entry_flaw before s.context entry.now) }
+    ensures held { IfOk result (λ flaw. flaw ≡ None → (s : Meaning) (before : List Place) → Stands state.now s
+        → Holds earlier.old before → Holds earlier.new (before ++ placed s.context entry.now ∷ [])) }
+    ensures suffices { (entries : List Shown) → Suffices earlier.old entries → Suffices earlier.new entries }
 {
     match entry {
-        Entry::Sat(values) => {
+        FileEntry::Sat(values) => {
             let flaw = values_flaw(alloc, state, values)?;
+            earlier.skip()?;
             Ok(flaw)
         }
-        Entry::Unsat(refutation) => {
-            let flaw = lemmas_flaw(alloc, state, refutation)?;
+        FileEntry::Unsat(items) => {
+            let flaw = items_flaw(alloc, state, earlier, items)?;
             Ok(flaw)
         }
     }
 }
 
-/// What is wrong with the lemmas of an unsat entry.
-fn lemmas_flaw(
+/// What is wrong with the items of an unsat entry.
+fn items_flaw(
     alloc: Global,
     state: &State,
-    refutation: &Refutation,
+    earlier: &mut Earlier,
+    items: &Items,
 ) -> Result<Option<EntryFlaw>, AllocError>
-    requires { (s : Meaning) × Stands state.now s }
-    ensures { IfOk result (λ flaw. (s : Meaning) → Stands state.now s
-        → flaw ≡ option_map Flawed
-        (refutation_flaw (points_of s.context) (problem_of s.context) refutation.now)) }
+    requires stands { (s : Meaning) × Stands state.now s }
+    requires suffices { Suffices earlier.old (Shown.Unsat items.now ∷ []) }
+    ensures flaw { IfOk result (λ flaw. (s : Meaning) (before : List Place) → Stands state.now s
+        → Holds earlier.old before → flaw ≡ entry_flaw before s.context (Shown.Unsat items.now)) }
+    ensures held { IfOk result (λ flaw. flaw ≡ None → (s : Meaning) (before : List Place) → Stands state.now s
+        → Holds earlier.old before → Holds earlier.new (before ++ placed s.context (Shown.Unsat items.now) ∷ [])) }
+    ensures suffices { (entries : List Shown) → Suffices earlier.old entries → Suffices earlier.new entries }
 {
     let problem = problem(alloc, state)?;
-    match check_refutation(alloc, &problem, refutation) {
+    match earlier.check(alloc, &problem, items.as_slice()) {
         Ok(()) => Ok(None),
         Err(CheckError::Refused(flaw)) => Ok(Some(EntryFlaw::Flawed(flaw))),
         Err(CheckError::OutOfMemory) => Err(AllocError),

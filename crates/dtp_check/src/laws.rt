@@ -8,6 +8,7 @@ pub fn one_judgement()
     ensures { OneJudgement }
 {
     smt_sexpr::one_outcome();
+    cert_text::one_entry();
     cert_read::one_certificate();
 }
 
@@ -18,12 +19,12 @@ pub fn nothing_false_is_accepted()
 {
     idl_term::context_law();
     clause_form::clause_form_law();
-    refute_tree::refutation_law();
-    cert_check::flaw_law();
+    kept_lemmas::entries_law();
+    lemma_shelf::flaw_law();
     smt_script::state_law();
 }
 
-/// A script is accepted with the certificate that was written of it without an error. The script is cut behind its
+/// A script is accepted with the certificate, of either version, that was written of it without an error. The script is cut behind its
 /// `(exit)`, where it has one, and doesn't end in a comment.
 pub fn certified_is_accepted()
     ensures { CertifiedIsAccepted }
@@ -32,6 +33,8 @@ pub fn certified_is_accepted()
     smt_sexpr::reads_on();
     smt_script::exit_law();
     cert_check::flaw_law();
+    lemma_shelf::flaw_law();
+    cert_text::own_lemmas_alone();
     cert_read::certificate_reads_back();
 }
 

@@ -3,6 +3,7 @@
 
 mod certificate_behind;
 mod check;
+mod earlier;
 mod entry_flaw;
 mod judge;
 mod judgement;
@@ -10,7 +11,11 @@ mod laws;
 mod script_part;
 mod text;
 
+pub use certificate_behind::{Behind, read_behind};
 pub use check::{Checked, check_pair};
+pub use earlier::Earlier;
+pub use judge::{judge_script, told_by};
 pub use judgement::{EntryFlaw, Judgement};
 pub use laws::{certified_is_accepted, nothing_false_is_accepted, one_judgement, whole_examples};
-pub use script_part::PartEnd;
+pub use script_part::{Next, Part, PartEnd, next_command, read_part};
+pub use text::judgement_line;

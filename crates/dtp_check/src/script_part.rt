@@ -4,7 +4,8 @@ ghost use Rattle.smt_sexpr.specs.Tree.{Sexpr};
 ghost use Rattle.dtp_check.specs.Judged.{ScriptPart};
 ghost use Rattle.dtp_check.specs.Parts.{IsNext, GoesOn, IsBefore};
 
-use cert_read::is_header;
+use cert_read::header_version;
+use cert_text::Version;
 use smt_answer::{Kind, kind_of_unreadable};
 use smt_lex::Lexer;
 use smt_script::is_exit;
@@ -16,8 +17,8 @@ use std::alloc::{AllocError, Global};
 pub enum PartEnd {
     /// With the command `(exit)`.
     Exit,
-    /// With the header of a certificate.
-    Header,
+    /// With the header of a certificate of this version.
+    Header(Version),
     /// With the source.
     End,
     /// At an s-expression that can't be read.
@@ -45,10 +46,9 @@ pub fn next_command(sexprs: &mut Sexprs, lexer: &mut Lexer) -> Result<Next, Allo
     sexprs.clear();
     match sexprs.read_one(lexer) {
         Ok(Some(id)) => {
-            if is_header(sexprs, id) {
-                Ok(Next::Ended(PartEnd::Header))
-            } else {
-                Ok(Next::Command(id))
+            match header_version(sexprs, id) {
+                Some(version) => Ok(Next::Ended(PartEnd::Header(version))),
+                None => Ok(Next::Command(id)),
             }
         }
         Ok(None) => Ok(Next::Ended(PartEnd::End)),

@@ -1,7 +1,7 @@
 //! The line that answers a script with its certificate.
 ghost use Rattle.std.specs.Prelude.{◌≡◌, string_bytes, codes, IfOk};
 ghost use Rattle.dtp_check.specs.declared.judgement.Judgement.TheVariants.{Script};
-ghost use Rattle.dtp_check.specs.Texts.{flaw_text, certificate_line, entry_line, judgement_line};
+ghost use Rattle.dtp_check.specs.Texts.{flaw_text, certificate_line, step_line, entry_line, judgement_line};
 
 use crate::judgement::{EntryFlaw, Judgement};
 use bstr::ByteVec;
@@ -23,6 +23,8 @@ fn flaw_text(kind: FlawKind) -> &'static str
         FlawKind::NotDenied => "not denied",
         FlawKind::StepsMissing => "steps missing",
         FlawKind::StepsLeftOver => "steps left over",
+        FlawKind::NoSuchKeptLemma => "no such kept lemma",
+        FlawKind::NotActive => "not active",
         FlawKind::LastLemmaNotEmpty => "last lemma not empty",
     }
 }
@@ -43,6 +45,19 @@ fn certificate_line(alloc: Global, why: CertificateRefusal) -> Result<String, Al
     }
 }
 
+/// The line for what is wrong with a step of a lemma.
+fn step_line(
+    alloc: Global,
+    entry: usize,
+    lemma: usize,
+    step: usize,
+    text: &str,
+) -> Result<String, AllocError>
+    ensures { IfOk result (λ line. string_bytes line ≡ step_line entry lemma step text.now) }
+{
+    format!(in alloc; "refused: entry {entry}: lemma {lemma}: step {step}: {text}\n")
+}
+
 /// The line for an entry that isn't right.
 fn entry_line(alloc: Global, entry: usize, flaw: EntryFlaw) -> Result<String, AllocError>
     ensures { IfOk result (λ line. string_bytes line ≡ entry_line entry flaw) }
@@ -61,14 +76,7 @@ fn entry_line(alloc: Global, entry: usize, flaw: EntryFlaw) -> Result<String, Al
             FlawKind::LastLemmaNotEmpty => {
                 format!(in alloc; "refused: entry {entry}: last lemma not empty\n")
             }
-            kind => {
-                format!(in alloc;
-                    "refused: entry {entry}: lemma {}: step {}: {}\n",
-                    flaw.lemma,
-                    flaw.step,
-                    flaw_text(kind)
-                )
-            }
+            kind => step_line(alloc, entry, flaw.lemma, flaw.step, flaw_text(kind)),
         },
     }
 }

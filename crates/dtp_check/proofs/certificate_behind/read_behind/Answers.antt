@@ -1,5 +1,6 @@
 use Rattle.std.proofs.Common.{sym, subst}
 use Rattle.cert_read.specs.Certificates.{no_certificate, ReadsEntries, ReadsCertificate}
+use Rattle.cert_read.specs.declared.error.CertificateRefusal.{CertificateRefusal}
 use Rattle.dtp_check.specs.declared.script_part.PartEnd.{PartEnd}
 use Rattle.dtp_check.specs.Judged.{CertificateBehind}
 use Rattle.dtp_check.specs.Parts.{IsBefore}
@@ -21,5 +22,7 @@ returns-in-Err-Refused-read_entries c = λ readable.
     let place = c.args.lexer.now.place in
     let why = c.in-Err-Refused-read_entries.why in
     let fresh = c.requires.fresh (subst IsBefore (sym c.in-Header.is) tt) in
-    let refused = refusal_told (λ why. ReadsEntries bytes place (no_certificate why)) c.in-Err-Refused-read_entries.field-0 why c.in-Err-Refused-read_entries.field-0-is (c.in-Err-Refused-read_entries.ensures.refused fresh) in
-    subst (λ (end : PartEnd). CertificateBehind bytes end place (no_certificate why)) (sym c.in-Header.is) refused
+    let version = c.in-Header.version in
+    let refused = refusal_told (λ why. ReadsEntries version bytes place (no_certificate why)) c.in-Err-Refused-read_entries.field-0 why c.in-Err-Refused-read_entries.field-0-is (c.in-Err-Refused-read_entries.ensures.refused fresh) in
+    subst (λ (w : CertificateRefusal). CertificateBehind bytes c.args.end place (no_certificate w)) (sym c.in-Err-Refused-read_entries.why-is)
+    (subst (λ (end : PartEnd). CertificateBehind bytes end place (no_certificate why)) (sym c.in-Header.is) refused)

@@ -20,24 +20,24 @@ judge_check-requires-clause-stands c =
     let h = c.in-Ok-CheckSat.ensures.ok s.0 x.0 s.1.stands x.1 in
     (h.state, stands_after c.state_law.ensures.step s.0 x.0 _ c.step.new.self h s.1.made)
 
-pub returns-in-Ok-Tell : goal.returns-in-Ok-Tell
-returns-in-Ok-Tell c = λ s x stands means.
+pub returns-in-Ok-Tell-clause-turn : goal.returns-in-Ok-Tell-clause-turn
+returns-in-Ok-Tell-clause-turn c = λ s before x stands held means.
     let notice = c.in-Ok-Tell.field-0-0 in
-    notice_judged s c.args.command c.args.used x c.args.entries.now c.step.new.self c.state_law.ensures.step c.exit_law.ensures.alone notice c.requires.used stands.made
+    notice_judged s c.args.command c.args.used before x c.args.entries.now c.step.new.self c.state_law.ensures.step c.exit_law.ensures.alone notice c.args.earlier.now held c.requires.used stands.made
     (steps s x _ (Tell notice) c.step.new.self c.in-Ok-Tell.field-0-is (c.in-Ok-Tell.ensures.ok s x stands.stands means))
 
-pub returns-in_ok-turn-in-Ok-CheckSat : goal.returns-in_ok-turn-in-Ok-CheckSat
-returns-in_ok-turn-in-Ok-CheckSat c = λ s x stands means.
+pub returns-in_ok-turn-in-Ok-CheckSat-clause-turn : goal.returns-in_ok-turn-in-Ok-CheckSat-clause-turn
+returns-in_ok-turn-in-Ok-CheckSat-clause-turn c = λ s before x stands held means.
     let h = steps s x _ CheckSat c.step.new.self c.in-Ok-CheckSat.field-0-is (c.in-Ok-CheckSat.ensures.ok s x stands.stands means) in
     let there = stands_after c.state_law.ensures.step s x CheckSat c.step.new.self h stands.made in
-    check_judged s c.args.command c.args.used x c.args.entries.now c.step.new.self c.exit_law.ensures.alone c.judge_check.new.state c.in_ok-turn-in-Ok-CheckSat.turn h (c.in_ok-turn-in-Ok-CheckSat.ensures h.state there)
+    check_judged s c.args.command c.args.used before x c.args.entries.now c.step.new.self c.exit_law.ensures.alone c.judge_check.new.state c.judge_check.new.earlier c.in_ok-turn-in-Ok-CheckSat.turn h (c.in_ok-turn-in-Ok-CheckSat.ensures.turn h.state before there held)
 
-pub returns-in-Ok-Exit : goal.returns-in-Ok-Exit
-returns-in-Ok-Exit c = λ s x stands means xs.
-    exit_judged s c.args.command c.args.used x c.args.entries.now c.step.new.self xs (steps s x _ Exit c.step.new.self c.in-Ok-Exit.field-0-is (c.in-Ok-Exit.ensures.ok s x stands.stands means)) ∙ sym c.surplus.ensures
+pub returns-in-Ok-Exit-clause-turn : goal.returns-in-Ok-Exit-clause-turn
+returns-in-Ok-Exit-clause-turn c = λ s before x stands held means xs.
+    exit_judged s c.args.command c.args.used before x c.args.entries.now c.step.new.self xs (steps s x _ Exit c.step.new.self c.in-Ok-Exit.field-0-is (c.in-Ok-Exit.ensures.ok s x stands.stands means)) ∙ sym c.surplus.ensures
 
-pub returns-in-Err-Refused : goal.returns-in-Err-Refused
-returns-in-Err-Refused c = λ s x stands means xs.
-    judged_err s c.args.command (c.args.used + 1) x xs (drop c.args.used c.args.entries.now) c.in-Err-Refused.why
+pub returns-in-Err-Refused-clause-turn : goal.returns-in-Err-Refused-clause-turn
+returns-in-Err-Refused-clause-turn c = λ s before x stands held means xs.
+    judged_err s c.args.command (c.args.used + 1) before x xs (drop c.args.used c.args.entries.now) c.in-Err-Refused.why
     (c.in-Err-Refused.ensures.refused c.in-Err-Refused.why (ap Err c.in-Err-Refused.field-0-is) s x stands.stands means)
     ∙ ap (Script c.args.command) (sym (c.kind_of.ensures ∙ ap kind_of c.in-Err-Refused.why-is))

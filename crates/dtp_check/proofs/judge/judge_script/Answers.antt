@@ -5,7 +5,7 @@ use Rattle.dtp_check.specs.declared.script_part.Next.TheVariants.{Ended}
 use Rattle.dtp_check.specs.Judged.{EndsPart}
 use Rattle.dtp_check.proofs.Walking.{command_read, end_read, command_goes_on}
 use Rattle.dtp_check.proofs.Reading.{IsJudging, judging_starts, judging_goes_on, judged_here, judged_over, judged_unread, turn_used}
-use Rattle.dtp_check.proofs.judge.judge.Goals as goal
+use Rattle.dtp_check.proofs.judge.judge_script.Goals as goal
 
 pub script-init : goal.script-init
 script-init c =
@@ -17,20 +17,21 @@ script-init c =
       within = omega (arith, start);
       counted = omega (arith, start);
       used = omega arith;
-      judging = subst (λ (p : ℕ). IsJudging c.args.bytes.now c.args.entries.now p 1 0 c.new-state.result) (sym start) (judging_starts c.args.bytes.now c.args.entries.now c.new-state.result c.new-state.ensures c.state_law.ensures.start);
+      suffices = c.new-earlier.ensures.suffices;
+      judging = subst (λ (p : ℕ). IsJudging c.args.bytes.now c.args.entries.now p 1 0 c.new-state.result c.new-earlier.result) (sym start) (judging_starts c.args.bytes.now c.args.entries.now c.new-state.result c.new-earlier.result c.new-earlier.ensures.holds c.new-state.ensures c.state_law.ensures.start);
     }
 
 pub returns-in-Ended-Unread : goal.returns-in-Ended-Unread
 returns-in-Ended-Unread c =
     let e = end_read c.script.lexer.bytes c.script.lexer.place c.next_command.new.sexprs c.next_command.new.lexer.place _ (part.Unread c.in-Ended-Unread.kind) (c.in-Ended-Unread.is ∙ ap Ended c.in-Ended-Unread.field-0-is) c.in_ok-id.ensures.next in
     let here = subst (λ (b : List ℕ). EndsPart b c.script.lexer.place (part.Unread c.in-Ended-Unread.kind) c.next_command.new.lexer.place) c.script.invariant.lexer_bytes e in
-    judged_unread c.one_outcome.ensures c.args.bytes.now c.args.entries.now c.script.lexer.place c.script.command c.script.used c.script.state c.script.invariant.judging c.next_command.new.lexer.place c.in-Ended-Unread.kind _ here
+    judged_unread c.one_outcome.ensures c.args.bytes.now c.args.entries.now c.script.lexer.place c.script.command c.script.used c.script.state c.script.earlier c.script.invariant.judging c.next_command.new.lexer.place c.in-Ended-Unread.kind _ here
 
 pub returns-in-Ended : goal.returns-in-Ended
 returns-in-Ended c =
     let e = end_read c.script.lexer.bytes c.script.lexer.place c.next_command.new.sexprs c.next_command.new.lexer.place _ c.in-Ended.field-0 c.in-Ended.is c.in_ok-id.ensures.next in
     let here = subst (λ (b : List ℕ). EndsPart b c.script.lexer.place c.in-Ended.field-0 c.next_command.new.lexer.place) c.script.invariant.lexer_bytes e in
-    judged_over c.one_outcome.ensures c.args.bytes.now c.args.entries.now c.script.lexer.place c.script.command c.script.used c.script.state c.script.invariant.judging c.next_command.new.lexer.place c.in-Ended.field-0 c.surplus.result here c.surplus.ensures
+    judged_over c.one_outcome.ensures c.args.bytes.now c.args.entries.now c.script.lexer.place c.script.command c.script.used c.script.state c.script.earlier c.script.invariant.judging c.next_command.new.lexer.place c.in-Ended.field-0 c.surplus.result here c.surplus.ensures
 
 pub judge_command-requires-clause-stands : goal.judge_command-requires-clause-stands
 judge_command-requires-clause-stands c = (c.script.invariant.judging.s, c.script.invariant.judging.stands)
@@ -39,8 +40,8 @@ pub returns-in-Judged : goal.returns-in-Judged
 returns-in-Judged c =
     let command = command_read c.script.lexer.bytes c.script.lexer.place c.next_command.new.sexprs c.next_command.new.lexer.place _ c.in-Command.id c.in-Command.is c.in_ok-id.ensures.next in
     let spells = subst (λ (b : List ℕ). Spells b c.script.lexer.place command.x c.next_command.new.lexer.place) c.script.invariant.lexer_bytes command.spells in
-    judged_here c.one_outcome.ensures c.args.bytes.now c.args.entries.now c.script.lexer.place c.script.command c.script.used c.script.state c.script.invariant.judging c.next_command.new.lexer.place command.x c.judge_command.new.state _ c.in-Judged.judgement
-    spells command.apart c.in-Judged.is (c.in_ok-now.ensures c.script.invariant.judging.s command.x c.script.invariant.judging.stands command.means)
+    judged_here c.one_outcome.ensures c.args.bytes.now c.args.entries.now c.script.lexer.place c.script.command c.script.used c.script.state c.script.earlier c.script.invariant.judging c.next_command.new.lexer.place command.x c.judge_command.new.state c.judge_command.new.earlier _ c.in-Judged.judgement
+    spells command.apart c.in-Judged.is (c.in_ok-turn.ensures.turn c.script.invariant.judging.s c.script.invariant.judging.before command.x c.script.invariant.judging.stands c.script.invariant.judging.held command.means)
 
 pub script-preserved : goal.script-preserved
 script-preserved c =
@@ -52,8 +53,8 @@ script-preserved c =
     let within = c.in_ok-id.ensures.within goes in
     let counted = c.script.invariant.counted in
     let length_is : length c.next_command.new.lexer.bytes ≡ length c.args.bytes.now = ap (λ (b : List ℕ). length b) (same ∙ c.script.invariant.lexer_bytes) in
-    let turn = c.in_ok-now.ensures c.script.invariant.judging.s command.x c.script.invariant.judging.stands command.means in
-    let next = judging_goes_on c.one_outcome.ensures c.args.bytes.now c.args.entries.now c.script.lexer.place c.script.command c.script.used c.script.state c.script.invariant.judging c.next_command.new.lexer.place command.x c.judge_command.new.state _ c.in-Going.now
+    let turn = c.in_ok-turn.ensures.turn c.script.invariant.judging.s c.script.invariant.judging.before command.x c.script.invariant.judging.stands c.script.invariant.judging.held command.means in
+    let next = judging_goes_on c.one_outcome.ensures c.args.bytes.now c.args.entries.now c.script.lexer.place c.script.command c.script.used c.script.state c.script.earlier c.script.invariant.judging c.next_command.new.lexer.place command.x c.judge_command.new.state c.judge_command.new.earlier _ c.in-Going.now
     spells command.apart c.in-Going.is turn in
     record {
       fresh = c.in_ok-id.ensures.fresh goes;
@@ -61,6 +62,7 @@ script-preserved c =
       table_bytes = c.in_ok-id.ensures.table_bytes ∙ c.script.invariant.table_bytes;
       within = omega (arith, within, length_is);
       counted = omega (arith, forward, counted);
-      used = turn_used c.script.invariant.judging.s c.script.command c.script.used c.args.entries.now command.x c.judge_command.new.state _ c.in-Going.now c.in-Going.is turn;
+      suffices = c.in_ok-turn.ensures.suffices;
+      used = turn_used c.script.invariant.judging.s c.script.command c.script.used c.script.invariant.judging.before c.args.entries.now command.x c.judge_command.new.state c.judge_command.new.earlier _ c.in-Going.now c.in-Going.is turn;
       judging = next;
     }

@@ -1,6 +1,7 @@
 use Rattle.std.proofs.Common.{◌≡◌, ◌≤◌, ◌-◌, ◌+◌, length, None}
+use Rattle.dtp_check.specs.Earlier.{Suffices}
 use Rattle.dtp_check.proofs.Reading.{IsJudging}
-use Rattle.dtp_check.proofs.judge.judge.Given as goal
+use Rattle.dtp_check.proofs.judge.judge_script.Given as goal
 
 abbrev pub invariant-script : goal.invariant-script
 invariant-script l = record {
@@ -10,7 +11,8 @@ invariant-script l = record {
   within : l.lexer.place ≤ length l.bytes;
   counted : l.command ≤ l.lexer.place + 1;
   used : l.used ≤ length l.entries;
-  judging : IsJudging l.bytes l.entries l.lexer.place l.command l.used l.state;
+  suffices : Suffices l.earlier l.entries;
+  judging : IsJudging l.bytes l.entries l.lexer.place l.command l.used l.state l.earlier;
 }
 
 abbrev pub decreases-script : goal.decreases-script

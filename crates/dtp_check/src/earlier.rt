@@ -1,0 +1,151 @@
+//! What is held of the entries that were found right, for those that come.
+ghost use Rattle.std.specs.Prelude.{◌≡◌, ◌↔◌, [], ◌∷◌, ◌++◌, map, All, IfOk, IfErr, IsOk, OnOk, List, IsTrue};
+ghost use Rattle.std.specs.List.{AllByRecursion};
+ghost use Rattle.kept_lemmas.specs.Entries.{Placed as Place, IsOwn, shelf_of, without_items};
+ghost use Rattle.cert_text.specs.declared.entry.FileEntry.{FileEntry as Shown};
+ghost use Rattle.lemma_shelf.specs.Tables.{own_item};
+ghost use Rattle.lemma_shelf.specs.ItemFlaws.{items_flaw};
+ghost use Rattle.cert_check.specs.Flaws.{TellsFlaw};
+ghost use Rattle.refute_tree.specs.Trees.{IsRefutation};
+ghost use Rattle.dtp_check.specs.Earlier.{KeepsNone, Holds, Suffices, LastRefutes, RefusesBy};
+
+use cert_check::CheckError;
+use cert_text::FileEntry;
+use kept_lemmas::Item;
+use lemma_shelf::{Shelf, check_items};
+use refute_tree::Refutation;
+use std::alloc::{AllocError, Global};
+use stn_core::Problem;
+
+/// The entries before the one that is looked at.
+#[derive(Drop)]
+pub enum Earlier {
+    /// No entry keeps a lemma, so nothing is held of them.
+    Unkept,
+    /// The entries that were found right, on a shelf.
+    Shelved(Shelf),
+}
+
+/// Whether the item is a lemma of the entry's own.
+fn is_own(item: &Item) -> bool
+    ensures { IsTrue result ↔ IsOwn item.now }
+{
+    match item {
+        Item::Own(_) => true,
+        Item::Keep(_) => false,
+    }
+}
+
+/// Whether the entry keeps no lemma.
+fn keeps_none(entry: &FileEntry) -> bool
+    ensures { IsTrue result → KeepsNone entry.now }
+{
+    match entry {
+        FileEntry::Sat(_) => true,
+        FileEntry::Unsat(items) => are_own(items.as_slice()),
+    }
+}
+
+/// Whether all items are lemmas of the entry's own.
+fn are_own(items: &[Item]) -> bool
+    ensures { IsTrue result → All IsOwn items.now }
+{
+    items.iter().all(|item| is_own(item))
+}
+
+/// Whether none of the entries keeps a lemma.
+fn keep_none(entries: &[FileEntry]) -> bool
+    ensures { IsTrue result → AllByRecursion KeepsNone entries.now }
+{
+    entries.iter().all(|entry| keeps_none(entry))
+}
+
+/// The lemmas of an entry that keeps none.
+fn own_lemmas(alloc: Global, items: &[Item]) -> Result<Refutation, AllocError>
+    requires { All IsOwn items.now }
+    ensures { IfOk result (λ lemmas. map own_item lemmas ≡ items.now) }
+{
+    let mut lemmas = Vec::new(alloc);
+    for item in items {
+        match item {
+            Item::Own(lemma) => lemmas.push(lemma.copy(alloc)?)?,
+            Item::Keep(_) => unreachable!(),
+        }
+    }
+    Ok(Refutation::new(lemmas))
+}
+
+impl Earlier {
+    /// What is held before the first of these entries.
+    pub fn new(alloc: Global, entries: &[FileEntry]) -> Self
+        ensures holds { Holds result [] }
+        ensures suffices { Suffices result entries.now }
+    {
+        if keep_none(entries) {
+            Earlier::Unkept
+        } else {
+            Earlier::Shelved(Shelf::new(alloc))
+        }
+    }
+
+    /// Whether the items refute the problem, or their first flaw. Where they do, they are held.
+    pub fn check(
+        &mut self,
+        alloc: Global,
+        problem: &Problem,
+        items: &[Item],
+    ) -> Result<(), CheckError>
+        requires { Suffices self.old (Shown.Unsat items.now ∷ []) }
+        ensures flaw { (before : List Place) → Holds self.old before
+            → TellsFlaw (items_flaw (shelf_of before) problem.now.points problem.now.clauses items.now) result }
+        ensures held { OnOk result ((before : List Place) → Holds self.old before → Holds self.new
+            (before ++ record { points = problem.now.points; clauses = problem.now.clauses; items = items.now } ∷ [])) }
+        ensures refutes { OnOk result
+            (LastRefutes self.new problem.now.points problem.now.clauses items.now) }
+        ensures suffices { (entries : List Shown) → Suffices self.old entries → Suffices self.new entries }
+    {
+        kept_lemmas::entries_law();
+        match self {
+            Earlier::Unkept => check_items(alloc, problem, items),
+            Earlier::Shelved(shelf) => shelf.check_entry(problem, items),
+        }
+    }
+
+    /// The refutation that the items are of the problem, with each kept lemma written out, or their first flaw. Where they
+    /// refute it, they are held.
+    pub fn lowered(
+        &mut self,
+        alloc: Global,
+        problem: &Problem,
+        items: &[Item],
+    ) -> Result<Refutation, CheckError>
+        requires { Suffices self.old (Shown.Unsat items.now ∷ []) }
+        ensures flaw { (before : List Place) → Holds self.old before → IfErr result
+            (RefusesBy (items_flaw (shelf_of before) problem.now.points problem.now.clauses items.now)) }
+        ensures refutes { IfOk result (IsRefutation problem.now.points problem.now.clauses) }
+        ensures held { IsOk result → (before : List Place) → Holds self.old before → Holds self.new
+            (before ++ record { points = problem.now.points; clauses = problem.now.clauses; items = items.now } ∷ []) }
+        ensures suffices { (entries : List Shown) → Suffices self.old entries → Suffices self.new entries }
+    {
+        lemma_shelf::flaw_law();
+        kept_lemmas::own_law();
+        self.check(alloc, problem, items)?;
+        match self {
+            Earlier::Unkept => Ok(own_lemmas(alloc, items)?),
+            Earlier::Shelved(shelf) => Ok(shelf.lower(alloc, problem, shelf.len() - 1)?),
+        }
+    }
+
+    /// Goes past an entry that answers sat.
+    pub fn skip(&mut self) -> Result<(), AllocError>
+        ensures held { OnOk result ((before : List Place) → Holds self.old before
+            → Holds self.new (before ++ without_items ∷ [])) }
+        ensures suffices { (entries : List Shown) → Suffices self.old entries → Suffices self.new entries }
+    {
+        kept_lemmas::entries_law();
+        match self {
+            Earlier::Unkept => Ok(()),
+            Earlier::Shelved(shelf) => shelf.skip(),
+        }
+    }
+}
