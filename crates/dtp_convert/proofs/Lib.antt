@@ -1,0 +1,6 @@
+pub mod Commands
+pub mod Walking
+pub mod Writing
+pub mod Accepting
+pub mod Deciding
+pub mod Examining

@@ -1,0 +1,80 @@
+//! The call that converts or refuses.
+ghost use Rattle.std.specs.Prelude.{◌≡◌, ◌≢◌, ◌≤◌, IfOk, OnErr, Err};
+ghost use Rattle.std.specs.Io.KnownBytes.{Appends};
+ghost use Rattle.dtp_io.specs.Faults.{Rose};
+ghost use Rattle.dtp_entry.specs.Written.{Writes};
+ghost use Rattle.dtp_convert.specs.Converted.{IsExamined, IsConversion, IsConversionPart};
+
+use crate::script::converted;
+use cert_stream::write_certificate;
+use cert_text::{Entry, Version};
+use dtp_check::{
+    Behind, Checked, Judgement, PartEnd, judge_script, judgement_line, read_behind, read_part,
+};
+use dtp_entry::{SessionError, write_text};
+use dtp_io::Sink;
+use smt_lex::Lexer;
+use std::alloc::{AllocError, Global};
+
+/// What a source comes to.
+#[derive(Drop)]
+pub enum Examined {
+    /// It is accepted, and these entries decide the script's check-sats, each in the form of the first version.
+    Converted(Vec<Entry>),
+    /// It isn't, for this reason.
+    Refused(Judgement),
+}
+
+/// What the source comes to, with its certificate converted.
+fn examine(alloc: Global, bytes: &[u8]) -> Result<Examined, AllocError>
+    ensures { IfOk result (IsExamined bytes.now) }
+{
+    smt_script::exit_law();
+    let mut lexer = Lexer::new(bytes);
+    let part = read_part(alloc, &mut lexer)?;
+    match part.end {
+        PartEnd::Unread(kind) => {
+            return Ok(Examined::Refused(Judgement::Script(part.commands + 1, kind)));
+        }
+        _ => {}
+    }
+    match read_behind(alloc, &mut lexer, part.end)? {
+        Behind::Read(certificate) => match judge_script(alloc, bytes, &certificate.entries)? {
+            Judgement::Accepted => {
+                let entries = converted(alloc, bytes, &certificate.entries)?;
+                Ok(Examined::Converted(entries))
+            }
+            judgement => Ok(Examined::Refused(judgement)),
+        },
+        Behind::Refused(why) => Ok(Examined::Refused(Judgement::Certificate(why))),
+    }
+}
+
+/// Writes the certificate that stands behind a script anew, in the first version, where the two are accepted; else the line
+/// that refuses them.
+///
+/// It takes the time of checking the pair twice, and memory for the certificate as it is read and as it is written.
+pub fn convert_pair<K: Sink>(
+    alloc: Global,
+    bytes: &[u8],
+    sink: &mut K,
+) -> Result<Checked, SessionError>
+    ensures whole { IfOk result (λ checked. Writes (K.holds sink.old) (K.holds sink.new)
+        (λ added. IsConversion bytes.now added checked)) }
+    ensures part { OnErr result (Writes (K.holds sink.old) (K.holds sink.new) (IsConversionPart bytes.now)) }
+    ensures fault { result ≡ Err SessionError.WriteFault → Rose (K.faults sink.old) (K.faults sink.new) }
+    ensures quiet { result ≢ Err SessionError.WriteFault → K.faults sink.new ≡ K.faults sink.old }
+    ensures later { K.faults sink.old ≤ K.faults sink.new }
+{
+    match examine(alloc, bytes)? {
+        Examined::Converted(entries) => {
+            write_certificate(alloc, Version::One, &entries, sink)?;
+            Ok(Checked::Accepted)
+        }
+        Examined::Refused(judgement) => {
+            let line = judgement_line(alloc, judgement)?;
+            write_text(sink, &line)?;
+            Ok(Checked::NotAccepted)
+        }
+    }
+}
