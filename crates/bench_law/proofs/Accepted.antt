@@ -11,6 +11,7 @@ use Rattle.smt_script.specs.Laws.{OnlyExitEnds}
 use Rattle.smt_script.specs.States.{State, start_state}
 use Rattle.smt_script.specs.declared.state.Effect.TheVariants.{Tell}
 use Rattle.dtp_gen.specs.Scripts.{script}
+use Rattle.cert_text.specs.declared.entry.Version.TheVariants.{One}
 use Rattle.dtp_entry.specs.declared.report.Report.TheVariants.{Certificate}
 use Rattle.dtp_entry.specs.Transcripts.{IsReport}
 use Rattle.dtp_check.specs.Judged.{FollowsExit}
@@ -60,6 +61,6 @@ accepted back one only law p jobs some machines deadline certificate status (fou
     let mine = script_reads back p jobs some machines deadline in
     let closed : IsClosedGap (drop mine.here (script p)) = subst IsClosedGap (sym mine.left) line_feed in
     let is_whole : IsWhole (script p) = (commands_of p, whole (script p) only mine.here closed (logic ∷ told p) start_state path.t path.tells 0 mine.reads) in
-    let well = no_error back one p jobs some machines deadline Certificate (record { text = certificate; found = found; status = status }) output in
-    let report : IsReport Certificate (script p) certificate 0 = subst (λ (n : ℕ). IsReport Certificate (script p) certificate n) well.status (found, output) in
-    law (script p) certificate report is_whole
+    let well = no_error back one p jobs some machines deadline (Certificate One) (record { text = certificate; found = found; status = status }) output in
+    let report : IsReport (Certificate One) (script p) certificate 0 = subst (λ (n : ℕ). IsReport (Certificate One) (script p) certificate n) well.status (found, output) in
+    law One (script p) certificate report is_whole

@@ -4,6 +4,7 @@ use Rattle.cert_text.specs.declared.entry.Entry.{Entry}
 use Rattle.dtp_gen.specs.Plans.{Plan}
 use Rattle.dtp_gen.specs.Scripts.{script}
 use Rattle.dtp_entry.specs.declared.report.Report.{Report}
+use Rattle.cert_text.specs.declared.entry.Version.TheVariants.{One}
 use Rattle.dtp_entry.specs.declared.report.Report.TheVariants.{Certificate}
 use Rattle.dtp_entry.specs.Transcripts.{Output, IsOutput, IsReport}
 use Rattle.script_counts.specs.Counting.{AreCounts}
@@ -28,7 +29,7 @@ ScriptHasNoError =
 -- and the script is accepted with its certificate behind it
 abbrev pub CertificateIsAccepted : Type 0
 CertificateIsAccepted =
-    ForEachPlan (λ p. (certificate : List ℕ) (status : ℕ) → IsReport Certificate (script p) certificate status
+    ForEachPlan (λ p. (certificate : List ℕ) (status : ℕ) → IsReport (Certificate One) (script p) certificate status
     → IsJudged (script p ++ certificate) Accepted)
 
 -- the names that are declared before its check-sat are the operations

@@ -96,7 +96,7 @@ unfolding clap_on_literals
 turn_4 a b c d u v = rw (v.no_dashes, v.bare, v.bare, u.fits) refl
 
 -- a fault of a word, and then of those behind it
-either_fault : (x y : Kinds) → x ≡ [] → y ≡ [] → or_else x y ≡ []
+pub either_fault : (x y : Kinds) → x ≡ [] → y ≡ [] → or_else x y ≡ []
 either_fault x y e f = rw (e, f) refl
 
 last_fault : (w : Walk) → walk_fault leaf [] w [] ≡ []
@@ -224,7 +224,7 @@ bench_workers_fault a b c d t v u =
 
 -- what is found
 
-number_in : (least most default : ℕ) (t : Text) → is_unsigned_in least most t ≡ true → number_of (Some t) least most default ≡ the_value t
+pub number_in : (least most default : ℕ) (t : Text) → is_unsigned_in least most t ≡ true → number_of (Some t) least most default ≡ the_value t
 number_in least most default t fits = rw fits refl
 
 at_shop : (j m s d w a b c e n : ℕ) → j ≡ a → m ≡ b → s ≡ c → d ≡ e → w ≡ n

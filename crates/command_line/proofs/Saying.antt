@@ -7,14 +7,17 @@ use Rattle.std.proofs.lemmas.Str.Parse.{digit_from_value}
 use Rattle.clap.specs.Words.{Text}
 use Rattle.clap.specs.Lexer.{strip_byte}
 use Rattle.command_line.specs.Lines.{line_of}
-use Rattle.command_line.specs.Plain.{IsNumeralOf, IsOptions, IsPlainLine, neither, workers, slice, workers_first, slice_first, solve, certify, check, bench, bench_workers, AreNumbersOf}
+use Rattle.command_line.specs.Plain.{IsNumeralOf, IsOptions, IsCertifying, IsFormat, number_of_format, IsPlainLine, neither, workers, slice, workers_first, slice_first, without, format, workers_format, slice_format, format_workers, format_slice, workers_slice_format, workers_format_slice, slice_workers_format, slice_format_workers, format_workers_slice, format_slice_workers, solve, certify, check, convert, bench, bench_workers, AreNumbersOf}
+use Rattle.command_line.specs.declared.line.Format.{Format}
+use Rattle.command_line.specs.declared.line.Format.TheVariants.{One, Two}
 use Rattle.command_line.specs.declared.line.Line.{Line}
 use Rattle.command_line.specs.declared.line.Line.TheVariants.{Solve, Certify}
 use Rattle.command_line.specs.declared.line.Search.{Search}
 use Rattle.command_line.specs.declared.line.Shop.{Shop}
 use Rattle.command_line.proofs.BenchLines.{AreValues, bench_alone, bench_workers as bench_with, same_bench}
 use Rattle.command_line.proofs.Numbers.{is_in_range}
-use Rattle.command_line.proofs.PlainLines.{IsValue, the_value, check_alone, solve_alone, solve_workers, solve_slice, solve_workers_first, solve_slice_first, certify_alone, certify_workers, certify_slice, certify_workers_first, certify_slice_first}
+use Rattle.command_line.proofs.CertifyLines.{certify_alone, certify_workers, certify_slice, certify_workers_slice, certify_slice_workers, certify_format, certify_workers_format, certify_slice_format, certify_format_workers, certify_format_slice, certify_workers_slice_format, certify_workers_format_slice, certify_slice_workers_format, certify_slice_format_workers, certify_format_workers_slice, certify_format_slice_workers}
+use Rattle.command_line.proofs.PlainLines.{IsValue, the_value, the_format, format_by, check_alone, convert_alone, solve_alone, solve_workers, solve_slice, solve_workers_slice, solve_slice_workers}
 
 no_hyphen : (d : ℕ) (ds : Text) → (d == 45) ≡ false → strip_byte 45 (d ∷ ds) ≡ None
 no_hyphen d ds e = rw e refl
@@ -56,15 +59,43 @@ solve_line : (words : List Text) (s : Search) → IsOptions words s → line_of 
 solve_line _ _ neither = solve_alone
 solve_line _ _ (workers {t} {n} h) = let v = workers_value t n h in solve_workers t v.0 ∙ at Solve _ _ _ _ v.1 refl
 solve_line _ _ (slice {u} {b} h) = let v = slice_value u b h in solve_slice u v.0 ∙ at Solve _ _ _ _ refl v.1
-solve_line _ _ (workers_first {t} {u} {n} {b} h k) = let v = workers_value t n h in let w = slice_value u b k in solve_workers_first t u v.0 w.0 ∙ at Solve _ _ _ _ v.1 w.1
-solve_line _ _ (slice_first {t} {u} {n} {b} h k) = let v = workers_value t n h in let w = slice_value u b k in solve_slice_first u t w.0 v.0 ∙ at Solve _ _ _ _ v.1 w.1
+solve_line _ _ (workers_first {t} {u} {n} {b} h k) = let v = workers_value t n h in let w = slice_value u b k in solve_workers_slice t u v.0 w.0 ∙ at Solve _ _ _ _ v.1 w.1
+solve_line _ _ (slice_first {t} {u} {n} {b} h k) = let v = workers_value t n h in let w = slice_value u b k in solve_slice_workers u t w.0 v.0 ∙ at Solve _ _ _ _ v.1 w.1
 
-certify_line : (words : List Text) (s : Search) → IsOptions words s → line_of (codes "certify" ∷ words) ≡ Some (Certify s)
-certify_line _ _ neither = certify_alone
-certify_line _ _ (workers {t} {n} h) = let v = workers_value t n h in certify_workers t v.0 ∙ at Certify _ _ _ _ v.1 refl
-certify_line _ _ (slice {u} {b} h) = let v = slice_value u b h in certify_slice u v.0 ∙ at Certify _ _ _ _ refl v.1
-certify_line _ _ (workers_first {t} {u} {n} {b} h k) = let v = workers_value t n h in let w = slice_value u b k in certify_workers_first t u v.0 w.0 ∙ at Certify _ _ _ _ v.1 w.1
-certify_line _ _ (slice_first {t} {u} {n} {b} h k) = let v = workers_value t n h in let w = slice_value u b k in certify_slice_first u t w.0 v.0 ∙ at Certify _ _ _ _ v.1 w.1
+format_at : (format : Format) (n : ℕ) → n ≡ number_of_format format → format_by n ≡ format
+format_at One n e = rw e refl
+format_at Two n e = rw e refl
+
+format_value : (t : Text) (f : Format) → IsFormat t f → IsValue 1 2 t × (the_format t ≡ f)
+format_value t f h = let v = value_of_numeral 1 2 (number_of_format f) t (omega arith) h in (v.0, format_at f (the_value t) v.1)
+
+certified : (a b n m : ℕ) (f g : Format) → a ≡ n → b ≡ m → f ≡ g
+    → Some (Certify (record { workers = a; slice = b }) f) ≡ Some (Certify (record { workers = n; slice = m }) g)
+certified a b n m f g e d h =
+    ap (λ (k : ℕ). Some (Certify (record { workers = k; slice = b }) f)) e
+    ∙ ap (λ (k : ℕ). Some (Certify (record { workers = n; slice = k }) f)) d
+    ∙ ap (λ (k : Format). Some (Certify (record { workers = n; slice = m }) k)) h
+
+certify_plain : (words : List Text) (s : Search) → IsOptions words s → line_of (codes "certify" ∷ words) ≡ Some (Certify s One)
+certify_plain _ _ neither = certify_alone
+certify_plain _ _ (workers {t} {n} h) = let v = workers_value t n h in certify_workers t v.0 ∙ certified _ _ _ _ _ _ v.1 refl refl
+certify_plain _ _ (slice {u} {b} h) = let v = slice_value u b h in certify_slice u v.0 ∙ certified _ _ _ _ _ _ refl v.1 refl
+certify_plain _ _ (workers_first {t} {u} {n} {b} h k) = let v = workers_value t n h in let w = slice_value u b k in certify_workers_slice t u v.0 w.0 ∙ certified _ _ _ _ _ _ v.1 w.1 refl
+certify_plain _ _ (slice_first {t} {u} {n} {b} h k) = let v = workers_value t n h in let w = slice_value u b k in certify_slice_workers u t w.0 v.0 ∙ certified _ _ _ _ _ _ v.1 w.1 refl
+
+certify_line : (words : List Text) (s : Search) (f : Format) → IsCertifying words s f → line_of (codes "certify" ∷ words) ≡ Some (Certify s f)
+certify_line _ _ _ (without {words} {search} h) = certify_plain words search h
+certify_line _ _ _ (format {v} {f} hf) = let z = format_value v f hf in certify_format v z.0 ∙ certified _ _ _ _ _ _ refl refl z.1
+certify_line _ _ _ (workers_format {t} {v} {n} {f} hw hf) = let x = workers_value t n hw in let z = format_value v f hf in certify_workers_format t v x.0 z.0 ∙ certified _ _ _ _ _ _ x.1 refl z.1
+certify_line _ _ _ (slice_format {u} {v} {b} {f} hs hf) = let y = slice_value u b hs in let z = format_value v f hf in certify_slice_format u v y.0 z.0 ∙ certified _ _ _ _ _ _ refl y.1 z.1
+certify_line _ _ _ (format_workers {t} {v} {n} {f} hw hf) = let x = workers_value t n hw in let z = format_value v f hf in certify_format_workers v t z.0 x.0 ∙ certified _ _ _ _ _ _ x.1 refl z.1
+certify_line _ _ _ (format_slice {u} {v} {b} {f} hs hf) = let y = slice_value u b hs in let z = format_value v f hf in certify_format_slice v u z.0 y.0 ∙ certified _ _ _ _ _ _ refl y.1 z.1
+certify_line _ _ _ (workers_slice_format {t} {u} {v} {n} {b} {f} hw hs hf) = let x = workers_value t n hw in let y = slice_value u b hs in let z = format_value v f hf in certify_workers_slice_format t u v x.0 y.0 z.0 ∙ certified _ _ _ _ _ _ x.1 y.1 z.1
+certify_line _ _ _ (workers_format_slice {t} {u} {v} {n} {b} {f} hw hs hf) = let x = workers_value t n hw in let y = slice_value u b hs in let z = format_value v f hf in certify_workers_format_slice t v u x.0 z.0 y.0 ∙ certified _ _ _ _ _ _ x.1 y.1 z.1
+certify_line _ _ _ (slice_workers_format {t} {u} {v} {n} {b} {f} hw hs hf) = let x = workers_value t n hw in let y = slice_value u b hs in let z = format_value v f hf in certify_slice_workers_format u t v y.0 x.0 z.0 ∙ certified _ _ _ _ _ _ x.1 y.1 z.1
+certify_line _ _ _ (slice_format_workers {t} {u} {v} {n} {b} {f} hw hs hf) = let x = workers_value t n hw in let y = slice_value u b hs in let z = format_value v f hf in certify_slice_format_workers u v t y.0 z.0 x.0 ∙ certified _ _ _ _ _ _ x.1 y.1 z.1
+certify_line _ _ _ (format_workers_slice {t} {u} {v} {n} {b} {f} hw hs hf) = let x = workers_value t n hw in let y = slice_value u b hs in let z = format_value v f hf in certify_format_workers_slice v t u z.0 x.0 y.0 ∙ certified _ _ _ _ _ _ x.1 y.1 z.1
+certify_line _ _ _ (format_slice_workers {t} {u} {v} {n} {b} {f} hw hs hf) = let x = workers_value t n hw in let y = slice_value u b hs in let z = format_value v f hf in certify_format_slice_workers v u t z.0 y.0 x.0 ∙ certified _ _ _ _ _ _ x.1 y.1 z.1
 
 shop_values : (a b c d : Text) (shop : Shop) → AreNumbersOf a b c d shop
     → AreValues a b c d × (the_value a ≡ shop.jobs) × (the_value b ≡ shop.machines) × (the_value c ≡ shop.start) × (the_value d ≡ shop.deadline)
@@ -77,8 +108,9 @@ shop_values a b c d shop h =
 
 pub plain_line : (words : List Text) (line : Line) → IsPlainLine words line → line_of words ≡ Some line
 plain_line _ _ (solve {words} {search} h) = solve_line words search h
-plain_line _ _ (certify {words} {search} h) = certify_line words search h
+plain_line _ _ (certify {words} {search} {format} h) = certify_line words search format h
 plain_line _ _ check = check_alone
+plain_line _ _ convert = convert_alone
 plain_line _ _ (bench {a} {b} {c} {d} {shop} h) =
     let v = shop_values a b c d shop h in
     bench_alone a b c d v.0 ∙ same_bench a b c d 4 4 shop v.1 v.2 v.3 v.4 refl

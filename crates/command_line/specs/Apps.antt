@@ -13,6 +13,9 @@ workers_rule = number_rule (codes "workers") 64
 abbrev pub slice_rule : Rule
 slice_rule = number_rule (codes "slice") 1000000
 
+abbrev pub format_rule : Rule
+format_rule = number_rule (codes "format") 2
+
 -- without help and version words
 abbrev pub silent : App → App
 silent a = record a { top = record a.top { disable_help_flag = true; disable_version_flag = true; disable_help_subcommand = true } }
@@ -23,8 +26,12 @@ searching_app name = with_rule (with_rule (silent (new_app name)) workers_rule) 
 abbrev pub top_app : App
 top_app = let a = silent (new_app (codes "dtp")) in record a { top = record a.top { no_binary_name = true; subcommand_required = true } }
 
-abbrev pub checking_app : App
-checking_app = silent (new_app (codes "check"))
+abbrev pub certifying_app : App
+certifying_app = with_rule (searching_app (codes "certify")) format_rule
+
+-- a command of one word
+abbrev pub plain_app : Text → App
+plain_app name = silent (new_app name)
 
 -- a number at its place among the words, which has to be there, from the least to the most
 abbrev pub place_rule : Text → ℕ → ℕ → Rule
@@ -47,6 +54,7 @@ abbrev pub benching_app : App
 benching_app =
     with_rule (with_rule (with_rule (with_rule (with_rule (silent (new_app (codes "bench"))) jobs_rule) machines_rule) start_rule) deadline_rule) workers_rule
 
--- `solve`, `certify`, `check` and `bench`
+-- `solve`, `certify`, `check`, `convert` and `bench`
 abbrev pub dtp_app : App
-dtp_app = with_subcommand (with_subcommand (with_subcommand (with_subcommand top_app (searching_app (codes "solve")).top) (searching_app (codes "certify")).top) checking_app.top) benching_app.top
+dtp_app =
+    with_subcommand (with_subcommand (with_subcommand (with_subcommand (with_subcommand top_app (searching_app (codes "solve")).top) certifying_app.top) (plain_app (codes "check")).top) (plain_app (codes "convert")).top) benching_app.top

@@ -1,12 +1,14 @@
 -- Which words ask for what. The words are read as clap's written definitions read them, by the command line of `Apps`.
-use Rattle.std.specs.Prelude.{⊤, ◌≤◌, ℕ, List, [], Option, Some, None, codes, if◌then◌else◌}
+use Rattle.std.specs.Prelude.{⊤, ◌==◌, ◌≤◌, ℕ, List, [], Option, Some, None, codes, if◌then◌else◌}
 use Rattle.std.specs.Str.{bytes_eq}
 use Rattle.std.specs.Str.Parse.{digits_value, without_leading_plus}
 use Rattle.clap.specs.Words.{Kinds, Row, Text, fault_of, one_of, subcommand_of}
 use Rattle.clap.specs.ValueTests.{is_unsigned_in}
 use Rattle.command_line.specs.Apps.{dtp_app}
 use Rattle.command_line.specs.declared.line.Line.{Line}
-use Rattle.command_line.specs.declared.line.Line.TheVariants.{Solve, Certify, Check, Bench}
+use Rattle.command_line.specs.declared.line.Line.TheVariants.{Solve, Certify, Check, Convert, Bench}
+use Rattle.command_line.specs.declared.line.Format.{Format}
+use Rattle.command_line.specs.declared.line.Format.TheVariants.{One, Two}
 use Rattle.command_line.specs.declared.line.Search.{Search}
 use Rattle.command_line.specs.declared.line.Shop.{Shop}
 
@@ -23,6 +25,10 @@ workers_of rows = number_of (one_of (codes "workers") rows) 1 64 4
 abbrev pub search_of : List Row → Search
 search_of rows = record { workers = workers_of rows; slice = number_of (one_of (codes "slice") rows) 1 1000000 1000 }
 
+-- the first version where the words don't say it
+abbrev pub format_of : List Row → Format
+format_of rows = if number_of (one_of (codes "format") rows) 1 2 1 == 2 then Two else One
+
 -- all four are there where clap finds no fault
 abbrev pub shop_of : List Row → Shop
 shop_of rows = record {
@@ -35,9 +41,10 @@ shop_of rows = record {
 abbrev pub command_of : Text → List Row → Option Line
 command_of name rows =
     if bytes_eq name (codes "solve") then Some (Solve (search_of rows))
-    else (if bytes_eq name (codes "certify") then Some (Certify (search_of rows))
+    else (if bytes_eq name (codes "certify") then Some (Certify (search_of rows) (format_of rows))
     else (if bytes_eq name (codes "check") then Some Check
-    else (if bytes_eq name (codes "bench") then Some (Bench (shop_of rows) (workers_of rows)) else None)))
+    else (if bytes_eq name (codes "convert") then Some Convert
+    else (if bytes_eq name (codes "bench") then Some (Bench (shop_of rows) (workers_of rows)) else None))))
 
 abbrev pub asked : Kinds → Option (Text × List Row) → Option Line
 asked [] (Some found) = command_of found.0 found.1
@@ -55,6 +62,7 @@ IsShopInRange s = ((1 ≤ s.jobs) × (s.jobs ≤ 40)) × ((1 ≤ s.machines) × 
 
 abbrev pub IsInRange : Line → Type 0
 IsInRange (Solve s) = IsSearchInRange s
-IsInRange (Certify s) = IsSearchInRange s
+IsInRange (Certify s format) = IsSearchInRange s
 IsInRange Check = ⊤
+IsInRange Convert = ⊤
 IsInRange (Bench shop workers) = IsShopInRange shop × ((1 ≤ workers) × (workers ≤ 64))

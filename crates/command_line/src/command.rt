@@ -1,9 +1,9 @@
 //! The command line as `clap` reads it.
-ghost use Rattle.std.specs.Prelude.{◌≡◌, IfOk, false};
-ghost use Rattle.clap.specs.Words.{app_of, rule_of, with_rule};
+ghost use Rattle.std.specs.Prelude.{◌≡◌, IfOk, codes, false};
+ghost use Rattle.clap.specs.Words.{app_of, rule_of, with_rule, with_subcommand};
 ghost use Rattle.clap.specs.declared.builder.command.Command.TheViews.{out-Command as fields_of};
-ghost use Rattle.command_line.specs.Apps.{benching_app, checking_app, dtp_app, searching_app, silent, top_app};
-ghost use Rattle.command_line.specs.Apps.{deadline_rule, jobs_rule, machines_rule, slice_rule, start_rule, workers_rule};
+ghost use Rattle.command_line.specs.Apps.{benching_app, certifying_app, dtp_app, plain_app, searching_app, silent, top_app};
+ghost use Rattle.command_line.specs.Apps.{deadline_rule, format_rule, jobs_rule, machines_rule, slice_rule, start_rule, workers_rule};
 
 use clap::{Arg, Command, value_parser};
 use std::alloc::{AllocError, Global};
@@ -26,6 +26,16 @@ fn slice<'a>(alloc: Global) -> Arg<'a>
     Arg::new(alloc, "slice")
         .long("slice")
         .value_parser(value_parser!(u64).range(1..=1_000_000))
+}
+
+/// `--format F`.
+fn format<'a>(alloc: Global) -> Arg<'a>
+    ensures rule { rule_of result ≡ format_rule }
+    ensures local { result.global ≡ false }
+{
+    Arg::new(alloc, "format")
+        .long("format")
+        .value_parser(value_parser!(u64).range(1..=2))
 }
 
 /// The command without help and version words.
@@ -58,12 +68,20 @@ fn top<'a>(alloc: Global) -> Command<'a>
         .subcommand_required(true)
 }
 
-/// The command that checks.
-fn checking<'a>(alloc: Global) -> Command<'a>
-    ensures app { app_of result ≡ checking_app }
+/// The command that certifies.
+fn certifying<'a>(alloc: Global) -> Result<Command<'a>, AllocError>
+    ensures app { IfOk result (λ c. app_of c ≡ certifying_app) }
+    ensures local { IfOk result (λ c. (fields_of c).has_globals ≡ false) }
+{
+    searching(alloc, "certify")?.arg(format(alloc))
+}
+
+/// A command of one word.
+fn plain<'a>(alloc: Global, name: &'a str) -> Command<'a>
+    ensures app { app_of result ≡ plain_app name.now }
     ensures local { (fields_of result).has_globals ≡ false }
 {
-    without_help(Command::new(alloc, "check"))
+    without_help(Command::new(alloc, name))
 }
 
 /// How many jobs.
@@ -133,16 +151,26 @@ fn benching<'a>(alloc: Global) -> Result<Command<'a>, AllocError>
     command.arg(workers(alloc))
 }
 
+/// The command with the commands of one word below it.
+fn with_plain<'a>(alloc: Global, command: Command<'a>) -> Result<Command<'a>, AllocError>
+    requires local { (fields_of command).has_globals ≡ false }
+    ensures app { IfOk result (λ c. app_of c ≡ with_subcommand (with_subcommand (app_of command.entry)
+        (plain_app (codes "check")).top) (plain_app (codes "convert")).top) }
+    ensures local { IfOk result (λ c. (fields_of c).has_globals ≡ false) }
+{
+    let command = command.subcommand(plain(alloc, "check"))?;
+    command.subcommand(plain(alloc, "convert"))
+}
+
 /// The whole command line.
 pub(crate) fn dtp<'a>(alloc: Global) -> Result<Command<'a>, AllocError>
     ensures app { IfOk result (λ c. app_of c ≡ dtp_app) }
     ensures local { IfOk result (λ c. (fields_of c).has_globals ≡ false) }
 {
     let solve = searching(alloc, "solve")?;
-    let certify = searching(alloc, "certify")?;
     let command = top(alloc).subcommand(solve)?;
-    let command = command.subcommand(certify)?;
-    let command = command.subcommand(checking(alloc))?;
+    let command = command.subcommand(certifying(alloc)?)?;
+    let command = with_plain(alloc, command)?;
     let command = command.subcommand(benching(alloc)?)?;
     Ok(command)
 }

@@ -18,6 +18,15 @@ pub struct Search {
     pub slice: u32,
 }
 
+/// Which version of certificates is to be written.
+#[derive(Clone, Copy, Debug, PartialEq, Eq)]
+pub enum Format {
+    /// The first, in which each lemma's tree ends in negative cycles.
+    One,
+    /// The second, in which a tree may end where a clause of the problem is denied.
+    Two,
+}
+
 /// A job shop whose script is to be made.
 #[derive(Clone, Copy, Debug, PartialEq, Eq)]
 pub struct Shop {
@@ -36,10 +45,12 @@ pub struct Shop {
 pub enum Line {
     /// The answers to a script.
     Solve(Search),
-    /// The certificate of a script.
-    Certify(Search),
+    /// The certificate of a script, of this version.
+    Certify(Search, Format),
     /// Whether a script's certificate is right.
     Check,
+    /// A script's certificate in the first version, where it is right.
+    Convert,
     /// A job shop's script, certified by so many workers and checked.
     Bench(Shop, u32),
 }
@@ -89,8 +100,9 @@ fn asked(name: &str, options: &ArgMatches<'_>) -> Option<Line>
 {
     match name {
         "solve" => Some(Line::Solve(search_of(options))),
-        "certify" => Some(Line::Certify(search_of(options))),
+        "certify" => Some(Line::Certify(search_of(options), format_of(options))),
         "check" => Some(Line::Check),
+        "convert" => Some(Line::Convert),
         "bench" => Some(Line::Bench(shop_of(options), workers_of(options))),
         _ => None,
     }
@@ -112,6 +124,16 @@ fn search_of(options: &ArgMatches<'_>) -> Search
     Search {
         workers: workers_of(options),
         slice: number_of(options, "slice", 1, 1_000_000, 1_000),
+    }
+}
+
+/// Which version of certificates is to be written, as the options say.
+fn format_of(options: &ArgMatches<'_>) -> Format
+    ensures format { result ≡ spec.format_of (rows_of (found_of options.now)) }
+{
+    match number_of(options, "format", 1, 2, 1) {
+        2 => Format::Two,
+        _ => Format::One,
     }
 }
 

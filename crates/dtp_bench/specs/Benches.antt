@@ -1,5 +1,6 @@
 -- What is written about a job shop: its script's counts, the verdict of its certificate, and that the certificate is accepted.
 use Rattle.std.specs.Prelude.{◌≡◌, ℕ, List, [], ◌∷◌, ◌++◌}
+use Rattle.cert_text.specs.declared.entry.Version.TheVariants.{One}
 use Rattle.cert_text.specs.declared.entry.Entry.{Entry}
 use Rattle.dtp_gen.specs.Plans.{Plan}
 use Rattle.dtp_gen.specs.Scripts.{script}
@@ -17,10 +18,10 @@ use Rattle.dtp_bench.specs.declared.numbers.PlanNumbers.{PlanNumbers}
 abbrev pub plan_of : PlanNumbers → Plan
 plan_of n = record { jobs = n.jobs; machines = n.machines; start = n.start; deadline = n.deadline }
 
--- the certificate of a script without an error and with one check-sat, which this entry decides
+-- the certificate, of the first version, of a script without an error and with one check-sat, which this entry decides
 abbrev pub IsDecidedBy : List ℕ → List ℕ → Entry → Type 0
 IsDecidedBy script certificate entry =
-    IsOutput Certificate script (record { text = certificate; found = entry ∷ []; status = 0 })
+    IsOutput (Certificate One) script (record { text = certificate; found = entry ∷ []; status = 0 })
 
 -- the five lines about a plan's script
 pub record IsBench (p : Plan) (text : List ℕ) : Type 0 where

@@ -1,5 +1,6 @@
 -- Of the code and not of the meaning: a script with its certificate behind it.
 use Rattle.std.specs.Prelude.{◌≡◌, ℕ, List, ◌++◌, string_bytes}
+use Rattle.cert_text.specs.declared.entry.Version.TheVariants.{One}
 use Rattle.cert_text.specs.declared.entry.Entry.{Entry}
 use Rattle.dtp_entry.specs.declared.report.Report.TheVariants.{Certificate}
 use Rattle.dtp_entry.specs.Transcripts.{IsReport}
@@ -11,7 +12,7 @@ use Rattle.dtp_bench.specs.declared.run.Lines.{Lines}
 
 -- the script, and behind it its whole certificate
 abbrev pub IsPair : List ℕ → List ℕ → Type 0
-IsPair script pair = (certificate : List ℕ) × (pair ≡ script ++ certificate) × IsReport Certificate script certificate 0
+IsPair script pair = (certificate : List ℕ) × (pair ≡ script ++ certificate) × IsReport (Certificate One) script certificate 0
 
 -- the certificate has one entry, with this verdict
 abbrev pub HasVerdict : List ℕ → List ℕ → Satisfiability → Type 0

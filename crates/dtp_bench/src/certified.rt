@@ -1,14 +1,15 @@
 //! A script with its certificate behind it, in memory.
 ghost use Rattle.std.specs.Prelude.{◌≡◌, ◌++◌, IfOk, OnOk};
+ghost use Rattle.cert_text.specs.declared.entry.Version.TheVariants.{One};
 ghost use Rattle.dtp_entry.specs.declared.report.Report.TheVariants.{Certificate};
 ghost use Rattle.dtp_entry.specs.Transcripts.{IsReport};
 ghost use Rattle.dtp_check.specs.declared.judgement.Judgement.TheVariants.{Accepted};
 ghost use Rattle.dtp_check.specs.Judged.{IsJudged};
 ghost use Rattle.dtp_bench.specs.Outcomes.{IsPair, HasVerdict};
 
-use cert_read::{CertReadError, read_certificate};
-use dtp_check::{Checked, check_pair};
-use dtp_entry::verdict_of;
+use cert_read::read_certificate;
+use cert_text::Version;
+use dtp_check::{Checked, check_pair, told_by};
 use dtp_io::{MemSink, write_all_of};
 use dtp_session::{Gate, SearchOptions, Solved, certify_script};
 use smt_lex::Lexer;
@@ -29,7 +30,7 @@ pub fn certified<'a, R: Threads + Wait + Sync, G: Gate>(
 {
     let mut pair = MemSink::new(alloc, &[]);
     write_all_of(&mut pair, script).or(Err(AllocError))?;
-    match certify_script(rt, alloc, script, &mut pair, options, gate) {
+    match certify_script(rt, alloc, script, &mut pair, options, gate, Version::One) {
         Ok(Solved::Done) => Ok(pair),
         Ok(Solved::ScriptStopped) | Err(_) => Err(AllocError),
     }
@@ -41,15 +42,16 @@ pub fn verdict_in(
     script: &[u8],
     certificate: &[u8],
 ) -> Result<Satisfiability, AllocError>
-    requires { IsReport Certificate script.now certificate.now 0 }
+    requires { IsReport (Certificate One) script.now certificate.now 0 }
     ensures { IfOk result (HasVerdict script.now certificate.now) }
 {
     cert_read::certificate_reads_back();
     cert_read::one_certificate();
+    cert_text::own_lemmas_alone();
     let mut lexer = Lexer::new(certificate);
     match read_certificate(alloc, &mut lexer) {
-        Ok(entries) => match entries.as_slice() {
-            [entry] => Ok(verdict_of(entry)),
+        Ok(read) => match read.entries.as_slice() {
+            [entry] => Ok(told_by(entry)),
             _ => Err(AllocError),
         },
         Err(_) => Err(AllocError),

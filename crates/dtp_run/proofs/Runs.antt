@@ -4,6 +4,7 @@ use Rattle.std.proofs.lemmas.List.{append_cancel_left}
 use Rattle.std.specs.Io.KnownBytes.{Consumes, Appends, IsAtEnd}
 use Rattle.command_line.specs.declared.line.Line.{Line}
 use Rattle.dtp_entry.specs.Transcripts.{IsReport}
+use Rattle.cert_text.specs.declared.entry.Version.{Version}
 use Rattle.dtp_entry.specs.declared.report.Report.TheVariants.{Certificate}
 use Rattle.dtp_check.specs.Answered.{checked_of}
 use Rattle.dtp_check.specs.Judged.{IsJudged}
@@ -14,7 +15,7 @@ use Rattle.dtp_check.specs.declared.judgement.Judgement.TheVariants as judgement
 use Rattle.dtp_run.specs.declared.status.Status.{Status}
 use Rattle.dtp_run.specs.declared.status.Status.TheVariants.{Done, Refused, Usage, ReadFault, WriteFault, OutOfMemory, NotAccepted, TooLong}
 use Rattle.dtp_run.specs.Statuses.{code_of}
-use Rattle.dtp_run.specs.Outcomes.{Outside, IsInput, IsOutcome, Reports, Checks}
+use Rattle.dtp_run.specs.Outcomes.{version_of, Outside, IsInput, IsOutcome, Reports, Checks}
 use Rattle.dtp_run.specs.Laws.{Runs, Gives, CertifiedIsNotRefused, AcceptedSaysNothingFalse}
 use Rattle.dtp_check.specs.Laws.{CertifiedIsAccepted, OneJudgement, NothingFalseIsAccepted}
 
@@ -70,14 +71,14 @@ added_by (Some xs) (Some ys) held added out before now h =
     append_cancel_left held out added (ap (λ z. z ++ out) (sym was) ∙ sym h ∙ is)
 
 -- the certificate of a run that ended well is the script's
-certificate_of : (script certificate : List ℕ) (old new : Outside) → old.left ≡ Some script
-    → Gives certificate old new → Reports Certificate old new 0 → IsReport Certificate script certificate 0
-certificate_of script certificate old new has gives (read, out, input, appends, report) =
+certificate_of : (version : Version) (script certificate : List ℕ) (old new : Outside) → old.left ≡ Some script
+    → Gives certificate old new → Reports (Certificate version) old new 0 → IsReport (Certificate version) script certificate 0
+certificate_of version script certificate old new has gives (read, out, input, appends, report) =
     let first : read ≡ script = input_of has input in
     let second : out ≡ certificate =
     added_by old.holds new.holds gives.held certificate out gives.before gives.now appends in
-    let of_script = subst (λ z. IsReport Certificate z out 0) first report in
-    subst (λ z. IsReport Certificate script z 0) second of_script
+    let of_script = subst (λ z. IsReport (Certificate version) z out 0) first report in
+    subst (λ z. IsReport (Certificate version) script z 0) second of_script
 
 -- the source was judged so, and the call's end is that of the judgement
 abbrev IsEnd : List ℕ → Checked → Type 0
@@ -89,12 +90,13 @@ is_judged checked source old new has (read, line, input, appends, (j, judged, te
     (j, subst (λ z. IsJudged z j) (input_of has input) judged, end)
 
 pub not_refused : CertifiedIsAccepted → OneJudgement → CertifiedIsNotRefused
-not_refused accepted one search script certificate a b c d code whole written gives checked six =
+not_refused accepted one search format script certificate a b c d code whole written gives checked six =
     let reported = ends_as Done written (done written.run.status written.run.code_is) in
-    let report : IsReport Certificate script certificate 0 =
-    certificate_of script certificate a b written.has gives reported in
+    let version = version_of format in
+    let report : IsReport (Certificate version) script certificate 0 =
+    certificate_of version script certificate a b written.has gives reported in
     let good : IsJudged (script ++ certificate) judgement.Accepted =
-    accepted script certificate report whole in
+    accepted version script certificate report whole in
     let refused =
     ends_as NotAccepted checked (not_accepted checked.run.status (sym six ∙ checked.run.code_is)) in
     let bad : IsEnd (script ++ certificate) Unaccepted =

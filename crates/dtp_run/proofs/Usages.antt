@@ -3,7 +3,7 @@ use Rattle.std.proofs.Common.{◌≡◌, ℕ, List, [], Option, Some, None, refl
 use Rattle.std.specs.Prelude.{◌≢◌}
 use Rattle.clap.specs.Words.{fault_of}
 use Rattle.command_line.specs.declared.line.Line.{Line}
-use Rattle.command_line.specs.declared.line.Line.TheVariants.{Solve, Certify, Check, Bench}
+use Rattle.command_line.specs.declared.line.Line.TheVariants.{Solve, Certify, Check, Convert, Bench}
 use Rattle.command_line.specs.Apps.{dtp_app}
 use Rattle.command_line.specs.Lines.{line_of}
 use Rattle.command_line.specs.Plain.{IsPlainLine}
@@ -15,8 +15,9 @@ use Rattle.dtp_run.specs.Outcomes.{Outside, IsOutcome}
 
 of_a_line : (line : Line) (old new : Outside) → IsOutcome (Some line) old new Usage → ⊥
 of_a_line (Solve search) old new h = h
-of_a_line (Certify search) old new h = h
+of_a_line (Certify search format) old new h = h
 of_a_line Check old new h = h
+of_a_line Convert old new h = h
 of_a_line (Bench shop workers) old new h = h
 
 of_a_line_by : (o : Option Line) (line : Line) (old new : Outside) (status : Status) → o ≡ Some line

@@ -2,6 +2,7 @@
 use Rattle.std.specs.Prelude.{◌≡◌, ◌≢◌, ℕ, List, ◌++◌, Some}
 use Rattle.command_line.specs.declared.line.Line.{Line}
 use Rattle.command_line.specs.declared.line.Line.TheVariants.{Certify, Check}
+use Rattle.command_line.specs.declared.line.Format.{Format}
 use Rattle.command_line.specs.declared.line.Search.{Search}
 use Rattle.command_line.specs.Lines.{line_of}
 use Rattle.dtp_check.specs.Told.{SaysNothingFalse}
@@ -25,8 +26,8 @@ pub record Gives (added : List ℕ) (old new : Outside) : Type 0 where
 -- script is cut behind its `(exit)`, if it has one, and doesn't end in a comment
 abbrev pub CertifiedIsNotRefused : Type 0
 CertifiedIsNotRefused =
-    (search : Search) (script certificate : List ℕ) (a b c d : Outside) (code : ℕ) → IsWhole script
-    → Runs (Certify search) script a b 0 → Gives certificate a b
+    (search : Search) (format : Format) (script certificate : List ℕ) (a b c d : Outside) (code : ℕ) → IsWhole script
+    → Runs (Certify search format) script a b 0 → Gives certificate a b
     → Runs Check (script ++ certificate) c d code → code ≢ 6
 
 -- where `check` ends with status 0, the entries behind the script in its source say nothing false, whoever made them

@@ -11,13 +11,18 @@ use Rattle.dtp_entry.specs.declared.report.Report.TheVariants.{Verdicts, Certifi
 use Rattle.dtp_check.specs.Answered.{IsAnswer, IsAnswerPart}
 use Rattle.dtp_check.specs.declared.check.Checked.{Checked}
 use Rattle.dtp_check.specs.declared.check.Checked.TheVariants.{Accepted, NotAccepted as Unaccepted}
+use Rattle.dtp_convert.specs.Converted.{IsConversion, IsConversionPart}
 use Rattle.clap.specs.Words.{fault_of}
 use Rattle.dtp_entry.specs.Written.{IsPartOf}
 use Rattle.dtp_gen.specs.Plans.{Plan}
 use Rattle.dtp_bench.specs.Benches.{IsBench}
+use Rattle.cert_text.specs.declared.entry.Version.{Version}
+use Rattle.cert_text.specs.declared.entry.Version.TheVariants.{One, Two}
+use Rattle.command_line.specs.declared.line.Format.{Format}
+use Rattle.command_line.specs.declared.line.Format.TheVariants as formats
 use Rattle.command_line.specs.declared.line.Line.{Line}
 use Rattle.command_line.specs.declared.line.Shop.{Shop}
-use Rattle.command_line.specs.declared.line.Line.TheVariants.{Solve, Certify, Check, Bench}
+use Rattle.command_line.specs.declared.line.Line.TheVariants.{Solve, Certify, Check, Convert, Bench}
 use Rattle.command_line.specs.Apps.{dtp_app}
 use Rattle.command_line.specs.Lines.{line_of}
 use Rattle.command_line.specs.Plain.{IsPlainLine}
@@ -41,7 +46,8 @@ abbrev pub input_limit : ℕ
 input_limit = 2 ^ 30
 
 unfoldable pub usage_line : List ℕ
-usage_line = codes "usage: dtp solve|certify [--workers N] [--slice B], dtp check, dtp bench J M S D [--workers N]\n"
+usage_line =
+    codes "usage: dtp solve [--workers N] [--slice B], dtp certify [--workers N] [--slice B] [--format F], dtp check, dtp convert, dtp bench J M S D [--workers N]\n"
 
 -- nothing was read, and nothing went wrong in reading
 pub record IsUnread (old new : Outside) : Type 0 where
@@ -117,6 +123,33 @@ IsChecked old new OutOfMemory = IsUnfinished reading.OutOfMemory old new ⊎ Che
 IsChecked old new NotAccepted = Checks Unaccepted old new
 IsChecked old new TooLong = IsUnfinished reading.TooLong old new
 
+-- the certificate is written anew whole, or the line that refuses the source, with this end
+abbrev pub Converts : Checked → Outside → Outside → Type 0
+Converts checked old new =
+    (source : List ℕ) × (text : List ℕ) × IsInput old new source
+    × Appends old.holds new.holds text × IsConversion source text checked
+
+-- a front of it is written
+abbrev pub ConvertsPart : Outside → Outside → Type 0
+ConvertsPart old new =
+    (source : List ℕ) × (written : List ℕ) × IsInput old new source
+    × Appends old.holds new.holds written × IsConversionPart source written
+
+abbrev pub IsConvertedWith : Outside → Outside → Status → Type 0
+IsConvertedWith old new Done = Converts Accepted old new
+IsConvertedWith old new Refused = ⊥
+IsConvertedWith old new Usage = ⊥
+IsConvertedWith old new ReadFault = IsUnfinished reading.ReadFault old new
+IsConvertedWith old new WriteFault = Rose old.write_faults new.write_faults × ConvertsPart old new
+IsConvertedWith old new OutOfMemory = IsUnfinished reading.OutOfMemory old new ⊎ ConvertsPart old new
+IsConvertedWith old new NotAccepted = Converts Unaccepted old new
+IsConvertedWith old new TooLong = IsUnfinished reading.TooLong old new
+
+-- the version of certificates that is asked for
+abbrev pub version_of : Format → Version
+version_of formats.One = One
+version_of formats.Two = Two
+
 -- the plan of a job shop's four numbers
 abbrev pub plan_of : Shop → Plan
 plan_of s = record { jobs = s.jobs; machines = s.machines; start = s.start; deadline = s.deadline }
@@ -138,8 +171,9 @@ IsBenched p old new _ = ⊥
 -- each kind of line has its own outcomes
 abbrev pub IsOutcomeOf : Line → Outside → Outside → Status → Type 0
 IsOutcomeOf (Solve search) old new status = IsReported Verdicts old new status
-IsOutcomeOf (Certify search) old new status = IsReported Certificate old new status
+IsOutcomeOf (Certify search format) old new status = IsReported (Certificate (version_of format)) old new status
 IsOutcomeOf Check old new status = IsChecked old new status
+IsOutcomeOf Convert old new status = IsConvertedWith old new status
 IsOutcomeOf (Bench shop workers) old new status = IsBenched (plan_of shop) old new status
 
 -- the words are no command line: the usage line, or nothing for want of memory; the source isn't read

@@ -3,12 +3,14 @@ ghost use Rattle.std.specs.Prelude.{◌≡◌, ◌≤◌, ℕ, List, Option};
 ghost use Rattle.dtp_session.specs.Solving.{IsSolved};
 ghost use Rattle.command_line.specs.Lines.{IsSearchInRange, IsShopInRange, line_of};
 ghost use Rattle.dtp_run.specs.Statuses.{unread_status};
-ghost use Rattle.dtp_run.specs.Outcomes.{IsRun, IsOutcome, IsReported, IsChecked, IsBenched, WritesUsage, outside, plan_of, texts};
+ghost use Rattle.dtp_run.specs.Outcomes.{version_of, IsRun, IsOutcome, IsReported, IsChecked, IsConvertedWith, IsBenched, WritesUsage, outside, plan_of, texts};
 
 use crate::status::Status;
-use command_line::{Line, LineError, Search, Shop, read_line};
+use cert_text::Version;
+use command_line::{Format, Line, LineError, Search, Shop, read_line};
 use dtp_bench::PlanNumbers;
 use dtp_check::{Checked, check_pair};
+use dtp_convert::convert_pair;
 use dtp_entry::{Report, SessionError};
 use dtp_io::{ReadError, Sink, Source, read_all, write_all_of};
 use dtp_session::{Gate, SearchOptions, Solved, certify_script, solve_script};
@@ -20,7 +22,7 @@ use std::thread::Threads;
 const INPUT_LIMIT: u64 = 1 << 30;
 
 const USAGE: &[u8] =
-    b"usage: dtp solve|certify [--workers N] [--slice B], dtp check, dtp bench J M S D [--workers N]\n";
+    b"usage: dtp solve [--workers N] [--slice B], dtp certify [--workers N] [--slice B] [--format F], dtp check, dtp convert, dtp bench J M S D [--workers N]\n";
 
 /// Does what the words ask for, and gives the status that the program ends with.
 pub fn run<R: Threads + Wait + Sync, S: Source, K: Sink, G: Gate>(
@@ -59,13 +61,25 @@ fn perform<R: Threads + Wait + Sync, S: Source, K: Sink, G: Gate>(
         Ok(Line::Solve(search)) => {
             report_on(rt, alloc, source, sink, Report::Verdicts, search, gate)
         }
-        Ok(Line::Certify(search)) => {
-            report_on(rt, alloc, source, sink, Report::Certificate, search, gate)
+        Ok(Line::Certify(search, format)) => {
+            let report = Report::Certificate(version_of(format));
+            report_on(rt, alloc, source, sink, report, search, gate)
         }
         Ok(Line::Check) => check(alloc, source, sink),
+        Ok(Line::Convert) => convert(alloc, source, sink),
         Ok(Line::Bench(shop, workers)) => bench(rt, alloc, shop, workers, sink, gate),
         Err(LineError::Refused) => usage(sink),
         Err(LineError::OutOfMemory) => Status::OutOfMemory,
+    }
+}
+
+/// The version of the certificate that is asked for.
+fn version_of(format: Format) -> Version
+    ensures { result ≡ version_of format }
+{
+    match format {
+        Format::One => Version::One,
+        Format::Two => Version::Two,
     }
 }
 
@@ -144,7 +158,9 @@ fn write_report<R: Threads + Wait + Sync, K: Sink, G: Gate>(
     };
     match report {
         Report::Verdicts => solve_script(rt, alloc, script, sink, options, gate),
-        Report::Certificate => certify_script(rt, alloc, script, sink, options, gate),
+        Report::Certificate(version) => {
+            certify_script(rt, alloc, script, sink, options, gate, version)
+        }
     }
 }
 
@@ -162,6 +178,27 @@ fn check<S: Source, K: Sink>(alloc: Global, source: &mut S, sink: &mut K) -> Sta
         Err(error) => return unread(error),
     };
     match check_pair(alloc, &bytes, sink) {
+        Ok(Checked::Accepted) => Status::Done,
+        Ok(Checked::NotAccepted) => Status::NotAccepted,
+        Err(SessionError::WriteFault) => Status::WriteFault,
+        Err(SessionError::OutOfMemory) => Status::OutOfMemory,
+    }
+}
+
+/// Reads a script and its certificate whole, and writes the certificate anew, in the first version, where it is right.
+fn convert<S: Source, K: Sink>(alloc: Global, source: &mut S, sink: &mut K) -> Status
+    ensures converted { IsConvertedWith
+        (outside (S.left source.old) (S.faults source.old) (K.holds sink.old) (K.faults sink.old))
+        (outside (S.left source.new) (S.faults source.new) (K.holds sink.new) (K.faults sink.new))
+        result }
+    ensures read_later { S.faults source.old ≤ S.faults source.new }
+    ensures write_later { K.faults sink.old ≤ K.faults sink.new }
+{
+    let bytes = match read_all(alloc, source, INPUT_LIMIT) {
+        Ok(bytes) => bytes,
+        Err(error) => return unread(error),
+    };
+    match convert_pair(alloc, &bytes, sink) {
         Ok(Checked::Accepted) => Status::Done,
         Ok(Checked::NotAccepted) => Status::NotAccepted,
         Err(SessionError::WriteFault) => Status::WriteFault,

@@ -12,7 +12,7 @@
 //! | `>-`, `<-` | the same without the line's end |
 //! | `>*`, `<*` | a number, a space and a text, which is put so many times; in it `@0` to `@9` stand for the number of the turn, from 0 on, plus 0 to 9 |
 //! | `>x`, `<x` | bytes, each as a hexadecimal numeral |
-//! | `certified` | nothing: what `certify` writes of the source is put behind it |
+//! | `certified` | the words behind `certify`, or nothing: what it writes of the source is put behind it |
 //! | `failing-reads`, `failing-writes` | the numbers of the reads and writes that fail, from 0 on |
 //! | `pieces` | how many bytes a read gives and a write takes at most |
 //! | `fails-anywhere` | nothing: the row is run again with each read and each write failing in turn, over pieces of 1, 7 and 4,096 bytes; nothing may be written then, or a front of the output |

@@ -31,7 +31,7 @@ pub struct Row {
     pub words: Vec<String>,
     pub source: Vec<u8>,
     /// What `certify` writes of the source is put behind it first.
-    pub certified: bool,
+    pub certified: Option<Vec<String>>,
     pub failing_reads: Vec<u64>,
     pub failing_writes: Vec<u64>,
     /// How many bytes a read gives and a write takes at most.
@@ -51,7 +51,7 @@ impl Row {
             name: Vec::from_slice(alloc, name.as_bytes())?,
             words: Vec::new(alloc),
             source: Vec::new(alloc),
-            certified: false,
+            certified: None,
             failing_reads: Vec::new(alloc),
             failing_writes: Vec::new(alloc),
             pieces: NonZeroUsize::MAX,
@@ -67,7 +67,10 @@ impl Row {
         match key {
             "words" => take_words(&mut self.words, alloc, text),
             "certified" => {
-                self.certified = true;
+                let mut words = Vec::new(alloc);
+                words.push("certify".to_string(alloc)?)?;
+                take_words(&mut words, alloc, text)?;
+                self.certified = Some(words);
                 Ok(())
             }
             "failing-reads" => take_numbers(&mut self.failing_reads, text),

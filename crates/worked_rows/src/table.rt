@@ -88,8 +88,8 @@ fn try_row<R: Threads + Wait + Sync, K: Sink>(
     mut row: Row,
     sink: &mut K,
 ) -> Result<bool, TableError> {
-    if row.certified {
-        certify(rt, alloc, &mut row)?;
+    if let Some(words) = row.certified.take() {
+        certify(rt, alloc, &mut row, &words)?;
     }
     let reads = &row.failing_reads;
     let writes = &row.failing_writes;
@@ -127,14 +127,13 @@ fn shown(written: &[u8]) -> &[u8] {
     &written[..written.len().min(SHOWN)]
 }
 
-/// Puts what `certify` writes of the row's source behind it.
+/// Puts behind the row's source what these words write of it.
 fn certify<R: Threads + Wait + Sync>(
     rt: &R,
     alloc: Global,
     row: &mut Row,
+    words: &[String],
 ) -> Result<(), AllocError> {
-    let mut words = Vec::new(alloc);
-    words.push("certify".to_string(alloc)?)?;
     let mut sink = MemSink::new(alloc, &[]);
     {
         let mut source = MemSource::new(&row.source, &[]);
