@@ -4,7 +4,7 @@
     bench/hostile.py [COUNT [SEED [PATH OF dtp]]]
 
 The scripts are the examples and those of the worked rows; `certify` makes their certificates. Each run takes one of them, spoils it (bytes
-flipped, parts cut, doubled, exchanged, numbers put at the limits, parentheses opened by the thousand), and asks `solve`, `certify` or `check`. An answer is
+flipped, parts cut, doubled, exchanged, numbers put at the limits, parentheses opened by the thousand), and asks `solve`, `certify`, `check` or `convert`. An answer is
 legal where the status is one that the words may have, no signal ended the run, the last line is of the form that the status wants, and the
 run stayed within TIME seconds and MEMORY bytes. It prints each answer that isn't legal, with the input in a file beside, and fails then.
 """
@@ -27,7 +27,7 @@ KINDS = (
 )
 ERROR = re.compile(rb'\(error "command [1-9][0-9]*: (' + KINDS.encode() + rb')"\)\n\Z')
 FLAWS = (
-    r"no such point|no such clause|not assumed|not a cycle|not denied|steps missing|steps left over"
+    r"no such point|no such clause|not assumed|not a cycle|not denied|no such kept lemma|not active|steps missing|steps left over"
 )
 CHECKED = re.compile(
     (
@@ -37,6 +37,13 @@ CHECKED = re.compile(
         r"assertion [1-9][0-9]* is false|last lemma not empty|lemma [0-9]+: step [0-9]+: (" + FLAWS + r")))\n\Z"
     ).encode()
 )
+KEPT = b"""(declare-const p Bool) (assert (not p)) (push 1) (assert p) (check-sat) (pop 1) (assert p) (check-sat) (check-sat)
+(dtp-certificate 2)
+(unsat (lemma () (input 0) (clash 1)))
+(unsat (lemma () (input 0) (clash 1)))
+(unsat (keep 2 0))
+(end)
+"""
 LIMITS = [2**k + d for k in (16, 20, 31, 32, 40, 60, 61, 62, 63, 64, 90, 128) for d in (-1, 0, 1)] + [0, 1, 4096, 65535, 65537]
 
 
@@ -120,7 +127,9 @@ def spoiled(chance, text):
 def is_legal(command, status, output, seconds, memory):
     if seconds > TIME or memory > MEMORY:
         return False
-    if command == "check":
+    if command == "convert" and status == 0:
+        return output.startswith(b"(dtp-certificate 1)\n") and output.endswith((b"(end)\n", b'")\n'))
+    if command in ("check", "convert"):
         return status in (0, 6) and CHECKED.match(output) is not None and (output == b"accepted\n") == (status == 0)
     if status == 1:
         return ERROR.search(output) is not None
@@ -134,13 +143,15 @@ def main():
     texts = list(scripts())
     pairs = []
     for text in texts:
-        status, certificate, _, _ = run(program, ["certify"], text)
-        if status == 0:
-            pairs.append(text + b"\n" + certificate)
+        for version in "1", "2":
+            status, certificate, _, _ = run(program, ["certify", "--format", version], text)
+            if status == 0:
+                pairs.append(text + b"\n" + certificate)
+    pairs += [KEPT] * (len(pairs) // 8)
     told, bad, greatest, longest = {}, 0, 0, 0.0
     for number in range(count):
-        command = chance.choice(("solve", "certify", "check", "check"))
-        source = spoiled(chance, chance.choice(pairs if command == "check" else texts))
+        command = chance.choice(("solve", "certify", "check", "check", "convert"))
+        source = spoiled(chance, chance.choice(pairs if command in ("check", "convert") else texts))
         status, output, seconds, memory = run(program, [command], source)
         told[command, status] = told.get((command, status), 0) + 1
         greatest, longest = max(greatest, memory), max(longest, seconds)

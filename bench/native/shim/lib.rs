@@ -56,6 +56,13 @@ impl<T> Vec<T> {
     pub fn allocator(&self) -> &Global {
         &Global
     }
+    pub fn sort(&mut self) -> Result<(), AllocError>
+    where
+        T: Ord,
+    {
+        self.0.sort();
+        Ok(())
+    }
     pub fn shrink_to_fit(&mut self) -> Result<(), AllocError> {
         self.0.shrink_to_fit();
         Ok(())
@@ -322,6 +329,11 @@ impl<K: std::hash::Hash + Eq, V> IndexMap<K, V> {
     }
     pub fn is_empty(&self) -> bool {
         self.keys.is_empty()
+    }
+}
+impl<T> std::borrow::Borrow<[T]> for Vec<T> {
+    fn borrow(&self) -> &[T] {
+        &self.0
     }
 }
 pub struct IndexSet<T>(IndexMap<T, ()>);
