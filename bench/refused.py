@@ -4,11 +4,12 @@
     bench/refused.py [PATH OF dtp]
 
 It wants a C compiler: `refused/refuse.c` stands before the program's `malloc` and `realloc`, counts them, and refuses one. A row is run whole once, and then
-once for each growth that it asked for. With one worker the status is 5 then, and what went out is a front of what the whole run writes. With
-several, where a worker was refused, the others and the caller finish, so the whole answer with its own status is right as well. It
+once for each growth that it asked for. Then the status is 5, and what went out is a front of what the whole run writes; or the program did without
+what it was refused (a hint of the search, a worker whose work the others finish), and the status and the verdicts are those of the whole run. It
 prints how many growths each row has and how its runs ended, and fails where one isn't as it may be.
 """
 import os
+import re
 import subprocess
 import sys
 import tempfile
@@ -36,8 +37,11 @@ KEPT = b"""(declare-const p Bool) (assert p) (assert (not p)) (check-sat) (push 
 PROOFS = "(set-option :produce-proofs true) (declare-const x Int) (declare-const y Int) (assert (< x y)) (assert (< y x)) (check-sat) (get-proof)"
 
 
+VERDICT = re.compile(rb"^(?:sat|unsat|accepted|refused.*|verdict.*|usage.*|\(sat|\(unsat|\(error.*|\(end\))", re.MULTILINE)
+
+
 def rows(program):
-    """The rows: words, input, and whether several workers search."""
+    """The rows: a name, words and input."""
     example = os.path.join(TOP, "examples", "two_orders.smt2")
     with open(example, "rb") as text:
         orders = text.read()
@@ -68,19 +72,24 @@ def run(program, words, source, library, at, count):
     return ended.returncode, ended.stdout
 
 
+def is_front(front, output):
+    """Whether it is a front of what the whole run writes, whose schedules and refutations may be others where a hint was refused before."""
+    told, all_told = VERDICT.findall(front), VERDICT.findall(output)
+    return output.startswith(front) or told == all_told[: len(told)]
+
+
 def turn_through(program, library, folder, words, source):
     """How many growths the row has, how often each status came, and the runs that aren't as they may be."""
     count = os.path.join(folder, "count")
     status, output = run(program, words, source, library, 0, count)
-    with open(count, encoding="ascii") as text:
-        growths = int(text.read())
-    several = "--workers" in words and words[-1:] != ["--workers"] and words[words.index("--workers") + 1] != "1"
+    with open(count, "rb") as counted:
+        growths = int.from_bytes(counted.read(), "little")
     told, bad = {}, []
     for at in range(1, growths + 1):
         got, front = run(program, words, source, library, at, count)
         told[got] = told.get(got, 0) + 1
-        right = got == 5 and output.startswith(front)
-        if not right and not (several and (got, front) == (status, output)):
+        whole = got == status and VERDICT.findall(front) == VERDICT.findall(output)
+        if not whole and not (got == 5 and is_front(front, output)):
             bad.append((at, got, front[-60:]))
     return growths, told, bad
 
