@@ -8,16 +8,10 @@ use Rattle.std.specs.Ordering.{int_eq}
 use Rattle.idl_linear.specs.declared.summand.Summand.{Summand}
 use Rattle.idl_linear.specs.Linear.{put_before, with_summand, collected}
 use Rattle.idl_linear.specs.Forms.{AscendAbove}
+use Rattle.idl_linear.specs.Trees.{part_at, coefficient_at}
 
 abbrev pub summand : ℕ → ℤ → Summand
 summand point coefficient = record { point = point; coefficient = coefficient }
-
-abbrev pub part_at : ℕ → Summand → ℤ
-part_at p s = cond (s.point == p) s.coefficient (pos 0)
-
-abbrev pub coefficient_at : ℕ → List Summand → ℤ
-coefficient_at p [] = pos 0
-coefficient_at p (s ∷ rest) = part_at p s +ℤ coefficient_at p rest
 
 part_zero : (b : Bool) (c : ℤ) → c ≡ pos 0 → cond b c (pos 0) ≡ pos 0
 part_zero true c e = e

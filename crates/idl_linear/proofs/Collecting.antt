@@ -4,7 +4,8 @@ use Rattle.std.proofs.lemmas.Int.{ints}
 use Rattle.idl_linear.specs.declared.summand.Summand.{Summand}
 use Rattle.idl_linear.specs.Linear.{put_before, with_summand, collected, negative_summand}
 use Rattle.idl_linear.specs.Forms.{AscendAbove}
-use Rattle.idl_linear.proofs.Coefficients.{summand, part_at, coefficient_at, coefficient-put, coefficient-with, coefficient-collected, coefficient-append, ascend_weaker, same_by_coefficients, ascend-put, ascend-with, AllAbove, ascend-collected}
+use Rattle.idl_linear.specs.Trees.{part_at, coefficient_at}
+use Rattle.idl_linear.proofs.Coefficients.{summand, coefficient-put, coefficient-with, coefficient-collected, coefficient-append, ascend_weaker, same_by_coefficients, ascend-put, ascend-with, AllAbove, ascend-collected}
 
 -- insertions commute
 pub with-with : (m : ℕ) (s t : Summand) (xs : List Summand) → m < s.point → m < t.point → AscendAbove m xs → with_summand s (with_summand t xs) ≡ with_summand t (with_summand s xs)

@@ -1,6 +1,9 @@
 pub mod Products
 pub mod Coefficients
 pub mod Collecting
+pub mod Parts
+pub mod LeafMade
+pub mod Forks
 pub mod Valued
 pub mod Comparing
 pub mod Merging
@@ -9,3 +12,7 @@ pub mod Outcomes
 pub mod Running
 pub mod Sorting
 pub mod Summing
+pub mod Putting
+pub mod Walking
+pub mod Totals
+pub mod Finishing

@@ -1,6 +1,5 @@
 -- One step of the difference of two lists.
-use Rattle.std.proofs.Common.{refl, ap, sym, subst, ◌∙◌, arith, ◌≡◌, ℕ, ◌<◌, List, [], ◌∷◌, ◌++◌, map, length, Bool, true, false, ◌&&◌, int_le, ℤ, pos, neg_ℤ, ◌-ℤ◌, ◌≤ℤ◌, to_z, of_z, w64}
-use Rattle.std.proofs.lemmas.List.{nil_from_length}
+use Rattle.std.proofs.Common.{refl, ap, sym, subst, ◌∙◌, arith, ◌≡◌, ℕ, ◌<◌, List, [], ◌∷◌, ◌++◌, map, Bool, true, false, ◌&&◌, int_le, ℤ, pos, neg_ℤ, ◌-ℤ◌, ◌≤ℤ◌, to_z, of_z, w64}
 use Rattle.std.proofs.lemmas.Int.{ints}
 use Rattle.idl_linear.specs.Limits.{coefficient_limit, constant_limit, points_limit}
 use Rattle.std.specs.List.{AllByRecursion, list_all}
@@ -20,8 +19,8 @@ rest_as xs ys e r = subst (λ (zs : List Summand). IsRest zs) e r
 pub rest_of : (xs : List Summand) (s : Summand) (left : List Summand) → xs ≡ s ∷ left → IsRest xs → IsRest left
 rest_of xs s left e r = rest_tail s left (rest_as xs (s ∷ left) e r)
 
-pub above_none : (k : ℕ) (xs : List Summand) → length xs ≡ 0 → AllAbove k xs
-above_none k xs e = subst (λ (zs : List Summand). AllAbove k zs) (sym (nil_from_length xs e)) tt
+pub above_none : (k : ℕ) (xs : List Summand) → xs ≡ [] → AllAbove k xs
+above_none k xs e = subst (λ (zs : List Summand). AllAbove k zs) (sym e) tt
 
 pub above_first : (k : ℕ) (xs : List Summand) (s : Summand) (left : List Summand) → xs ≡ s ∷ left → IsRest xs → k < s.point → AllAbove k xs
 above_first k xs s left e r lt =

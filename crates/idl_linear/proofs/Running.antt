@@ -1,12 +1,14 @@
 -- Runs of equal time points in lists whose points don't fall.
-use Rattle.std.proofs.Common.{refl, ap, sym, subst, ◌∙◌, arith, ◌≡◌, ◌≢◌, ℕ, zero, suc, ◌<◌, ◌≤◌, ◌+◌, ◌*◌, List, [], ◌∷◌, ◌++◌, length, take, drop, get_or, set, Bool, true, false, cond, ℤ, pos, neg_ℤ, ◌+ℤ◌, ◌≤ℤ◌, ◌-◌, Some, None, to_z, of_z, w64}
+use Rattle.std.proofs.Common.{refl, ap, sym, subst, ◌∙◌, arith, ◌≡◌, ◌≢◌, ℕ, zero, suc, ◌<◌, ◌≤◌, ◌+◌, ◌*◌, ◌^◌, List, [], ◌∷◌, ◌++◌, length, take, drop, get_or, set, Bool, true, false, cond, ℤ, pos, neg_ℤ, ◌+ℤ◌, ◌≤ℤ◌, ◌-◌, Some, None, to_z, of_z, w64}
 use Rattle.std.proofs.lemmas.Int.{ints}
-use Rattle.std.proofs.lemmas.List.{drop_more, drop-drop, drop-set-lt, take_more_set, append_assoc, length-set, length-drop, take_rest}
+use Rattle.std.proofs.lemmas.List.{drop_more, drop-drop, drop-set-lt, take_more_set, append_assoc, length-set, length-drop, take_rest, nil_from_length}
 use Rattle.std.specs.List.{AllByRecursion, list_all}
 use Rattle.std.specs.Ordering.{int_eq}
 use Rattle.std.proofs.lemmas.Bool.Decides.{Decides-int_eq}
 use Rattle.idl_linear.specs.declared.summand.Summand.{Summand}
-use Rattle.idl_linear.specs.Limits.{coefficient_limit}
+use Rattle.idl_linear.specs.Limits.{coefficient_limit, points_limit}
+use Rattle.idl_linear.specs.FirstRuns.{IsSmallRun, IsFirstRun}
+use Rattle.idl_linear.specs.Trees.{AllFrom}
 use Rattle.idl_linear.specs.Linear.{put_before, with_summand, collected, is_within}
 use Rattle.idl_linear.specs.Forms.{AscendAbove, IsSummand}
 use Rattle.idl_linear.specs.Steps.{RiseFrom}
@@ -113,6 +115,41 @@ module _ (summands : List Summand) (at count : ℕ) (total : ℤ) (h : IsRun sum
   run_ends_before lt away =
       ends_before (get_or summands count nothing) (drop (count + 1) summands) (drop_more summands count nothing lt) away
 
+-- the run as the code keeps it
+module _ (summands : List Summand) (count : ℕ) (total : ℤ) (some : 0 < length summands) (each : AllByRecursion IsSummand summands) where
+  first_point : (0 < (get_or summands 0 (record { point = 0; coefficient = pos 0 })).point) × ((get_or summands 0 (record { point = 0; coefficient = pos 0 })).point < points_limit)
+  first_point = here summands some each where
+    here : (xs : List Summand) → 0 < length xs → AllByRecursion IsSummand xs → (0 < (get_or xs 0 (record { point = 0; coefficient = pos 0 })).point) × ((get_or xs 0 (record { point = 0; coefficient = pos 0 })).point < points_limit)
+    here [] lt h = absurd (omega arith)
+    here (x ∷ xs) lt h = (h.0.above, h.0.below)
+
+  module _ (h : IsRun summands (get_or summands 0 (record { point = 0; coefficient = pos 0 })).point count total) (fits : length summands < 2 ^ 64) where
+    small : IsSmallRun (record { len = count; point = (get_or summands 0 (record { point = 0; coefficient = pos 0 })).point; sum = total })
+    small =
+        let here = first_point in
+        record { above = here.0; below = here.1; low = omega (arith, ints, h.low, h.len, fits); high = omega (arith, ints, h.high, h.len, fits) }
+
+    others_by : (xs : List Summand) → RiseFrom (get_or summands 0 (record { point = 0; coefficient = pos 0 })).point xs → (get_or xs 0 (record { point = 0; coefficient = pos 0 })).point ≢ (get_or summands 0 (record { point = 0; coefficient = pos 0 })).point
+        → AllFrom ((get_or summands 0 (record { point = 0; coefficient = pos 0 })).point + 1) xs
+    others_by [] r ne = tt
+    others_by (x ∷ xs) r ne =
+        let more : (get_or summands 0 (record { point = 0; coefficient = pos 0 })).point + 1 ≤ x.point = omega (arith, r.0, ne) in
+        (more, rise_from (get_or summands 0 (record { point = 0; coefficient = pos 0 })).point x.point xs more r.1) where
+          rise_from : (m n : ℕ) (ys : List Summand) → m + 1 ≤ n → RiseFrom n ys → AllFrom (m + 1) ys
+          rise_from m n [] le s = tt
+          rise_from m n (y ∷ ys) le s = (omega (arith, s.0, le), rise_from m y.point ys (omega (arith, s.0, le)) s.1)
+
+    pub first_run_before : count < length summands → (get_or summands count nothing).point ≢ (get_or summands 0 nothing).point
+        → IsFirstRun summands (record { len = count; point = (get_or summands 0 (record { point = 0; coefficient = pos 0 })).point; sum = total })
+    first_run_before lt ne = record { small = small; others = others_by (drop count summands) h.rises (λ e. ne (ap (λ (s : Summand). s.point) (sym get_or-drop_zero) ∙ e)) } where
+      get_or-drop_zero : get_or (drop count summands) 0 nothing ≡ get_or summands count nothing
+      get_or-drop_zero = ap (λ (l : List Summand). get_or l 0 nothing) (drop_more summands count nothing lt)
+
+    pub first_run_whole : length summands ≤ count → IsFirstRun summands (record { len = count; point = (get_or summands 0 (record { point = 0; coefficient = pos 0 })).point; sum = total })
+    first_run_whole le =
+        let none : drop count summands ≡ [] = nil_from_length (drop count summands) (length-drop count summands ∙ omega (arith, le)) in
+        record { small = small; others = subst (λ (l : List Summand). AllFrom ((get_or summands 0 (record { point = 0; coefficient = pos 0 })).point + 1) l) (sym none) tt }
+
 abbrev limits_hold : List Summand → Bool
 limits_hold l = list_all (λ (s : Summand). is_within coefficient_limit s.coefficient) l
 
@@ -128,14 +165,14 @@ pub record IsCollecting (whole items : List Summand) (kept from : ℕ) : Type 0 
 put_by : (point : ℕ) (total : ℤ) (l : List Summand) (b : Bool) → int_eq total (pos 0) ≡ b → put_before (summand point total) l ≡ cond b l (summand point total ∷ l)
 put_by point total l b e = ap (λ (c : Bool). cond c l (summand point total ∷ l)) e
 
-put_none : (point : ℕ) (total : ℤ) (l : List Summand) → total ≡ pos 0 → put_before (summand point total) l ≡ l
+pub put_none : (point : ℕ) (total : ℤ) (l : List Summand) → total ≡ pos 0 → put_before (summand point total) l ≡ l
 put_none point total l none = put_by point total l true ((Decides-int_eq total (pos 0)).1 none)
 
 not_equal : (total : ℤ) (b : Bool) → int_eq total (pos 0) ≡ b → total ≢ pos 0 → b ≡ false
 not_equal total true e some = absurd (some ((Decides-int_eq total (pos 0)).0 e))
 not_equal total false e some = refl
 
-put_some : (point : ℕ) (total : ℤ) (l : List Summand) → total ≢ pos 0 → put_before (summand point total) l ≡ summand point total ∷ l
+pub put_some : (point : ℕ) (total : ℤ) (l : List Summand) → total ≢ pos 0 → put_before (summand point total) l ≡ summand point total ∷ l
 put_some point total l some = put_by point total l false (not_equal total (int_eq total (pos 0)) refl some)
 
 limits-push : (l : List Summand) (s : Summand) → limits_hold l ≡ true → is_within coefficient_limit s.coefficient ≡ true → limits_hold (l ++ s ∷ []) ≡ true

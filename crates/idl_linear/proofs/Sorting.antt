@@ -13,7 +13,8 @@ use Rattle.idl_linear.specs.Limits.{points_limit}
 use Rattle.idl_linear.specs.Linear.{put_before, with_summand, collected, is_limited}
 use Rattle.idl_linear.specs.Forms.{IsSummand, IsLinear}
 use Rattle.idl_linear.specs.Steps.{RiseFrom}
-use Rattle.idl_linear.proofs.Coefficients.{part_at, coefficient_at, AllAbove, ascend-collected}
+use Rattle.idl_linear.specs.Trees.{part_at, coefficient_at}
+use Rattle.idl_linear.proofs.Coefficients.{AllAbove, ascend-collected}
 use Rattle.idl_linear.proofs.Collecting.{collected-same}
 
 coefficient-set : (p : ℕ) (l : List Summand) (i : ℕ) (x d : Summand) → i < length l → coefficient_at p (set l i x) +ℤ part_at p (get_or l i d) ≡ coefficient_at p l +ℤ part_at p x
@@ -84,7 +85,7 @@ module _ (P : ℕ → Type 0) where
   points_by s t ts rest false true h k r = points_put (record { point = t.point; coefficient = s.coefficient +ℤ t.coefficient }) ts (int_eq (s.coefficient +ℤ t.coefficient) (pos 0)) k.0 k.1
   points_by s t ts rest false false h k r = (k.0, r)
 
-  points_with : (s : Summand) (l : List Summand) → P s.point → Points l → Points (with_summand s l)
+  pub points_with : (s : Summand) (l : List Summand) → P s.point → Points l → Points (with_summand s l)
   points_with s [] h k = points_put s [] (int_eq s.coefficient (pos 0)) h k
   points_with s (t ∷ ts) h k = points_by s t ts (with_summand s ts) (nat_lt s.point t.point) (s.point == t.point) h k (points_with s ts h k.1)
 

@@ -22,13 +22,13 @@ both_kept b c e f = ap (λ (x : Bool). x && c) e ∙ f
 is_within_by : (limit : ℕ) (n : ℤ) → neg_ℤ (pos limit) ≤ℤ n → n ≤ℤ pos limit → is_within limit n ≡ true
 is_within_by limit n low high = both_kept (int_le (neg_ℤ (pos limit)) n) (int_le n (pos limit)) (grind (arith, ints)) (grind (arith, ints))
 
-within-negative : (limit : ℕ) (n : ℤ) → is_within limit n ≡ true → is_within limit (neg_ℤ n) ≡ true
+pub within-negative : (limit : ℕ) (n : ℤ) → is_within limit n ≡ true → is_within limit (neg_ℤ n) ≡ true
 within-negative limit n h =
     let low = within_low limit n h in
     let high = within_high limit n h in
     is_within_by limit (neg_ℤ n) (omega (arith, ints)) (omega (arith, ints))
 
-each-negative : (xs : List Summand) → AllByRecursion IsSummand xs → AllByRecursion IsSummand (map negative_summand xs)
+pub each-negative : (xs : List Summand) → AllByRecursion IsSummand xs → AllByRecursion IsSummand (map negative_summand xs)
 each-negative [] h = tt
 each-negative (x ∷ xs) h = (record { above = h.0.above; below = h.0.below; limited = within-negative coefficient_limit x.coefficient h.0.limited }, each-negative xs h.1)
 

@@ -1,9 +1,9 @@
 -- What holds of every linear term that the code makes.
-use Rattle.std.specs.Prelude.{◌≡◌, ◌≢◌, ℕ, ◌<◌, ◌+◌, ◌*◌, List, [], ◌∷◌, ◌++◌, map, true, ℤ, pos, neg_ℤ, ◌+ℤ◌, ◌≤ℤ◌}
+use Rattle.std.specs.Prelude.{◌≡◌, ◌≢◌, ℕ, ◌<◌, ◌+◌, ◌*◌, List, [], ◌∷◌, ◌++◌, map, length, Bool, true, if◌then◌else◌, ℤ, pos, neg_ℤ, ◌+ℤ◌, ◌≤ℤ◌}
 use Rattle.std.specs.List.{AllByRecursion}
 use Rattle.idl_linear.specs.declared.summand.Summand.{Summand}
 use Rattle.idl_linear.specs.Limits.{coefficient_limit, constant_limit, points_limit}
-use Rattle.idl_linear.specs.Linear.{LinearValue, collected, negative_summand, is_limited, is_within}
+use Rattle.idl_linear.specs.Linear.{LinearValue, collected, summands_of, constants_of, negative_summand, is_limited, is_within}
 
 -- time points ascend above this one, and coefficients aren't 0
 abbrev pub AscendAbove : ℕ → List Summand → Type 0
@@ -48,6 +48,17 @@ with_negative s l = record {
   constant = s.constant +ℤ neg_ℤ l.constant;
   terms = s.terms + 1;
 }
+
+-- more terms, and one more or its negative
+abbrev pub with_terms : SumValue → List LinearValue → SumValue
+with_terms s ls = record {
+  summands = s.summands ++ summands_of ls;
+  constant = s.constant +ℤ constants_of ls;
+  terms = s.terms + length ls;
+}
+
+abbrev pub with_signed : Bool → SumValue → LinearValue → SumValue
+with_signed negated s l = if negated then with_negative s l else with_term s l
 
 -- the term that a sum is, where it is within the limits
 abbrev pub term_of : SumValue → LinearValue

@@ -7,3 +7,7 @@ pub mod Steps
 pub mod Examples
 pub mod Laws
 pub mod Held
+pub mod Trees
+pub mod TreeParts
+pub mod FirstRuns
+pub mod Branching

@@ -29,8 +29,8 @@ pub fn compare(a: &Linear, b: &Linear) -> Result<Difference, DifferenceRefusal>
 {
     let mut ends = Ends { x: 0, y: 0 };
     let mut merge = Merge {
-        left: a.summands(),
-        right: b.summands(),
+        left: a.cursor(),
+        right: b.cursor(),
     };
     while let Some(summand) = merge.next() {
         match ends.with(summand) {

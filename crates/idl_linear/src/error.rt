@@ -1,8 +1,33 @@
+use std::alloc::{AllocError, AllocFailed};
+
 /// Why there is no sum.
 #[derive(Clone, Copy, Debug, PartialEq, Eq)]
-pub enum LinearRefusal {
+pub enum LinearError {
+    OutOfMemory,
     /// A coefficient is beyond 2^20, or the constant beyond 2^62.
     BoundTooLarge,
+}
+
+impl<T: Drop> From<AllocFailed<T>> for LinearError {
+    ghost use Rattle.std.specs.Prelude.{◌≡◌};
+    ghost use Rattle.idl_linear.specs.declared.error.LinearError.TheVariants.{OutOfMemory};
+
+    ghost from_gives = { λ _ e. e ≡ OutOfMemory };
+
+    fn from(_failed: AllocFailed<T>) -> Self {
+        LinearError::OutOfMemory
+    }
+}
+
+impl From<AllocError> for LinearError {
+    ghost use Rattle.std.specs.Prelude.{◌≡◌};
+    ghost use Rattle.idl_linear.specs.declared.error.LinearError.TheVariants.{OutOfMemory};
+
+    ghost from_gives = { λ _ e. e ≡ OutOfMemory };
+
+    fn from(_error: AllocError) -> Self {
+        LinearError::OutOfMemory
+    }
 }
 
 /// Why two compared terms are no difference of time points.

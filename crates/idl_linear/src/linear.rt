@@ -1,10 +1,14 @@
 //! Linear terms.
-ghost use Rattle.std.specs.Prelude.{◌≡◌, ◌<◌, ◌≤◌, true, IfOk};
+ghost use Rattle.std.specs.Prelude.{◌≡◌, ◌<◌, ◌≤◌, true, map, IfOk};
 ghost use Rattle.idl_linear.specs.Limits.{points_limit, constant_limit};
-ghost use Rattle.idl_linear.specs.Linear.{number_alone, point_alone, is_within};
+ghost use Rattle.idl_linear.specs.Linear.{number_alone, point_alone, negative_summand, is_within};
+ghost use Rattle.idl_linear.specs.Held.{held_summands};
+ghost use Rattle.idl_linear.specs.Trees.{signed};
+ghost use Rattle.idl_linear.specs.Branching.{IsBranches};
 ghost use Rattle.idl_linear.specs.Forms.{IsLinear};
 
-use crate::held::Held;
+use crate::cursor::Cursor;
+use crate::held::{Branches, Held};
 use crate::summand::Summand;
 use std::alloc::{AllocError, Global};
 use std::marker::Model;
@@ -21,6 +25,8 @@ impl Model for Linear {
     ghost use Rattle.idl_linear.specs.Linear.{LinearValue};
     ghost use Rattle.idl_linear.specs.Forms.{IsLinear};
     ghost use Rattle.idl_linear.specs.Held.{held_summands};
+    ghost use Rattle.idl_linear.specs.Trees.{signed};
+    ghost use Rattle.idl_linear.specs.Branching.{IsBranches};
 
     ghost Value = { LinearValue };
 
@@ -57,7 +63,7 @@ impl Linear {
         }
     }
 
-    /// An equal term in memory of its own.
+    /// An equal term. Where it has many summands the two share them.
     pub fn copy(&self) -> Result<Self, AllocError>
         ensures { IfOk result (λ l. l ≡ self.now) }
     {
@@ -68,23 +74,41 @@ impl Linear {
         })
     }
 
-    pub(crate) fn from_parts(summands: Vec<Summand>, constant: i64) -> Self
-        requires { IsLinear (record { summands = summands.items; constant = constant }) }
-        ensures { result ≡ record { summands = summands.items; constant = constant } }
+    pub(crate) fn from_parts(summands: Held, constant: i64) -> Self
+        requires { IsLinear (record { summands = held_summands summands; constant = constant }) }
+        ensures { result ≡ record { summands = held_summands summands; constant = constant } }
     {
-        Linear {
-            summands: Held::Many(summands),
-            constant,
-        }
+        Linear { summands, constant }
     }
 
-    /// The names' time points with their coefficients, by ascending time points: above 0, the zero point, and below 65,537. No
-    /// coefficient is 0.
-    pub fn summands(&self) -> &[Summand]
-        ensures items { result.now ≡ self.now.summands }
+    /// A walk over the names' time points with their coefficients, by ascending time points: above 0, the zero point, and below 65,537.
+    /// No coefficient is 0.
+    pub fn cursor(&self) -> Cursor<'_>
+        ensures items { result ≡ self.entry.now.summands }
         ensures linear { IsLinear self.now }
     {
-        self.summands.as_slice()
+        self.summands.cursor(false)
+    }
+
+    /// A walk over the same time points with the negatives of their coefficients.
+    pub(crate) fn negative_cursor(&self) -> Cursor<'_>
+        ensures items { result ≡ map negative_summand self.entry.now.summands }
+        ensures linear { IsLinear self.now }
+    {
+        self.summands.cursor(true)
+    }
+
+    /// A tree of its summands, or of their negatives.
+    pub(crate) fn branches(&self, alloc: Global, is_negated: bool) -> Result<Branches, AllocError>
+        ensures { IfOk result (λ b. IsBranches (signed is_negated self.now.summands) b) }
+    {
+        let branches = self.summands.branches(alloc, is_negated)?;
+        Ok(branches)
+    }
+
+    /// How many summands there are, as far as is known.
+    pub(crate) fn count(&self) -> usize {
+        self.summands.count()
     }
 
     /// What is added to the summands. It is within 2^62.

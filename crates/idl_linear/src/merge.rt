@@ -4,51 +4,52 @@ ghost use Rattle.idl_linear.specs.Limits.{points_limit};
 ghost use Rattle.idl_linear.specs.Linear.{put_before};
 ghost use Rattle.idl_linear.specs.Steps.{IsRest, less};
 
+use crate::cursor::Cursor;
 use crate::summand::Summand;
 
 /// What is left of two lists by ascending time points.
-#[derive(Clone, Copy)]
+#[derive(Drop)]
 pub(crate) struct Merge<'a> {
-    pub(crate) left: &'a [Summand],
-    pub(crate) right: &'a [Summand],
+    pub(crate) left: Cursor<'a>,
+    pub(crate) right: Cursor<'a>,
 }
 
 impl<'a> Merge<'a> {
     /// The next summand of the first list less the second. Its coefficient is 0 where the two cancel.
     pub(crate) fn next(&mut self) -> Option<Summand>
-        requires left { IsRest self.old.left.now }
-        requires right { IsRest self.old.right.now }
-        ensures left { IsRest self.new.left.now }
-        ensures right { IsRest self.new.right.now }
+        requires left { IsRest self.old.left }
+        requires right { IsRest self.old.right }
+        ensures left { IsRest self.new.left }
+        ensures right { IsRest self.new.right }
         ensures next { MatchOption result
-            (less self.old.left.now self.old.right.now ≡ [])
-            (λ s. less self.old.left.now self.old.right.now
-            ≡ put_before s (less self.new.left.now self.new.right.now)) }
+            (less self.old.left self.old.right ≡ [])
+            (λ s. less self.old.left self.old.right
+            ≡ put_before s (less self.new.left self.new.right)) }
         ensures point { IfSome result (λ s. s.point < points_limit) }
-        ensures fewer { IfSome result (λ _. length self.new.left.now + length self.new.right.now < length
-            self.old.left.now + length self.old.right.now) }
+        ensures fewer { IfSome result (λ _. length self.new.left + length self.new.right < length
+            self.old.left + length self.old.right) }
     {
-        match (self.left.split_first(), self.right.split_first()) {
+        match (self.left.peek(), self.right.peek()) {
             (None, None) => None,
-            (Some((s, rest)), None) => {
-                self.left = rest;
-                Some(*s)
+            (Some(s), None) => {
+                self.left.next();
+                Some(s)
             }
-            (None, Some((t, rest))) => {
-                self.right = rest;
+            (None, Some(t)) => {
+                self.right.next();
                 Some(t.negative())
             }
-            (Some((s, left)), Some((t, right))) => {
+            (Some(s), Some(t)) => {
                 if s.point < t.point {
-                    self.left = left;
-                    return Some(*s);
+                    self.left.next();
+                    return Some(s);
                 }
                 if t.point < s.point {
-                    self.right = right;
+                    self.right.next();
                     return Some(t.negative());
                 }
-                self.left = left;
-                self.right = right;
+                self.left.next();
+                self.right.next();
                 Some(Summand {
                     point: s.point,
                     coefficient: s.coefficient - t.coefficient,

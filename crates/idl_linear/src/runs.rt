@@ -1,14 +1,20 @@
 //! Runs of equal time points in sorted summands.
-ghost use Rattle.std.specs.Prelude.{◌≡◌, ◌<◌, ◌≤◌, length, drop, true, false, OnOk, OnErr};
+ghost use Rattle.std.specs.Prelude.{◌≡◌, ◌<◌, ◌≤◌, ◌++◌, ◌+ℤ◌, length, drop, true, OnOk, IfOk, IfErr};
 ghost use Rattle.std.specs.List.{AllByRecursion};
-ghost use Rattle.idl_linear.specs.Linear.{collected, put_before, are_limited};
+ghost use Rattle.idl_linear.specs.Linear.{collected, put_before, with_summand, is_within, are_limited};
 ghost use Rattle.idl_linear.specs.Forms.{IsSummand};
-ghost use Rattle.idl_linear.specs.Steps.{RiseFrom};
+ghost use Rattle.idl_linear.specs.Limits.{coefficient_limit};
+ghost use Rattle.idl_linear.specs.Steps.{IsRest, RiseFrom, Refuses};
+ghost use Rattle.idl_linear.specs.Trees.{coefficient_at, signed};
+ghost use Rattle.idl_linear.specs.FirstRuns.{IsFirstRun, IsSmallRun, signed_run};
 
-use crate::error::LinearRefusal;
+use crate::error::LinearError;
 use crate::limits::COEFFICIENT_LIMIT;
 use crate::summand::Summand;
+use crate::tree::Tree;
 use crate::within::within;
+use std::alloc::Global;
+use std::sync::Arc;
 
 /// The first so many summands, which have one time point, and the sum of their coefficients.
 #[derive(Clone, Copy)]
@@ -24,6 +30,7 @@ fn first_run(summands: &[Summand]) -> Run
     requires rises { RiseFrom 1 summands.now }
     ensures some { 0 < result.len }
     ensures len { result.len ≤ length summands.now }
+    ensures run { IsFirstRun summands.now result }
     ensures sum { collected summands.now
         ≡ put_before (record { point = result.point; coefficient = result.sum })
         (collected (drop result.len summands.now)) }
@@ -40,12 +47,12 @@ fn first_run(summands: &[Summand]) -> Run
 
 /// Collects summands that are sorted by time points, in place. Where a coefficient is beyond its limit, what is left of
 /// them says nothing.
-pub(crate) fn combine(summands: &mut Vec<Summand>) -> Result<(), LinearRefusal>
+pub(crate) fn combine(summands: &mut Vec<Summand>) -> Result<(), LinearError>
     requires each { AllByRecursion IsSummand summands.old.items }
     requires rises { RiseFrom 1 summands.old.items }
     ensures collected { OnOk result (summands.new.items ≡ collected summands.old.items) }
     ensures limited { OnOk result (are_limited (collected summands.old.items) ≡ true) }
-    ensures refused { OnErr result (are_limited (collected summands.old.items) ≡ false) }
+    ensures refused { IfErr result (λ why. Refuses why (are_limited (collected summands.old.items))) }
 {
     let mut kept = 0;
     let mut start = 0;
@@ -53,7 +60,7 @@ pub(crate) fn combine(summands: &mut Vec<Summand>) -> Result<(), LinearRefusal>
         let run = first_run(&summands[start..]);
         let coefficient = match within(COEFFICIENT_LIMIT, run.sum) {
             Some(coefficient) => coefficient,
-            None => return Err(LinearRefusal::BoundTooLarge),
+            None => return Err(LinearError::BoundTooLarge),
         };
         if coefficient != 0 {
             summands[kept] = Summand {
@@ -66,4 +73,44 @@ pub(crate) fn combine(summands: &mut Vec<Summand>) -> Result<(), LinearRefusal>
     }
     summands.truncate(kept);
     Ok(())
+}
+
+/// The tree with a run, or with its negative.
+fn put_run(alloc: Global, tree: &Tree, run: Run, is_negated: bool) -> Result<Arc<Tree>, LinearError>
+    requires rest { IsRest tree.now.summands }
+    requires run { IsSmallRun run }
+    ensures ok { IfOk result (λ t. t.value.summands ≡ with_summand (signed_run is_negated run) tree.now.summands) }
+    ensures limited { IfOk result (λ _. is_within coefficient_limit
+        (coefficient_at run.point tree.now.summands +ℤ (signed_run is_negated run).coefficient) ≡ true) }
+    ensures refused { IfErr result (λ why. Refuses why (is_within coefficient_limit
+        (coefficient_at run.point tree.now.summands +ℤ (signed_run is_negated run).coefficient))) }
+{
+    let more = if is_negated { -run.sum } else { run.sum };
+    let tree = tree.with(alloc, run.point, more)?;
+    let shared = Arc::new(alloc, tree)?;
+    Ok(shared)
+}
+
+/// The tree with sorted summands, or with their negatives. They go in by runs.
+pub(crate) fn put_runs(
+    alloc: Global,
+    tree: Arc<Tree>,
+    summands: &[Summand],
+    is_negated: bool,
+) -> Result<Arc<Tree>, LinearError>
+    requires each { AllByRecursion IsSummand summands.now }
+    requires rises { RiseFrom 1 summands.now }
+    requires rest { IsRest tree.value.summands }
+    ensures ok { IfOk result (λ t. t.value.summands ≡ collected (signed is_negated summands.now ++ tree.value.summands)) }
+    ensures rest { IfOk result (λ t. IsRest t.value.summands) }
+    ensures refused { IfErr result (λ why. Refuses why (are_limited (collected (signed is_negated summands.now ++ tree.value.summands)))) }
+{
+    let mut tree = tree;
+    let mut start = 0;
+    while start < summands.len() {
+        let run = first_run(&summands[start..]);
+        tree = put_run(alloc, &tree, run, is_negated)?;
+        start += run.len;
+    }
+    Ok(tree)
 }

@@ -1,6 +1,7 @@
 ghost use Rattle.std.specs.Prelude.{◌≡◌, true};
 ghost use Rattle.idl_linear.specs.Limits.{coefficient_limit};
 ghost use Rattle.idl_linear.specs.Linear.{negative_summand, is_within};
+ghost use Rattle.std.specs.Prelude.{if◌then◌else◌};
 
 /// A time point with its coefficient.
 #[derive(Clone, Copy, Debug, PartialEq, Eq)]
@@ -18,5 +19,13 @@ impl Summand {
             point: self.point,
             coefficient: -self.coefficient,
         }
+    }
+
+    /// The summand, or its negative.
+    pub(crate) fn signed(self, is_negated: bool) -> Self
+        requires { is_within coefficient_limit self.coefficient ≡ true }
+        ensures { result ≡ (if is_negated then negative_summand self else self) }
+    {
+        if is_negated { self.negative() } else { self }
     }
 }

@@ -1,10 +1,9 @@
 -- How many choices there are, and what is made of a pair of cases, step by step.
-use Rattle.std.proofs.Common.{refl, ap, sym, subst, arith, ◌&&◌, ◌∙◌, ◌≡◌, ◌<◌, ◌≤◌, ◌+◌, ◌*◌, ◌-◌, ◌^◌, min, ℕ, zero, suc, List, [], ◌∷◌, ◌++◌, length, map, take, drop, get_or, Bool, true, false, cond, Bor, Option, Some, None, append-nil, append_assoc}
+use Rattle.std.proofs.Common.{refl, ap, sym, subst, arith, ◌∙◌, ◌≡◌, ◌<◌, ◌≤◌, ◌+◌, ◌*◌, ◌-◌, ◌^◌, min, ℕ, zero, suc, List, [], ◌∷◌, ◌++◌, length, map, drop, get_or, Bool, true, false, Bor, Some, append-nil}
 use Rattle.std.specs.Prelude.{Result, Ok, Err, nat_le, slice_get}
 use Rattle.std.proofs.Math.Nat.{mul-suc, suc-mul}
 use Rattle.std.proofs.lemmas.Bool.Decides.{nat_tests}
-use Rattle.std.proofs.Math.Seq.{take-length}
-use Rattle.std.proofs.lemmas.List.{at_drop_more, length-append, length-map, map-append}
+use Rattle.std.proofs.lemmas.List.{at_drop_more, length-append, length-map}
 use Rattle.std.proofs.lemmas.Option.{get_or_from_slice_get, slice_get_within}
 use Rattle.idl_linear.specs.Linear.{LinearValue}
 use Rattle.idl_node.specs.Making.{disjoined}

@@ -1,5 +1,5 @@
 -- Sums over the choices of some terms: what comes of a linear term, of branches, and of the terms behind them.
-use Rattle.std.proofs.Common.{refl, ap, sym, subst, arith, ◌∙◌, ◌&&◌, ◌≡◌, ◌<◌, ◌≤◌, ◌+◌, ◌*◌, ◌^◌, ℕ, zero, suc, List, [], ◌∷◌, ◌++◌, length, map, take, drop, Bool, true, false, cond, Bor, Option, Some, None, append-nil, append_assoc}
+use Rattle.std.proofs.Common.{refl, ap, sym, subst, arith, ◌∙◌, ◌&&◌, ◌≡◌, ◌<◌, ◌≤◌, ◌+◌, ◌*◌, ◌^◌, ℕ, zero, suc, List, [], ◌∷◌, ◌++◌, length, map, take, drop, Bool, true, false, Bor, Some, append-nil, append_assoc}
 use Rattle.std.specs.Prelude.{Result, Ok, Err}
 use Rattle.std.proofs.lemmas.Bool.Decides.{nat_tests}
 use Rattle.std.proofs.lemmas.List.{length-append, length-map, map-append}

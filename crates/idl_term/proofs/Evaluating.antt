@@ -1,10 +1,10 @@
 -- The value of a linear term, summand by summand, and how large it may be; and values of the names' sorts.
-use Rattle.std.proofs.Common.{refl, ap, sym, subst, ◌∙◌, arith, ◌≡◌, ◌<◌, ◌≤◌, ◌+◌, ◌*◌, ℕ, zero, suc, List, [], ◌∷◌, ◌++◌, length, map, drop, get_or, Bool, ◌&&◌, cond, Option, Some, None, true, false, ℤ, pos, negsuc, neg_ℤ, ◌+ℤ◌, ◌*ℤ◌, ◌≤ℤ◌, FitsSigned, w64, to_z, of_z, unsigned_abs}
-use Rattle.std.proofs.lemmas.Int.{ints, unsigned_abs-mul, fits_signed_mul, to_z-of_z}
+use Rattle.std.proofs.Common.{refl, ap, sym, subst, ◌∙◌, arith, ◌≡◌, ◌<◌, ◌≤◌, ◌+◌, ◌*◌, ℕ, zero, suc, List, [], ◌∷◌, ◌++◌, length, map, get_or, Bool, ◌&&◌, cond, Option, Some, None, true, false, ℤ, pos, negsuc, neg_ℤ, ◌+ℤ◌, ◌-ℤ◌, ◌*ℤ◌, ◌≤ℤ◌, FitsSigned, w64, to_z, of_z, unsigned_abs}
+use Rattle.std.proofs.lemmas.Int.{ints, unsigned_abs-mul, fits_signed_mul}
 use Rattle.std.specs.Int.{w128}
-use Rattle.idl_linear.proofs.Merging.{within_low, within_high}
+use Rattle.idl_linear.proofs.Merging.{both_true, within_low, within_high}
 use Rattle.std.proofs.lemmas.Nat.{mul-le}
-use Rattle.std.proofs.lemmas.List.{at_drop_more, get_or-map}
+use Rattle.std.proofs.lemmas.List.{get_or-map}
 use Rattle.std.specs.List.{AllByRecursion, list_all}
 use Rattle.stn_core.specs.Literal.{IsOver, value_at}
 use Rattle.stn_core.specs.declared.named.NamedValue.{NamedValue}
@@ -28,11 +28,8 @@ use Rattle.idl_scope.specs.Scopes.{numeric}
 use Rattle.idl_linear.specs.declared.summand.Summand.{Summand}
 use Rattle.idl_linear.specs.Forms.{AscendAbove, IsLinear}
 use Rattle.idl_linear.specs.Limits.{points_limit, coefficient_limit, constant_limit}
-use Rattle.idl_linear.specs.Linear.{LinearValue, is_within}
+use Rattle.idl_linear.specs.Linear.{LinearValue, are_limited, is_within}
 use Rattle.idl_linear.specs.Values.{linear_value, summands_value}
-
-abbrev pub no_summand : Summand
-no_summand = record { point = 0; coefficient = pos 0 }
 
 -- ---- how many summands there are
 
@@ -48,23 +45,74 @@ count_linear l is =
     let few = count_ascending 0 points_limit l.summands (omega arith) is.ascends is.over in
     omega (arith, few)
 
--- ---- one more summand
+-- ---- one summand after another
 
-pub summand_taken : (values : List ℤ) (xs : List Summand) (i : ℕ) (sum p : ℤ) → i < length xs → p ≡ ((get_or xs i no_summand).coefficient *ℤ value_at values (get_or xs i no_summand).point)
-    → summands_value values (drop (i + 1) xs) +ℤ (sum +ℤ p) ≡ summands_value values (drop i xs) +ℤ sum
-summand_taken values xs i sum p within e =
-    let next : summands_value values (drop i xs) ≡ ((get_or xs i no_summand).coefficient *ℤ value_at values (get_or xs i no_summand).point) +ℤ summands_value values (drop (i + 1) xs) = at_drop_more (summands_value values) xs i no_summand within in
-    omega (arith, ints, next, e)
+-- what is known of what is left of a term's summands, and of the sum so far
+pub record IsAdding (values : List ℤ) (count : ℕ) (left : List Summand) (sum whole : ℤ) : Type 0 where
+  pub rest : summands_value values left +ℤ sum ≡ whole
+  pub points : AllByRecursion (λ (s : Summand). s.point < count) left
+  pub limited : are_limited left ≡ true
+  pub low : neg_ℤ (pos (constant_limit + product_limit * points_limit)) ≤ℤ (sum -ℤ pos (product_limit * length left))
+  pub high : (sum +ℤ pos (product_limit * length left)) ≤ℤ pos (constant_limit + product_limit * points_limit)
 
-pub sum_low : (i : ℕ) (sum p : ℤ) → neg_ℤ (pos (constant_limit + product_limit * i)) ≤ℤ sum → neg_ℤ (pos product_limit) ≤ℤ p → neg_ℤ (pos (constant_limit + product_limit * (i + 1))) ≤ℤ (sum +ℤ p)
-sum_low i sum p h k = omega (arith, ints)
+pub adding_starts : (values : List ℤ) (count : ℕ) (l : LinearValue) (left : List Summand) (n : ℤ) → IsLinear l → AllByRecursion (λ (s : Summand). s.point < count) l.summands → left ≡ l.summands → n ≡ l.constant
+    → IsAdding values count left n (linear_value values l)
+adding_starts values count l left n is points e f =
+    let few = count_linear l is in
+    let long = ap (λ (xs : List Summand). length xs) e in
+    let parts = both_true (are_limited l.summands) (is_within constant_limit l.constant) is.limited in
+    let low = within_low constant_limit l.constant parts.1 in
+    let high = within_high constant_limit l.constant parts.1 in
+    record {
+      rest = ap (λ (xs : List Summand). summands_value values xs +ℤ n) e ∙ ap (λ (z : ℤ). summands_value values l.summands +ℤ z) f;
+      points = subst (λ (xs : List Summand). AllByRecursion (λ (s : Summand). s.point < count) xs) (sym e) points;
+      limited = ap are_limited e ∙ parts.0;
+      low = omega (arith, ints, few, long, low, f);
+      high = omega (arith, ints, few, long, high, f);
+    }
 
-pub sum_high : (i : ℕ) (sum p : ℤ) → sum ≤ℤ pos (constant_limit + product_limit * i) → p ≤ℤ pos product_limit → (sum +ℤ p) ≤ℤ pos (constant_limit + product_limit * (i + 1))
-sum_high i sum p h k = omega (arith, ints)
+module _ (values : List ℤ) (count : ℕ) (xs : List Summand) (sum whole : ℤ) (h : IsAdding values count xs sum whole) where
+  pub adding_ends : xs ≡ [] → sum ≡ whole
+  adding_ends e =
+      let none : summands_value values xs ≡ pos 0 = ap (summands_value values) e in
+      let rest = h.rest in
+      omega (arith, ints, none, rest)
 
--- what the code's sum is
-pub sum_is : (sum p : ℤ) → FitsSigned w128 p → FitsSigned w128 (sum +ℤ to_z w128 (of_z w128 p)) → to_z w128 (of_z w128 (sum +ℤ to_z w128 (of_z w128 p))) ≡ sum +ℤ p
-sum_is sum p fits whole = to_z-of_z w128 (sum +ℤ to_z w128 (of_z w128 p)) whole ∙ ap (λ (z : ℤ). sum +ℤ z) (to_z-of_z w128 p fits)
+  module _ (s : Summand) (left : List Summand) (e : xs ≡ s ∷ left) where
+    pub adding_point : s.point < count
+    adding_point = (subst (λ (ys : List Summand). AllByRecursion (λ (t : Summand). t.point < count) ys) e h.points).0
+
+    limits : (is_within coefficient_limit s.coefficient ≡ true) × (are_limited left ≡ true)
+    limits = both_true (is_within coefficient_limit s.coefficient) (are_limited left) (ap are_limited (sym e) ∙ h.limited)
+
+    pub adding_limited : is_within coefficient_limit s.coefficient ≡ true
+    adding_limited = limits.0
+
+    module _ (p : ℤ) (low : neg_ℤ (pos product_limit) ≤ℤ p) (high : p ≤ℤ pos product_limit) where
+      long : length xs ≡ suc (length left)
+      long = ap (λ (ys : List Summand). length ys) e
+
+      pub adding_low : neg_ℤ (pos (constant_limit + product_limit * points_limit)) ≤ℤ ((sum +ℤ p) -ℤ pos (product_limit * length left))
+      adding_low =
+          let known = h.low in
+          omega (arith, ints, known, long, low)
+
+      pub adding_high : ((sum +ℤ p) +ℤ pos (product_limit * length left)) ≤ℤ pos (constant_limit + product_limit * points_limit)
+      adding_high =
+          let known = h.high in
+          omega (arith, ints, known, long, high)
+
+      pub adding_turn : p ≡ (s.coefficient *ℤ value_at values s.point) → IsAdding values count left (sum +ℤ p) whole
+      adding_turn f =
+          let first : summands_value values xs ≡ (s.coefficient *ℤ value_at values s.point) +ℤ summands_value values left = ap (summands_value values) e in
+          let known = h.rest in
+          record {
+            rest = omega (arith, ints, first, known, f);
+            points = (subst (λ (ys : List Summand). AllByRecursion (λ (t : Summand). t.point < count) ys) e h.points).1;
+            limited = limits.1;
+            low = adding_low;
+            high = adding_high;
+          }
 
 -- ---- how large a product is
 

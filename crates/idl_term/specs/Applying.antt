@@ -2,8 +2,8 @@
 use Rattle.std.specs.Prelude.{◌≡◌, ℕ, List, [], ◌∷◌, true, false, Option, Result, Ok, Err}
 use Rattle.stn_core.specs.declared.literal.Literal.{Literal}
 use Rattle.idl_linear.specs.declared.error.DifferenceRefusal.{DifferenceRefusal}
-use Rattle.idl_linear.specs.declared.error.LinearRefusal.{LinearRefusal}
-use Rattle.idl_linear.specs.declared.error.LinearRefusal.TheVariants as linear
+use Rattle.idl_linear.specs.declared.error.LinearError.{LinearError}
+use Rattle.idl_linear.specs.declared.error.LinearError.TheVariants as linear
 use Rattle.idl_linear.specs.Linear.{LinearValue, is_limited}
 use Rattle.idl_node.specs.declared.error.NodeError.{NodeError}
 use Rattle.idl_node.specs.declared.error.NodeError.TheVariants as node
@@ -24,7 +24,8 @@ abbrev pub of_node : NodeError → TermError
 of_node node.OutOfMemory = OutOfMemory
 of_node (node.Refused full.TooLarge) = Refused TooLarge
 
-abbrev pub of_linear : LinearRefusal → TermError
+abbrev pub of_linear : LinearError → TermError
+of_linear linear.OutOfMemory = OutOfMemory
 of_linear linear.BoundTooLarge = Refused BoundTooLarge
 
 abbrev pub of_difference : DifferenceRefusal → TermError

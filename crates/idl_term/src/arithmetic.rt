@@ -4,18 +4,14 @@ ghost use Rattle.idl_linear.specs.Linear.{sum_of, less_others};
 ghost use Rattle.idl_term.specs.Applying.{Sums};
 
 use crate::error::TermError;
-use idl_linear::{Linear, LinearSum};
+use idl_linear::{Linear, sum_less};
 use std::alloc::Global;
 
 /// `+` of any number of terms. The limits hold of the sum, and not of its parts.
 pub fn add(alloc: Global, terms: &[&Linear]) -> Result<Linear, TermError>
     ensures { Sums (sum_of (map (λ l. l.now) terms.now)) result }
 {
-    let mut sum = LinearSum::new(alloc);
-    for term in terms {
-        sum.add(term)?;
-    }
-    let total = sum.finish()?;
+    let total = sum_less(alloc, terms, &terms[..0])?;
     Ok(total)
 }
 
@@ -23,17 +19,8 @@ pub fn add(alloc: Global, terms: &[&Linear]) -> Result<Linear, TermError>
 pub fn subtract(alloc: Global, terms: &[&Linear]) -> Result<Linear, TermError>
     ensures { Sums (less_others (map (λ l. l.now) terms.now)) result }
 {
-    let mut sum = LinearSum::new(alloc);
-    let others = match terms {
-        [first, rest @ ..] if !rest.is_empty() => {
-            sum.add(first)?;
-            rest
-        }
-        _ => terms,
-    };
-    for term in others {
-        sum.subtract(term)?;
-    }
-    let total = sum.finish()?;
+    let count = if terms.len() > 1 { 1 } else { 0 };
+    let (first, others) = terms.split_at(count);
+    let total = sum_less(alloc, first, others)?;
     Ok(total)
 }

@@ -1,4 +1,4 @@
-use idl_linear::{DifferenceRefusal, LinearRefusal};
+use idl_linear::{DifferenceRefusal, LinearError};
 use idl_node::{NodeError, NodeRefusal};
 use std::alloc::{AllocError, AllocFailed};
 
@@ -85,15 +85,16 @@ impl From<NodeError> for TermError {
     }
 }
 
-impl From<LinearRefusal> for TermError {
+impl From<LinearError> for TermError {
     ghost use Rattle.std.specs.Prelude.{◌≡◌};
     ghost use Rattle.idl_term.specs.Applying.{of_linear};
 
     ghost from_gives = { λ d e. e ≡ of_linear d };
 
-    fn from(why: LinearRefusal) -> Self {
-        match why {
-            LinearRefusal::BoundTooLarge => TermError::Refused(TermRefusal::BoundTooLarge),
+    fn from(error: LinearError) -> Self {
+        match error {
+            LinearError::OutOfMemory => TermError::OutOfMemory,
+            LinearError::BoundTooLarge => TermError::Refused(TermRefusal::BoundTooLarge),
         }
     }
 }

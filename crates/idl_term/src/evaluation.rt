@@ -41,10 +41,10 @@ fn eval_linear(linear: &Linear, values: &NamedValues) -> Value
     ensures { result ≡ linear_value (point_values values.now) linear.now }
 {
     let values = values.as_slice();
-    let summands = linear.summands();
+    let mut cursor = linear.cursor();
     let mut sum = Value::from(linear.constant());
-    for summand in summands {
-        sum += product(*summand, values);
+    while let Some(summand) = cursor.next() {
+        sum += product(summand, values);
     }
     sum
 }

@@ -8,17 +8,17 @@ use Rattle.idl_linear.proofs.difference.compare.Goals as goal
 
 pub loop-summand-init : goal.loop-summand-init
 loop-summand-init c =
-    rw (c.summands.ensures.items, c.summands-2.ensures.items) (record {
-      left = rest_from_linear c.args.a.now c.summands.ensures.linear;
-      right = rest_from_linear c.args.b.now c.summands-2.ensures.linear;
-      same = starts c.args.a.now c.args.b.now c.summands.ensures.linear c.summands-2.ensures.linear;
+    rw (c.cursor.ensures.items, c.cursor-2.ensures.items) (record {
+      left = rest_from_linear c.args.a.now c.cursor.ensures.linear;
+      right = rest_from_linear c.args.b.now c.cursor-2.ensures.linear;
+      same = starts c.args.a.now c.args.b.now c.cursor.ensures.linear c.cursor-2.ensures.linear;
       x = omega arith;
       y = omega arith;
     })
 
 pub returns-in-None-clause-refused : goal.returns-in-None-clause-refused
 returns-in-None-clause-refused c =
-    stops c.args.a.now c.args.b.now c.loop-summand.ends c.in-Some.summand (less c.next.new.self.left.now c.next.new.self.right.now) _
+    stops c.args.a.now c.args.b.now c.loop-summand.ends c.in-Some.summand (less c.next.new.self.left c.next.new.self.right) _
     c.in-Some.ensures.next (sym c.in-None.is ∙ c.with.ensures) c.loop-summand.invariant.same
 
 pub returns-in-Some-within-clause-ok : goal.returns-in-Some-within-clause-ok

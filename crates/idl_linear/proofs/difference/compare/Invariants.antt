@@ -6,12 +6,12 @@ use Rattle.idl_linear.proofs.difference.compare.Given as goal
 
 abbrev pub invariant-loop-summand : goal.invariant-loop-summand
 invariant-loop-summand l = record {
-  left : IsRest l.merge.left.now;
-  right : IsRest l.merge.right.now;
-  same : ends_through (Some l.ends) (less l.merge.left.now l.merge.right.now) ≡ ends_of (less l.a.summands l.b.summands);
+  left : IsRest l.merge.left;
+  right : IsRest l.merge.right;
+  same : ends_through (Some l.ends) (less l.merge.left l.merge.right) ≡ ends_of (less l.a.summands l.b.summands);
   x : l.ends.x < points_limit;
   y : l.ends.y < points_limit;
 }
 
 abbrev pub decreases-loop-summand : goal.decreases-loop-summand
-decreases-loop-summand l = length l.merge.left.now + length l.merge.right.now
+decreases-loop-summand l = length l.merge.left + length l.merge.right

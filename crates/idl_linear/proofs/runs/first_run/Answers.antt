@@ -1,7 +1,7 @@
 use Rattle.std.proofs.Common.{arith, subst, ◌≡◌, ◌+◌, ℤ, ◌+ℤ◌, to_z, of_z, get_or}
 use Rattle.std.specs.Int.{w128}
 use Rattle.std.proofs.lemmas.Int.{ints}
-use Rattle.idl_linear.proofs.Running.{nothing, IsRun, next_coefficient, run_starts, run_goes_on, run_ends_before}
+use Rattle.idl_linear.proofs.Running.{nothing, IsRun, next_coefficient, run_starts, run_goes_on, run_ends_before, first_run_before}
 use Rattle.idl_linear.proofs.runs.first_run.Goals as goal
 
 pub loop-len-init : goal.loop-len-init
@@ -20,3 +20,7 @@ loop-len-preserved c =
 
 pub returns-else-summands-len-clause-sum : goal.returns-else-summands-len-clause-sum
 returns-else-summands-len-clause-sum c = run_ends_before _ _ _ _ c.loop-len.invariant c.loop-len-test.true c.if-summands-len.false
+
+pub returns-else-summands-len-clause-run : goal.returns-else-summands-len-clause-run
+returns-else-summands-len-clause-run c =
+    first_run_before c.args.summands.now c.loop-len.len _ c.requires.some c.requires.each c.loop-len.invariant (omega (arith, c.loop-len.auto.len-fits)) c.loop-len-test.true c.if-summands-len.false

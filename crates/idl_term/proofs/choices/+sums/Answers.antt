@@ -1,4 +1,4 @@
-use Rattle.std.proofs.Common.{rules, ap, subst, arith, ◌∙◌, ◌≡◌, ◌<◌, ◌+◌, ◌*◌, length, drop, true, List, ◌∷◌, Bor}
+use Rattle.std.proofs.Common.{rules, ap, subst, arith, ◌≡◌, ◌<◌, ◌+◌, ◌*◌, length, drop, true, List, ◌∷◌, Bor}
 use Rattle.std.specs.Prelude.{Ok, Err}
 use Rattle.std.proofs.lemmas.Result.{err_from_is_err_and}
 use Rattle.std.proofs.lemmas.List.{take_rest}

@@ -1,4 +1,4 @@
-use Rattle.std.proofs.Common.{rules, ap, sym, subst, arith, ◌∙◌, ◌≡◌, ◌<◌, ◌+◌, ◌*◌, refl, length, map, true, false, Option, ℤ}
+use Rattle.std.proofs.Common.{rules, sym, subst, arith, ◌∙◌, ◌≡◌, ◌<◌, ◌+◌, ◌*◌, refl, length, map, Option, ℤ}
 use Rattle.std.specs.Prelude.{IfOk}
 use Rattle.idl_node.specs.Truth.{point_values, truth}
 use Rattle.idl_scope.specs.Guarded.{guarded}

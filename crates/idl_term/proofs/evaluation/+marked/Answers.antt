@@ -1,4 +1,4 @@
-use Rattle.std.proofs.Common.{rules, ap, sym, arith, ◌∙◌, ◌≡◌, ◌<◌, ◌+◌, ◌*◌, length, get_or, true, false}
+use Rattle.std.proofs.Common.{rules, sym, arith, ◌∙◌, ◌<◌, ◌+◌, ◌*◌, length, get_or, false}
 use Rattle.idl_node.specs.Truth.{point_values}
 use Rattle.idl_term.proofs.ChoiceSums.{branch_lengths}
 use Rattle.idl_term.proofs.Evaluating.{first_here, first_not_here, in_first, in_second, first_over, second_over, first_guard, second_guard}

@@ -1,0 +1,10 @@
+use Rattle.std.proofs.Common.{◌≡◌, ◌+◌, drop, map}
+use Rattle.idl_linear.specs.Forms.{with_terms}
+use Rattle.idl_linear.specs.Linear.{negative_of}
+use Rattle.idl_linear.proofs.linear_sum.LinearSum.subtract_all.Given as goal
+
+abbrev pub invariant-loop-term : goal.invariant-loop-term
+invariant-loop-term l = record {
+  rest : with_terms l.self (map negative_of (map (λ t. t.now) (drop l.term-index l.terms))) ≡ with_terms l.fn.self (map negative_of (map (λ t. t.now) l.terms));
+  few : l.self.terms ≡ l.fn.self.terms + l.term-index;
+}
