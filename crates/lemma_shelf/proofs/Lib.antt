@@ -14,3 +14,8 @@ pub mod MoreLemmas
 pub mod MoreItems
 pub mod Steps
 pub mod Refuting
+pub mod Resting
+pub mod Placing
+pub mod Written
+pub mod Lowered
+pub mod Pushing

@@ -66,18 +66,18 @@ all_flat {X} P f (x ∷ xs) all =
     let Q : X → Type 0 = λ (z : X). All P (f z) in
     All-append P (f x) (flat_map f xs) (All-head Q x xs all) (all_flat P f xs (All-tail Q x xs all))
 
-before : {Y : Type 0} (P : Y → Type 0) (xs ys : List Y) → All P (xs ++ ys) → All P xs
-before P [] ys h = All-nil P
-before P (x ∷ xs) ys h = All-cons P x xs (All-head P x (xs ++ ys) h) (before P xs ys (All-tail P x (xs ++ ys) h))
+pub all_before : {Y : Type 0} (P : Y → Type 0) (xs ys : List Y) → All P (xs ++ ys) → All P xs
+all_before P [] ys h = All-nil P
+all_before P (x ∷ xs) ys h = All-cons P x xs (All-head P x (xs ++ ys) h) (all_before P xs ys (All-tail P x (xs ++ ys) h))
 
-behind : {Y : Type 0} (P : Y → Type 0) (xs ys : List Y) → All P (xs ++ ys) → All P ys
-behind P [] ys h = h
-behind P (x ∷ xs) ys h = behind P xs ys (All-tail P x (xs ++ ys) h)
+pub all_behind : {Y : Type 0} (P : Y → Type 0) (xs ys : List Y) → All P (xs ++ ys) → All P ys
+all_behind P [] ys h = h
+all_behind P (x ∷ xs) ys h = all_behind P xs ys (All-tail P x (xs ++ ys) h)
 
 pub all_parts : {X Y : Type 0} (P : Y → Type 0) (f : X → List Y) (xs : List X) → All P (flat_map f xs) → All (λ (x : X). All P (f x)) xs
 all_parts {X} P f [] all = All-nil (λ (x : X). All P (f x))
 all_parts {X} P f (x ∷ xs) all =
-    All-cons (λ (z : X). All P (f z)) x xs (before P (f x) (flat_map f xs) all) (all_parts P f xs (behind P (f x) (flat_map f xs) all))
+    All-cons (λ (z : X). All P (f z)) x xs (all_before P (f x) (flat_map f xs) all) (all_parts P f xs (all_behind P (f x) (flat_map f xs) all))
 
 pub take_before : {A : Type 0} (n : ℕ) (xs ys : List A) → n ≤ length xs → take n (xs ++ ys) ≡ take n xs
 take_before zero xs ys le = refl

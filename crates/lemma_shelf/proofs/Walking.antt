@@ -27,7 +27,7 @@ number_there (x ∷ xs) n e = elim (or_cases (n == x) (list_any (λ (m : ℕ). n
 ]
 
 -- the number is there now, and what else is new is that number
-record IsWith (reached : List ℕ) (Sources : ℕ → Type 0) (now : List ℕ) : Type 0 where
+pub record IsWith (reached : List ℕ) (Sources : ℕ → Type 0) (now : List ℕ) : Type 0 where
   pub more : List ℕ
   pub longer : now ≡ reached ++ more
   pub sources : All Sources more
@@ -39,14 +39,14 @@ with_number_there reached n = by (list_any (λ (m : ℕ). n == m) reached) refl
     by true e = number_there reached n e
     by false e = at_contained (reached ++ n ∷ []) (length reached) n (get_last reached n)
 
-with_number_longer : (reached : List ℕ) (n : ℕ) → IsWith reached (λ (m : ℕ). m ≡ n) (with_number reached n)
+pub with_number_longer : (reached : List ℕ) (n : ℕ) → IsWith reached (λ (m : ℕ). m ≡ n) (with_number reached n)
 with_number_longer reached n = by (list_any (λ (m : ℕ). n == m) reached)
   where
     by : (b : Bool) → IsWith reached (λ (m : ℕ). m ≡ n) (if b then reached else reached ++ n ∷ [])
     by true = record { more = []; longer = sym (append-nil reached); sources = All-nil (λ (m : ℕ). m ≡ n) }
     by false = record { more = n ∷ []; longer = refl; sources = All-cons (λ (m : ℕ). m ≡ n) n [] refl (All-nil (λ (m : ℕ). m ≡ n)) }
 
-abbrev CitedBy : List Step → ℕ → Type 0
+abbrev pub CitedBy : List Step → ℕ → Type 0
 CitedBy steps j = Contains steps (Earlier j)
 
 later_cited : (steps : List Step) (t : Step) (j : ℕ) → CitedBy steps j → CitedBy (t ∷ steps) j
@@ -69,7 +69,7 @@ cited_first reached steps others (Earlier j) =
           (All-weaker (CitedBy steps) (CitedBy (Earlier j ∷ steps)) (later_cited steps (Earlier j)) rest.more rest.sources);
     }
 
-cited_longer : (reached : List ℕ) (steps : List Step) → IsWith reached (CitedBy steps) (with_all_cited reached steps)
+pub cited_longer : (reached : List ℕ) (steps : List Step) → IsWith reached (CitedBy steps) (with_all_cited reached steps)
 cited_longer reached [] = record { more = []; longer = sym (append-nil reached); sources = All-nil (CitedBy []) }
 cited_longer reached (s ∷ steps) = cited_first reached steps (λ r. cited_longer r steps) s
 

@@ -6,3 +6,4 @@ pub mod Lowering
 pub mod Tables
 pub mod Walks
 pub mod Additions
+pub mod WrittenOut

@@ -22,6 +22,3 @@ mod walk;
 pub use check::check_items;
 pub use laws::{examples_law, flaw_law};
 pub use shelf::Shelf;
-
-#[cfg(test)]
-mod tests;

@@ -1,60 +1,84 @@
 //! The lemmas that an entry's last item needs, by the numbers of one problem.
-ghost use Rattle.std.specs.Prelude.{◌<◌, length};
-ghost use Rattle.lemma_shelf.specs.Walks.{IsWhole};
+ghost use Rattle.std.specs.Prelude.{◌≡◌, ◌<◌, length, take, map, true, All, IfOk, OnOk, slice_index_or};
+ghost use Rattle.refute_tree.specs.Views.{step_seen};
+ghost use Rattle.lemma_shelf.specs.Tables.{StepIsClosed, AreClosed, is_active};
+ghost use Rattle.lemma_shelf.specs.Walks.{facts_in, IsWhole, IsOf, places};
+ghost use Rattle.lemma_shelf.specs.WrittenOut.{AddsPlaced, ArePlaced, Rises, IsPlacedLemma, AreWrittenOut, IsLowered};
 
 use crate::present::Present;
-use crate::reached::Reached;
 use crate::table::Table;
 use crate::walk::Walk;
 use refute_tree::{Lemma, Reader, StepView, Steps};
 use std::alloc::{AllocError, Global};
 use stn_core::Problem;
 
-// Adds the step by the numbers of the problem's clauses and of the lemmas so far, if what it names is there.
+// Adds the step by the numbers of the problem's clauses, and of a cited lemma by its place among those before.
 fn push_step(
     present: &Present<'_>,
-    order: &Reached,
+    before: &[usize],
     step: StepView<'_>,
     steps: &mut Steps,
-) -> Result<bool, AllocError> {
+) -> Result<(), AllocError>
+    requires rises { Rises before.now }
+    requires closed { StepIsClosed (places present.now) before.now (step_seen step) }
+    ensures { OnOk result (AddsPlaced (places present.now) before.now (step_seen step.entry) steps.old steps.new) }
+{
     match step {
         StepView::Input(number) => {
-            let Some(i) = present.place(number) else {
-                return Ok(false);
-            };
-            steps.push_input(i)?;
+            let i = present.place(number).unwrap();
+            steps.push_input(i)
         }
         StepView::Clash(number) => {
-            let Some(i) = present.place(number) else {
-                return Ok(false);
-            };
-            steps.push_clash(i)?;
+            let i = present.place(number).unwrap();
+            steps.push_clash(i)
         }
         StepView::Lemma(number) => {
-            let Some(j) = order.place(number) else {
-                return Ok(false);
-            };
-            steps.push_lemma(j)?;
+            let j = before.binary_search(&number).unwrap();
+            steps.push_lemma(j)
         }
-        _ => steps.push(step)?,
+        StepView::Cycle(_) => steps.push(step),
+        StepView::Pair(_) => steps.push(step),
+        StepView::Either(_) => steps.push(step),
     }
-    Ok(true)
 }
 
 fn lowered_steps(
     alloc: Global,
     present: &Present<'_>,
-    order: &Reached,
+    before: &[usize],
     mut reader: Reader<'_>,
-) -> Result<Option<Steps>, AllocError> {
+) -> Result<Steps, AllocError>
+    requires rises { Rises before.now }
+    requires closed { All (StepIsClosed (places present.now) before.now) reader }
+    ensures { IfOk result (ArePlaced (places present.now) before.now reader.entry) }
+{
     let mut steps = Steps::new(alloc);
     'steps: while let Some(step) = reader.next() {
-        if !push_step(present, order, step, &mut steps)? {
-            return Ok(None);
-        }
+        push_step(present, before, step, &mut steps)?;
     }
     steps.shrink_to_fit();
-    Ok(Some(steps))
+    Ok(steps)
+}
+
+// The lemma whose number stands at this place, over those whose numbers stand before it.
+fn lowered_lemma(
+    alloc: Global,
+    table: &Table,
+    present: &Present<'_>,
+    numbers: &[usize],
+    i: usize,
+) -> Result<Lemma, AllocError>
+    requires i { i < length numbers.now }
+    requires whole { IsWhole table.now }
+    requires rises { Rises numbers.now }
+    requires closed { AreClosed table.now.lemmas.items (places present.now) numbers.now }
+    ensures { IfOk result (IsPlacedLemma table.now.lemmas.items (places present.now) (take i numbers.now)
+        (slice_index_or numbers.now i 0)) }
+{
+    let lemma = &table.lemmas[numbers[i]];
+    let steps = lowered_steps(alloc, present, &numbers[..i], lemma.steps.reader())?;
+    let clause = lemma.clause.copy()?;
+    Ok(Lemma { clause, steps })
 }
 
 // The lemmas with these numbers, of which each cites earlier ones alone.
@@ -63,39 +87,40 @@ fn lowered_lemmas(
     table: &Table,
     present: &Present<'_>,
     numbers: &[usize],
-) -> Result<Option<Vec<Lemma>>, AllocError> {
-    let mut order = Reached::new(alloc);
+) -> Result<Vec<Lemma>, AllocError>
+    requires whole { IsWhole table.now }
+    requires present { IsOf table.now present.now }
+    requires rises { Rises numbers.now }
+    requires closed { AreClosed table.now.lemmas.items (places present.now) numbers.now }
+    ensures { IfOk result (λ lemmas. AreWrittenOut present.now.clauses.now table.now.book table.now.lemmas.items
+        numbers.now lemmas.items) }
+{
     let mut lemmas = Vec::new(alloc);
-    for number in numbers {
-        let Some(lemma) = table.lemmas.get(*number) else {
-            return Ok(None);
-        };
-        let Some(steps) = lowered_steps(alloc, present, &order, lemma.steps.reader())? else {
-            return Ok(None);
-        };
-        let clause = lemma.clause.copy()?;
-        lemmas.push(Lemma { clause, steps })?;
-        order.add(*number)?;
+    for i in 0..numbers.len() {
+        let lemma = lowered_lemma(alloc, table, present, numbers, i)?;
+        lemmas.push(lemma)?;
     }
-    Ok(Some(lemmas))
+    Ok(lemmas)
 }
 
 /// The lemmas that the lemma of this number rests on, and itself as the last, by the numbers of the problem's clauses and
-/// of the lemmas before; none where it rests on a clause that isn't the problem's.
+/// of the lemmas before.
 pub fn lowered(
     alloc: Global,
     table: &Table,
     problem: &Problem,
     root: usize,
-) -> Result<Option<Vec<Lemma>>, AllocError>
+) -> Result<Vec<Lemma>, AllocError>
     requires table { IsWhole table.now }
     requires root { root < length table.now.lemmas.items }
+    requires active { is_active problem.now.clauses (facts_in table.now) root ≡ true }
+    ensures { IfOk result (λ lemmas. IsLowered problem.now.clauses table.now.book table.now.lemmas.items root
+        lemmas.items) }
 {
     let mut walk = Walk::new(alloc, table, problem)?;
-    if !walk.is_active(table, root)? {
-        return Ok(None);
-    }
+    let _active = walk.is_active(table, root)?;
     let mut numbers = walk.reached.to_vec(alloc)?;
     numbers.sort()?;
-    lowered_lemmas(alloc, table, &walk.present, numbers.as_slice())
+    let lemmas = lowered_lemmas(alloc, table, &walk.present, numbers.as_slice())?;
+    Ok(lemmas)
 }

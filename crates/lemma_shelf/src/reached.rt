@@ -52,11 +52,6 @@ impl Reached {
         Ok(())
     }
 
-    /// The place of a number, if it is there.
-    pub fn place(&self, number: usize) -> Option<usize> {
-        self.set.get_index_of(&number)
-    }
-
     /// The numbers, in the order in which they came.
     pub fn to_vec(&self, alloc: Global) -> Result<Vec<usize>, AllocError>
         ensures { IfOk result (λ numbers. numbers.items ≡ self.now) }

@@ -1,9 +1,10 @@
-ghost use Rattle.std.specs.Prelude.{◌≡◌, [], ◌∷◌, ◌++◌, length, OnOk, OnErr, IfOk};
+ghost use Rattle.std.specs.Prelude.{◌≡◌, ◌-◌, [], ◌∷◌, ◌++◌, length, map, OnOk, OnErr, IfOk, slice_get};
 ghost use Rattle.cert_check.specs.Flaws.{TellsFlaw};
 ghost use Rattle.kept_lemmas.specs.Entries.{AreRight};
 ghost use Rattle.kept_lemmas.specs.Facts.{facts_of};
 ghost use Rattle.lemma_shelf.specs.ItemFlaws.{items_flaw};
-ghost use Rattle.lemma_shelf.specs.Lowering.{Refutes};
+ghost use Rattle.lemma_shelf.specs.Lowering.{Refutes, StatesLast};
+ghost use Rattle.lemma_shelf.specs.WrittenOut.{last_of};
 ghost use Rattle.refute_tree.specs.Trees.{IsRefutation};
 
 use crate::check::check;
@@ -11,17 +12,25 @@ use crate::entry::add_items;
 use crate::laws::flaw_law;
 use crate::lowering::lowered;
 use crate::table::Table;
-use cert_check::{CheckError, check_refutation};
+use cert_check::CheckError;
 use kept_lemmas::{Item, usable_law};
 use refute_tree::Refutation;
 use std::alloc::{AllocError, Global};
 use std::marker::Model;
 use stn_core::Problem;
 
-// The number of the entry's last item.
-fn last_number(entries: &[Vec<usize>], entry: usize) -> Option<usize> {
-    let numbers = entries.get(entry)?;
+fn last_at(numbers: &[usize]) -> Option<usize>
+    ensures { result ≡ slice_get numbers.now (length numbers.now - 1) }
+{
     numbers.last().copied()
+}
+
+// The number of the entry's last item, if there is one.
+fn last_number(entries: &[Vec<usize>], entry: usize) -> Option<usize>
+    ensures { result ≡ last_of (map (λ n. n.items) entries.now) entry }
+{
+    let numbers = entries.get(entry)?;
+    last_at(numbers)
 }
 
 /// What the entries before the next one state and rest on.
@@ -137,9 +146,7 @@ impl Shelf {
     /// Its lemmas are those that the entry's last item needs, each once, in the order in which they came to the shelf:
     /// kept ones before the entry's own, and those that are cited before those that cite them. No literal is changed.
     ///
-    /// It goes over the problem's clauses once and over the steps of these lemmas, and `cert_check::check_refutation`
-    /// checks them before they are answered. The one error is want of memory; that is also the answer to lemmas that were
-    /// no refutation, which those of an entry that refutes the problem always are.
+    /// It goes over the problem's clauses once and over the steps of these lemmas once. The one error is want of memory.
     pub fn lower(
         &self,
         alloc: Global,
@@ -147,21 +154,11 @@ impl Shelf {
         entry: usize,
     ) -> Result<Refutation, AllocError>
         requires { Refutes self.now entry problem.now.points problem.now.clauses }
-        ensures { IfOk result (IsRefutation problem.now.points problem.now.clauses) }
+        ensures refutes { IfOk result (IsRefutation problem.now.points problem.now.clauses) }
+        ensures states { IfOk result (StatesLast self.now entry problem.now.clauses) }
     {
-        let Some(root) = last_number(self.entries.as_slice(), entry) else {
-            return Err(AllocError);
-        };
-        if root >= self.table.lemmas.len() {
-            return Err(AllocError);
-        }
-        let Some(lemmas) = lowered(alloc, &self.table, problem, root)? else {
-            return Err(AllocError);
-        };
-        let refutation = Refutation::new(lemmas);
-        match check_refutation(alloc, problem, &refutation) {
-            Ok(()) => Ok(refutation),
-            Err(_) => Err(AllocError),
-        }
+        let root = last_number(self.entries.as_slice(), entry).unwrap();
+        let lemmas = lowered(alloc, &self.table, problem, root)?;
+        Ok(Refutation::new(lemmas))
     }
 }

@@ -1,10 +1,11 @@
 //! Whether all that a lemma rests on is in a problem.
-ghost use Rattle.std.specs.Prelude.{◌≡◌, ◌<◌, true, length, Contains, OnOk, IfOk, IfSome};
+ghost use Rattle.std.specs.Prelude.{◌≡◌, ◌<◌, [], true, length, All, Contains, OnOk, IfOk, IfSome};
 ghost use Rattle.std.specs.List.{list_all};
 ghost use Rattle.std.specs.Vec.{vec_len};
 ghost use Rattle.refute_tree.specs.Views.{step_seen};
 ghost use Rattle.lemma_shelf.specs.Tables.{step_passes, with_cited, with_all_cited, AreClosed, is_active};
 ghost use Rattle.lemma_shelf.specs.Walks.{facts_in, IsWhole, places, IsOf, Knows};
+ghost use Rattle.lemma_shelf.specs.WrittenOut.{RestsOn};
 
 use crate::present::Present;
 use crate::reached::Reached;
@@ -66,6 +67,8 @@ fn reach(
     ensures active { IfOk result (λ b. b ≡ is_active present.now.clauses.now (facts_in table.now) root) }
     ensures closed { IfOk result (λ b. b ≡ true → AreClosed table.now.lemmas.items (places present.now) reached.new) }
     ensures there { IfOk result (λ b. b ≡ true → Contains reached.new root) }
+    ensures rests { IfOk result (λ b. b ≡ true → All (RestsOn table.now.lemmas.items root) reached.old
+        → All (RestsOn table.now.lemmas.items root) reached.new) }
 {
     let mut at = reached.len();
     reached.add(root)?;
@@ -89,7 +92,8 @@ pub struct Walk<'a> {
 impl<'a> Walk<'a> {
     /// Goes over the problem's clauses once.
     pub fn new(alloc: Global, table: &Table, problem: &'a Problem) -> Result<Self, AllocError>
-        ensures { IfOk result (Knows table.now problem.now.clauses) }
+        ensures knows { IfOk result (Knows table.now problem.now.clauses) }
+        ensures none { IfOk result (λ w. w.reached ≡ []) }
     {
         Ok(Walk {
             present: Present::new(alloc, &table.book, problem.clauses.as_slice())?,
@@ -107,6 +111,8 @@ impl<'a> Walk<'a> {
             (λ b. b ≡ is_active self.old.present.clauses.now (facts_in table.now) root) }
         ensures knows { IfOk result (λ b. b ≡ true → Knows table.now self.old.present.clauses.now self.new) }
         ensures there { IfOk result (λ b. b ≡ true → Contains self.new.reached root) }
+        ensures rests { IfOk result (λ b. b ≡ true → All (RestsOn table.now.lemmas.items root) self.old.reached
+            → All (RestsOn table.now.lemmas.items root) self.new.reached) }
     {
         let active = reach(table, &self.present, &mut self.reached, root)?;
         Ok(active)
