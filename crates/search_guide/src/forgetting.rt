@@ -71,6 +71,11 @@ impl Forgetting {
         Ok(())
     }
 
+    /// How many conflicts there were.
+    pub fn conflicts(&self) -> u64 {
+        self.conflicts
+    }
+
     pub fn count_conflict(&mut self) {
         self.conflicts = self.conflicts.saturating_add(1);
     }

@@ -17,6 +17,9 @@ use stn_core::{Literal, Problem, Value};
 /// Another's lemma of more literals isn't watched: the longer, the more seldom it says something.
 const MOST_SHARED: usize = 6;
 
+/// So many conflicts have targets: what ends sooner mostly has a schedule.
+const TARGET_CONFLICTS: u64 = 2_000;
+
 /// The hints of a search. It is told what happens on the trail (`set`, `unset`), what is learned
 /// (`add_lemma`) and what took part in conflicts (`bump`, `bump_clause`, `decay`, `after_conflict`), and
 /// answers what to look at. What it was told wrongly makes its hints worse, and nothing else.
@@ -275,6 +278,9 @@ impl Guide {
         if let Some(number) = self.probe() {
             return Some(number);
         }
+        if self.policy.saved_phases {
+            self.phases.note_sound(self.set);
+        }
         for _turn in 0..self.literals() {
             let number = self.activities.top()?.wrapping_mul(2);
             if self.assignment.truth(number) == Truth::Open {
@@ -376,6 +382,10 @@ impl Guide {
         if !self.probing.is_under_way() {
             self.restarts.count_conflict();
             self.forgetting.count_conflict();
+            self.phases.take_targets(&self.assignment);
+            if self.forgetting.conflicts() >= TARGET_CONFLICTS {
+                self.phases.end_targets();
+            }
         }
         let mut greatest = 0;
         let mut second = 0;

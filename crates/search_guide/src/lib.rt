@@ -18,6 +18,7 @@ mod phases;
 mod policy;
 mod probing;
 mod restarts;
+mod targets;
 mod watches;
 
 pub use clauses::Source;
