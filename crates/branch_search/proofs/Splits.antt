@@ -28,7 +28,7 @@ use Rattle.conflict_analysis.specs.Proved.{IsClauseOver}
 use Rattle.branch_search.specs.Search.{Question, all_lemmas, AreProved, IsSearch, IsStuckSearch, IsSearchSettled}
 use Rattle.branch_search.specs.Slices.{IsModel}
 use Rattle.branch_search.specs.Divisions.{IsLive, IsLiveAt, IsSearchLiveness, HasLive, AreSearchLive, IsSplit, Divides}
-use Rattle.conflict_analysis.proofs.Spines.{negation_twice}
+use Rattle.conflict_analysis.proofs.Shut.{negation_twice}
 use Rattle.branch_search.proofs.States.{state_pushed, stands_grown, stands_last}
 use Rattle.conflict_analysis.proofs.Denied.{denied_all}
 

@@ -1,7 +1,7 @@
-pub mod Links
-pub mod Spines
+pub mod Chosen
+pub mod Shut
 pub mod Written
 pub mod Passing
 pub mod Marks
-pub mod Analyzed
 pub mod Denied
+pub mod Analyzed

@@ -14,7 +14,6 @@ use Rattle.conflict_analysis.specs.declared.entry.Conflict.TheVariants.{Clause a
 use Rattle.conflict_analysis.specs.declared.entry.Role.{Role}
 use Rattle.conflict_analysis.specs.declared.entry.Role.TheVariants.{Unused, Kept, Resolved}
 use Rattle.conflict_analysis.specs.Trails.{literal_at, source_clause, pair_cycle, entry_at, on_trail, role_at, IsByClause, IsByCycle, Follows, Stands, IsReason, IsTrail, IsConflict, IsUsed, StandsUsed, IsClosed, IsMarkedMore, IsFirst, IsTurned, IsMarked, KeepsAll, DeniesKept, IsDenial}
-use Rattle.conflict_analysis.specs.Spines.{IsNamed, AreNamed, IsNamedBy}
 use Rattle.conflict_analysis.specs.Places.{ArePassed}
 use Rattle.conflict_analysis.proofs.Passing.{kept_used}
 use Rattle.std.specs.Prelude.{slice_index}
@@ -247,21 +246,6 @@ pair_others inputs lemmas cube trail k tighter given l h within e is a =
     let P : List Literal → Type 0 = λ ls. (q : ℕ) → q < length ls → (literal_at ls q ≡ negation_of l) ⊎ Stands trail k (literal_at ls q) in
     let Q : Literal → Type 0 = λ m. (q : ℕ) → q < length (pair_cycle tighter m) → (literal_at (pair_cycle tighter m) q ≡ negation_of m) ⊎ Stands trail k (literal_at (pair_cycle tighter m) q) in
     subst P (sym is) (subst Q (sym a) r.others)
-
--- the clauses that a trail names are there
-pub trail_named : (inputs lemmas : List (List Literal)) (cube : List Literal) (trail : List Entry) → IsTrail inputs lemmas cube trail → AreNamed inputs lemmas trail
-trail_named inputs lemmas cube trail h k lt = by (entry_at trail k).reason (h k lt)
-  where
-    by : (r : Reason) → IsReason inputs lemmas cube trail k (on_trail trail k) r → IsNamed inputs lemmas r
-    by Given g = tt
-    by Decision g = tt
-    by (ByClause source place) g = (g.known, g.within)
-    by (ByPair tighter) g = tt
-    by (ByCycle cycle) g = tt
-
-pub conflict_named : (inputs lemmas : List (List Literal)) (Good : Literal → Type 0) (conflict : Conflict) → IsConflict inputs lemmas Good conflict → IsNamedBy inputs lemmas conflict
-conflict_named inputs lemmas Good (OfClause source) h = h.0
-conflict_named inputs lemmas Good (OfCycle cycle) h = tt
 
 -- the literals of the learned clause
 pub denials_of : (inputs lemmas : List (List Literal)) (trail : List Entry) (whole : Bool) (first roles : List Role) (clause : List Literal) → IsMarked inputs lemmas trail whole 0 first roles → All (DeniesKept trail roles) clause → All (IsDenial trail whole) clause

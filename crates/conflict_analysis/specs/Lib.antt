@@ -1,4 +1,5 @@
 pub mod Trails
+pub mod Leaves
 pub mod Spines
 pub mod Proved
 pub mod Denials

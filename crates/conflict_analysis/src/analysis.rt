@@ -1,21 +1,23 @@
 //! From a conflict to a learned clause with its tree.
-ghost use Rattle.std.specs.Prelude.{◌≡◌, ◌≤◌, ℕ, List, [], length, All, IfOk};
+ghost use Rattle.std.specs.Prelude.{◌≡◌, ◌≤◌, ℕ, List, [], length, All, IfOk, false};
 ghost use Rattle.stn_core.specs.declared.literal.Literal.{Literal as Bound};
 ghost use Rattle.conflict_analysis.specs.declared.entry.Role.TheVariants.{Unused};
 ghost use Rattle.conflict_analysis.specs.Trails.{IsTrail, IsConflict, Stands, IsDenial, AreOver, KeepsAll};
 ghost use Rattle.conflict_analysis.specs.Trails.{DeniesKept};
 ghost use Rattle.conflict_analysis.specs.Trails.{role_at};
 ghost use Rattle.conflict_analysis.specs.Places.{ArePassed};
+ghost use Rattle.conflict_analysis.specs.Leaves.{at_leaves};
 ghost use Rattle.conflict_analysis.specs.Proved.{IsProved};
 
 use crate::citing::is_cited;
 use crate::entry::{Conflict, Entry, Level, Reason, Role};
+use crate::leaves::choose_leaves;
 use crate::marking::{Marks, mark_back, need_conflict};
 use crate::places::Places;
 use crate::reading::named;
 use crate::redundancy::Redundancy;
 use crate::spine::steps_for;
-use crate::tables::{Tables, Unmarked, unmark};
+use crate::tables::{NoLeaves, Tables, Unmarked, clear, unmark};
 use refute_tree::{Earlier, Lemma};
 use search_guide::Guide;
 use std::alloc::{AllocError, Global};
@@ -76,6 +78,15 @@ fn begin(
         root: root_end(trail, levels),
         redundancy,
     })
+}
+
+// A table in which no place of the trail stands at leaves.
+fn lend_leaves(alloc: Global, trail: &[Entry], tables: &mut Tables) -> Result<Vec<bool>, AllocError>
+    ensures count { IfOk result (λ leaves. length trail.now ≤ length leaves.items) }
+    ensures clean { IfOk result (λ leaves. (k : ℕ) → at_leaves leaves.items k ≡ false) }
+{
+    let none = mem::replace(&mut tables.no_leaves, NoLeaves::new(alloc));
+    none.into_leaves(trail.len())
 }
 
 fn is_resolved(marks: &Marks, k: usize) -> bool {
@@ -162,6 +173,17 @@ pub fn analyze<E: Earlier>(
         wanted_roots(problem, earlier, trail, &marks, guide, wanted)?;
     }
     let clause = kept_clause(alloc, trail, &marks.roles, &marks.passed)?;
+    let mut leaves = lend_leaves(alloc, trail, tables)?;
+    choose_leaves(
+        problem,
+        earlier,
+        trail,
+        &marks.roles,
+        &marks.passed,
+        guide,
+        conflict,
+        &mut leaves,
+    );
     let steps = steps_for(
         alloc,
         problem,
@@ -169,8 +191,11 @@ pub fn analyze<E: Earlier>(
         trail,
         &marks.roles,
         &marks.passed,
+        &leaves,
+        guide,
         conflict,
     )?;
+    tables.no_leaves = clear(leaves, &marks.passed);
     tables.unmarked = unmark(marks.roles, &marks.passed);
     tables.redundancy = marks.redundancy;
     Ok(Lemma {

@@ -12,6 +12,7 @@ mod analysis;
 mod citing;
 mod denial;
 mod entry;
+mod leaves;
 mod marking;
 mod places;
 mod reading;

@@ -1,7 +1,8 @@
 //! The tables that one conflict leaves to the next one, so that it costs what it rests on, and not the
 //! trail's length.
-ghost use Rattle.std.specs.Prelude.{◌≡◌, ◌≤◌, ◌<◌, ℕ, length, IfOk, [], slice_index};
+ghost use Rattle.std.specs.Prelude.{◌≡◌, ◌≤◌, ◌<◌, ℕ, length, IfOk, [], slice_index, true, false};
 ghost use Rattle.conflict_analysis.specs.Trails.{role_at, IsUsed};
+ghost use Rattle.conflict_analysis.specs.Leaves.{at_leaves, HasPassed};
 ghost use Rattle.conflict_analysis.specs.declared.entry.Role.TheVariants.{Unused};
 
 use crate::entry::Role;
@@ -48,9 +49,49 @@ pub fn unmark(mut roles: Vec<Role>, passed: &[usize]) -> Unmarked
     Unmarked { roles }
 }
 
+/// A table in which no place stands at leaves.
+#[derive(Drop)]
+pub struct NoLeaves {
+    leaves: Vec<bool>,
+    ghost clean: { (k : ℕ) → at_leaves leaves.items k ≡ false },
+}
+
+impl NoLeaves {
+    pub fn new(alloc: Global) -> Self {
+        NoLeaves {
+            leaves: Vec::new(alloc),
+        }
+    }
+
+    /// The table, for so many places at least.
+    pub fn into_leaves(self, count: usize) -> Result<Vec<bool>, AllocError>
+        ensures count { IfOk result (λ leaves. count ≤ length leaves.items) }
+        ensures clean { IfOk result (λ leaves. (k : ℕ) → at_leaves leaves.items k ≡ false) }
+    {
+        let mut leaves = self.leaves;
+        'leaves: while leaves.len() < count {
+            leaves.push(false)?;
+        }
+        Ok(leaves)
+    }
+}
+
+/// The table without the places that stand at leaves, all of which are among these.
+pub fn clear(mut leaves: Vec<bool>, passed: &[usize]) -> NoLeaves
+    requires { (k : ℕ) → at_leaves leaves.items k ≡ true → HasPassed passed.now 0 k }
+{
+    for k in passed {
+        if *k < leaves.len() {
+            leaves[*k] = false;
+        }
+    }
+    NoLeaves { leaves }
+}
+
 #[derive(Drop)]
 pub struct Tables {
     pub(crate) unmarked: Unmarked,
+    pub(crate) no_leaves: NoLeaves,
     pub(crate) redundancy: Redundancy,
 }
 
@@ -58,6 +99,7 @@ impl Tables {
     pub fn new(alloc: Global) -> Self {
         Tables {
             unmarked: Unmarked::new(alloc),
+            no_leaves: NoLeaves::new(alloc),
             redundancy: Redundancy::new(alloc),
         }
     }

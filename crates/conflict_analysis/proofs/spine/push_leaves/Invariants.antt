@@ -1,6 +1,10 @@
-use Rattle.std.proofs.Common.{◌≡◌, ◌++◌, map, take}
-use Rattle.conflict_analysis.specs.Spines.{two_cycle}
+use Rattle.std.proofs.Common.{◌≤◌}
+use Rattle.conflict_analysis.specs.Spines.{Grows, Assumes, AreShut}
 use Rattle.conflict_analysis.proofs.spine.push_leaves.Given as goal
 
-abbrev pub invariant-loop-l : goal.invariant-loop-l
-invariant-loop-l l = record { written : l.steps ≡ l.fn.steps ++ map two_cycle (take l.l-index l.literals) }
+abbrev pub invariant-loop-q : goal.invariant-loop-q
+invariant-loop-q g l = record {
+  high : l.q ≤ l.high;
+  low : l.low ≤ l.q;
+  grows : Grows l.fn.steps l.steps (AreShut l.problem.clauses (g.E.Earlier.clauses l.earlier) (Assumes l.trail l.roles l.leaves l.below) l.clause l.low l.q);
+}

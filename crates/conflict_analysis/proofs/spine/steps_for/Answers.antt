@@ -1,44 +1,26 @@
-use Rattle.std.proofs.Common.{arith, ◌≡◌, ◌∙◌, ◌-◌, ◌+◌, ℕ, List, length, subst, refl, suc}
+use Rattle.std.proofs.Common.{arith, ◌≡◌, ℕ, List, length, drop, subst, sym}
 use Rattle.refute_tree.specs.declared.step.Step.{Step}
-use Rattle.conflict_analysis.proofs.Written.{Opened, Closed, opened_none, opened_more, closed_none, closed_more, closed_all}
+use Rattle.conflict_analysis.specs.Spines.{AreOpened, Refutes}
+use Rattle.conflict_analysis.proofs.Written.{AreWritten, written_first, written_next, written_all}
 use Rattle.conflict_analysis.proofs.spine.steps_for.Goals as goal
-
-pub forth-init : goal.forth-init
-forth-init g c = record {
-  within = omega arith;
-  written = rw c.new-steps.ensures (opened_none c.args.problem.now.clauses (g.E.Earlier.clauses c.args.earlier.now)
-      c.args.trail.now c.args.roles.now (length c.args.trail.now) c.args.passed.now c.requires.passed);
-}
-
-pub forth-preserved : goal.forth-preserved
-forth-preserved g c = record {
-  within = omega (arith, c.forth.invariant.within);
-  written = opened_more c.args.problem.now.clauses (g.E.Earlier.clauses c.args.earlier.now) c.args.trail.now
-      c.args.roles.now (length c.args.trail.now) c.args.passed.now c.requires.passed (c.forth.left - 1) c.forth.left
-      c.forth.steps _ (omega (arith, c.forth-test.true)) c.forth.invariant.within c.forth.invariant.written
-      c.in_ok-push_opening_at.ensures;
-}
 
 pub back-init : goal.back-init
 back-init g c =
     let inputs = c.args.problem.now.clauses in
     let lemmas = g.E.Earlier.clauses c.args.earlier.now in
     let none : c.forth.left ≡ 0 = omega (arith, c.forth-test.false) in
-    let P : ℕ → Type 0 =
-    λ k. Opened inputs lemmas c.args.trail.now c.args.roles.now c.args.passed.now k c.forth.steps in
+    let P : ℕ → Type 0 = λ i. AreOpened inputs lemmas c.args.trail.now c.args.roles.now c.args.leaves.now (drop i c.args.passed.now) c.forth.steps in
+    let grows = c.in_ok-push_conflict.ensures in
     record {
-      written = closed_none inputs lemmas c.args.trail.now c.args.roles.now (length c.args.trail.now)
-          c.args.passed.now c.requires.passed c.args.conflict.now c.forth.steps _ refl
-          (subst P none c.forth.invariant.written) c.in_ok-push_conflict.ensures;
+      written = written_first inputs lemmas c.args.trail.now c.args.roles.now c.args.leaves.now c.args.passed.now c.requires.passed c.requires.closed c.requires.chosen c.forth.steps _ grows.0 (subst P none c.forth.invariant.opened) grows.1 grows.2;
     }
 
 pub back-preserved : goal.back-preserved
-back-preserved g c = record {
-  written = closed_more c.args.problem.now.clauses (g.E.Earlier.clauses c.args.earlier.now) c.args.trail.now
-      c.args.roles.now (length c.args.trail.now) c.args.passed.now c.requires.passed c.args.conflict.now c.back.i
-      (c.back.i + 1) c.back.steps _ (omega arith) (omega (arith, c.back-test.true)) c.back.invariant.written
-      c.in_ok-push_closing_at.ensures;
-}
+back-preserved g c =
+    let grows = c.in_ok-push_closing_at.ensures in
+    record {
+      written = written_next c.args.problem.now.clauses (g.E.Earlier.clauses c.args.earlier.now) c.args.trail.now c.args.roles.now c.args.leaves.now c.args.passed.now c.requires.passed c.requires.closed c.requires.chosen c.back.i c.back.steps _ grows.0 (omega (arith, c.back-test.true)) c.back.invariant.written grows.1 grows.2;
+    }
 
 pub returns : goal.returns
 returns g c =
@@ -46,8 +28,6 @@ returns g c =
     let lemmas = g.E.Earlier.clauses c.args.earlier.now in
     let end = c.back.auto.i-end in
     let all : c.back.i ≡ length c.args.passed.now = omega (arith, end, c.back-test.false) in
-    let P : ℕ → Type 0 = λ k. Closed inputs lemmas c.args.trail.now c.args.roles.now c.args.passed.now
-    c.args.conflict.now k c.back.steps in
-    c.shrink_to_fit.ensures
-    ∙ closed_all inputs lemmas c.args.trail.now c.args.roles.now (length c.args.trail.now) c.args.passed.now
-    c.requires.passed c.args.conflict.now c.back.steps (subst P all c.back.invariant.written)
+    let P : ℕ → Type 0 = λ i. AreWritten inputs lemmas c.args.trail.now c.args.roles.now c.args.leaves.now c.args.passed.now i c.back.steps in
+    let R : List Step → Type 0 = Refutes inputs lemmas c.args.trail.now c.args.roles.now in
+    subst R (sym c.shrink_to_fit.ensures) (written_all inputs lemmas c.args.trail.now c.args.roles.now c.args.leaves.now c.args.passed.now c.requires.passed c.requires.closed c.requires.chosen c.back.steps (subst P all c.back.invariant.written))

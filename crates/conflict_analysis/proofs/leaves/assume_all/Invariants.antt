@@ -1,0 +1,10 @@
+use Rattle.std.proofs.Common.{ℕ, ◌<◌}
+use Rattle.conflict_analysis.specs.Trails.{literal_at}
+use Rattle.conflict_analysis.specs.Leaves.{IsFewer, StandsAssumed}
+use Rattle.conflict_analysis.proofs.leaves.assume_all.Given as goal
+
+abbrev pub invariant-loop-q : goal.invariant-loop-q
+invariant-loop-q l = record {
+  fewer : IsFewer l.fn.leaves.items l.leaves.items;
+  assumed : (i : ℕ) → i < l.q → StandsAssumed l.trail l.roles l.leaves.items l.below (literal_at l.cycle i);
+}
