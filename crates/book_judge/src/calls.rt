@@ -1,9 +1,10 @@
 //! Calls on a book whose conditions are tested first.
-ghost use Rattle.std.specs.Prelude.{◌≡◌, ℕ, IfOk, IsTrue};
+ghost use Rattle.std.specs.Prelude.{◌≡◌, ◌↔◌, ℕ, IfOk, OnErr, IsTrue};
 ghost use Rattle.cover_tree.specs.Covers.{cube_at};
+ghost use Rattle.book_core.specs.declared.event.Event.TheVariants.{Release};
 ghost use Rattle.book_core.specs.Books.{IsHeldBy};
-ghost use Rattle.book_core.specs.Runs.{state_of};
-ghost use Rattle.book_judge.specs.Replies.{IsCubeOf};
+ghost use Rattle.book_core.specs.Runs.{state_of, with_event, Answers};
+ghost use Rattle.book_judge.specs.Replies.{DeliversIf, IsCubeOf};
 
 use crate::judging::{Fault, judge};
 use book_core::{Answer, Book, Outcome};
@@ -12,6 +13,8 @@ use std::alloc::{AllocError, Global};
 
 /// As `Book::take`.
 pub fn take_cube(book: &mut Book, seat: u32) -> Result<Answer, AllocError>
+    ensures ok { IfOk result (λ answer. Answers book.old seat answer book.new) }
+    ensures err { OnErr result (book.new ≡ book.old) }
     ensures cube { IfOk result (IsCubeOf (state_of book.new).cover) }
     ensures kept { (k : ℕ) → cube_at (state_of book.new).cover k ≡ cube_at (state_of book.old).cover k }
 {
@@ -21,7 +24,7 @@ pub fn take_cube(book: &mut Book, seat: u32) -> Result<Answer, AllocError>
 
 /// Whether the seat holds the cube.
 fn is_holder(book: &Book, seat: u32, id: usize) -> bool
-    ensures { IsTrue result → IsHeldBy (state_of book.now) id seat }
+    ensures { IsTrue result ↔ IsHeldBy (state_of book.now) id seat }
 {
     match book.holder(id) {
         Some(holder) => holder == seat,
@@ -30,7 +33,7 @@ fn is_holder(book: &Book, seat: u32, id: usize) -> bool
 }
 
 /// Delivers of the cube that was taken what is justified, where the seat holds it, and says whether that was
-/// so.
+/// so. Else the book stays as it was.
 pub fn deliver_justified(
     alloc: Global,
     book: &mut Book,
@@ -40,6 +43,8 @@ pub fn deliver_justified(
     outcome: Outcome,
 ) -> Result<bool, AllocError>
     requires { IsCubeOf (state_of book.old).cover taken.now }
+    ensures ok { IfOk result (λ told. DeliversIf told book.old seat taken.now batch outcome book.new) }
+    ensures err { OnErr result (book.new ≡ book.old) }
 {
     let Answer::Cube(id, cube) = taken else {
         return Ok(false);
@@ -67,7 +72,10 @@ pub fn deliver_justified(
 }
 
 /// Gives the cube back, where the seat holds it.
-pub fn release_held(book: &mut Book, seat: u32, id: usize) {
+pub fn release_held(book: &mut Book, seat: u32, id: usize)
+    ensures held { IsHeldBy (state_of book.old) id seat → book.new ≡ with_event book.old (Release seat id) }
+    ensures other { (IsHeldBy (state_of book.old) id seat → ⊥) → book.new ≡ book.old }
+{
     if is_holder(book, seat, id) {
         book.release(seat, id);
     }
