@@ -1,5 +1,5 @@
 //! One short run of each public call that takes memory and that no script reaches, with ample memory: of nets and batches,
-//! cycles, pruning, covers, refutation trees and the checker.
+//! cycles, pruning, covers, refutation trees, the checker and its shelf.
 #![tactic(auto)]
 
 #[cfg(test)]
@@ -16,6 +16,8 @@ mod cycles;
 mod lemmas;
 #[cfg(test)]
 mod nets;
+#[cfg(test)]
+mod shelves;
 #[cfg(test)]
 mod steps;
 #[cfg(test)]

@@ -124,3 +124,34 @@ fn differences_beyond_128_bits(rt: HostRuntime) -> Result<(), Fail> {
     );
     Ok(())
 }
+
+/// The most points that a problem, a net and `greatest` take.
+const MOST_POINTS: u32 = 2_097_152;
+
+/// The last point at least three behind the zero point.
+fn far() -> Literal
+    ensures { IsOver MOST_POINTS result }
+{
+    Literal {
+        x: 0,
+        y: MOST_POINTS - 1,
+        c: -3,
+    }
+}
+
+/// The value of the zero point then, and how many points have one.
+fn farthest<N: Net>(net: &mut N) -> Result<(Option<Value>, usize), AllocError>
+    requires { N.points_of net.old ≡ MOST_POINTS }
+{
+    net.add(far())?;
+    let values = net.schedule();
+    Ok((values.first().copied(), values.len()))
+}
+
+#[test]
+fn as_many_points_as_there_may_be(rt: HostRuntime) -> Result<(), Fail> {
+    let alloc = rt.alloc();
+    let fast = farthest(&mut Network::new(alloc, MOST_POINTS)?)?;
+    assert_eq!(rt; fast, (Some(-3), 2_097_152));
+    Ok(())
+}

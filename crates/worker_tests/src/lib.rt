@@ -1,5 +1,11 @@
-//! A problem that workers on threads share, with ample memory.
+//! A problem that workers on threads share, with ample memory, and the hands of a pool.
 #![tactic(auto)]
 
 #[cfg(test)]
+mod hands;
+#[cfg(test)]
+mod journal;
+#[cfg(test)]
 mod shared;
+#[cfg(test)]
+mod threads;

@@ -14,7 +14,7 @@ const THIRD: [Literal; 2] = [Literal { x: 5, y: 6, c: -1 }, Literal { x: 6, y: 5
 const FOURTH: [Literal; 2] = [Literal { x: 7, y: 8, c: -1 }, Literal { x: 8, y: 7, c: -1 }];
 
 /// Four pairs of points, each in one of two orders.
-fn four_pairs(alloc: Global) -> Result<Problem, AllocError> {
+pub(crate) fn four_pairs(alloc: Global) -> Result<Problem, AllocError> {
     let first = Clause::new(FIRST.to_vec(alloc)?);
     let second = Clause::new(SECOND.to_vec(alloc)?);
     let third = Clause::new(THIRD.to_vec(alloc)?);
@@ -23,7 +23,7 @@ fn four_pairs(alloc: Global) -> Result<Problem, AllocError> {
     Ok(Problem { points: 9, clauses })
 }
 
-fn is_sat(verdict: &Verdict) -> bool {
+pub(crate) fn is_sat(verdict: &Verdict) -> bool {
     match verdict {
         Verdict::Sat(_) => true,
         Verdict::Unsat(_) => false,
