@@ -1,5 +1,5 @@
 //! The lexer.
-ghost use Rattle.std.specs.Prelude.{◌≡◌, List, ℕ, Option, Result, Some, None, Ok, Err, length, ◌≤◌, ◌<◌};
+ghost use Rattle.std.specs.Prelude.{◌≡◌, List, ℕ, Option, Result, Some, None, Ok, Err, length, ◌≤◌, ◌<◌, ◌+◌};
 ghost use Rattle.smt_lex.specs.declared.token.Token.{Token};
 ghost use Rattle.smt_lex.specs.declared.token.LexError.{LexError};
 ghost use Rattle.smt_lex.specs.Lexing.{err_of};
@@ -58,6 +58,22 @@ impl<'a> Lexer<'a> {
         ensures { result.now ≡ self.now.bytes }
     {
         self.bytes
+    }
+
+    /// The place up to which the bytes were read.
+    pub fn place(&self) -> usize
+        ensures place { result ≡ self.now.place }
+        ensures within { result ≤ length self.now.bytes }
+    {
+        self.place
+    }
+
+    /// Goes past so many bytes without a look at them.
+    pub fn skip(&mut self, count: usize)
+        requires { self.old.place + count ≤ length self.old.bytes }
+        ensures { self.new ≡ record self.old { place = self.old.place + count } }
+    {
+        self.place += count;
     }
 
     /// The error that it gave, and gives again, if it gave one.
