@@ -90,7 +90,7 @@ step_back One (Clash i) h = absurd h
 step_back Two (Clash i) h = rw (index_back i h) refl
 step_back version (Either l) h = rw (bound_back l h) refl
 
-item_back : (version : Version) (item : Item) → ItemFits version item → item_of version (item_sexpr item) ≡ Some item
+pub item_back : (version : Version) (item : Item) → ItemFits version item → item_of version (item_sexpr item) ≡ Some item
 item_back version (Own l) h = rw (literals_back l.clause h.clause, each_back (step_of version) step_sexpr (StepFits version) (step_back version) l.steps h.steps) refl
 item_back One (Keep k) h = absurd h
 item_back Two (Keep k) h = rw (index_back k.entry h.0, index_back k.item h.1) refl

@@ -10,3 +10,4 @@ pub mod WrittenBack
 pub mod NumeralTexts
 pub mod OnlyForms
 pub mod LemmaForms
+pub mod QuickTexts

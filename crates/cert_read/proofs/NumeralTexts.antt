@@ -31,7 +31,7 @@ apart_from m n apart = elim (cases_lt m n) [
   | inr high ↦ elim (cases_lt n m) [ inl below ↦ inr below | inr low ↦ absurd (apart (omega arith)) ]
 ]
 
-digit_is : (b : ℕ) → is_ascii_digit b ≡ true → (48 ≤ b) × (b ≤ 57)
+pub digit_is : (b : ℕ) → is_ascii_digit b ≡ true → (48 ≤ b) × (b ≤ 57)
 digit_is b h = (grind (arith, nat_tests, h), grind (arith, nat_tests, h))
 
 map_push : (ds : List ℕ) (d : ℕ) → map (λ x. 48 + x) (ds ++ d ∷ []) ≡ map (λ x. 48 + x) ds ++ (48 + d) ∷ []

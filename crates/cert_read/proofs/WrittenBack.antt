@@ -41,7 +41,7 @@ module _ (bytes gap : List ℕ) (closed : IsClosedGap gap) (place there : ℕ) (
         subst (λ (start : ℕ). ReadsBehind bytes start r after) at behind,
       )
 
-  spells_before : (x : Sexpr) (after : ℕ) → Spells bytes there x after → Spells bytes place x after
+  pub spells_before : (x : Sexpr) (after : ℕ) → Spells bytes there x after → Spells bytes place x after
   unfolding Spells
   spells_before (leaf kind text) after (t, p, tk, l, r, is) = (t, reads_before (Ok (Some t)) after p, tk, l, r, is)
   spells_before (list xs) after (opening, mid, last, closing, p, l, each, c, k) = (opening, mid, last, closing, reads_before (Ok (Some opening)) mid p, l, each, c, k)

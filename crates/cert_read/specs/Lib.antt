@@ -4,6 +4,7 @@ pub mod Written
 pub mod WorkedForms
 pub mod Shapes
 pub mod Lines
+pub mod Quick
 pub mod Laws
 pub use Rattle.smt_lex.specs.Grammar
 pub use Rattle.smt_lex.specs.Lexing

@@ -5,6 +5,9 @@
 //! and `specs/Certificates.antt` which texts are certificates, and why another is refused. The laws: a text is one thing
 //! at most ([`one_certificate`]), what was written is read again ([`certificate_reads_back`]), and nothing but the form of
 //! an entry is read as one ([`only_entries`]).
+//!
+//! Lemmas in the form in which they are written, and places of kept ones, are read straight from the bytes (`quick.rt`), up
+//! to the first item that has another form; from there on each item is read as an s-expression.
 #![tactic(auto)]
 
 mod certificate;
@@ -13,6 +16,7 @@ mod laws;
 mod line;
 mod number;
 mod part;
+mod quick;
 
 pub use certificate::{Certificate, header_version, read_certificate, read_entries};
 pub use error::{CertReadError, CertificateRefusal};

@@ -1,19 +1,20 @@
 //! What stands in place of an entry, read item by item: the table never holds more than one item of the entry.
 ghost use Rattle.std.specs.Prelude.{◌≡◌, ◌^◌, ◌-◌, ◌<◌, ◌≤◌, length, None};
-ghost use Rattle.std.specs.Prelude.{IfOk, OnOk, IfErr};
+ghost use Rattle.std.specs.Prelude.{IfOk, OnOk, IfErr, IfSome, IsNone, IsSome};
 ghost use Rattle.smt_sexpr.specs.Tree.{Sexpr, Items as Several, none};
 ghost use Rattle.smt_sexpr.specs.Table.{Means, HasMeaning};
 ghost use Rattle.cert_read.specs.Certificates.{ErrorSays, RefusesBehind};
 ghost use Rattle.cert_read.specs.Lines.{LineIs, IsNext, Closed, NeverCloses, IsListOf, LacksList, HasItems};
+ghost use Rattle.cert_read.specs.Quick.{ReadsOne, ReadsTo};
 ghost use Rattle.cert_read.specs.Lines.{head_of, IsLineOf, IsNoLine, IfIllFormed};
 
 use crate::error::{CertReadError, CertificateRefusal, PartError};
-use crate::part::Part;
+use crate::quick::Quick;
 use cert_text::{FileEntry, Version};
 use kept_lemmas::Items;
 use smt_lex::{Lexer, TokenKind};
 use smt_sexpr::{SexprError, SexprId, SexprRefusal, Sexprs};
-use std::alloc::Global;
+use std::alloc::{AllocError, Global};
 use stn_core::NamedValues;
 
 /// What stands in place of an entry.
@@ -84,10 +85,53 @@ fn skip_items(table: &mut Sexprs, lexer: &mut Lexer) -> Result<(), PartError>
     Ok(())
 }
 
+/// The item that is next, where it can be read straight from the bytes; else the lexer stays.
+fn quick_item<T: Quick>(
+    alloc: Global,
+    version: Version,
+    lexer: &mut Lexer,
+) -> Result<Option<T>, AllocError>
+    ensures some { IfOk result (λ o. IfSome o (λ part.
+        ReadsOne (T.meant version) lexer.old.bytes lexer.old.place part lexer.new.place)) }
+    ensures none { IfOk result (λ o. IsNone o → lexer.new ≡ lexer.old) }
+    ensures failed { lexer.new.failed ≡ lexer.old.failed }
+    ensures forward { IfOk result (λ o. IsSome o → lexer.old.place < lexer.new.place) }
+    ensures within { OnOk result (lexer.new.place ≤ length lexer.new.bytes) }
+    ensures lexer_bytes { lexer.new.bytes ≡ lexer.old.bytes }
+{
+    smt_sexpr::reads_back();
+    let bytes = &lexer.bytes()[lexer.place()..];
+    match T::quick(alloc, version, bytes)? {
+        Some((part, rest)) => {
+            lexer.skip(bytes.len() - rest.len());
+            Ok(Some(part))
+        }
+        None => Ok(None),
+    }
+}
+
+/// The items of an open list up to the first one that can't be read straight from the bytes.
+fn quick_items<T: Quick + Drop>(
+    alloc: Global,
+    version: Version,
+    lexer: &mut Lexer,
+) -> Result<Vec<T>, AllocError>
+    ensures items { IfOk result (λ parts.
+        ReadsTo (T.meant version) lexer.old.bytes lexer.old.place parts.items lexer.new.place) }
+    ensures failed { OnOk result (lexer.new.failed ≡ lexer.old.failed) }
+    ensures lexer_bytes { lexer.new.bytes ≡ lexer.old.bytes }
+{
+    let mut parts = Vec::new(alloc);
+    while let Some(part) = quick_item(alloc, version, lexer)? {
+        parts.push(part)?;
+    }
+    Ok(parts)
+}
+
 /// What the items of an open list stand for, to the list's end.
 ///
 /// A list with an item that stands for nothing is read to its end too, since it may have none.
-fn read_items<T: Part + Drop>(
+fn read_items<T: Quick + Drop>(
     alloc: Global,
     version: Version,
     table: &mut Sexprs,
@@ -102,7 +146,7 @@ fn read_items<T: Part + Drop>(
     ensures lexer_bytes { lexer.new.bytes ≡ lexer.old.bytes }
     ensures table_bytes { table.new.bytes ≡ table.old.bytes }
 {
-    let mut parts = Vec::new(alloc);
+    let mut parts = quick_items(alloc, version, lexer)?;
     while let Some(id) = next_item(table, lexer)? {
         match T::read(alloc, version, table, id) {
             Ok(part) => parts.push(part)?,

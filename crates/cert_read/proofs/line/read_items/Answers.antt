@@ -1,13 +1,13 @@
 use Rattle.std.proofs.Common.{◌∙◌, refl, rules}
-use Rattle.cert_read.proofs.ItemByItem.{lacks_any, next_some, read_starts, read_more, read_breaks, read_breaks_behind, read_lacks}
+use Rattle.cert_read.proofs.ItemByItem.{lacks_any, next_some, read_more, read_breaks, read_breaks_behind, read_lacks}
 use Rattle.cert_read.proofs.line.read_items.Goals as goal
 
 pub loop-parts-init : goal.loop-parts-init
 loop-parts-init g c = record {
-  fresh = c.requires.fresh;
-  lexer_bytes = refl;
+  fresh = c.in_ok-parts.ensures.failed ∙ c.requires.fresh;
+  lexer_bytes = c.quick_items.ensures.lexer_bytes;
   table_bytes = refl;
-  read = rw c.new-parts.ensures.items (read_starts c.args.lexer.now.bytes (g.T.Part.meant c.args.version) c.args.lexer.now.place);
+  read = c.in_ok-parts.ensures.items;
 }
 
 pub returns-in_err-id-clause-err : goal.returns-in_err-id-clause-err
