@@ -1,7 +1,7 @@
 //! How far what begins at the front of the bytes goes.
-ghost use Rattle.std.specs.Prelude.{◌≡◌, ◌≤◌, length, true, false, IfSome};
+ghost use Rattle.std.specs.Prelude.{◌≡◌, ◌==◌, ◌≤◌, codes, length, true, false, IfSome};
 ghost use Rattle.std.specs.Char.{is_ascii_digit, is_ascii_hexdigit};
-ghost use Rattle.std.specs.List.{prefix_len};
+ghost use Rattle.std.specs.List.{list_any, prefix_len};
 ghost use Rattle.smt_lex.specs.Bytes.{is_space, is_line_end, is_binary_digit, is_symbol_byte, is_quoted_byte};
 ghost use Rattle.smt_lex.specs.Grammar.{LongestGap};
 ghost use Rattle.smt_lex.specs.Scan.{gap_len, text_len};
@@ -22,12 +22,37 @@ pub fn is_line_end(byte: u8) -> bool
     byte == b'\n' || byte == b'\r'
 }
 
+/// A mark that may stand in a simple symbol.
+#[inline(always)]
+fn is_symbol_mark(byte: u8) -> bool
+    ensures { result ≡ list_any (λ x. x == byte) (codes "~!@$%^&*_-+=<>.?/") }
+{
+    byte == b'~'
+        || byte == b'!'
+        || byte == b'@'
+        || byte == b'$'
+        || byte == b'%'
+        || byte == b'^'
+        || byte == b'&'
+        || byte == b'*'
+        || byte == b'_'
+        || byte == b'-'
+        || byte == b'+'
+        || byte == b'='
+        || byte == b'<'
+        || byte == b'>'
+        || byte == b'.'
+        || byte == b'?'
+        || byte == b'/'
+}
+
 /// May stand in a simple symbol.
+#[inline(always)]
 #[tactic(auto, unfolding(crate::specs::Bytes::is_symbol_byte))]
 pub fn is_symbol_byte(byte: u8) -> bool
     ensures { result ≡ is_symbol_byte byte }
 {
-    byte.is_ascii_alphanumeric() || b"~!@$%^&*_-+=<>.?/".contains(&byte)
+    byte.is_ascii_alphanumeric() || is_symbol_mark(byte)
 }
 
 /// A digit `0` or `1`.
