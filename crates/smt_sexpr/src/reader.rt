@@ -1,4 +1,4 @@
-//! The reader: one s-expression from a lexer, with the open lists on a stack of its own.
+//! The reader: one s-expression from a lexer, with the open lists on a stack in place of recursion.
 ghost use Rattle.std.specs.Prelude.{◌≡◌, ◌-◌, ◌≤◌, ◌<◌, ◌++◌, ◌∷◌, [], length, take, drop, List, ℕ, OnOk, OnErr, IfOk, IfErr, Ok, Some, None};
 ghost use Rattle.smt_sexpr.specs.Table.{Grows, table_of};
 ghost use Rattle.smt_sexpr.specs.Reading.{Finds, failed_of};
@@ -6,11 +6,10 @@ ghost use Rattle.smt_sexpr.specs.Reading.{Finds, failed_of};
 use crate::error::{SexprError, SexprRefusal};
 use crate::node::{Node, SexprId};
 use smt_lex::{Lexer, TokenKind};
-use std::alloc::Global;
 
 /// An open list: the place of its parenthesis, and where its items begin among those that are pending.
 #[derive(Clone, Copy)]
-struct Frame {
+pub(crate) struct Frame {
     place: usize,
     first: usize,
 }
@@ -41,14 +40,18 @@ fn close_list(
     Ok(id)
 }
 
-/// Reads one s-expression from the lexer. What it finds is put behind what the table has.
+/// Reads one s-expression from the lexer. What it finds is put behind what the table has. The lists that are open stand on the stack,
+/// and their items among those that are pending; both are empty before.
 pub(crate) fn read(
-    alloc: Global,
+    stack: &mut Vec<Frame>,
+    pending: &mut Vec<SexprId>,
     nodes: &mut Vec<Node>,
     items: &mut Vec<SexprId>,
     lexer: &mut Lexer,
 ) -> Result<Option<SexprId>, SexprError>
-    requires { lexer.old.failed ≡ None }
+    requires stack { stack.old.items ≡ [] }
+    requires pending { pending.old.items ≡ [] }
+    requires fresh { lexer.old.failed ≡ None }
     ensures finds { Finds (table_of lexer.old.bytes nodes.new.items items.new.items)
         lexer.old.place result lexer.new.place }
     ensures failed { lexer.new.failed ≡ failed_of result }
@@ -59,8 +62,6 @@ pub(crate) fn read(
     ensures forward { (id : ℕ) → result ≡ Ok (Some id) → lexer.old.place < lexer.new.place }
     ensures within { lexer.new.place ≤ length lexer.new.bytes }
 {
-    let mut stack: Vec<Frame> = Vec::new(alloc);
-    let mut pending: Vec<SexprId> = Vec::new(alloc);
     'tokens: loop {
         let token = match lexer.next() {
             Err(error) => return Err(SexprError::Refused(SexprRefusal::Lex(error))),
@@ -85,7 +86,7 @@ pub(crate) fn read(
             }
             TokenKind::Right => match stack.pop() {
                 None => return Err(SexprError::Refused(SexprRefusal::StrayClose(token.start))),
-                Some(frame) => close_list(nodes, items, &mut pending, frame.first)?,
+                Some(frame) => close_list(nodes, items, pending, frame.first)?,
             },
             _ => {
                 let leaf = nodes.len();

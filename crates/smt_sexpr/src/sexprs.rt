@@ -11,7 +11,7 @@ ghost use Rattle.smt_sexpr.specs.Shapes.{is_symbol, HeadIs};
 use crate::error::{SexprError, SexprRefusal};
 use crate::node::{Node, SexprId};
 use crate::printer::write;
-use crate::reader::read;
+use crate::reader::{Frame, read};
 use crate::text::leaf_text;
 use smt_lex::{Lexer, TokenKind};
 use std::alloc::{AllocError, Global};
@@ -26,6 +26,9 @@ pub struct Sexprs<'a> {
     bytes: &'a [u8],
     nodes: Vec<Node>,
     items: Vec<SexprId>,
+    /// Room for the lists that are open while one is read, and for their items.
+    stack: Vec<Frame>,
+    pending: Vec<SexprId>,
 }
 
 impl<'a> Model for Sexprs<'a> {
@@ -46,6 +49,8 @@ impl<'a> Sexprs<'a> {
             bytes,
             nodes: Vec::new(alloc),
             items: Vec::new(alloc),
+            stack: Vec::new(alloc),
+            pending: Vec::new(alloc),
         }
     }
 
@@ -74,7 +79,15 @@ impl<'a> Sexprs<'a> {
         let lexer_before = lexer.copy();
         let nodes_before = self.nodes.len();
         let items_before = self.items.len();
-        let result = read(self.alloc, &mut self.nodes, &mut self.items, lexer);
+        self.stack.clear();
+        self.pending.clear();
+        let result = read(
+            &mut self.stack,
+            &mut self.pending,
+            &mut self.nodes,
+            &mut self.items,
+            lexer,
+        );
         if result.is_err() {
             self.nodes.truncate(nodes_before);
             self.items.truncate(items_before);

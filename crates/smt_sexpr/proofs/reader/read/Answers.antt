@@ -7,24 +7,27 @@ use Rattle.std.specs.Prelude.{slice_get}
 use Rattle.smt_sexpr.specs.declared.reader.Frame.{Frame}
 use Rattle.smt_sexpr.proofs.TableGrowth.{get_none, get_some}
 use Rattle.smt_sexpr.proofs.reader.read.Goals as goal
-use Rattle.smt_sexpr.proofs.reader.read.Goals.{Joined-token, in-Right+in-Some-pop+in_ok-id-in-Some-pop, in_default+in_ok-push-in_default, in-None, in-Some}
+use Rattle.smt_sexpr.proofs.reader.read.Goals.{Joined-token, in-Right+in-Some-pop+in_ok-id-in-Some-pop, in_default+in_ok-push-in_default}
 
 pub tokens-init : goal.tokens-init
-tokens-init c = reading_starts c.args.lexer.now c.args.nodes.now.items c.args.items.now.items c.new-stack.result.items c.new-pending.result.items c.requires c.new-stack.ensures.items c.new-pending.ensures.items
+tokens-init c = reading_starts c.args.lexer.now c.args.nodes.now.items c.args.items.now.items c.args.stack.now.items c.args.pending.now.items c.requires.fresh c.requires.stack c.requires.pending
 
 pub returns-in-Err-clause-finds : goal.returns-in-Err-clause-finds
 returns-in-Err-clause-finds c =
     let a = answered c.tokens.lexer c.next.new.self c.next.result (Err c.in-Err.error) c.next.ensures.bytes c.next.ensures.reads c.next.ensures.failed c.tokens.invariant.fresh (cc) in
     (c.tokens.lexer.place, reading_within _ _ _ _ _ _ _ c.tokens.invariant, read_here c.args.lexer.now c.tokens.lexer c.next.new.self (Err c.in-Err.error) c.tokens.invariant.bytes a)
 
-pub returns-in-Ok-None-clause-finds : goal.returns-in-Ok-None-clause-finds
-returns-in-Ok-None-clause-finds c =
+pub returns-in-None-clause-finds : goal.returns-in-None-clause-finds
+returns-in-None-clause-finds c =
     let a = answered c.tokens.lexer c.next.new.self c.next.result (Ok None) c.next.ensures.bytes c.next.ensures.reads c.next.ensures.failed c.tokens.invariant.fresh (cc) in
     let here = read_here c.args.lexer.now c.tokens.lexer c.next.new.self (Ok None) c.tokens.invariant.bytes a in
-    elim c.match-first.branch [
-      | in-None w ↦ rw w.result-is (rw (reading_alone _ _ _ _ _ _ _ c.tokens.invariant (get_none c.tokens.stack.items (ap (λ (xs : List Frame). slice_get xs 0) (sym c.deref.ensures.value) ∙ sym w.in-None.ensures.value))) here)
-      | in-Some w ↦ rw w.result-is (c.tokens.lexer.place, reading_open _ _ _ _ _ _ _ _ _ c.tokens.invariant (get_some c.tokens.stack.items _ (ap (λ (xs : List Frame). slice_get xs 0) (sym c.deref.ensures.value) ∙ sym w.in-Some.ensures.value)), here)
-    ]
+    rw (reading_alone _ _ _ _ _ _ _ c.tokens.invariant (get_none c.tokens.stack.items (ap (λ (xs : List Frame). slice_get xs 0) (sym c.deref.ensures.value) ∙ sym c.in-None.ensures.value))) here
+
+pub returns-in-Some-clause-finds : goal.returns-in-Some-clause-finds
+returns-in-Some-clause-finds c =
+    let a = answered c.tokens.lexer c.next.new.self c.next.result (Ok None) c.next.ensures.bytes c.next.ensures.reads c.next.ensures.failed c.tokens.invariant.fresh (cc) in
+    let here = read_here c.args.lexer.now c.tokens.lexer c.next.new.self (Ok None) c.tokens.invariant.bytes a in
+    (c.tokens.lexer.place, reading_open _ _ _ _ _ _ _ _ _ c.tokens.invariant (get_some c.tokens.stack.items _ (ap (λ (xs : List Frame). slice_get xs 0) (sym c.deref.ensures.value) ∙ sym c.in-Some.ensures.value)), here)
 
 pub tokens-preserved-in-Left : goal.tokens-preserved-in-Left
 tokens-preserved-in-Left c =
