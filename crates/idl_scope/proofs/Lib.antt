@@ -2,3 +2,4 @@ pub mod NamesKept
 pub mod NamesFound
 pub mod LocalsKept
 pub mod CasesUnfolded
+pub mod ShortKeys

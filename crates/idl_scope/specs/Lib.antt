@@ -4,5 +4,6 @@ pub mod CaseTrees
 pub mod CaseShapes
 pub mod Scopes
 pub mod Kept
+pub mod Keys
 pub mod LocalNames
 pub use Rattle.idl_linear.specs.Linear

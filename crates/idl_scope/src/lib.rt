@@ -2,6 +2,7 @@
 #![tactic(auto)]
 
 mod cases;
+mod key;
 mod locals;
 mod lowered;
 mod names;

@@ -1,8 +1,12 @@
 //! The declared names.
-ghost use Rattle.std.specs.Prelude.{◌≡◌, ◌≤◌, ◌<◌, [], length, take, slice_get, Some, IfSome, IfOk, OnErr};
+ghost use Rattle.std.specs.Prelude.{◌≡◌, ◌≤◌, ◌<◌, ℕ, List, [], length, take, is_some, slice_get, Some, IfSome, IfOk, OnErr};
+ghost use Rattle.std.specs.List.{list_any, position};
+ghost use Rattle.std.specs.Str.{bytes_eq};
+ghost use denote.Ref.{Bor};
 ghost use Rattle.idl_scope.specs.Kept.{Adds, found_place, names_of};
 ghost use Rattle.idl_scope.specs.Scopes.{found_declared, sorts_of};
 
+use crate::key::Key;
 use idl_node::Sort;
 use indexmap::IndexSet;
 use std::alloc::{AllocError, Global};
@@ -11,7 +15,7 @@ use std::marker::Model;
 /// The declared names in order of declaration, with their sorts, found by hash. They are borrowed from the script.
 #[derive(Drop)]
 pub struct Names<'a> {
-    set: IndexSet<&'a [u8]>,
+    set: IndexSet<Key<'a>>,
     /// Of each name, in the same order.
     sorts: Vec<Sort>,
 }
@@ -26,6 +30,15 @@ impl<'a> Model for Names<'a> {
     ghost view = { λ n. declarations_of (map (λ k. k.now) n.set.keys) n.sorts.items };
 
     ghost invariant = { λ n. length n.set.keys ≡ length n.sorts.items };
+}
+
+/// The place of a name in a set of names.
+fn place_of(set: &IndexSet<Key>, name: &[u8]) -> Option<usize>
+    ensures index { result ≡ position (λ (k : Bor (List ℕ)). bytes_eq name.now k.now) set.now.keys }
+    ensures found { is_some result ≡ list_any (λ (k : Bor (List ℕ)). bytes_eq name.now k.now) set.now.keys }
+    ensures within { IfSome result (λ k. k < length set.now.keys) }
+{
+    set.get_index_of(&Key::new(name))
 }
 
 impl<'a> Names<'a> {
@@ -58,7 +71,7 @@ impl<'a> Names<'a> {
         ensures found { found_declared name.now 0 self.now ≡ found_place result }
         ensures within { IfSome result (λ f. f.0 < length self.now) }
     {
-        let place = self.set.get_index_of(name)?;
+        let place = place_of(&self.set, name)?;
         Some((place, self.sorts[place]))
     }
 
@@ -67,7 +80,7 @@ impl<'a> Names<'a> {
         requires { place < length self.now }
         ensures { slice_get (names_of self.now) place ≡ Some result.now }
     {
-        *self.set.get_index(place).unwrap()
+        self.set.get_index(place).unwrap().name()
     }
 
     /// One more name, unless it is there; says whether it was new. It is looked up once.
@@ -76,7 +89,7 @@ impl<'a> Names<'a> {
         ensures err { OnErr result (self.new ≡ self.old) }
     {
         self.sorts.reserve(1)?;
-        let new = self.set.insert(name)?;
+        let new = self.set.insert(Key::new(name))?;
         if !new {
             return Ok(false);
         }

@@ -21,3 +21,4 @@ returns c =
     ∙ ap (λ (ns : List (List ℕ)). slice_get ns c.args.place) (names-declarations c.self.inside.set.keys c.self.inside.sorts.items c.self.invariant)
     ∙ slice_get-map text c.self.inside.set.keys c.args.place
     ∙ ap (λ (o : Option (Bor (List ℕ))). option_map text o) key
+    ∙ ap (λ (text : List ℕ). Some text) (sym c.name.ensures)
