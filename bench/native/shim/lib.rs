@@ -125,10 +125,46 @@ macro_rules! vec_in {
     [in $a:expr; $x:expr; $n:expr] => { { let _ = $a; Ok::<_, $crate::AllocError>($crate::Vec(vec![$x; $n])) } };
     [in $a:expr; $($x:expr),*] => { { let _ = $a; Ok::<_, $crate::AllocError>($crate::Vec(vec![$($x),*])) } };
 }
-pub struct HashMap<K, V>(std::collections::HashMap<K, V>);
+/// As the hasher of the proved library's maps: each word is multiplied to 128 bits, and the halves are joined by xor.
+#[derive(Clone, Copy)]
+pub struct FoldHasher(u64);
+impl Default for FoldHasher {
+    fn default() -> Self {
+        FoldHasher(0x243f_6a88_85a3_08d3)
+    }
+}
+impl FoldHasher {
+    #[inline(always)]
+    fn fold(&mut self, word: u64, bytes: u64) {
+        let product = u128::from(self.0 ^ word) * u128::from(0x9e37_79b9_7f4a_7c15 ^ (2 * bytes));
+        self.0 = product as u64 ^ (product >> 64) as u64;
+    }
+}
+impl std::hash::Hasher for FoldHasher {
+    fn finish(&self) -> u64 {
+        self.0
+    }
+    fn write(&mut self, bytes: &[u8]) {
+        for chunk in bytes.chunks(8) {
+            let mut word = [0; 8];
+            word[..chunk.len()].copy_from_slice(chunk);
+            self.fold(u64::from_le_bytes(word), chunk.len() as u64);
+        }
+    }
+    #[inline(always)]
+    fn write_u32(&mut self, x: u32) {
+        self.fold(u64::from(x) | u64::from(x) << 32, 4);
+    }
+    #[inline(always)]
+    fn write_i64(&mut self, x: i64) {
+        self.fold(x as u64, 8);
+    }
+}
+type Fold = std::hash::BuildHasherDefault<FoldHasher>;
+pub struct HashMap<K, V>(std::collections::HashMap<K, V, Fold>);
 impl<K: std::hash::Hash + Eq, V> HashMap<K, V> {
     pub fn new(_: Global) -> Self {
-        HashMap(std::collections::HashMap::new())
+        HashMap(std::collections::HashMap::default())
     }
     pub fn get(&self, k: &K) -> Option<&V> {
         self.0.get(k)
