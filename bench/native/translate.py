@@ -42,7 +42,7 @@ STAND_INS = [
     (r"\b(\w+): Drop\b", r"\1"),
     (r" \+ Drop\b", ""),
     (r"\b(trait \w+) {", r"\1: Sized {"),
-    (r"println!\(rt; ", "println!("),
+    (r"println!\(rt;\s+", "println!("),
 ]
 # and what a program has of its process
 PROCESS = [
