@@ -9,8 +9,8 @@ use Rattle.refute_tree.specs.declared.lists.Slices.{Slices}
 use Rattle.refute_tree.specs.declared.lists.Lists.{Lists}
 use Rattle.refute_tree.specs.declared.lists.Place.{Place}
 use Rattle.refute_tree.specs.Paths.{IsShortPath}
-use Rattle.refute_tree.specs.Store.{Parts, together, small_by, large_by, points_by, bounds_by, literals_by, used, used_items, IsWhole, steps_by}
-use Rattle.refute_tree.specs.Lists.{parts_of_slices, parts_of_lists, steps_of_slices, SlicesAreWhole, steps_of_lists, ListsAreWhole, AreSlices, AreSame, AreExtended, HavePath, AreCutOut, IsPlaceOf, IsBefore, IsWithin}
+use Rattle.refute_tree.specs.Store.{Parts, parts, narrow_parts, step_by, together, small_by, large_by, points_by, bounds_by, literals_by, used, used_items, IsWhole, steps_by}
+use Rattle.refute_tree.specs.Lists.{parts_of_slices, parts_of_lists, steps_of_slices, SlicesAreWhole, steps_of_lists, ListsAreWhole, AreSlices, AreSame, AreExtended, HavePath, HaveNarrow, HaveSmall, AreCutOut, IsPlaceOf, IsBefore, IsWithin}
 use Rattle.refute_tree.proofs.Flats.{parts_same, points_by-append, bounds_by-append, literals_by-append, whole-append, steps_by-append, length-steps_by}
 use Rattle.refute_tree.proofs.Cuts.{front_of, back_of, removed_whole, removed_steps, numbers_within, items_within, used-ordered, items-ordered}
 use Rattle.refute_tree.proofs.PathParts.{path_parts, path_whole, path_step}
@@ -54,6 +54,31 @@ pub path_added_steps : (before after : Lists) (cycle : List Literal) (steps : Li
 path_added_steps before after cycle steps h v s e =
     behind_steps before after (PathKind ∷ []) (path_parts cycle) e.kinds (path_behind before after cycle e) h steps v
     ∙ ap (λ (step : Step). steps ++ step ∷ []) (path_step cycle s)
+
+-- a step of a narrow literal
+narrow_behind : (before after : Lists) (kind : Kind) (l : Literal) → HaveNarrow before kind l after → parts_of_lists after ≡ together (parts_of_lists before) (narrow_parts l)
+narrow_behind before after kind l e =
+    parts_same _ _ _ _ _ _ _ _ _ _ (e.small ∙ none_behind before.small.items) (e.large ∙ none_behind before.large.items) e.points e.bounds (e.literals ∙ none_behind before.literals.items)
+
+pub narrow_added_whole : (before after : Lists) (kind : Kind) (l : Literal) → ListsAreWhole before → IsWhole (kind ∷ []) (narrow_parts l) → HaveNarrow before kind l after → ListsAreWhole after
+narrow_added_whole before after kind l h w e = behind_whole before after (kind ∷ []) (narrow_parts l) e.kinds (narrow_behind before after kind l e) h w
+
+pub narrow_added_steps : (before after : Lists) (kind : Kind) (l : Literal) (steps : List Step) → ListsAreWhole before → steps_of_lists before ≡ steps → HaveNarrow before kind l after → steps_of_lists after ≡ steps ++ step_by kind (narrow_parts l) ∷ []
+narrow_added_steps before after kind l steps h v e = behind_steps before after (kind ∷ []) (narrow_parts l) e.kinds (narrow_behind before after kind l e) h steps v
+
+-- a step of a small number
+abbrev small_parts : ℕ → Parts
+small_parts n = parts (n ∷ []) [] [] [] []
+
+small_behind : (before after : Lists) (kind : Kind) (n : ℕ) → HaveSmall before kind n after → parts_of_lists after ≡ together (parts_of_lists before) (small_parts n)
+small_behind before after kind n e =
+    parts_same _ _ _ _ _ _ _ _ _ _ e.small (e.large ∙ none_behind before.large.items) (e.points ∙ none_behind before.points.items) (e.bounds ∙ none_behind before.bounds.items) (e.literals ∙ none_behind before.literals.items)
+
+pub small_added_whole : (before after : Lists) (kind : Kind) (n : ℕ) → ListsAreWhole before → IsWhole (kind ∷ []) (parts (n ∷ []) [] [] [] []) → HaveSmall before kind n after → ListsAreWhole after
+small_added_whole before after kind n h w e = behind_whole before after (kind ∷ []) (small_parts n) e.kinds (small_behind before after kind n e) h w
+
+pub small_added_steps : (before after : Lists) (kind : Kind) (n : ℕ) (steps : List Step) → ListsAreWhole before → steps_of_lists before ≡ steps → HaveSmall before kind n after → steps_of_lists after ≡ steps ++ step_by kind (parts (n ∷ []) [] [] [] []) ∷ []
+small_added_steps before after kind n steps h v e = behind_steps before after (kind ∷ []) (small_parts n) e.kinds (small_behind before after kind n e) h steps v
 
 -- a store that is as before
 pub same_whole : (before after : Lists) → ListsAreWhole before → AreSame before after → ListsAreWhole after

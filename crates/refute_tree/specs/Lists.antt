@@ -73,6 +73,24 @@ pub record HavePath (before : Lists) (cycle : List Literal) (after : Lists) : Ty
   pub bounds : after.bounds.items ≡ before.bounds.items ++ bounds_of cycle
   pub literals : after.literals.items ≡ before.literals.items
 
+-- each list with what a step of this kind has: a narrow literal
+pub record HaveNarrow (before : Lists) (kind : Kind) (l : Literal) (after : Lists) : Type 0 where
+  pub kinds : after.kinds.items ≡ before.kinds.items ++ kind ∷ []
+  pub small : after.small.items ≡ before.small.items
+  pub large : after.large.items ≡ before.large.items
+  pub points : after.points.items ≡ before.points.items ++ l.x ∷ l.y ∷ []
+  pub bounds : after.bounds.items ≡ before.bounds.items ++ l.c ∷ []
+  pub literals : after.literals.items ≡ before.literals.items
+
+-- each list with what a step of this kind has: a small number
+pub record HaveSmall (before : Lists) (kind : Kind) (number : ℕ) (after : Lists) : Type 0 where
+  pub kinds : after.kinds.items ≡ before.kinds.items ++ kind ∷ []
+  pub small : after.small.items ≡ before.small.items ++ number ∷ []
+  pub large : after.large.items ≡ before.large.items
+  pub points : after.points.items ≡ before.points.items
+  pub bounds : after.bounds.items ≡ before.bounds.items
+  pub literals : after.literals.items ≡ before.literals.items
+
 -- what a step of this kind has stands first in each
 pub record HaveStep (kind : Kind) (s : Slices) : Type 0 where
   pub small : small_by kind ≤ length s.small.now

@@ -22,6 +22,10 @@ abbrev pub parts : List ℕ → List ℕ → List ℕ → List ℤ → List Lite
 parts small large points bounds literals =
     record { small = small; large = large; points = points; bounds = bounds; literals = literals }
 
+-- those of a step of a narrow literal
+abbrev pub narrow_parts : Literal → Parts
+narrow_parts l = parts [] [] (l.x ∷ l.y ∷ []) (l.c ∷ []) []
+
 -- the parts, and others behind them
 abbrev pub together : Parts → Parts → Parts
 together p q =

@@ -1,8 +1,8 @@
 ghost use Rattle.std.specs.Prelude.{◌≡◌, ◌≤◌, ◌++◌, ◌∷◌, [], length, take, drop, OnOk, OnErr, IfOk};
-ghost use Rattle.refute_tree.specs.Lists.{AreNone, AreSame, AreExtended, BeginAs, AreCut, AreCutOut, HavePath};
+ghost use Rattle.refute_tree.specs.Lists.{AreNone, AreSame, AreExtended, BeginAs, AreCut, AreCutOut, HavePath, HaveNarrow, HaveSmall};
 ghost use Rattle.refute_tree.specs.Lists.{AreSlices, SlicesAreWhole, IsEnd, IsPlaceOf, EndsStep, IsBeforeStep};
 ghost use Rattle.refute_tree.specs.Lists.{IsBefore, IsWithin};
-ghost use Rattle.refute_tree.specs.Paths.{IsShortPath};
+ghost use Rattle.refute_tree.specs.Paths.{IsNarrow, IsShortPath};
 
 use crate::kind::{Kind, bounds_by, large_by, literals_by, points_by, small_by};
 use crate::narrow::{push_bounds, push_points};
@@ -196,6 +196,60 @@ impl Lists {
         }
     }
 
+    // Without memory, perhaps a part of it is appended.
+    fn try_push_narrow(&mut self, kind: Kind, literal: Literal) -> Result<(), AllocError>
+        requires { IsNarrow literal }
+        ensures ok { OnOk result (HaveNarrow self.old kind literal self.new) }
+        ensures front { BeginAs self.old self.new }
+    {
+        self.kinds.push(kind)?;
+        self.points.push(literal.x as u16)?;
+        self.points.push(literal.y as u16)?;
+        self.bounds.push(literal.c as i32)?;
+        Ok(())
+    }
+
+    /// Appends a step of a narrow literal; without memory, nothing of it.
+    pub fn push_narrow(&mut self, kind: Kind, literal: Literal) -> Result<(), AllocError>
+        requires { IsNarrow literal }
+        ensures ok { OnOk result (HaveNarrow self.old kind literal self.new) }
+        ensures err { OnErr result (AreSame self.old self.new) }
+    {
+        let end = self.end();
+        match self.try_push_narrow(kind, literal) {
+            Ok(()) => Ok(()),
+            Err(error) => {
+                self.truncate(end);
+                Err(error)
+            }
+        }
+    }
+
+    // Without memory, perhaps a part of it is appended.
+    fn try_push_small(&mut self, kind: Kind, number: u32) -> Result<(), AllocError>
+        ensures ok { OnOk result (HaveSmall self.old kind number self.new) }
+        ensures front { BeginAs self.old self.new }
+    {
+        self.kinds.push(kind)?;
+        self.small.push(number)?;
+        Ok(())
+    }
+
+    /// Appends a step of a small number; without memory, nothing of it.
+    pub fn push_small(&mut self, kind: Kind, number: u32) -> Result<(), AllocError>
+        ensures ok { OnOk result (HaveSmall self.old kind number self.new) }
+        ensures err { OnErr result (AreSame self.old self.new) }
+    {
+        let end = self.end();
+        match self.try_push_small(kind, number) {
+            Ok(()) => Ok(()),
+            Err(error) => {
+                self.truncate(end);
+                Err(error)
+            }
+        }
+    }
+
     /// Takes out what stands from one place up to another.
     pub fn cut_out(&mut self, low: Place, high: Place)
         requires order { IsBefore low high }
@@ -208,6 +262,18 @@ impl Lists {
         cut_out(&mut self.points, low.points, high.points);
         cut_out(&mut self.bounds, low.bounds, high.bounds);
         cut_out(&mut self.literals, low.literals, high.literals);
+    }
+
+    /// Takes out all that stands in them, and keeps the memory.
+    pub fn clear(&mut self)
+        ensures { AreNone self.new }
+    {
+        self.kinds.truncate(0);
+        self.small.truncate(0);
+        self.large.truncate(0);
+        self.points.truncate(0);
+        self.bounds.truncate(0);
+        self.literals.truncate(0);
     }
 
     /// Gives back the memory that isn't needed.

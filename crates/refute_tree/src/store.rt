@@ -1,15 +1,15 @@
 ghost use Rattle.std.specs.Prelude.{◌≡◌, ◌≤◌, ◌∷◌, [], ◌++◌, length, map, take, drop, All, OnOk, OnErr, IfOk};
 ghost use Rattle.refute_tree.specs.declared.step.Step.TheVariants.{Cycle, Input, Lemma as Cited, Clash, Either};
 ghost use Rattle.refute_tree.specs.Lists.{SlicesAreWhole, steps_of_slices};
-ghost use Rattle.refute_tree.specs.Moves.{moved_step, MovesWithin};
+ghost use Rattle.refute_tree.specs.Moves.{moved_step, MovesWithin, listed_number, named_step, NoneGrows};
 ghost use Rattle.refute_tree.specs.Paths.{IsNarrow, IsShortPath};
-ghost use Rattle.refute_tree.specs.Store.{pair_of, parts, step_by, IsWhole, AreNumberKinds, AreLiteralKinds};
+ghost use Rattle.refute_tree.specs.Store.{pair_of, parts, narrow_parts, step_by, IsWhole, AreNumberKinds, AreLiteralKinds};
 ghost use Rattle.refute_tree.specs.Views.{literals_of, step_seen};
 
 use crate::cycle::Cycle as CycleView;
 use crate::kind::Kind;
 use crate::lists::{Lists, Slices, place_of};
-use crate::moving::move_numbers;
+use crate::moving::{list_numbers, move_numbers};
 use crate::narrow::{is_narrow, is_short_path};
 use crate::reader::{Reader, StepView};
 use std::alloc::{AllocError, Global};
@@ -85,6 +85,27 @@ impl Steps {
         })
     }
 
+    // Adds a step of a narrow literal.
+    fn add_narrow(&mut self, kind: Kind, literal: Literal) -> Result<(), AllocError>
+        requires narrow { IsNarrow literal }
+        requires whole { IsWhole (kind ∷ []) (narrow_parts literal) }
+        ensures ok { OnOk result (self.new ≡ self.old ++ step_by kind (narrow_parts literal) ∷ []) }
+        ensures err { OnErr result (self.new ≡ self.old) }
+    {
+        self.lists.push_narrow(kind, literal)?;
+        Ok(())
+    }
+
+    // Adds a step of a small number.
+    fn add_small(&mut self, kind: Kind, number: u32) -> Result<(), AllocError>
+        requires { IsWhole (kind ∷ []) (parts (number ∷ []) [] [] [] []) }
+        ensures ok { OnOk result (self.new ≡ self.old ++ step_by kind (parts (number ∷ []) [] [] [] []) ∷ []) }
+        ensures err { OnErr result (self.new ≡ self.old) }
+    {
+        self.lists.push_small(kind, number)?;
+        Ok(())
+    }
+
     // Adds a step of a literal, of the one kind or of the other.
     fn add_literal(
         &mut self,
@@ -98,9 +119,7 @@ impl Steps {
         ensures err { OnErr result (self.new ≡ self.old) }
     {
         if is_narrow(literal) {
-            let points = [literal.x as u16, literal.y as u16];
-            let bounds = [literal.c as i32];
-            self.add(kind, &[], &[], points.as_slice(), bounds.as_slice(), &[])
+            self.add_narrow(kind, literal)
         } else {
             self.add(large_kind, &[], &[], &[], &[], [literal].as_slice())
         }
@@ -114,7 +133,7 @@ impl Steps {
         ensures err { OnErr result (self.new ≡ self.old) }
     {
         if number < 1 << 32 {
-            self.add(kind, [number as u32].as_slice(), &[], &[], &[], &[])
+            self.add_small(kind, number as u32)
         } else {
             self.add(large_kind, &[], [number].as_slice(), &[], &[], &[])
         }
@@ -247,6 +266,13 @@ impl Steps {
         self.lists.shrink_to_fit();
     }
 
+    /// Takes out all steps, and keeps their memory for others.
+    pub fn clear(&mut self)
+        ensures { self.new ≡ [] }
+    {
+        self.lists.clear();
+    }
+
     pub fn len(&self) -> usize
         ensures { result ≡ length self.now }
     {
@@ -286,6 +312,22 @@ impl Steps {
             self.lists.large.as_mut_slice(),
             seen,
             base,
+        );
+    }
+
+    /// Gives the references to lemmas from the number `seen` on the numbers of the list, or `end` where it is too
+    /// short. None of them is to become greater. It takes no memory.
+    pub fn renumber_lemmas(&mut self, seen: usize, numbers: &[usize], end: usize)
+        requires { NoneGrows (listed_number seen numbers.now end) }
+        ensures { self.new ≡ map (named_step (listed_number seen numbers.now end)) self.old }
+    {
+        list_numbers(
+            self.lists.kinds.as_slice(),
+            self.lists.small.as_mut_slice(),
+            self.lists.large.as_mut_slice(),
+            seen,
+            numbers,
+            end,
         );
     }
 

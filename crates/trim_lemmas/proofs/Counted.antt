@@ -2,9 +2,11 @@
 use Rattle.std.proofs.Common.{arith, inl, inr, ◌≡◌, ◌<◌, ◌≤◌, ◌+◌, ◌-◌, ℕ, zero, suc, Bool, true, false, List, [], ◌∷◌, ◌++◌, length, map, refl, sym, ap, subst, ◌∙◌, get_or}
 use Rattle.std.specs.Prelude.{nat_lt, if◌then◌else◌}
 use Rattle.std.proofs.lemmas.Bool.{cases_lt}
+use Rattle.std.proofs.lemmas.Bool.Decides.{nat_tests}
 use Rattle.refute_tree.specs.declared.step.Step.{Step}
 use Rattle.refute_tree.specs.declared.step.Step.TheVariants.{Cycle, Input, Lemma as Earlier, Clash, Either}
 use Rattle.refute_tree.specs.declared.lemma.Lemma.{Lemma}
+use Rattle.refute_tree.specs.Moves.{NoneGrows}
 use Rattle.trim_lemmas.specs.declared.places.Places.{Places}
 use Rattle.trim_lemmas.specs.Trimming.{place, renumbered_number, renumbered_step, renumbered}
 use Rattle.trim_lemmas.specs.Marks.{ArePlaces, number_by, step_by, lemma_by}
@@ -82,12 +84,21 @@ get_pushed seen bs numbers i end long all each j lt = elim (cases_lt j i) [
   | inr above ↦ (let same : j ≡ i = omega arith in get_at numbers end j (omega (arith, long)) ∙ (all ∙ ap (λ n. seen + place bs n) (sym same)))
 ]
 
+renumbered_within : (seen : ℕ) (bs : List Bool) (j : ℕ) (b : Bool) → nat_lt j seen ≡ b → (if b then j else seen + place bs (j - seen)) ≤ j
+renumbered_within seen bs j true is = omega arith
+renumbered_within seen bs j false is =
+    let ge : seen ≤ j = grind (arith, nat_tests) in
+    let h = place_within bs (j - seen) in omega arith
+
 -- what the table renumbers is renumbered by the places
 module _ (seen : ℕ) (bs : List Bool) (places : Places) (h : ArePlaces seen bs places) where
   number_same : (j : ℕ) → number_by places j ≡ renumbered_number seen bs j
   number_same j =
       ap (λ (n : ℕ). if nat_lt j n then j else get_or places.numbers.items (j - n) places.end) h.0
       ∙ ap (λ (n : ℕ). if nat_lt j seen then j else n) (h.1 (j - seen))
+
+  pub none_grows : NoneGrows (number_by places)
+  none_grows j = subst (λ (n : ℕ). n ≤ j) (sym (number_same j)) (renumbered_within seen bs j (nat_lt j seen) refl)
 
   step_same : (s : Step) → step_by places s ≡ renumbered_step seen bs s
   step_same (Cycle cycle) = refl

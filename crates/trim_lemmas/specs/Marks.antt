@@ -3,6 +3,7 @@ use Rattle.std.specs.Prelude.{◌≡◌, ◌+◌, ◌-◌, ℕ, zero, suc, Bool,
 use Rattle.refute_tree.specs.declared.step.Step.{Step}
 use Rattle.refute_tree.specs.declared.step.Step.TheVariants.{Lemma as Earlier}
 use Rattle.refute_tree.specs.declared.lemma.Lemma.{Lemma}
+use Rattle.refute_tree.specs.Moves.{listed_number, named_step}
 use Rattle.trim_lemmas.specs.declared.places.Places.{Places}
 use Rattle.trim_lemmas.specs.Trimming.{place}
 
@@ -40,12 +41,10 @@ ArePlaces seen needed places =
     (places.seen ≡ seen) × ((j : ℕ) → slice_index_or places.numbers.items j places.end ≡ seen + place needed j)
 
 abbrev pub number_by : Places → ℕ → ℕ
-number_by places j =
-    if nat_lt j places.seen then j else slice_index_or places.numbers.items (j - places.seen) places.end
+number_by places j = listed_number places.seen places.numbers.items places.end j
 
 abbrev pub step_by : Places → Step → Step
-step_by places (Earlier j) = Earlier (number_by places j)
-step_by places step = step
+step_by places step = named_step (number_by places) step
 
 abbrev pub lemma_by : Places → Lemma → Lemma
 lemma_by places lemma = record { clause = lemma.clause; steps = map (step_by places) lemma.steps }

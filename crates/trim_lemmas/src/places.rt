@@ -1,9 +1,9 @@
 //! The numbers of the lemmas that are kept, among one another.
-ghost use Rattle.std.specs.Prelude.{◌≡◌, ◌<◌, ◌+◌, ◌^◌, ◌∷◌, [], ◌++◌, length, map, IfOk, OnOk};
-ghost use Rattle.refute_tree.specs.Views.{step_seen};
+ghost use Rattle.std.specs.Prelude.{◌≡◌, ◌<◌, ◌+◌, ◌^◌, length, map, IfOk};
+ghost use Rattle.refute_tree.specs.Moves.{NoneGrows};
 ghost use Rattle.trim_lemmas.specs.Marks.{ArePlaces, number_by, step_by};
 
-use refute_tree::{Reader, StepView, Steps};
+use refute_tree::Steps;
 use std::alloc::{AllocError, Global};
 
 /// For each lemma of a list its number when only the needed ones are kept.
@@ -32,34 +32,11 @@ impl Places {
         Ok(Places { seen, numbers, end })
     }
 
-    // What a reference is then, which may be past the last lemma.
-    fn number(&self, j: usize) -> usize
-        ensures { result ≡ number_by self.now j }
+    /// Gives each reference to a lemma its place among the needed ones. It takes no memory.
+    pub fn renumber(&self, steps: &mut Steps)
+        requires { NoneGrows (number_by self.now) }
+        ensures { steps.new ≡ map (step_by self.now) steps.old }
     {
-        if j < self.seen {
-            return j;
-        }
-        self.numbers.get(j - self.seen).copied().unwrap_or(self.end)
-    }
-
-    fn push_step(&self, step: StepView<'_>, steps: &mut Steps) -> Result<(), AllocError>
-        ensures { OnOk result (steps.new ≡ steps.old ++ step_by self.now (step_seen step.entry) ∷ []) }
-    {
-        match step {
-            StepView::Lemma(j) => steps.push_lemma(self.number(j)),
-            _ => steps.push(step),
-        }
-    }
-
-    /// The steps, each reference to a lemma by its place among the needed ones.
-    pub fn renumbered(&self, alloc: Global, mut reader: Reader<'_>) -> Result<Steps, AllocError>
-        ensures { IfOk result (λ steps. steps ≡ map (step_by self.now) reader.entry) }
-    {
-        let mut steps = Steps::new(alloc);
-        while let Some(step) = reader.next() {
-            self.push_step(step, &mut steps)?;
-        }
-        steps.shrink_to_fit();
-        Ok(steps)
+        steps.renumber_lemmas(self.seen, self.numbers.as_slice(), self.end);
     }
 }

@@ -1,10 +1,11 @@
 //! What nothing needs goes, and the other lemmas are numbered anew.
-ghost use Rattle.std.specs.Prelude.{◌≡◌, ◌<◌, ◌≤◌, ◌+◌, ◌^◌, length, map, IfOk, OnOk};
+ghost use Rattle.std.specs.Prelude.{◌≡◌, ◌<◌, ◌≤◌, ◌+◌, ◌^◌, length, map, IfOk};
 ghost use Rattle.std.specs.List.{items_where_true};
 ghost use Rattle.std.specs.Vec.{vec_len};
 ghost use Rattle.trim_lemmas.specs.Trimming.{shortened, IsTrimmed, StaysRefutation, StaysOver, last_clause};
 ghost use Rattle.trim_lemmas.specs.Trimming.{place, IsTrimmedBatch, StaysRefuted, StaysStated};
-ghost use Rattle.trim_lemmas.specs.Marks.{lemma_by};
+ghost use Rattle.refute_tree.specs.Moves.{NoneGrows};
+ghost use Rattle.trim_lemmas.specs.Marks.{lemma_by, number_by};
 
 use crate::marking::{needed_by, needed_lemmas};
 use crate::places::Places;
@@ -26,13 +27,13 @@ fn keep(lemmas: &mut Vec<Lemma>, needed: &[bool])
     lemmas.truncate(kept);
 }
 
-fn renumber(alloc: Global, lemmas: &mut [Lemma], places: &Places) -> Result<(), AllocError>
-    ensures { OnOk result (lemmas.new ≡ map (lemma_by places.now) lemmas.old) }
+fn renumber(lemmas: &mut [Lemma], places: &Places)
+    requires { NoneGrows (number_by places.now) }
+    ensures { lemmas.new ≡ map (lemma_by places.now) lemmas.old }
 {
     for lemma in lemmas.iter_mut() {
-        lemma.steps = places.renumbered(alloc, lemma.steps.reader())?;
+        places.renumber(&mut lemma.steps);
     }
-    Ok(())
 }
 
 // Keeps the needed lemmas, numbered anew.
@@ -48,14 +49,14 @@ fn shorten(
 {
     let places = Places::new(alloc, seen, needed)?;
     keep(&mut lemmas, needed);
-    renumber(alloc, lemmas.as_mut_slice(), &places)?;
+    renumber(lemmas.as_mut_slice(), &places);
     Ok(lemmas)
 }
 
 /// The lemmas that the last one needs, numbered anew: what refuted a problem refutes it.
 ///
-/// It takes time in the steps that are kept and in the count of the lemmas. Beside a mark and a word for each lemma
-/// it takes memory for the steps of one lemma at a time, and those before it are let go.
+/// It takes time in the steps that are kept and in the count of the lemmas, and memory for a mark and a word for each
+/// lemma.
 pub fn trimmed(alloc: Global, refutation: Refutation) -> Result<Refutation, AllocError>
     ensures trimmed { IfOk result (IsTrimmed refutation) }
     ensures refutes { IfOk result (StaysRefutation refutation) }

@@ -3,7 +3,7 @@ use Rattle.std.proofs.lemmas.List.{drop_more}
 use Rattle.refute_tree.specs.declared.kind.Kind.{Kind}
 use Rattle.refute_tree.specs.declared.kind.Kind.TheVariants.{Path}
 use Rattle.refute_tree.specs.Store.{small_by, large_by, used}
-use Rattle.refute_tree.specs.Moves.{is_lemma, is_large_lemma, moved_numbers, NumbersMoveWithin}
+use Rattle.refute_tree.specs.Moves.{is_lemma, is_large_lemma, moved_number, named_numbers, NumbersMoveWithin}
 use Rattle.refute_tree.proofs.MovedNumbers.{small_by_one, large_by_one, turn_left, turn_same, turn_within}
 use Rattle.refute_tree.proofs.moving.move_numbers.Goals as goal
 
@@ -19,21 +19,21 @@ loop-kind-preserved c =
     let small_at = c.loop-kind.small_at in
     let small = c.loop-kind.small in
     let small_next = small_at + c.small_by-small_at.result in
-    let small_whole = moved_numbers small_by is_lemma seen base c.args.kinds.now c.args.small.now in
+    let small_whole = named_numbers small_by is_lemma (moved_number seen base) c.args.kinds.now c.args.small.now in
     let small_left : small_at + used small_by (kind ∷ rest) ≡ length small = sym (ap (λ (ks : List Kind). small_at + used small_by ks) e) ∙ h.small_left in
     let small_on : small_next ≡ small_at + small_by kind = ap (λ n. small_at + n) c.small_by-small_at.ensures in
-    let small_same : take small_at small ++ moved_numbers small_by is_lemma seen base (kind ∷ rest) (drop small_at small) ≡ small_whole =
-    sym (ap (λ (ks : List Kind). take small_at small ++ moved_numbers small_by is_lemma seen base ks (drop small_at small)) e) ∙ h.small_same in
+    let small_same : take small_at small ++ named_numbers small_by is_lemma (moved_number seen base) (kind ∷ rest) (drop small_at small) ≡ small_whole =
+    sym (ap (λ (ks : List Kind). take small_at small ++ named_numbers small_by is_lemma (moved_number seen base) ks (drop small_at small)) e) ∙ h.small_same in
     let small_within : NumbersMoveWithin small_by is_lemma seen base (kind ∷ rest) (drop small_at small) =
     subst (λ (ks : List Kind). NumbersMoveWithin small_by is_lemma seen base ks (drop small_at small)) e h.small_within in
     let large_at = c.loop-kind.large_at in
     let large = c.loop-kind.large in
     let large_next = large_at + c.large_by-large_at.result in
-    let large_whole = moved_numbers large_by is_large_lemma seen base c.args.kinds.now c.args.large.now in
+    let large_whole = named_numbers large_by is_large_lemma (moved_number seen base) c.args.kinds.now c.args.large.now in
     let large_left : large_at + used large_by (kind ∷ rest) ≡ length large = sym (ap (λ (ks : List Kind). large_at + used large_by ks) e) ∙ h.large_left in
     let large_on : large_next ≡ large_at + large_by kind = ap (λ n. large_at + n) c.large_by-large_at.ensures in
-    let large_same : take large_at large ++ moved_numbers large_by is_large_lemma seen base (kind ∷ rest) (drop large_at large) ≡ large_whole =
-    sym (ap (λ (ks : List Kind). take large_at large ++ moved_numbers large_by is_large_lemma seen base ks (drop large_at large)) e) ∙ h.large_same in
+    let large_same : take large_at large ++ named_numbers large_by is_large_lemma (moved_number seen base) (kind ∷ rest) (drop large_at large) ≡ large_whole =
+    sym (ap (λ (ks : List Kind). take large_at large ++ named_numbers large_by is_large_lemma (moved_number seen base) ks (drop large_at large)) e) ∙ h.large_same in
     let large_within : NumbersMoveWithin large_by is_large_lemma seen base (kind ∷ rest) (drop large_at large) =
     subst (λ (ks : List Kind). NumbersMoveWithin large_by is_large_lemma seen base ks (drop large_at large)) e h.large_within in
     let small_new = c.move_part.new.small in
@@ -41,10 +41,10 @@ loop-kind-preserved c =
     let sb = small_by_one in
     let lb = large_by_one in
     record {
-      small_left = turn_left small_by is_lemma sb seen base kind rest small small_new small_whole small_at small_next small_left c.move_part.ensures.small small_on;
-      large_left = turn_left large_by is_large_lemma lb seen base kind rest large large_new large_whole large_at large_next large_left c.move_part.ensures.large large_on;
-      small_same = turn_same small_by is_lemma sb seen base kind rest small small_new small_whole small_at small_next small_left c.move_part.ensures.small small_on small_same;
-      large_same = turn_same large_by is_large_lemma lb seen base kind rest large large_new large_whole large_at large_next large_left c.move_part.ensures.large large_on large_same;
-      small_within = turn_within small_by is_lemma sb seen base kind rest small small_new small_whole small_at small_next small_left c.move_part.ensures.small small_on small_within;
-      large_within = turn_within large_by is_large_lemma lb seen base kind rest large large_new large_whole large_at large_next large_left c.move_part.ensures.large large_on large_within;
+      small_left = turn_left small_by is_lemma sb (moved_number seen base) kind rest small small_new small_whole small_at small_next small_left c.move_part.ensures.small small_on;
+      large_left = turn_left large_by is_large_lemma lb (moved_number seen base) kind rest large large_new large_whole large_at large_next large_left c.move_part.ensures.large large_on;
+      small_same = turn_same small_by is_lemma sb (moved_number seen base) kind rest small small_new small_whole small_at small_next small_left c.move_part.ensures.small small_on small_same;
+      large_same = turn_same large_by is_large_lemma lb (moved_number seen base) kind rest large large_new large_whole large_at large_next large_left c.move_part.ensures.large large_on large_same;
+      small_within = turn_within small_by is_lemma sb (moved_number seen base) kind rest small small_new small_whole small_at small_next small_left c.move_part.ensures.small small_on seen base small_within;
+      large_within = turn_within large_by is_large_lemma lb (moved_number seen base) kind rest large large_new large_whole large_at large_next large_left c.move_part.ensures.large large_on seen base large_within;
     }

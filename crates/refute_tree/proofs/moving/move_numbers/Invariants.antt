@@ -1,5 +1,5 @@
 use Rattle.std.proofs.Common.{◌≡◌, ◌+◌, ◌++◌, length, take, drop}
-use Rattle.refute_tree.specs.Moves.{moved_numbers, NumbersMoveWithin, is_lemma, is_large_lemma}
+use Rattle.refute_tree.specs.Moves.{moved_number, named_numbers, NumbersMoveWithin, is_lemma, is_large_lemma}
 use Rattle.refute_tree.specs.Store.{small_by, large_by, used}
 use Rattle.refute_tree.proofs.moving.move_numbers.Given as goal
 
@@ -7,8 +7,8 @@ abbrev pub invariant-loop-kind : goal.invariant-loop-kind
 invariant-loop-kind l = record {
   small_left : l.small_at + used small_by (drop l.kind-index l.kinds) ≡ length l.small;
   large_left : l.large_at + used large_by (drop l.kind-index l.kinds) ≡ length l.large;
-  small_same : take l.small_at l.small ++ moved_numbers small_by is_lemma l.seen l.base (drop l.kind-index l.kinds) (drop l.small_at l.small) ≡ moved_numbers small_by is_lemma l.seen l.base l.kinds l.initial.small;
-  large_same : take l.large_at l.large ++ moved_numbers large_by is_large_lemma l.seen l.base (drop l.kind-index l.kinds) (drop l.large_at l.large) ≡ moved_numbers large_by is_large_lemma l.seen l.base l.kinds l.initial.large;
+  small_same : take l.small_at l.small ++ named_numbers small_by is_lemma (moved_number l.seen l.base) (drop l.kind-index l.kinds) (drop l.small_at l.small) ≡ named_numbers small_by is_lemma (moved_number l.seen l.base) l.kinds l.initial.small;
+  large_same : take l.large_at l.large ++ named_numbers large_by is_large_lemma (moved_number l.seen l.base) (drop l.kind-index l.kinds) (drop l.large_at l.large) ≡ named_numbers large_by is_large_lemma (moved_number l.seen l.base) l.kinds l.initial.large;
   small_within : NumbersMoveWithin small_by is_lemma l.seen l.base (drop l.kind-index l.kinds) (drop l.small_at l.small);
   large_within : NumbersMoveWithin large_by is_large_lemma l.seen l.base (drop l.kind-index l.kinds) (drop l.large_at l.large);
 }
