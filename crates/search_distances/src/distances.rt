@@ -60,14 +60,10 @@ impl Distances {
         }
     }
 
-    /// The literals of a path that explains the one with the number, the last edge first: so its negation,
-    /// followed by them, goes around. Where the distances don't lead from end to end, what it answers is no
-    /// path. The one error is want of memory.
-    pub fn path(
-        &mut self,
-        guide: &Guide,
-        number: LiteralNumber,
-    ) -> Result<&[LiteralNumber], AllocError> {
+    /// The places on the trail of the literals of a path that explains the one with the number, the last edge first: so
+    /// its negation, followed by them, goes around. Where the distances don't lead from end to end, what it answers is
+    /// no path. The one error is want of memory.
+    pub fn path(&mut self, guide: &Guide, number: LiteralNumber) -> Result<&[usize], AllocError> {
         match &mut self.way {
             Way::Table(table) => table.path(guide, number),
             Way::Searches(searches) => searches.path(guide, number),

@@ -5,11 +5,11 @@
 
 mod distances;
 mod edges;
-mod paths;
 mod rows;
 mod rungs;
 mod searches;
 mod side;
 mod table;
+mod tree;
 
 pub use distances::Distances;

@@ -33,8 +33,8 @@ pub struct Searches {
     added: Option<Added>,
     hits: Vec<LiteralNumber>,
     next_hit: usize,
-    walk: Vec<LiteralNumber>,
-    back: Vec<LiteralNumber>,
+    walk: Vec<usize>,
+    back: Vec<usize>,
     work: u64,
 }
 
@@ -201,13 +201,9 @@ impl Searches {
         None
     }
 
-    /// The literals of a path that explains the one with the number, the last edge first. Where the last searches
-    /// don't lead from end to end, what it answers is no path. The one error is want of memory.
-    pub fn path(
-        &mut self,
-        guide: &Guide,
-        number: LiteralNumber,
-    ) -> Result<&[LiteralNumber], AllocError> {
+    /// The places on the trail of the literals of a path that explains the one with the number, the last edge first.
+    /// Where the last searches don't lead from end to end, what it answers is no path. The one error is want of memory.
+    pub fn path(&mut self, guide: &Guide, number: LiteralNumber) -> Result<&[usize], AllocError> {
         self.walk.truncate(0);
         if let (Some(added), Some((from, to))) = (self.added, self.rows.ends(guide, number)) {
             self.walk_back(guide, to, added)?;
@@ -223,7 +219,10 @@ impl Searches {
             let Some(by) = self.forward.by(row) else {
                 return Ok(());
             };
-            self.walk.push(by)?;
+            let Some(place) = guide.place(by) else {
+                return Ok(());
+            };
+            self.walk.push(place)?;
             if by == added.number {
                 return Ok(());
             }
@@ -246,14 +245,17 @@ impl Searches {
             let Some(by) = self.backward.by(row) else {
                 return Ok(());
             };
-            self.back.push(by)?;
+            let Some(place) = guide.place(by) else {
+                return Ok(());
+            };
+            self.back.push(place)?;
             let Some((_, behind)) = self.rows.ends(guide, by) else {
                 return Ok(());
             };
             row = behind;
         }
-        for number in self.back.iter().rev() {
-            self.walk.push(*number)?;
+        for place in self.back.iter().rev() {
+            self.walk.push(*place)?;
         }
         Ok(())
     }
