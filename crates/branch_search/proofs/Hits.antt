@@ -1,5 +1,5 @@
 -- Literals that follow by distances, each with its cycle, over plain lists.
-use Rattle.std.proofs.Common.{◌≡◌, ℕ, inr, List, [], ◌∷◌, ◌++◌, length, Option, Some, All, subst, sym}
+use Rattle.std.proofs.Common.{◌≡◌, ◌<◌, ℕ, inr, List, [], ◌∷◌, ◌++◌, length, Option, Some, All, subst, sym}
 use Rattle.std.specs.Prelude.{IfSome}
 use Rattle.std.proofs.lemmas.List.Elements.{All-push}
 use Rattle.stn_core.specs.declared.literal.Literal.{Literal}
@@ -9,7 +9,7 @@ use Rattle.refute_tree.specs.declared.lemma.Lemma.{Lemma}
 use Rattle.conflict_analysis.specs.declared.entry.Reason.TheVariants.{Cycle as ByCycle}
 use Rattle.conflict_analysis.specs.declared.entry.Entry.{Entry}
 use Rattle.conflict_analysis.specs.declared.entry.Level.{Level}
-use Rattle.conflict_analysis.specs.Trails.{no_literal, IsByCycle, Stands}
+use Rattle.conflict_analysis.specs.Trails.{no_literal, on_trail, IsByCycle, Stands}
 use Rattle.branch_search.specs.Hits.{IsOnPath}
 use Rattle.branch_search.specs.Search.{Question, IsSearch}
 use Rattle.branch_search.proofs.States.{state_pushed}
@@ -18,6 +18,10 @@ use Rattle.branch_search.proofs.States.{state_pushed}
 pub path_more : (es : List Entry) (denied l : Literal) (old new : List Literal) → new ≡ old ++ l ∷ [] → All (IsOnPath es denied) old → Stands es (length es) l → All (IsOnPath es denied) new
 path_more es denied l old new grown before there =
     subst (All (IsOnPath es denied)) (sym grown) (All-push (IsOnPath es denied) old l before (inr there))
+
+-- what stands at a place of the trail
+pub stands_at : (es : List Entry) (k : ℕ) (l : Literal) → k < length es → l ≡ on_trail es k → Stands es (length es) l
+stands_at es k l within is = (k, within, sym is)
 
 -- a cycle of the negation and the path
 pub cycle_by : (es : List Entry) (l denied : Literal) (path : List Literal) → denied ≡ negation_of l → All (IsOnPath es denied) path → IsNegativeCycle path → IsByCycle (Stands es (length es)) l path

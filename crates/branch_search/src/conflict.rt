@@ -6,9 +6,8 @@ ghost use Rattle.branch_search.specs.Search.{question_of, IsState, IsStuck, IsLe
 
 use crate::both::Both;
 use crate::state::State;
-use conflict_analysis::{Conflict, Level, Source, analyze, number_of, open_place};
+use conflict_analysis::{Conflict, Level, Source, analyze, numbers_of, open_place};
 use refute_tree::{Earlier, Lemma};
-use search_guide::{Guide, LiteralNumber};
 use std::alloc::{AllocError, Global};
 use stn_core::{Literal, Net, Problem};
 
@@ -17,20 +16,6 @@ fn is_root(levels: &[Level]) -> bool
     ensures { length levels.now ≡ 0 → result ≡ true }
 {
     levels.is_empty()
-}
-
-// The numbers of the clause's literals.
-fn numbers_of(
-    alloc: Global,
-    guide: &Guide,
-    source: Source,
-    count: usize,
-) -> Result<Vec<LiteralNumber>, AllocError> {
-    let mut numbers = Vec::new(alloc);
-    for q in 0..count {
-        numbers.push(number_of(guide, source, q))?;
-    }
-    Ok(numbers)
 }
 
 // The clause of the lemma with the number.
@@ -83,19 +68,14 @@ impl State {
     }
 
     // To which level to jump back from the clause of a lemma. Any level is right.
-    fn jump_level(
-        &mut self,
-        alloc: Global,
-        source: Source,
-        count: usize,
-    ) -> Result<usize, AllocError>
+    fn jump_level(&mut self, alloc: Global, source: Source) -> Result<usize, AllocError>
         requires { 0 < length self.old.levels.items }
         ensures entries { self.new.entries.items ≡ self.old.entries.items }
         ensures levels { self.new.levels.items ≡ self.old.levels.items }
         ensures own { self.new.own.items ≡ self.old.own.items }
         ensures within { IfOk result (λ level. level < length self.old.levels.items) }
     {
-        let numbers = numbers_of(alloc, &self.guide, source, count)?;
+        let numbers = Vec::from_slice(alloc, numbers_of(&self.guide, source))?;
         let level = self.guide.after_conflict(&numbers);
         self.guide.decay();
         self.met_conflict = true;
@@ -135,8 +115,7 @@ impl State {
         }
         self.cite_all(alloc, problem, handed, cube, net, &wanted)?;
         let source = Source::Lemma(handed.count() + j);
-        let count = clause_at(&self.own, j).len();
-        let level = self.jump_level(alloc, source, count)?;
+        let level = self.jump_level(alloc, source)?;
         self.cut(net, level);
         let clause = clause_at(&self.own, j);
         let place = open_place(&self.guide, &self.entries, source, clause);

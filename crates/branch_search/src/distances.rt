@@ -7,49 +7,43 @@ ghost use Rattle.branch_search.specs.Search.{question_of, IsState};
 ghost use Rattle.stn_core.specs.Literal.{negation_of};
 
 use crate::state::State;
-use conflict_analysis::{Entry, Reason, is_over, is_standing};
+use conflict_analysis::{Entry, Reason, is_over, literal_on};
 use refute_tree::Earlier;
-use search_guide::{Guide, LiteralNumber};
+use search_guide::LiteralNumber;
 use std::alloc::{AllocError, Global};
 use stn_core::{Literal, Literals, Net, Problem, is_cycle, negate};
 
-// The denied literal, and then those with the numbers, where they stand on the trail.
+// The denied literal, and then those at the places of the trail.
 fn path_of(
     alloc: Global,
-    guide: &Guide,
     entries: &[Entry],
     denied: Literal,
-    numbers: &[LiteralNumber],
+    places: &[usize],
 ) -> Result<Option<Vec<Literal>>, AllocError>
     ensures { IfOk result (λ found. IfSome found (λ path. All (IsOnPath entries.now denied) path.items)) }
 {
-    let mut path = Vec::with_capacity(alloc, numbers.len().saturating_add(1))?;
+    let mut path = Vec::with_capacity(alloc, places.len().saturating_add(1))?;
     path.push(denied)?;
-    'edges: for number in numbers {
-        let Some(literal) = guide.literal(*number) else {
-            return Ok(None);
-        };
-        if !is_standing(guide, entries, *number, literal) {
+    'edges: for place in places {
+        if *place >= entries.len() {
             return Ok(None);
         }
-        path.push(literal)?;
+        path.push(literal_on(entries, *place))?;
     }
     Ok(Some(path))
 }
 
-// The cycle of the literal's negation and those with the numbers, where it is negative and they stand on the
-// trail.
+// The cycle of the literal's negation and those at the places of the trail, where it is negative.
 fn cycle_of(
     alloc: Global,
-    guide: &Guide,
     entries: &[Entry],
     literal: Literal,
-    numbers: &[LiteralNumber],
+    places: &[usize],
 ) -> Result<Option<Literals>, AllocError>
     ensures { IfOk result (λ found. IfSome found (IsByCycle (Stands entries.now (length entries.now))
         literal)) }
 {
-    let Some(path) = path_of(alloc, guide, entries, negate(literal), numbers)? else {
+    let Some(path) = path_of(alloc, entries, negate(literal), places)? else {
         return Ok(None);
     };
     if !is_cycle(path.as_slice()) {
@@ -87,8 +81,8 @@ impl State {
         let Some(distances) = &mut self.distances else {
             return Ok(None);
         };
-        let numbers = distances.path(&self.guide, number)?;
-        let cycle = cycle_of(alloc, &self.guide, &self.entries, literal, numbers)?;
+        let places = distances.path(&self.guide, number)?;
+        let cycle = cycle_of(alloc, &self.entries, literal, places)?;
         Ok(cycle)
     }
 

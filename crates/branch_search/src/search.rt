@@ -116,7 +116,7 @@ impl State {
             return Ok(Turn::Ended(Found::Excluded(j)));
         }
         self.guide.forget()?;
-        if self.conflicts % LOOK == 0 && rest.target <= net.adds() {
+        if self.conflicts % LOOK == 0 && rest.target <= net.adds() && !self.guide.has_plan() {
             return Ok(Turn::Ended(Found::Spent));
         }
         self.restart(problem, handed, cube, net);

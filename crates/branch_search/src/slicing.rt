@@ -52,9 +52,9 @@ impl State {
 
     // Where to divide the cube. Without a conflict activities say nothing, and a slice is a step of one descent to a
     // schedule.
-    fn dividing(&self) -> Option<(usize, usize)> {
+    fn dividing(&self, cube: &[Literal]) -> Option<(usize, usize)> {
         if self.met_conflict {
-            self.guide.dividing()
+            self.guide.dividing(cube)
         } else {
             None
         }
@@ -125,7 +125,7 @@ fn divide_cube<E: Earlier, N: Net>(
     ensures answer { IfOk result (IsSlice (question_of problem.now (E.clauses handed.now) cube.now)) }
     ensures spent { OnOk result (target ≤ N.adds_of net.new) }
 {
-    let place = state.dividing();
+    let place = state.dividing(cube);
     net.retract(Mark { length: 0 });
     spend(net, problem, target)?;
     net.retract(Mark { length: 0 });
@@ -191,6 +191,15 @@ impl Searcher {
     /// The one error is want of memory.
     pub fn new(alloc: Global, problem: &Problem) -> Result<Self, AllocError> {
         Searcher::with_policy(alloc, problem, Policy::default())
+    }
+
+    /// A searcher that works alone: nobody waits for a half of a cube that it divides. The one error is want of memory.
+    pub fn alone(alloc: Global, problem: &Problem) -> Result<Self, AllocError> {
+        let policy = Policy {
+            shares: false,
+            ..Policy::default()
+        };
+        Searcher::with_policy(alloc, problem, policy)
     }
 
     /// A searcher that leaves out what the policy says. The one error is want of memory.

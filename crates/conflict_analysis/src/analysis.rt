@@ -69,10 +69,12 @@ fn begin(
     let unmarked = mem::replace(&mut tables.unmarked, Unmarked::new(alloc));
     let mut redundancy = mem::replace(&mut tables.redundancy, Redundancy::new(alloc));
     redundancy.begin(trail.len())?;
+    let mut passed = mem::replace(&mut tables.passed, Vec::new(alloc));
+    passed.truncate(0);
     Ok(Marks {
         roles: unmarked.into_roles(trail.len())?,
         waiting: Places::new(alloc),
-        passed: Vec::new(alloc),
+        passed,
         start: trail.len(),
         open: 0,
         root: root_end(trail, levels),
@@ -194,10 +196,12 @@ pub fn analyze<E: Earlier>(
         &leaves,
         guide,
         conflict,
+        &mut tables.steps,
     )?;
     tables.no_leaves = clear(leaves, &marks.passed);
     tables.unmarked = unmark(marks.roles, &marks.passed);
     tables.redundancy = marks.redundancy;
+    tables.passed = marks.passed;
     Ok(Lemma {
         clause: Clause::new(clause),
         steps,

@@ -1,6 +1,6 @@
 //! Which literals of the trail a lemma cites, in place of their reasons. Any answer is right.
 use crate::entry::{Entry, Reason, Source};
-use crate::reading::{clause_of, denial_place, is_known};
+use crate::reading::{clause_of, denial_place, is_known, numbers_of};
 use refute_tree::Earlier;
 use search_guide::Guide;
 use stn_core::Problem;
@@ -15,8 +15,9 @@ fn is_given(entries: &[Entry], place: Option<usize>) -> bool {
 
 // Whether the clause's literals but the one at the place are negations of the cube's.
 fn are_given(guide: &Guide, entries: &[Entry], source: Source, count: usize, place: usize) -> bool {
+    let numbers = numbers_of(guide, source);
     for q in 0..count {
-        if q != place && !is_given(entries, denial_place(guide, source, q)) {
+        if q != place && !is_given(entries, denial_place(guide, numbers, q)) {
             return false;
         }
     }

@@ -7,23 +7,23 @@ ghost use Rattle.conflict_analysis.specs.Denials.{AreDenied};
 ghost use Rattle.conflict_analysis.specs.Proved.{IsClauseOver};
 
 use crate::entry::{Entry, Source};
-use crate::reading::{clause_of, denial_place, is_known, is_same};
+use crate::reading::{clause_of, denial_place, is_known, is_same, numbers_of};
 use refute_tree::Earlier;
-use search_guide::Guide;
+use search_guide::{Guide, LiteralNumber};
 use stn_core::{Literal, Problem, negate};
 
-/// Whether the negation of the literal, which stands at a place of a clause, is on the trail where the guide
-/// has it.
-pub fn is_denied(
+/// Whether the negation of the literal, which stands at a place of a clause, whose literals have these numbers,
+/// is on the trail where the guide has it.
+fn is_denied(
     guide: &Guide,
     entries: &[Entry],
-    source: Source,
+    numbers: &[LiteralNumber],
     place: usize,
     literal: Literal,
 ) -> bool
     ensures { result ≡ true → Stands entries.now (length entries.now) (negation_of literal) }
 {
-    match denial_place(guide, source, place) {
+    match denial_place(guide, numbers, place) {
         Some(k) => k < entries.len() && is_same(entries[k].literal, negate(literal)),
         None => false,
     }
@@ -39,8 +39,9 @@ fn are_denied(
 ) -> bool
     ensures { result ≡ true → AreDenied entries.now clause.now place }
 {
+    let numbers = numbers_of(guide, source);
     for q in 0..clause.len() {
-        if q != place && !is_denied(guide, entries, source, q, clause[q]) {
+        if q != place && !is_denied(guide, entries, numbers, q, clause[q]) {
             return false;
         }
     }
@@ -91,8 +92,9 @@ pub fn is_conflict<E: Earlier>(
 
 /// The first place of the clause whose literal isn't denied.
 pub fn open_place(guide: &Guide, entries: &[Entry], source: Source, clause: &[Literal]) -> usize {
+    let numbers = numbers_of(guide, source);
     for q in 0..clause.len() {
-        if !is_denied(guide, entries, source, q, clause[q]) {
+        if !is_denied(guide, entries, numbers, q, clause[q]) {
             return q;
         }
     }

@@ -9,7 +9,7 @@ ghost use Rattle.conflict_analysis.specs.Places.{ArePassed};
 ghost use Rattle.conflict_analysis.specs.Leaves.{at_leaves, IsFewer, StandsAssumed, IsChosen, IsAssumedConflict};
 
 use crate::entry::{Conflict, Entry, Reason, Role, Source};
-use crate::reading::{clause_of, denial_guess, is_same, literal_place};
+use crate::reading::{clause_of, denial_guess, is_same, literal_place, numbers_of};
 use refute_tree::Earlier;
 use search_guide::Guide;
 use stn_core::{Literal, Problem, negate};
@@ -109,9 +109,10 @@ fn are_denied(
     ensures { result ≡ true → (q : ℕ) → q < length clause.now → q ≢ place
         → StandsAssumed trail.now roles.now leaves.now below (negation_of (literal_at clause.now q)) }
 {
+    let numbers = numbers_of(guide, source);
     for q in 0..clause.len() {
         if q != place {
-            let guess = denial_guess(guide, source, q, clause[q]);
+            let guess = denial_guess(guide, numbers, q, clause[q]);
             if !is_assumed(trail, roles, leaves, negate(clause[q]), below, guess) {
                 return false;
             }
@@ -214,6 +215,7 @@ fn choose<E: Earlier>(
         i leaves.new.items }
 {
     let k = passed[i];
+    let literal = trail[k].literal;
     match &trail[k].reason {
         Reason::Given => {}
         Reason::Decision => {}
@@ -221,44 +223,22 @@ fn choose<E: Earlier>(
             Source::Lemma(_) => {}
             Source::Input(_) => {
                 let clause = clause_of(problem, earlier, *source);
+                let chosen = leaves.as_slice();
                 if clause.len() <= LONGEST
-                    && are_denied(
-                        trail,
-                        roles,
-                        leaves.as_slice(),
-                        guide,
-                        *source,
-                        clause,
-                        *place,
-                        k,
-                    )
+                    && are_denied(trail, roles, chosen, guide, *source, clause, *place, k)
                 {
                     leaves[k] = true;
                 }
             }
         },
         Reason::Pair(tighter) => {
-            let cycle = [*tighter, negate(trail[k].literal)];
-            assume_others(
-                trail,
-                roles,
-                leaves,
-                guide,
-                cycle.as_slice(),
-                trail[k].literal,
-                k,
-            );
+            let cycle = [*tighter, negate(literal)];
+            let others = cycle.as_slice();
+            assume_others(trail, roles, leaves, guide, others, literal, k);
         }
         Reason::Cycle(cycle) => {
-            assume_others(
-                trail,
-                roles,
-                leaves,
-                guide,
-                cycle.as_slice(),
-                trail[k].literal,
-                k,
-            );
+            let others = cycle.as_slice();
+            assume_others(trail, roles, leaves, guide, others, literal, k);
         }
     }
 }

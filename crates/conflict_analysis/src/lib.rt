@@ -24,5 +24,7 @@ pub use analysis::analyze;
 pub use citing::is_cited;
 pub use denial::{is_conflict, open_place, unit_of};
 pub use entry::{Conflict, Entry, Level, Reason, Source};
-pub use reading::{clause_of, is_over, is_same, is_standing, literal_on, number_of, source_of};
+pub use reading::{
+    clause_of, is_over, is_same, is_standing, literal_on, number_of, numbers_of, source_of,
+};
 pub use tables::Tables;

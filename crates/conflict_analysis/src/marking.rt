@@ -8,7 +8,7 @@ ghost use Rattle.conflict_analysis.specs.Places.{AreWaiting, KeepsWaiting, ArePa
 
 use crate::entry::{Conflict, Entry, Level, Reason, Role, Source};
 use crate::places::Places;
-use crate::reading::{clause_of, denial_guess, is_same, literal_place, place_of};
+use crate::reading::{clause_of, denial_guess, is_same, literal_place, numbers_of, place_of};
 use crate::redundancy::Redundancy;
 use refute_tree::Earlier;
 use search_guide::Guide;
@@ -82,9 +82,10 @@ fn need_denials(
     ensures used { OnOk result ((q : ℕ) → q < length clause.now → q ≢ place
         → StandsUsed trail.now marks.new.roles.items below (negation_of (literal_at clause.now q))) }
 {
+    let numbers = numbers_of(guide, source);
     for q in 0..clause.len() {
         if q != place {
-            let guess = denial_guess(guide, source, q, clause[q]);
+            let guess = denial_guess(guide, numbers, q, clause[q]);
             need(trail, marks, negate(clause[q]), below, guess)?;
         }
     }

@@ -64,10 +64,15 @@ pub fn source_of(source: search_guide::Source) -> Source {
     }
 }
 
-/// Where the guide has the negation of the literal at a place of a clause.
-pub fn denial_place(guide: &Guide, source: Source, place: usize) -> Option<usize> {
-    match guide.number_at(named(source), place) {
-        Some(number) => guide.place(Guide::negated(number)),
+/// The numbers of the clause's literals, none where the guide has forgotten them.
+pub fn numbers_of(guide: &Guide, source: Source) -> &[LiteralNumber] {
+    guide.numbers_of(named(source))
+}
+
+/// Where the guide has the negation of the literal at a place of a clause, whose literals have these numbers.
+pub fn denial_place(guide: &Guide, numbers: &[LiteralNumber], place: usize) -> Option<usize> {
+    match numbers.get(place) {
+        Some(number) => guide.place(Guide::negated(*number)),
         None => None,
     }
 }
@@ -108,15 +113,15 @@ pub fn literal_on(entries: &[Entry], k: usize) -> Literal
     entries[k].literal
 }
 
-/// Where the guide has the negation of this literal, which stands at a place of a clause: by the clause, or
-/// else, where the guide has forgotten that, by the literal.
+/// Where the guide has the negation of this literal, which stands at a place of a clause: by the numbers of the
+/// clause's literals, or else, where the guide has forgotten those, by the literal.
 pub fn denial_guess(
     guide: &Guide,
-    source: Source,
+    numbers: &[LiteralNumber],
     place: usize,
     literal: Literal,
 ) -> Option<usize> {
-    match denial_place(guide, source, place) {
+    match denial_place(guide, numbers, place) {
         Some(k) => Some(k),
         None => literal_place(guide, negate(literal)),
     }

@@ -2,13 +2,13 @@
 //! literal that is resolved for nothing brings others into the clause.
 //!
 //! Source: Sörensson and Biere, "Minimizing learned clauses", SAT 2009.
-use crate::entry::{Entry, Reason, Role, Source};
-use crate::reading::{is_same, literal_place, named};
-use search_guide::Guide;
+use crate::entry::{Entry, Reason, Role};
+use crate::reading::{denial_place, is_same, literal_place, numbers_of};
+use search_guide::{Guide, LiteralNumber};
 use std::alloc::{AllocError, Global};
 use stn_core::{Literal, negate};
 
-/// How many steps are taken for one clause at most.
+/// How many reasons are looked at for one clause at most.
 const WORK_LIMIT: u32 = 100_000;
 
 /// What was found of a literal of the trail that isn't used.
@@ -28,26 +28,23 @@ struct Frame {
     next: usize,
 }
 
-/// One of the literals that a reason names.
-#[derive(Clone, Copy)]
-enum Cause {
-    /// This one stands there on the trail.
-    At(usize),
-    /// It is the literal that has the reason.
-    Itself,
-    /// The guide doesn't have it on the trail, or there is no reason.
-    Missing,
-    /// There is no further one.
-    End,
-}
-
-/// What a literal means for one that follows from it.
+/// What a reason's literals, or one of them, mean for the literal that follows from them.
 #[derive(Clone, Copy)]
 enum Verdict {
     Fine,
     Bad,
-    /// The reason of the literal at this place is to be looked at.
-    Open(usize),
+    /// The reason of the literal at this place is to be looked at, and then the reason's literals from the
+    /// next one on.
+    Open(Frame),
+}
+
+/// What is looked at: the trail, which of its literals are used, and where its root ends.
+#[derive(Clone, Copy)]
+struct View<'a> {
+    trail: &'a [Entry],
+    roles: &'a [Role],
+    root: usize,
+    guide: &'a Guide,
 }
 
 #[derive(Drop)]
@@ -59,48 +56,8 @@ pub struct Redundancy {
     stack: Vec<Frame>,
     /// a bit for each level, modulo 64, on which the clause has a literal
     levels: u64,
-    /// how many steps were taken
+    /// how many reasons were looked at
     work: u32,
-}
-
-fn found_cause(place: Option<usize>) -> Cause {
-    match place {
-        Some(k) => Cause::At(k),
-        None => Cause::Missing,
-    }
-}
-
-// The literal at the place q of a clause, in which the literal that follows has its own place.
-fn clause_cause(guide: &Guide, source: Source, place: usize, q: usize) -> Cause {
-    let numbers = guide.numbers_of(named(source));
-    if numbers.is_empty() {
-        return Cause::Missing;
-    }
-    match numbers.get(q) {
-        Some(_) if q == place => Cause::Itself,
-        Some(number) => found_cause(guide.place(Guide::negated(*number))),
-        None => Cause::End,
-    }
-}
-
-fn cycle_cause(guide: &Guide, cycle: &[Literal], literal: Literal, q: usize) -> Cause {
-    match cycle.get(q) {
-        Some(other) if is_same(*other, negate(literal)) => Cause::Itself,
-        Some(other) => found_cause(literal_place(guide, *other)),
-        None => Cause::End,
-    }
-}
-
-// The literal with the number q of those that the literal follows from.
-fn next_cause(guide: &Guide, entry: &Entry, q: usize) -> Cause {
-    match &entry.reason {
-        Reason::Given => Cause::Missing,
-        Reason::Decision => Cause::Missing,
-        Reason::Clause(source, place) => clause_cause(guide, *source, *place, q),
-        Reason::Pair(tighter) if q == 0 => found_cause(literal_place(guide, *tighter)),
-        Reason::Pair(_) => Cause::End,
-        Reason::Cycle(cycle) => cycle_cause(guide, cycle.as_slice(), entry.literal, q),
-    }
 }
 
 fn is_used(roles: &[Role], place: usize) -> bool {
@@ -177,23 +134,82 @@ impl Redundancy {
         Ok(())
     }
 
-    // What a literal means for one that follows from it.
-    fn look(
-        &self,
-        trail: &[Entry],
-        roles: &[Role],
-        root: usize,
-        guide: &Guide,
-        place: usize,
-    ) -> Verdict {
-        if place < root || is_used(roles, place) {
+    // What a literal means for one that follows from it, behind which the reason has those from `next` on.
+    fn look(&self, view: View<'_>, place: Option<usize>, next: usize) -> Verdict {
+        let Some(place) = place else {
+            return Verdict::Bad;
+        };
+        if place < view.root || is_used(view.roles, place) {
             return Verdict::Fine;
         }
-        match (self.memo(place), trail.get(place)) {
+        match (self.memo(place), view.trail.get(place)) {
             (Memo::Redundant, _) => Verdict::Fine,
-            (Memo::Unknown, Some(entry)) if level_bit(guide, entry) & self.levels != 0 =>
-                Verdict::Open(place),
+            (Memo::Unknown, Some(entry)) if level_bit(view.guide, entry) & self.levels != 0 =>
+                Verdict::Open(Frame { place, next }),
             _ => Verdict::Bad,
+        }
+    }
+
+    // What the clause's literals from the place `from` on mean for the one at its own place.
+    fn look_at_clause(
+        &self,
+        view: View<'_>,
+        numbers: &[LiteralNumber],
+        own: usize,
+        from: usize,
+    ) -> Verdict {
+        if numbers.is_empty() {
+            return Verdict::Bad;
+        }
+        for q in from..numbers.len() {
+            if q != own {
+                let verdict = self.look(view, denial_place(view.guide, numbers, q), q + 1);
+                if !matches!(verdict, Verdict::Fine) {
+                    return verdict;
+                }
+            }
+        }
+        Verdict::Fine
+    }
+
+    // The same for a cycle that the negation of the literal would close.
+    fn look_at_cycle(
+        &self,
+        view: View<'_>,
+        cycle: &[Literal],
+        literal: Literal,
+        from: usize,
+    ) -> Verdict {
+        for q in from..cycle.len() {
+            if !is_same(cycle[q], negate(literal)) {
+                let verdict = self.look(view, literal_place(view.guide, cycle[q]), q + 1);
+                if !matches!(verdict, Verdict::Fine) {
+                    return verdict;
+                }
+            }
+        }
+        Verdict::Fine
+    }
+
+    // The same for the reason of the literal at the frame's place.
+    fn look_at(&self, view: View<'_>, frame: Frame) -> Verdict {
+        let Some(entry) = view.trail.get(frame.place) else {
+            return Verdict::Bad;
+        };
+        match &entry.reason {
+            Reason::Given => Verdict::Bad,
+            Reason::Decision => Verdict::Bad,
+            Reason::Clause(source, own) => {
+                let numbers = numbers_of(view.guide, *source);
+                self.look_at_clause(view, numbers, *own, frame.next)
+            }
+            Reason::Pair(tighter) if frame.next == 0 => {
+                self.look(view, literal_place(view.guide, *tighter), 1)
+            }
+            Reason::Pair(_) => Verdict::Fine,
+            Reason::Cycle(cycle) => {
+                self.look_at_cycle(view, cycle.as_slice(), entry.literal, frame.next)
+            }
         }
     }
 
@@ -208,37 +224,20 @@ impl Redundancy {
         Ok(false)
     }
 
-    // A step: the next literal of the reason that is looked at. It answers no where that ends the look.
-    fn step(
-        &mut self,
-        trail: &[Entry],
-        roles: &[Role],
-        root: usize,
-        guide: &Guide,
-        frame: Frame,
-    ) -> Result<bool, AllocError> {
-        let Some(entry) = trail.get(frame.place) else {
-            return self.fail(roles, frame.place);
-        };
-        let verdict = match next_cause(guide, entry, frame.next) {
-            Cause::At(place) => self.look(trail, roles, root, guide, place),
-            Cause::Itself => Verdict::Fine,
-            Cause::Missing => Verdict::Bad,
-            Cause::End => {
-                self.note(roles, frame.place, Memo::Redundant)?;
-                return Ok(true);
+    // A step: the reason's literals up to one whose own reason is to be looked at. It answers no where that ends
+    // the look.
+    fn step(&mut self, view: View<'_>, frame: Frame) -> Result<bool, AllocError> {
+        match self.look_at(view, frame) {
+            Verdict::Fine => self.note(view.roles, frame.place, Memo::Redundant)?,
+            Verdict::Bad => return self.fail(view.roles, frame.place),
+            Verdict::Open(Frame { place, next }) => {
+                let rest = Frame {
+                    place: frame.place,
+                    next,
+                };
+                self.stack.push(rest)?;
+                self.stack.push(Frame { place, next: 0 })?;
             }
-        };
-        if let Verdict::Bad = verdict {
-            return self.fail(roles, frame.place);
-        }
-        let next = frame.next.saturating_add(1);
-        self.stack.push(Frame {
-            place: frame.place,
-            next,
-        })?;
-        if let Verdict::Open(place) = verdict {
-            self.stack.push(Frame { place, next: 0 })?;
         }
         Ok(true)
     }
@@ -260,13 +259,19 @@ impl Redundancy {
             Memo::Needed => return Ok(false),
             Memo::Unknown => {}
         }
+        let view = View {
+            trail,
+            roles,
+            root,
+            guide,
+        };
         self.stack.push(Frame { place, next: 0 })?;
         for _turn in self.work..WORK_LIMIT {
             self.work = self.work.saturating_add(1);
             let Some(frame) = self.stack.pop() else {
                 return Ok(true);
             };
-            if !self.step(trail, roles, root, guide, frame)? {
+            if !self.step(view, frame)? {
                 return Ok(false);
             }
         }

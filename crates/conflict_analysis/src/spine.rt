@@ -11,7 +11,7 @@ ghost use Rattle.conflict_analysis.specs.Spines.{IsOpen, IsOpening, IsClosing, I
 
 use crate::entry::{Conflict, Entry, Reason, Role, Source};
 use crate::leaves::used_place;
-use crate::reading::{clause_of, denial_guess};
+use crate::reading::{clause_of, denial_guess, numbers_of};
 use refute_tree::{Earlier, Steps};
 use search_guide::Guide;
 use std::alloc::{AllocError, Global};
@@ -114,8 +114,9 @@ fn push_leaves<E: Earlier>(
     ensures { OnOk result (Grows steps.old steps.new (AreShut problem.now.clauses (E.clauses earlier.now)
         (Assumes trail.now roles.now leaves.now below) clause.now low high)) }
 {
+    let numbers = numbers_of(guide, source);
     for q in low..high {
-        let guess = denial_guess(guide, source, q, clause[q]);
+        let guess = denial_guess(guide, numbers, q, clause[q]);
         push_leaf(
             problem, earlier, trail, roles, leaves, clause[q], below, guess, steps,
         )?;
@@ -227,8 +228,9 @@ fn is_clash(
         → StandsAssumed trail.now roles.now leaves.now (length trail.now) (negation_of (literal_at clause.now q)) }
 {
     let below = trail.len();
+    let numbers = numbers_of(guide, source);
     for q in 0..clause.len() {
-        let guess = denial_guess(guide, source, q, clause[q]);
+        let guess = denial_guess(guide, numbers, q, clause[q]);
         let k = used_place(trail, roles, negate(clause[q]), below, guess);
         if leaves[k] {
             return false;
@@ -396,7 +398,7 @@ fn push_closing_at<E: Earlier>(
 }
 
 /// The steps, for the roles that the trail's literals have, of which these are used, the last one first, and
-/// some stand at leaves alone.
+/// some stand at leaves alone. They are made in the memory of others, and then copied to some of their size.
 pub fn steps_for<E: Earlier>(
     alloc: Global,
     problem: &Problem,
@@ -407,6 +409,7 @@ pub fn steps_for<E: Earlier>(
     leaves: &[bool],
     guide: &Guide,
     conflict: &Conflict,
+    steps: &mut Steps,
 ) -> Result<Steps, AllocError>
     requires roles { length trail.now ≤ length roles.now }
     requires passed { ArePassed 0 (length trail.now) roles.now passed.now }
@@ -418,20 +421,20 @@ pub fn steps_for<E: Earlier>(
     requires assumed { IsAssumedConflict trail.now roles.now leaves.now conflict.now }
     ensures { IfOk result (Refutes problem.now.clauses (E.clauses earlier.now) trail.now roles.now) }
 {
-    let mut steps = Steps::new(alloc);
+    steps.clear();
     let mut left = passed.len();
     'forth: while 0 < left {
         left -= 1;
         let k = passed[left];
-        push_opening_at(problem, earlier, trail, roles, leaves, guide, k, &mut steps)?;
+        push_opening_at(problem, earlier, trail, roles, leaves, guide, k, steps)?;
     }
     push_conflict(
-        problem, earlier, trail, roles, leaves, guide, conflict, &mut steps,
+        problem, earlier, trail, roles, leaves, guide, conflict, steps,
     )?;
     'back: for i in 0..passed.len() {
         let k = passed[i];
-        push_closing_at(problem, earlier, trail, roles, leaves, guide, k, &mut steps)?;
+        push_closing_at(problem, earlier, trail, roles, leaves, guide, k, steps)?;
     }
-    steps.shrink_to_fit();
-    Ok(steps)
+    let copy = steps.copy(alloc)?;
+    Ok(copy)
 }

@@ -7,6 +7,7 @@ ghost use Rattle.conflict_analysis.specs.declared.entry.Role.TheVariants.{Unused
 
 use crate::entry::Role;
 use crate::redundancy::Redundancy;
+use refute_tree::Steps;
 use std::alloc::{AllocError, Global};
 
 /// A table of roles in which no place is used.
@@ -93,6 +94,10 @@ pub struct Tables {
     pub(crate) unmarked: Unmarked,
     pub(crate) no_leaves: NoLeaves,
     pub(crate) redundancy: Redundancy,
+    /// the places that the last conflict passed
+    pub(crate) passed: Vec<usize>,
+    /// the steps of the last lemma, in whose memory the next one's are made
+    pub(crate) steps: Steps,
 }
 
 impl Tables {
@@ -101,6 +106,8 @@ impl Tables {
             unmarked: Unmarked::new(alloc),
             no_leaves: NoLeaves::new(alloc),
             redundancy: Redundancy::new(alloc),
+            passed: Vec::new(alloc),
+            steps: Steps::new(alloc),
         }
     }
 }

@@ -3,6 +3,7 @@ use crate::assignment::{Assignment, Truth};
 use crate::clauses::{Clauses, Source};
 use crate::closing::Closing;
 use crate::forgetting::Forgetting;
+use crate::hall_set::HallSet;
 use crate::ladders::Ladders;
 use crate::numbers::{LiteralNumber, Numbers, narrow, negated};
 use crate::patience::Patience;
@@ -15,10 +16,10 @@ use std::alloc::{AllocError, Global};
 use stn_core::{Literal, Problem, Value};
 
 /// Another's lemma of more literals isn't watched: the longer, the more seldom it says something.
-const MOST_SHARED: usize = 6;
+const MOST_SHARED: usize = 12;
 
 /// So many conflicts have targets: what ends sooner mostly has a schedule.
-const TARGET_CONFLICTS: u64 = 2_000;
+const TARGET_CONFLICTS: u64 = 1_000;
 
 /// The hints of a search. It is told what happens on the trail (`set`, `unset`), what is learned
 /// (`add_lemma`) and what took part in conflicts (`bump`, `bump_clause`, `decay`, `after_conflict`), and
@@ -32,7 +33,7 @@ pub struct Guide {
     pub(crate) assignment: Assignment,
     ladders: Ladders,
     watches: Watches,
-    activities: Activities,
+    pub(crate) activities: Activities,
     pub(crate) phases: Phases,
     restarts: Restarts,
     forgetting: Forgetting,
@@ -43,6 +44,7 @@ pub struct Guide {
     set: usize,
     pub(crate) above_root: usize,
     pub(crate) probing: Probing,
+    pub(crate) hall_set: HallSet,
 }
 
 /// Numbers the literals, and puts the problem's clauses into the table.
@@ -71,7 +73,12 @@ impl Guide {
         problem: &Problem,
         policy: Policy,
     ) -> Result<Self, AllocError> {
-        let (numbers, clauses) = read(alloc, problem)?;
+        let (mut numbers, clauses) = read(alloc, problem)?;
+        let hall_set = if policy.new_literals {
+            HallSet::find(alloc, problem, &mut numbers)?
+        } else {
+            HallSet::none(alloc)
+        };
         let ladders = Ladders::start(alloc, numbers.atoms())?;
         let phases = Phases::start(alloc, problem.points, numbers.atoms(), policy.pure_apart)?;
         let restarts = Restarts::new(numbers.len());
@@ -92,6 +99,7 @@ impl Guide {
             set: 0,
             above_root: 0,
             probing: Probing::new(alloc, problem.points, policy.new_literals)?,
+            hall_set,
         };
         for _atom in 0..guide.numbers.len() {
             guide.push_atom()?;
@@ -230,7 +238,7 @@ impl Guide {
             self.above_root = self.above_root.saturating_sub(1);
         }
         self.assignment.unset(number);
-        if self.policy.saved_phases && !self.probing.is_under_way() {
+        if self.policy.saved_phases && !self.is_planned() {
             self.phases.save(number);
         }
         self.activities.reopen(number);
@@ -273,8 +281,21 @@ impl Guide {
             .next(&mut self.clauses, &self.ladders, &self.assignment)
     }
 
+    /// Whether the literals that are decided now are those of a plan.
+    fn is_planned(&self) -> bool {
+        self.probing.is_under_way() || self.hall_set.is_under_way()
+    }
+
+    /// Whether a plan is under way that a slice is to carry through, since a division of its cube would spoil it.
+    pub fn has_plan(&self) -> bool {
+        self.hall_set.is_under_way()
+    }
+
     /// The open literal to decide, or nothing where all are on the trail. The values are the net's schedule.
     pub fn choose(&mut self, values: &[Value]) -> Option<LiteralNumber> {
+        if let Some(number) = self.next_of_hall_set() {
+            return Some(number);
+        }
         if let Some(number) = self.probe() {
             return Some(number);
         }
@@ -295,6 +316,9 @@ impl Guide {
 
     /// Whether the literal's atom is more active than each open one, so that it would be decided first.
     pub fn outranks(&mut self, number: LiteralNumber) -> bool {
+        if self.hall_set.is_under_way() {
+            return false;
+        }
         for _turn in 0..self.literals() {
             let Some(atom) = self.activities.top() else {
                 return true;
@@ -351,7 +375,7 @@ impl Guide {
 
     /// The literal took part in a conflict.
     pub fn bump(&mut self, number: LiteralNumber) {
-        if !self.probing.is_under_way() {
+        if !self.is_planned() {
             self.activities.bump(number);
         }
     }
@@ -369,7 +393,7 @@ impl Guide {
 
     /// What took part in earlier conflicts counts less from now on.
     pub fn decay(&mut self) {
-        if self.probing.is_under_way() {
+        if self.is_planned() {
             return;
         }
         self.activities.decay();
@@ -379,7 +403,7 @@ impl Guide {
     /// The level to jump back to from a conflict, whose learned clause has these literals, all denied: the
     /// second greatest of their levels, or 0 for one literal.
     pub fn after_conflict(&mut self, clause: &[LiteralNumber]) -> usize {
-        if !self.probing.is_under_way() {
+        if !self.is_planned() {
             self.restarts.count_conflict();
             self.forgetting.count_conflict();
             self.phases.take_targets(&self.assignment);
@@ -403,6 +427,9 @@ impl Guide {
 
     /// Whether it is time to go back; if so, the next wait begins.
     pub fn wants_restart(&mut self) -> bool {
+        if self.hall_set.is_under_way() {
+            return self.hall_set.wants_root(&self.assignment);
+        }
         self.policy.restarts && self.restarts.is_due()
     }
 
@@ -419,28 +446,6 @@ impl Guide {
         self.clauses.keep_lemmas(&kept);
         self.watches.drop_forgotten(&self.clauses);
         Ok(dropped)
-    }
-
-    /// The place of a clause of the problem, by number and place, whose literal is the best to divide the search by: of
-    /// those that aren't fixed at the root the most active one.
-    pub fn dividing(&self) -> Option<(usize, usize)> {
-        let mut best = None;
-        let mut most = 0.0;
-        for clause in 0..self.clauses.inputs() {
-            for (place, literal) in self.clauses.literals(narrow(clause)).iter().enumerate() {
-                let merit = self.activities.of(*literal);
-                if merit > most && !self.is_fixed(*literal) {
-                    most = merit;
-                    best = Some((clause, place));
-                }
-            }
-        }
-        best
-    }
-
-    /// Whether the literal, or its negation, stands on the trail at the root.
-    fn is_fixed(&self, number: LiteralNumber) -> bool {
-        self.assignment.truth(number) != Truth::Open && self.assignment.level(number) == 0
     }
 
     /// How many numbers of lemmas there are: the next lemma gets this one.

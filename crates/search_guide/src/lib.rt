@@ -6,11 +6,14 @@
 
 mod activities;
 mod assignment;
+mod boxes;
 mod clauses;
 mod closing;
 mod common;
+mod dividing;
 mod forgetting;
 mod guide;
+mod hall_set;
 mod ladders;
 mod numbers;
 mod patience;

@@ -20,6 +20,8 @@ pub struct Policy {
     pub pure_apart: bool,
     /// whether a literal brings about the weaker bounds on its pair
     pub ladders: bool,
+    /// whether others wait for a half of its cube, where it divides that
+    pub shares: bool,
 }
 
 impl Default for Policy {
@@ -34,6 +36,7 @@ impl Default for Policy {
             forgetting: true,
             pure_apart: true,
             ladders: true,
+            shares: true,
         }
     }
 }

@@ -96,6 +96,19 @@ fn third_bound(alloc: Global) -> Result<Problem, AllocError> {
     with_clause(problem, [literal(3, 1, 1), literal(0, 4, -1)].as_slice())
 }
 
+/// Eight points of which each pair is in an order, all within seven places.
+fn crowd(alloc: Global) -> Result<Problem, AllocError> {
+    let mut problem = empty(alloc, 9);
+    for p in 1..9u32 {
+        problem = with_clause(problem, [literal(0, p, 0)].as_slice())?;
+        problem = with_clause(problem, [literal(p, 0, 6)].as_slice())?;
+        for q in 1..p {
+            problem = with_order(problem, p, q)?;
+        }
+    }
+    Ok(problem)
+}
+
 /// Four pairs of points, each in one of two orders.
 fn free_pairs(alloc: Global) -> Result<Problem, AllocError> {
     let mut problem = empty(alloc, 9);
@@ -186,6 +199,20 @@ fn distances_alone(rt: HostRuntime) -> Result<(), Fail> {
     let problem = third_bound(alloc)?;
     let found = run_counted(alloc, &problem)?;
     assert_eq!(rt; found, (true, 0));
+    Ok(())
+}
+
+/// There are 8 times 128 pairs of a subset of the points and one of its points, and no more conflicts.
+#[test]
+fn eight_points_in_seven_places(rt: HostRuntime) -> Result<(), Fail> {
+    let alloc = rt.alloc();
+    let problem = crowd(alloc)?;
+    let mut net = Network::new(alloc, problem.points)?;
+    let mut searcher = Searcher::new(alloc, &problem)?;
+    let none: &[Lemma] = &[];
+    let answer = searcher.slice(alloc, &problem, &none, &[], 1_000, &mut net)?;
+    assert_eq!(rt; kind_of(&answer), 1);
+    assert!(rt; searcher.conflicts() <= 1_024);
     Ok(())
 }
 

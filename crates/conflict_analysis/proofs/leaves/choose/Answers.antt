@@ -1,4 +1,4 @@
-use Rattle.std.proofs.Common.{◌≢◌, ◌<◌, ℕ, List, Bool, length, refl, ◌∙◌, ap, sym, subst, [], ◌∷◌}
+use Rattle.std.proofs.Common.{◌≢◌, ◌<◌, ℕ, List, Bool, length, refl, ◌∙◌, ap, subst, [], ◌∷◌}
 use Rattle.std.specs.Prelude.{slice_index}
 use Rattle.stn_core.specs.declared.literal.Literal.{Literal}
 use Rattle.stn_core.specs.Literal.{negation_of}
@@ -13,13 +13,12 @@ use Rattle.conflict_analysis.proofs.leaves.choose.Goals as goal
 pub returns-in-Pair : goal.returns-in-Pair
 returns-in-Pair g c =
     let within = c.requires.passed.within c.args.i c.requires.index in
-    let first = literal_is c.args.trail.now _ c.index-trail-k-in-Pair.result within in
-    let second = literal_is c.args.trail.now _ c.index-trail-k-in-Pair-2.result within in
+    let is = literal_is c.args.trail.now _ c.index-trail-k.result within in
     record {
-      chosen = chosen_pair c.args.trail.now c.args.roles.now c.args.problem.now.clauses (g.E.Earlier.clauses c.args.earlier.now) c.args.passed.now c.args.i c.in-Pair.tighter c.as_slice-in-Pair.result.now _ c.args.leaves.now.items c.assume_others.new.leaves.items c.requires.closed c.requires.resolved c.requires.chosen c.assume_others.ensures.fewer
-          (reason_is c.args.trail.now _ c.index-trail-k.result _ within c.in-Pair.is)
-          (c.as_slice-in-Pair.ensures ∙ ap (λ (m : Literal). c.in-Pair.tighter ∷ m ∷ []) (c.negate.ensures ∙ ap negation_of (first ∙ sym second)))
-          second
+      chosen = chosen_pair c.args.trail.now c.args.roles.now c.args.problem.now.clauses (g.E.Earlier.clauses c.args.earlier.now) c.args.passed.now c.args.i c.in-Pair.tighter c.as_slice-others.result.now _ c.args.leaves.now.items c.assume_others.new.leaves.items c.requires.closed c.requires.resolved c.requires.chosen c.assume_others.ensures.fewer
+          (reason_is c.args.trail.now _ c.index-trail-k-2.result _ within c.in-Pair.is)
+          (c.as_slice-others.ensures ∙ ap (λ (m : Literal). c.in-Pair.tighter ∷ m ∷ []) c.negate.ensures)
+          is
           c.assume_others.ensures.assumed;
     }
 
@@ -27,10 +26,10 @@ pub returns-in-Cycle : goal.returns-in-Cycle
 returns-in-Cycle g c =
     let within = c.requires.passed.within c.args.i c.requires.index in
     record {
-      chosen = chosen_cycle c.args.trail.now c.args.roles.now c.args.problem.now.clauses (g.E.Earlier.clauses c.args.earlier.now) c.args.passed.now c.args.i c.in-Cycle.cycle c.as_slice-in-Cycle.result.now _ c.args.leaves.now.items c.assume_others-in-Cycle.new.leaves.items c.requires.closed c.requires.resolved c.requires.chosen c.assume_others-in-Cycle.ensures.fewer
-          (reason_is c.args.trail.now _ c.index-trail-k.result _ within c.in-Cycle.is)
-          c.as_slice-in-Cycle.ensures
-          (literal_is c.args.trail.now _ c.index-trail-k-in-Cycle.result within)
+      chosen = chosen_cycle c.args.trail.now c.args.roles.now c.args.problem.now.clauses (g.E.Earlier.clauses c.args.earlier.now) c.args.passed.now c.args.i c.in-Cycle.cycle c.as_slice-others-in-Cycle.result.now _ c.args.leaves.now.items c.assume_others-in-Cycle.new.leaves.items c.requires.closed c.requires.resolved c.requires.chosen c.assume_others-in-Cycle.ensures.fewer
+          (reason_is c.args.trail.now _ c.index-trail-k-2.result _ within c.in-Cycle.is)
+          c.as_slice-others-in-Cycle.ensures
+          (literal_is c.args.trail.now _ c.index-trail-k.result within)
           c.assume_others-in-Cycle.ensures.assumed;
     }
 
@@ -43,7 +42,7 @@ returns-then-are_denied g c =
     let D : List Bool → Type 0 = λ ls. (q : ℕ) → q < length c.clause_of-clause.result.now → q ≢ place → StandsAssumed c.args.trail.now c.args.roles.now ls (slice_index c.args.passed.now c.args.i) (negation_of (literal_at c.clause_of-clause.result.now q)) in
     record {
       chosen = chosen_clause c.args.trail.now c.args.roles.now inputs lemmas c.args.passed.now _ c.args.i c.in-Input.field-0 place c.clause_of-clause.result.now c.args.leaves.now.items _ c.requires.passed c.requires.index refl c.requires.closed c.requires.resolved c.requires.chosen
-          (reason_is c.args.trail.now _ c.index-trail-k.result _ within c.in-Clause.is ∙ ap (λ (s : Source). ByClause s place) c.in-Input.is)
+          (reason_is c.args.trail.now _ c.index-trail-k-2.result _ within c.in-Clause.is ∙ ap (λ (s : Source). ByClause s place) c.in-Input.is)
           (c.clause_of-clause.ensures ∙ ap (λ (s : Source). source_clause inputs lemmas s) c.in-Input.is)
-          (subst D c.as_slice.ensures.value (c.are_denied.ensures c.if-are_denied.true)) refl;
+          (subst D c.as_slice-chosen.ensures.value (c.are_denied.ensures c.if-are_denied.true)) refl;
     }

@@ -30,4 +30,4 @@ returns g c =
     let all : c.back.i ≡ length c.args.passed.now = omega (arith, end, c.back-test.false) in
     let P : ℕ → Type 0 = λ i. AreWritten inputs lemmas c.args.trail.now c.args.roles.now c.args.leaves.now c.args.passed.now i c.back.steps in
     let R : List Step → Type 0 = Refutes inputs lemmas c.args.trail.now c.args.roles.now in
-    subst R (sym c.shrink_to_fit.ensures) (written_all inputs lemmas c.args.trail.now c.args.roles.now c.args.leaves.now c.args.passed.now c.requires.passed c.requires.closed c.requires.chosen c.back.steps (subst P all c.back.invariant.written))
+    subst R (sym c.in_ok-copy.ensures) (written_all inputs lemmas c.args.trail.now c.args.roles.now c.args.leaves.now c.args.passed.now c.requires.passed c.requires.closed c.requires.chosen c.back.steps (subst P all c.back.invariant.written))
