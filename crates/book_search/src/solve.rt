@@ -94,7 +94,7 @@ pub fn finish(
     ensures { IfOk result (IsRight problem.now) }
 {
     let mut book = book;
-    let mut tools = Tools::new(alloc, problem)?;
+    let mut tools = Tools::alone(alloc, problem)?;
     let mut budget = budget;
     'turns: while let Some(divided) = turn(alloc, problem, &mut tools, &mut book, budget)? {
         if divided {

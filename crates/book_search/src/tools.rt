@@ -33,12 +33,23 @@ impl Model for Tools {
 }
 
 impl Tools {
-    /// The tools for a problem. The one error is want of memory.
+    /// The tools of one of several workers. The one error is want of memory.
     pub fn new(alloc: Global, problem: &Problem) -> Result<Self, AllocError>
         ensures { IfOk result (λ tools. tools ≡ problem.now.points) }
     {
         Ok(Tools {
             searcher: Searcher::new(alloc, problem)?,
+            net: Network::new(alloc, problem.points)?,
+        })
+    }
+
+    /// The tools of one that works alone: nobody waits for a half of a cube that it divides. The one error is want of
+    /// memory.
+    pub fn alone(alloc: Global, problem: &Problem) -> Result<Self, AllocError>
+        ensures { IfOk result (λ tools. tools ≡ problem.now.points) }
+    {
+        Ok(Tools {
+            searcher: Searcher::alone(alloc, problem)?,
             net: Network::new(alloc, problem.points)?,
         })
     }

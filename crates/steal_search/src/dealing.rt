@@ -15,20 +15,24 @@ const BUDGET_LIMIT: u64 = 1_000_000;
 /// And once there was a conflict: the others wait for the slice's end, for its lemmas and for half of its cube.
 const SHORT_LIMIT: u64 = 32_000;
 
-/// What a worker keeps from slice to slice: its tools, the budget of its next slice, and how many it has made.
+/// How many times the last budget the next one is then.
+const GROWTH: u64 = 8;
+
+/// What a worker keeps from slice to slice: its tools, the budget of its next slice, and how many it has made. The tools
+/// are some two hundred words, so they stay where they are when a worker moves.
 #[derive(Drop)]
 pub struct Pace {
-    pub(crate) tools: Tools,
+    pub(crate) tools: Box<Tools>,
     pub(crate) budget: u64,
     pub(crate) slices: u64,
 }
 
 impl Pace {
     pub(crate) fn new(alloc: Global, problem: &Problem, budget: u64) -> Result<Self, AllocError>
-        ensures { IfOk result (λ pace. pace.tools ≡ problem.now.points) }
+        ensures { IfOk result (λ pace. pace.tools.value ≡ problem.now.points) }
     {
         Ok(Pace {
-            tools: Tools::new(alloc, problem)?,
+            tools: Box::new(alloc, Tools::new(alloc, problem)?)?,
             budget,
             slices: 0,
         })
@@ -36,12 +40,14 @@ impl Pace {
 
     // The budget of the slice after one that was divided.
     fn next_budget(&self) -> u64 {
-        let limit = if self.tools.met_conflict() {
-            SHORT_LIMIT
+        let (growth, limit) = if self.tools.met_conflict() {
+            (GROWTH, SHORT_LIMIT)
         } else {
-            BUDGET_LIMIT
+            (2, BUDGET_LIMIT)
         };
-        self.budget.saturating_mul(2).min(limit.max(self.budget))
+        self.budget
+            .saturating_mul(growth)
+            .min(limit.max(self.budget))
     }
 }
 
@@ -52,9 +58,9 @@ fn search(
     seat: &Seat,
     pace: &mut Pace,
 ) -> Result<Delivery, AllocError>
-    requires tools { pace.old.tools ≡ problem.now.points }
+    requires tools { pace.old.tools.value ≡ problem.now.points }
     requires searching { IsSearching problem.now seat.now }
-    ensures tools { pace.new.tools ≡ pace.old.tools }
+    ensures tools { pace.new.tools.value ≡ pace.old.tools.value }
     ensures justified { IfOk result (λ d. IsJustifiedThere problem.now seat.now d.batch d.outcome) }
 {
     seat.sound();
@@ -90,7 +96,7 @@ fn deliver<R: Wait>(
 }
 
 /// One slice, the gate, and the delivery of what was found: whether it divided the cube, and then the next
-/// slice has twice the budget. Where there is no memory for it, the cube is given back.
+/// slice has a greater budget. Where there is no memory for it, the cube is given back.
 pub(crate) fn deal<R: Wait, G: Gate>(
     rt: &R,
     alloc: Global,
@@ -102,11 +108,11 @@ pub(crate) fn deal<R: Wait, G: Gate>(
     gate: &G,
 ) -> Result<bool, AllocError>
     requires desk { seat.old.desk ≡ desk.now.id }
-    requires tools { pace.old.tools ≡ problem.now.points }
+    requires tools { pace.old.tools.value ≡ problem.now.points }
     requires searching { IsSearching problem.now seat.old }
     ensures seat { GoesOn seat.old seat.new }
     ensures none { seat.new.cube ≡ None }
-    ensures tools { pace.new.tools ≡ pace.old.tools }
+    ensures tools { pace.new.tools.value ≡ pace.old.tools.value }
 {
     match search(alloc, problem, seat, pace) {
         Ok(delivery) => {

@@ -18,12 +18,15 @@ use std::thread::Threads;
 use stn_core::Problem;
 use worker_gates::Gate;
 
+/// The most slices that the caller makes alone.
+const FIRST_SLICES: u32 = 4;
+
 /// What a worker's thread has.
 #[derive(Drop)]
 pub struct Worker {
     pub(crate) seat: Seat,
     pub(crate) hand: Hand,
-    // that of the first slice, for one of the workers
+    // that of the first slices, for one of the workers
     pub(crate) pace: Option<Pace>,
     pub(crate) number: u32,
 }
@@ -35,8 +38,8 @@ fn pace_of(
     budget: u64,
     pace: &mut Option<Pace>,
 ) -> Result<Pace, AllocError>
-    requires { IfSome pace.old (λ pace. pace.tools ≡ problem.now.points) }
-    ensures { IfOk result (λ pace. pace.tools ≡ problem.now.points) }
+    requires { IfSome pace.old (λ pace. pace.tools.value ≡ problem.now.points) }
+    ensures { IfOk result (λ pace. pace.tools.value ≡ problem.now.points) }
 {
     match pace.take() {
         Some(pace) => Ok(pace),
@@ -103,7 +106,7 @@ fn run_all<R: Threads + Wait + Sync, G: Gate>(
     );
 }
 
-// A worker for each hand, the first at the pace of the first slice.
+// A worker for each hand, the first at the pace of the first slices.
 fn staff_of(
     alloc: Global,
     problem: &Problem,
@@ -116,7 +119,7 @@ fn staff_of(
     requires seat { IsFirst desk.now problem.now 1 seat.old }
     requires few { vec_len hands ≤ 64 }
     requires hands { AreOfPool pool.now hands.items }
-    requires tools { pace.tools ≡ problem.now.points }
+    requires tools { pace.tools.value ≡ problem.now.points }
     ensures seat { OnOk result (IsFirst desk.now problem.now (vec_len hands + 1) seat.new) }
     ensures count { IfOk result (λ staff. vec_len staff ≡ vec_len hands) }
     ensures seats { IfOk result (λ staff. AreSeated desk.now staff.items) }
@@ -170,7 +173,7 @@ fn share_out<R: Threads + Wait + Sync, G: Gate>(
 ) -> Result<(), AllocError>
     requires workers { (1 ≤ workers) × (workers ≤ 64) }
     requires seat { IsFirst desk.now problem.now 1 seat.old }
-    requires tools { pace.tools ≡ problem.now.points }
+    requires tools { pace.tools.value ≡ problem.now.points }
     ensures seat { OnOk result (IsFirst desk.now problem.now (workers + 1) seat.new) }
     ensures all { OnOk result (AllJoined seat.new.view) }
 {
@@ -190,7 +193,34 @@ fn share_out<R: Threads + Wait + Sync, G: Gate>(
     Ok(())
 }
 
-// The first slice, on the caller's thread: whether it divided the whole.
+// One slice of the first budget on the caller's thread: whether it divided its cube. None where nothing is left to do.
+fn slice_alone<R: Wait, G: Gate>(
+    rt: &R,
+    alloc: Global,
+    problem: &Problem,
+    desk: &Desk,
+    seat: &mut Seat,
+    pace: &mut Pace,
+    budget: u64,
+    gate: &G,
+) -> Result<Option<bool>, AllocError>
+    requires seat { IsFirst desk.now problem.now 1 seat.old }
+    requires tools { pace.old.tools.value ≡ problem.now.points }
+    ensures seat { IsFirst desk.now problem.now 1 seat.new }
+    ensures tools { pace.new.tools.value ≡ pace.old.tools.value }
+{
+    pace.budget = budget;
+    match desk.take(rt, seat)? {
+        Taken::Cube => {
+            let divided = deal(rt, alloc, problem, desk, seat, pace, 0, gate)?;
+            Ok(Some(divided))
+        }
+        Taken::Idle | Taken::Done => Ok(None),
+    }
+}
+
+// The first slices, on the caller's thread: whether there is work for several. Without a conflict that is so once the
+// whole is divided, and else at the next division.
 fn begin<R: Wait, G: Gate>(
     rt: &R,
     alloc: Global,
@@ -198,17 +228,25 @@ fn begin<R: Wait, G: Gate>(
     desk: &Desk,
     seat: &mut Seat,
     pace: &mut Pace,
+    budget: u64,
     gate: &G,
 ) -> Result<bool, AllocError>
     requires seat { IsFirst desk.now problem.now 1 seat.old }
-    requires tools { pace.old.tools ≡ problem.now.points }
+    requires tools { pace.old.tools.value ≡ problem.now.points }
     ensures seat { IsFirst desk.now problem.now 1 seat.new }
-    ensures tools { pace.new.tools ≡ pace.old.tools }
+    ensures tools { pace.new.tools.value ≡ pace.old.tools.value }
 {
-    match desk.take(rt, seat)? {
-        Taken::Cube => deal(rt, alloc, problem, desk, seat, pace, 0, gate),
-        Taken::Idle | Taken::Done => Ok(false),
+    for slice in 0..FIRST_SLICES {
+        match slice_alone(rt, alloc, problem, desk, seat, pace, budget, gate)? {
+            Some(divided) => {
+                if divided && (slice > 0 || !pace.tools.met_conflict()) {
+                    return Ok(true);
+                }
+            }
+            None => return Ok(false),
+        }
     }
+    Ok(true)
 }
 
 // The book after the workers' calls.
@@ -225,7 +263,9 @@ fn closed<R: Threads + Wait + Sync, G: Gate>(
 {
     let (desk, mut seat) = Desk::start(alloc, problem.copy()?)?;
     let mut pace = Pace::new(alloc, problem, budget)?;
-    if begin(rt, alloc, problem, &desk, &mut seat, &mut pace, gate)? {
+    if begin(
+        rt, alloc, problem, &desk, &mut seat, &mut pace, budget, gate,
+    )? {
         share_out(
             rt, alloc, problem, &desk, &mut seat, pace, workers, budget, gate,
         )?;
@@ -235,8 +275,8 @@ fn closed<R: Threads + Wait + Sync, G: Gate>(
 
 /// Decides the problem by so many workers, each on a thread of its own.
 ///
-/// The caller makes the first slice alone, so that what it decides takes no thread; only where it divides the
-/// whole do the workers begin. Where some find no memory, the others go on, and what is left when all have
+/// The caller makes the first slices alone, so that what is decided soon takes no thread; only what is left then is for
+/// the workers. Where some find no memory, the others go on, and what is left when all have
 /// ended is done on the caller's thread: the answer rests on no worker. The one error is want of memory.
 pub fn solve_shared<R: Threads + Wait + Sync, G: Gate>(
     rt: &R,

@@ -11,7 +11,7 @@ use stn_core::Problem;
 use worker_gates::Gate;
 
 // A cube, the one whose number was fetched if it is free.
-fn next<R: Wait>(
+fn fetched<R: Wait>(
     rt: &R,
     desk: &Desk,
     seat: &mut Seat,
@@ -32,6 +32,29 @@ fn next<R: Wait>(
     }
 }
 
+// A cube, the one with this number if it is free, or else one whose number is fetched.
+fn next<R: Wait>(
+    rt: &R,
+    desk: &Desk,
+    seat: &mut Seat,
+    pool: &Pool,
+    hand: &mut Hand,
+    near: Option<usize>,
+) -> Result<Taken, AllocError>
+    requires desk { seat.old.desk ≡ desk.now.id }
+    requires none { seat.old.cube ≡ None }
+    requires hand { hand.old.pool ≡ pool.now }
+    ensures hand { HandGoesOn hand.old hand.new }
+    ensures seat { GoesOn seat.old seat.new }
+    ensures answered { IfOk result (IsAnswered seat.new) }
+    ensures none { OnErr result (seat.new.cube ≡ None) }
+{
+    match near {
+        Some(id) => desk.take_near(rt, seat, id),
+        None => fetched(rt, desk, seat, pool, hand),
+    }
+}
+
 // The number of an open cube, if it fits. Where the hand has made all its pushes, `take` finds the cube.
 fn push(pool: &Pool, hand: &mut Hand, id: usize)
     requires hand { hand.old.pool ≡ pool.now }
@@ -42,14 +65,18 @@ fn push(pool: &Pool, hand: &mut Hand, id: usize)
     }
 }
 
-// Both halves of the cube that the seat divided last.
-fn share(pool: &Pool, hand: &mut Hand, seat: &Seat)
+// Of the cube that the seat divided last one half is pushed, and the other one is the worker's next cube: what it
+// knows fits there.
+fn share(pool: &Pool, hand: &mut Hand, seat: &Seat) -> Option<usize>
     requires hand { hand.old.pool ≡ pool.now }
     ensures hand { HandGoesOn hand.old hand.new }
 {
-    if let Some((under, against)) = seat.halves() {
-        push(pool, hand, under);
-        push(pool, hand, against);
+    match seat.halves() {
+        Some((under, against)) => {
+            push(pool, hand, against);
+            Some(under)
+        }
+        None => None,
     }
 }
 
@@ -70,17 +97,18 @@ pub(crate) fn go_on<R: Wait, G: Gate>(
     requires desk { seat.old.desk ≡ desk.now.id }
     requires none { seat.old.cube ≡ None }
     requires hand { hand.old.pool ≡ pool.now }
-    requires tools { pace.old.tools ≡ problem.now.points }
+    requires tools { pace.old.tools.value ≡ problem.now.points }
     ensures seat { GoesOn seat.old seat.new }
     ensures none { seat.new.cube ≡ None }
     ensures hand { HandGoesOn hand.old hand.new }
     ensures ended { OnOk result (HasEnded seat.new) }
 {
+    let mut near = None;
     for _ in rt.forever() {
-        match next(rt, desk, seat, pool, hand)? {
+        match next(rt, desk, seat, pool, hand, near.take())? {
             Taken::Cube => {
                 if deal(rt, alloc, problem, desk, seat, pace, worker, gate)? {
-                    share(pool, hand, seat);
+                    near = share(pool, hand, seat);
                 }
             }
             Taken::Idle => {}
@@ -91,8 +119,9 @@ pub(crate) fn go_on<R: Wait, G: Gate>(
 }
 
 /// One worker, on a thread of the caller's: it takes cubes, the fetched ones first, searches each for a slice,
-/// passes the gate, delivers what it found, and pushes the halves of a cube that was divided. The slice after
-/// one that divided its cube has twice its budget, up to 1,000,000, and up to 32,000 once there was a conflict.
+/// passes the gate, and delivers what it found. Where a cube was divided, it goes on with one half and pushes the
+/// other. The slice after one that divided its cube has twice its budget, up to 1,000,000, or once there was a conflict
+/// eight times its budget, up to 32,000.
 ///
 /// `Ok` comes where nothing is left to do. Where there is no memory for a slice or a delivery, the worker gives
 /// its cube back and ends. What the other workers deliver goes on, and the desk's book can be finished by

@@ -12,7 +12,7 @@ pub loop-preserved-then-branch : goal.loop-preserved-then-branch
 loop-preserved-then-branch g c = record {
   seat = goes_on c.args.seat.now c.next-in-loop.new.seat c.deal.new.seat (goes_on c.args.seat.now c.loop.seat c.next-in-loop.new.seat c.loop.invariant.seat c.in_ok-next.ensures.seat) c.in_ok-deal-in-Cube.ensures.seat;
   none = c.in_ok-deal-in-Cube.ensures.none;
-  hand = hand_on c.args.hand.now c.next-in-loop.new.hand c.share.new.hand (hand_on c.args.hand.now c.loop.hand c.next-in-loop.new.hand c.loop.invariant.hand c.in_ok-next.ensures.hand) c.share.ensures.hand;
+  hand = hand_on c.args.hand.now c.next-in-loop.new.hand c.share-near.new.hand (hand_on c.args.hand.now c.loop.hand c.next-in-loop.new.hand c.loop.invariant.hand c.in_ok-next.ensures.hand) c.share-near.ensures.hand;
   tools = c.in_ok-deal-in-Cube.ensures.tools ∙ c.loop.invariant.tools;
 }
 
