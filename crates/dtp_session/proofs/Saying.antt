@@ -35,6 +35,7 @@ use Rattle.dtp_entry.specs.Transcripts.{Held, told, told_model, told_values}
 use Rattle.dtp_entry.specs.declared.report.Report.TheVariants.{Verdicts}
 use Rattle.dtp_entry.proofs.Verdicts.{sorts_count}
 use Rattle.dtp_session.specs.declared.session.Session.{Session}
+use Rattle.dtp_session.specs.Forms.{schedule_of}
 use Rattle.dtp_session.specs.Sessions.{ShowsVerdict, Holds}
 
 -- ---- information
@@ -51,6 +52,10 @@ inform_is held s x n information kept levels old now is stands counted empty e =
 pub shown_schedule : (m : Mode) (c : Context) (held : Held) (marks : List Bool) → m ≡ mode.Sat → ShowsVerdict m c held marks
     → (schedule : List NamedValue) × (held ≡ Some (Sat schedule)) × IsScheduleFor c schedule × AreWithinLimit schedule × AreTruths c.nodes (point_values schedule) marks
 shown_schedule m c held marks e h = subst (λ (k : Mode). ShowsVerdict k c held marks) e h
+
+pub is_schedule : (entry : Entry) (schedule : List NamedValue) → schedule_of entry ≡ Some schedule → entry ≡ Sat schedule
+is_schedule (Sat own) schedule e = cc
+is_schedule (Unsat lemmas) schedule e = absurd (cc)
 
 same_schedule : (a b : List NamedValue) → ◌≡◌ {A = Held} (Some (Sat a)) (Some (Sat b)) → a ≡ b
 same_schedule a b e = cc

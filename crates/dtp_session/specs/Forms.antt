@@ -1,12 +1,32 @@
--- A lemma as a version of certificates shows it.
-use Rattle.std.specs.Prelude.{List}
+-- Entries and their lemmas as a version of certificates shows them.
+use Rattle.std.specs.Prelude.{List, map, Option, Some, None}
 use Rattle.stn_core.specs.declared.literal.Literal.{Literal}
 use Rattle.refute_tree.specs.declared.lemma.Lemma.{Lemma}
 use Rattle.refute_tree.specs.Lengths.{lengthened_lemma, shortened_lemma}
+use Rattle.stn_core.specs.declared.named.NamedValue.{NamedValue}
+use Rattle.stn_core.specs.declared.problem.Problem.{Problem}
+use Rattle.cert_text.specs.declared.entry.Entry.{Entry}
+use Rattle.cert_text.specs.declared.entry.Entry.TheVariants.{Sat, Unsat}
 use Rattle.cert_text.specs.declared.entry.Version.{Version}
 use Rattle.cert_text.specs.declared.entry.Version.TheVariants.{One, Two}
+use Rattle.dtp_session.specs.declared.wanted.Wanted.{Wanted}
+use Rattle.dtp_session.specs.declared.wanted.Wanted.TheVariants as wanted
 
 -- with each clash written out, or with each case that can be a clash as one
 abbrev pub formed : Version → List (List Literal) → Lemma → Lemma
 formed One = lengthened_lemma
 formed Two = shortened_lemma
+
+-- the version in whose form an entry is: a proof that is asked for in a transcript is printed as in the first
+abbrev pub version_wanted : Wanted → Version
+version_wanted wanted.Verdict = One
+version_wanted (wanted.Entry version) = version
+
+-- an entry whose lemmas are to be put in the first version's form, as the problem's; else it is as it is
+abbrev pub shown_as : Option Problem → Entry → Entry
+shown_as (Some problem) (Unsat lemmas) = Unsat (map (formed One problem.clauses) lemmas)
+shown_as _ entry = entry
+
+abbrev pub schedule_of : Entry → Option (List NamedValue)
+schedule_of (Sat schedule) = Some schedule
+schedule_of (Unsat lemmas) = None

@@ -1,17 +1,22 @@
 //! What decides a check-sat.
-ghost use Rattle.std.specs.Prelude.{◌≡◌, map, IfOk, OnOk};
+ghost use Rattle.std.specs.Prelude.{◌≡◌, map, IfOk};
 ghost use Rattle.book_core.specs.Verdicts.{IsRight};
+ghost use Rattle.cert_text.specs.declared.entry.Entry.TheVariants.{Unsat};
 ghost use Rattle.smt_script.specs.States.{State as Meaning};
 ghost use Rattle.dtp_entry.specs.Standing.{Stands};
 ghost use Rattle.dtp_entry.specs.Transcripts.{Decides};
-ghost use Rattle.dtp_session.specs.Forms.{formed};
+ghost use Rattle.dtp_session.specs.Forms.{formed, version_wanted};
+ghost use Rattle.trim_lemmas.specs.Trimming.{StaysRefutation, StaysOver};
 
+use crate::form::in_form;
+use crate::found::Found;
 use crate::options::SearchOptions;
+use crate::wanted::Wanted;
 use book_core::Verdict;
-use cert_text::{Entry, NUMBER_LIMIT, Version};
+use cert_text::{Entry, NUMBER_LIMIT};
 use clause_form::restrict;
 use dtp_entry::problem;
-use refute_tree::{Lemma, Refutation, lengthen, shorten};
+use refute_tree::Refutation;
 use smt_script::State;
 use std::alloc::{AllocError, Global};
 use std::sync::Wait;
@@ -19,50 +24,6 @@ use std::thread::Threads;
 use steal_search::{Gate, solve_one, solve_shared};
 use stn_core::Problem;
 use trim_lemmas::trimmed;
-
-/// The lemma as the version shows it.
-fn formed(
-    alloc: Global,
-    version: Version,
-    problem: &Problem,
-    lemma: &Lemma,
-) -> Result<Lemma, AllocError>
-    ensures { IfOk result (λ shown. shown ≡ formed version problem.now.clauses lemma.now) }
-{
-    match version {
-        Version::One => lengthen(alloc, problem, lemma),
-        Version::Two => shorten(alloc, problem, lemma),
-    }
-}
-
-/// Puts in each lemma's place how the version shows it, and lets the lemma as it was go.
-fn form_each(
-    alloc: Global,
-    version: Version,
-    problem: &Problem,
-    lemmas: &mut [Lemma],
-) -> Result<(), AllocError>
-    ensures { OnOk result (lemmas.new ≡ map (formed version problem.now.clauses) lemmas.old) }
-{
-    for lemma in lemmas.iter_mut() {
-        *lemma = formed(alloc, version, problem, lemma)?;
-    }
-    Ok(())
-}
-
-/// The refutation as a certificate of the version shows it.
-fn in_form(
-    alloc: Global,
-    version: Version,
-    problem: &Problem,
-    refutation: Refutation,
-) -> Result<Refutation, AllocError>
-    ensures { IfOk result (λ shown. shown ≡ map (formed version problem.now.clauses) refutation) }
-{
-    let mut lemmas = refutation.into_vec();
-    form_each(alloc, version, problem, lemmas.as_mut_slice())?;
-    Ok(Refutation::new(lemmas))
-}
 
 /// Decides the problem by as many workers as are asked for; one is the caller itself.
 fn search<R: Threads + Wait + Sync, G: Gate>(
@@ -82,18 +43,49 @@ fn search<R: Threads + Wait + Sync, G: Gate>(
     }
 }
 
-/// Decides the assertions: a schedule that satisfies them, or a refutation of their problem, in the version's form.
+/// The lemmas that an entry shows: those that the last one needs. Where no entry is wanted, all stay.
+fn kept(alloc: Global, wanted: Wanted, refutation: Refutation) -> Result<Refutation, AllocError>
+    ensures refutes { IfOk result (StaysRefutation refutation) }
+    ensures over { IfOk result (StaysOver refutation) }
+{
+    match wanted {
+        Wanted::Verdict => Ok(refutation),
+        Wanted::Entry(_) => trimmed(alloc, refutation),
+    }
+}
+
+/// The refutation's entry. Its form is made where the entry is wanted.
+fn found(
+    alloc: Global,
+    wanted: Wanted,
+    problem: Problem,
+    refutation: Refutation,
+) -> Result<Found, AllocError>
+    ensures { IfOk result (λ found. found ≡ Unsat (map (formed (version_wanted wanted) problem.clauses) refutation)) }
+{
+    match wanted {
+        Wanted::Verdict => Ok(Found::unformed(problem, refutation)),
+        Wanted::Entry(version) => {
+            let shown = in_form(alloc, version, &problem, refutation)?;
+            Ok(Found::shown(Entry::Unsat(shown)))
+        }
+    }
+}
+
+/// Decides the assertions: a schedule that satisfies them, or a refutation of their problem. Where no entry is wanted, a
+/// refutation stays as the search left it, and is put in its form when it is written.
 /// The time of the search may grow with the number of ways to choose a literal of each clause.
 pub fn decide<R: Threads + Wait + Sync, G: Gate>(
     rt: &R,
     alloc: Global,
     state: &State,
-    version: Version,
+    wanted: Wanted,
     options: SearchOptions,
     gate: &G,
-) -> Result<Entry, AllocError>
+) -> Result<Found, AllocError>
     requires { (s : Meaning) × Stands state.now s }
-    ensures { IfOk result (λ entry. (s : Meaning) → Stands state.now s → Decides version s.context entry) }
+    ensures { IfOk result (λ found. (s : Meaning) → Stands state.now s
+        → Decides (version_wanted wanted) s.context found) }
 {
     idl_term::context_law();
     clause_form::clause_form_law();
@@ -104,18 +96,18 @@ pub fn decide<R: Threads + Wait + Sync, G: Gate>(
     match search(rt, alloc, &problem, options, gate)? {
         Verdict::Sat(schedule) => {
             let values = restrict(alloc, schedule.as_slice(), state.names().sorts())?;
-            Ok(Entry::Sat(values))
+            Ok(Found::shown(Entry::Sat(values)))
         }
         Verdict::Unsat(refutation) => {
-            let shorter = trimmed(alloc, refutation)?;
-            let lemmas = shorter.as_slice().len();
+            let kept = kept(alloc, wanted, refutation)?;
+            let lemmas = kept.as_slice().len();
             let count = problem.clauses.as_slice().len().max(lemmas);
             // an entry can't name so many clauses or lemmas, which are in no memory
             if count as u64 > NUMBER_LIMIT {
                 return Err(AllocError);
             }
-            let shown = in_form(alloc, version, &problem, shorter)?;
-            Ok(Entry::Unsat(shown))
+            let found = found(alloc, wanted, problem, kept)?;
+            Ok(found)
         }
     }
 }

@@ -10,11 +10,14 @@
 #![tactic(auto)]
 
 mod decision;
+mod form;
+mod found;
 mod notices;
 mod options;
 mod piece;
 mod session;
 mod solve;
+mod wanted;
 
 pub use dtp_entry::{Report, SessionError};
 pub use options::SearchOptions;

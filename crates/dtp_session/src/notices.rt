@@ -18,7 +18,6 @@ ghost use Rattle.dtp_session.specs.Sessions.{Holds, MayTell, KeepsReading, Keeps
 
 use crate::piece::Piece;
 use crate::session::Session;
-use cert_text::Entry;
 use dtp_entry::Report;
 use idl_term::TermError;
 use smt_answer::{echo_text, info_text, model_text, success_text, unsupported_text, values_text};
@@ -69,7 +68,10 @@ impl<'a> Session<'a> {
         ensures keeps { KeepsVerdict self.old self.new }
         ensures marks { self.new.marks ≡ self.old.marks }
     {
-        let Some(Entry::Sat(values)) = &self.held else {
+        let Some(found) = &self.held else {
+            unreachable!()
+        };
+        let Some(values) = found.schedule() else {
             unreachable!()
         };
         model_text(self.state.names(), values, &mut self.text)?;
@@ -86,7 +88,10 @@ impl<'a> Session<'a> {
             → (self.new.text.items ≡ told Verdicts self.old.held s x told_of.Values) × Holds self.new s) }
         ensures keeps { KeepsVerdict self.old self.new }
     {
-        let Some(Entry::Sat(values)) = &self.held else {
+        let Some(found) = &self.held else {
+            unreachable!()
+        };
+        let Some(values) = found.schedule() else {
             unreachable!()
         };
         let terms = asked_terms(&self.sexprs, id);

@@ -6,12 +6,13 @@ ghost use Rattle.dtp_entry.specs.declared.report.Report.TheVariants.{Verdicts};
 ghost use Rattle.dtp_session.specs.declared.piece.Piece.TheVariants.{Decision, Proof, Told};
 ghost use Rattle.dtp_session.specs.Sessions.{IsText};
 
+use crate::found::Found;
 use crate::session::Session;
-use cert_stream::write_entry;
-use cert_text::{Entry, write_end, write_header};
+use cert_text::{write_end, write_header};
 use dtp_entry::{Report, SessionError, write_text};
 use dtp_io::Sink;
 use smt_answer::{Kind, error_text, verdict_text};
+use smt_script::Satisfiability;
 use std::alloc::{AllocError, Global};
 
 /// A piece of what is written of a script.
@@ -32,14 +33,14 @@ pub enum Piece {
 }
 
 /// Writes what is answered to a check-sat.
-fn write_verdict<K: Sink>(alloc: Global, entry: &Entry, sink: &mut K) -> Result<(), SessionError>
-    ensures { WritesOne (λ text. text ≡ decision_line Verdicts entry.now) (K.holds sink.old) (K.holds sink.new)
+fn write_verdict<K: Sink>(alloc: Global, found: &Found, sink: &mut K) -> Result<(), SessionError>
+    ensures { WritesOne (λ text. text ≡ decision_line Verdicts found.now) (K.holds sink.old) (K.holds sink.new)
         (K.faults sink.old) (K.faults sink.new) result }
 {
     let mut text = Vec::new(alloc);
-    match entry {
-        Entry::Sat(_) => verdict_text(true, &mut text)?,
-        Entry::Unsat(_) => verdict_text(false, &mut text)?,
+    match found.verdict() {
+        Satisfiability::Sat => verdict_text(true, &mut text)?,
+        Satisfiability::Unsat => verdict_text(false, &mut text)?,
     }
     write_text(sink, &text)
 }
@@ -48,15 +49,15 @@ fn write_verdict<K: Sink>(alloc: Global, entry: &Entry, sink: &mut K) -> Result<
 fn write_line<K: Sink>(
     alloc: Global,
     report: Report,
-    entry: &Entry,
+    found: &Found,
     sink: &mut K,
 ) -> Result<(), SessionError>
-    ensures { WritesOne (λ text. text ≡ decision_line report entry.now) (K.holds sink.old) (K.holds sink.new)
+    ensures { WritesOne (λ text. text ≡ decision_line report found.now) (K.holds sink.old) (K.holds sink.new)
         (K.faults sink.old) (K.faults sink.new) result }
 {
     match report {
-        Report::Verdicts => write_verdict(alloc, entry, sink),
-        Report::Certificate(_) => write_entry(alloc, entry, sink),
+        Report::Verdicts => write_verdict(alloc, found, sink),
+        Report::Certificate(_) => found.write(alloc, sink),
     }
 }
 
@@ -111,7 +112,7 @@ impl<'a> Session<'a> {
             (K.faults sink.old) (K.faults sink.new) result }
     {
         match &self.held {
-            Some(entry) => write_line(self.alloc, self.report, entry, sink),
+            Some(found) => write_line(self.alloc, self.report, found, sink),
             None => Ok(()),
         }
     }
@@ -122,7 +123,7 @@ impl<'a> Session<'a> {
             (K.faults sink.old) (K.faults sink.new) result }
     {
         match &self.held {
-            Some(entry) => write_entry(self.alloc, entry, sink),
+            Some(found) => found.write(self.alloc, sink),
             None => Ok(()),
         }
     }

@@ -4,16 +4,20 @@ ghost use Rattle.dtp_io.specs.Faults.{Rose};
 ghost use Rattle.smt_sexpr.specs.Tree.{Sexpr};
 ghost use Rattle.smt_sexpr.specs.Table.{Means, HasMeaning};
 ghost use Rattle.smt_script.specs.States.{State as Meaning};
+ghost use Rattle.dtp_entry.specs.Reports.{version_of};
 ghost use Rattle.dtp_entry.specs.Transcripts.{Answers, Replies, IsReport, IsReportPart};
 ghost use Rattle.dtp_entry.specs.Written.{Writes};
 ghost use Rattle.dtp_session.specs.Sessions.{Holds, MayTell, IsReady, IsStart, KeepsReading, KeepsScript, Gives, IsChecked, IsGoing, IsNext};
 ghost use Rattle.dtp_session.specs.Ends.{status_of};
+ghost use Rattle.dtp_session.specs.Forms.{version_wanted};
 
 use crate::decision::decide;
+use crate::found::Found;
 use crate::options::SearchOptions;
 use crate::piece::Piece;
-use cert_text::Entry;
-use dtp_entry::{Report, SessionError, kind_of, verdict_of, version_of};
+use crate::wanted::{Wanted, last_proof};
+use cert_text::Version;
+use dtp_entry::{Report, SessionError, kind_of};
 use dtp_io::Sink;
 use smt_answer::kind_of_unreadable;
 use smt_lex::Lexer;
@@ -40,7 +44,9 @@ pub struct Session<'a> {
     /// What the commands have led to.
     pub state: State<'a>,
     /// What the mode holds: the entry that decided the last check-sat.
-    pub held: Option<Entry>,
+    pub held: Option<Found>,
+    /// Behind this place of the script no proof is asked for, where it was looked up.
+    pub last_proof: Option<usize>,
     /// The truth of the table's first nodes on a schedule that is held, of as many as values were asked for.
     pub marks: Vec<bool>,
     /// What is told of the last command.
@@ -74,6 +80,7 @@ impl<'a> Session<'a> {
             sexprs: Sexprs::new(alloc, bytes),
             state: State::new(alloc),
             held: None,
+            last_proof: None,
             marks: Vec::new(alloc),
             text: Vec::new(alloc),
             command: 1,
@@ -202,10 +209,32 @@ impl<'a> Session<'a> {
         smt_script::state_law();
         self.held = None;
         self.marks.clear();
-        let version = version_of(self.report);
-        let entry = decide(rt, self.alloc, &self.state, version, self.options, gate)?;
-        self.state.settle(verdict_of(&entry));
-        self.held = Some(entry);
+        let wanted = self.wanted();
+        let found = decide(rt, self.alloc, &self.state, wanted, self.options, gate)?;
+        self.state.settle(found.verdict());
+        self.held = Some(found);
         Ok(())
+    }
+
+    /// What the next check-sat is decided for. In a transcript its entry shows where a proof is asked for later.
+    fn wanted(&mut self) -> Wanted
+        ensures version { version_wanted result ≡ version_of self.old.report }
+        ensures same { self.new ≡ record self.old { last_proof = self.new.last_proof } }
+    {
+        match self.report {
+            Report::Certificate(version) => Wanted::Entry(version),
+            Report::Verdicts => {
+                let last = match self.last_proof {
+                    Some(place) => place,
+                    None => last_proof(self.lexer.bytes()),
+                };
+                self.last_proof = Some(last);
+                if self.lexer.place() <= last {
+                    Wanted::Entry(Version::One)
+                } else {
+                    Wanted::Verdict
+                }
+            }
+        }
     }
 }

@@ -11,7 +11,7 @@ use Rattle.idl_term.specs.Scopes.{Scope, sorts_of}
 use Rattle.book_core.specs.Books.{IsSolution}
 use Rattle.dtp_entry.specs.Entries.{points_of, problem_of}
 use Rattle.dtp_entry.specs.Transcripts.{Decides}
-use Rattle.dtp_session.specs.Forms.{formed}
+use Rattle.dtp_session.specs.Forms.{formed, version_wanted}
 use Rattle.dtp_session.proofs.Verdicts.{as_found, holds_as, refuted_as, over_as, sat_decides, shown_within, unsat_decides}
 use Rattle.dtp_entry.proofs.Verdicts.{sorts_count}
 use Rattle.dtp_session.proofs.decision.decide.Goals as goal
@@ -33,8 +33,8 @@ restrict-requires-clause-range g c =
     let found : IsSolution c.in_ok-problem.problem c.in-Sat.schedule = as_found _ _ _ c.in-Sat.is c.in_ok-schedule.ensures in
     subst (λ (values : List ℤ). All IsInRange values) (sym c.as_slice.ensures) found.range
 
-pub returns-in-Sat : goal.returns-in-Sat
-returns-in-Sat g c = λ s stands.
+pub returns-in_ok-values-in-Sat : goal.returns-in_ok-values-in-Sat
+returns-in_ok-values-in-Sat g c = λ s stands.
     let e = c.in_ok-problem.ensures s stands in
     let found : IsSolution c.in_ok-problem.problem c.in-Sat.schedule = as_found _ _ _ c.in-Sat.is c.in_ok-schedule.ensures in
     let laws = c.context_law.ensures in
@@ -42,13 +42,14 @@ returns-in-Sat g c = λ s stands.
     let values : c.in_ok-values-in-Sat.values ≡ restricted (sorts_of s.context.declared) c.in-Sat.schedule =
     c.in_ok-values-in-Sat.ensures.values ∙ ap (restricted c.sorts.result.now) c.as_slice.ensures ∙ ap (λ (sorts : List Sort). restricted sorts c.in-Sat.schedule) names in
     let holds = holds_as _ _ c.in-Sat.schedule e.1 found.holds in
-    sat_decides s.context stands.made.context c.args.version laws.scope laws.roots laws.exact c.clause_form_law.ensures.schedule c.in-Sat.schedule c.in_ok-values-in-Sat.values (found.count ∙ e.0) holds values c.in_ok-values-in-Sat.ensures.within
+    subst (Decides (version_wanted c.args.wanted) s.context) (sym c.shown.ensures)
+    (sat_decides s.context stands.made.context (version_wanted c.args.wanted) laws.scope laws.roots laws.exact c.clause_form_law.ensures.schedule c.in-Sat.schedule c.in_ok-values-in-Sat.values (found.count ∙ e.0) holds values c.in_ok-values-in-Sat.ensures.within)
 
-pub returns : goal.returns
-returns g c = λ s stands.
+pub returns-in_ok-found-in-Unsat : goal.returns-in_ok-found-in-Unsat
+returns-in_ok-found-in-Unsat g c = λ s stands.
     let e = c.in_ok-problem.ensures s stands in
-    let lemmas = c.in_ok-shorter-in-Unsat.shorter in
-    let shorter = c.in_ok-shorter-in-Unsat.ensures in
+    let lemmas = c.in_ok-kept-in-Unsat.kept in
+    let shorter = c.in_ok-kept-in-Unsat.ensures in
     let found = as_found _ _ _ c.in-Unsat.is c.in_ok-schedule.ensures in
     let refuted = refuted_as _ _ _ _ lemmas e.0 e.1 (shorter.refutes _ _ found.0) in
     let over = over_as _ _ lemmas e.0 (shorter.over _ found.1) in
@@ -59,9 +60,9 @@ returns g c = λ s stands.
     let count : length c.as_slice-lemmas.result.now ≡ length lemmas = ap (λ (lemmas : List Lemma). length lemmas) c.as_slice-lemmas.ensures in
     let few_clauses : length (problem_of s.context) ≤ limit = omega (arith, clauses) in
     let few_lemmas : length lemmas ≤ limit = omega (arith, count) in
-    let version = c.args.version in
+    let version = version_wanted c.args.wanted in
     let within = shown_within s.context stands.made.context lemmas refuted over version laws.scope laws.roots form.over form.few c.negation_kept.ensures lengths.no_clash lengths.lengthened lengths.shortened few_clauses few_lemmas in
-    let same : c.in_ok-shown-in-Unsat.shown ≡ map (formed version (problem_of s.context)) lemmas =
-    c.in_ok-shown-in-Unsat.ensures ∙ ap (λ (cs : List (List Literal)). map (formed version cs) lemmas) e.1 in
-    subst (λ (shown : List Lemma). Decides version s.context (Unsat shown)) (sym same)
+    let same : c.in_ok-found-in-Unsat.found ≡ Unsat (map (formed version (problem_of s.context)) lemmas) =
+    c.in_ok-found-in-Unsat.ensures ∙ ap (λ (cs : List (List Literal)). Unsat (map (formed version cs) lemmas)) e.1 in
+    subst (Decides version s.context) (sym same)
     (unsat_decides s.context stands.made.context lemmas refuted over version laws.scope laws.roots laws.exact form.holds c.refutation_law.ensures lengths.lengthened lengths.shortened within)
