@@ -198,6 +198,10 @@ impl<T: Ord> BinaryHeap<T> {
         self.0.is_empty()
     }
 }
+pub fn box_in<T>(_: Global, x: T) -> Result<Box<T>, AllocError> {
+    Ok(Box::new(x))
+}
+
 pub struct Arc<T>(std::sync::Arc<T>);
 impl<T> Arc<T> {
     pub fn new(_: Global, x: T) -> Result<Self, AllocError> {
@@ -641,6 +645,14 @@ pub mod bstr {
     pub trait ByteVec {
         fn push_byte(&mut self, byte: u8) -> Result<(), AllocError>;
         fn push_str<B: AsRef<[u8]>>(&mut self, bytes: B) -> Result<(), AllocError>;
+    }
+    pub trait ByteSlice {
+        fn rfind(&self, needle: &[u8]) -> Option<usize>;
+    }
+    impl ByteSlice for [u8] {
+        fn rfind(&self, needle: &[u8]) -> Option<usize> {
+            self.windows(needle.len()).rposition(|w| w == needle)
+        }
     }
     impl ByteVec for Vec<u8> {
         fn push_byte(&mut self, byte: u8) -> Result<(), AllocError> {
