@@ -5,7 +5,6 @@
 #![tactic(auto)]
 
 mod assertions;
-mod entry;
 mod error;
 mod kind;
 mod laws;
@@ -13,9 +12,8 @@ mod report;
 mod write;
 
 pub use assertions::problem;
-pub use entry::verdict_of;
 pub use error::SessionError;
 pub use kind::kind_of;
 pub use laws::one_transcript;
-pub use report::{Report, version_of};
+pub use report::Report;
 pub use write::write_text;

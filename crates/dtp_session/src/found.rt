@@ -1,7 +1,6 @@
 //! What decided a check-sat, as it is held until the next one.
-ghost use Rattle.std.specs.Prelude.{◌≡◌, Some, None, map, MatchOption, List};
+ghost use Rattle.std.specs.Prelude.{◌≡◌, Some, None, map, MatchOption};
 ghost use Rattle.cert_text.specs.declared.entry.Version.TheVariants.{One};
-ghost use Rattle.cert_text.specs.declared.entry.Entry.{Entry as Shown};
 ghost use Rattle.cert_text.specs.declared.entry.Entry.TheVariants.{Sat, Unsat};
 ghost use Rattle.cert_text.specs.Form.{entry_sexpr, line_of};
 ghost use Rattle.dtp_entry.specs.Entries.{verdict_of};
