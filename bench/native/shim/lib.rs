@@ -210,6 +210,9 @@ impl<T> Arc<T> {
     pub fn try_clone(a: &Arc<T>) -> Result<Self, AllocError> {
         Ok(Arc(a.0.clone()))
     }
+    pub fn try_unwrap(a: Arc<T>) -> Result<T, Arc<T>> {
+        std::sync::Arc::try_unwrap(a.0).map_err(Arc)
+    }
 }
 impl<T> Deref for Arc<T> {
     type Target = T;

@@ -22,7 +22,7 @@ use Rattle.book_core.specs.declared.verdict.Verdict.TheVariants.{Sat, Unsat}
 use Rattle.book_core.specs.Books.{State, IsDone, IsSolution, IsDecidable, IsAtom}
 use Rattle.book_core.specs.Runs.{IsKept}
 use Rattle.book_core.specs.Facts.{AreShut, IsSound}
-use Rattle.book_core.specs.Verdicts.{IsRight, EndsEmpty, last_lemma}
+use Rattle.book_core.specs.Verdicts.{IsRight, EndsEmpty, last_lemma, ended_by}
 use Rattle.book_core.specs.Closing.{AreOver}
 use Rattle.book_core.proofs.Sound.{sound, negation_twice}
 
@@ -194,6 +194,14 @@ closed_unsat value problem s xs steps copies all res last n h same t over ec en 
     let whole : copies ≡ map value xs = ec ∙ take_whole (map value xs) n (omega (arith, en, length-map xs value)) in
     let last_is : last ≡ last_lemma steps = ap (λ (k : List Literal). record { clause = k; steps = last.steps }) empty ∙ ap last_lemma es in
     concluded_unsat value problem s xs steps all res h same t over (ea ∙ (ap (λ (ls : List Lemma). ls ++ last ∷ []) whole ∙ ap (λ (l : Lemma). map value xs ++ l ∷ []) last_is)) er
+
+-- what is right of these lemmas is so of equal ones
+pub by_ending : (problem : Problem) (steps : Option (List Step)) (front all res : List Lemma) → IsRight problem (Unsat (ended_by steps front)) → all ≡ front → res ≡ ended_by steps all → IsRight problem (Unsat res)
+by_ending problem steps front all res h ea er = subst (λ (ls : List Lemma). IsRight problem (Unsat ls)) (sym (er ∙ ap (ended_by steps) ea)) h
+
+-- before any of the first so many is taken out
+pub taken_start : {A : Type 0} (value : A → Lemma) (xs rest : List A) (count : ℕ) (all : List Lemma) → all ≡ [] → rest ≡ take count xs → all ++ map value rest ≡ take count (map value xs)
+taken_start value xs rest count all ea er = ap (λ (ls : List Lemma). ls ++ map value rest) ea ∙ (ap (map value) er ∙ sym (take-map value count xs))
 
 -- the same with the lemmas as they are read, and no schedule
 pub sound_read : {A : Type 0} (value : A → Lemma) (problem : Problem) (s : State) (xs ys : List A) → IsSound problem s → s.lemmas ≡ map value xs → ys ≡ xs → IsSound problem (record { cover = s.cover; lemmas = map value ys; found = None })

@@ -1,5 +1,5 @@
 -- What a book concludes.
-use Rattle.std.specs.Prelude.{◌≡◌, ℕ, List, [], All, Option, Some, None, slice_get}
+use Rattle.std.specs.Prelude.{◌≡◌, ℕ, List, [], All, Option, Some, None, slice_get, ◌++◌, ◌∷◌}
 use Rattle.refute_tree.specs.declared.step.Step.{Step}
 use Rattle.stn_core.specs.declared.problem.Problem.{Problem}
 use Rattle.refute_tree.specs.declared.lemma.Lemma.{Lemma}
@@ -23,6 +23,11 @@ Concludes problem s (Some verdict) = IsDone s × IsRight problem verdict
 -- the lemma without literals
 abbrev pub last_lemma : List Step → Lemma
 last_lemma steps = record { clause = []; steps = steps }
+
+-- the lemmas, and where there are steps one more by them
+abbrev pub ended_by : Option (List Step) → List Lemma → List Lemma
+ended_by None lemmas = lemmas
+ended_by (Some steps) lemmas = lemmas ++ last_lemma steps ∷ []
 
 -- the lemma with this number has no literals
 pub record EndsEmpty (lemmas : List Lemma) (j : ℕ) : Type 0 where

@@ -15,7 +15,7 @@ use crate::answer::Answer;
 use crate::delivery::{Delivery, Refused};
 use crate::event::{Event, Outcome, Taken};
 use crate::prepared::{Prepared, prepare, publish, settle};
-use crate::refutation::refutation_of;
+use crate::refutation::{into_refutation, refutation_of};
 use crate::verdict::Verdict;
 use cover_tree::Cover;
 use refute_tree::{Batch, Lemma};
@@ -341,6 +341,36 @@ impl Book {
         let alloc = *self.lemmas.allocator();
         let refutation = refutation_of(alloc, &self.problem, &self.cover, self.lemmas.as_slice())?;
         Ok(Some(Verdict::Unsat(refutation)))
+    }
+
+    /// As `conclude`, of a book that is needed no more where it is done: what it has goes into the verdict, and only
+    /// lemmas that somebody else still shares are copied. Where something is left to do, the book comes back. At the
+    /// one error, want of memory, it is gone.
+    pub fn into_verdict(self) -> Result<Result<Verdict, Book>, AllocError>
+        ensures verdict { IfOk result (λ r. IfOk r (λ verdict.
+            Concludes self.problem (state_of self) (Some verdict))) }
+        ensures open { IfOk result (λ r. IfErr r (λ book.
+            Concludes self.problem (state_of self) None × (book ≡ self))) }
+    {
+        if self.found.is_none() && !self.cover.is_closed() {
+            return Ok(Err(self));
+        }
+        let alloc = *self.lemmas.allocator();
+        let Book {
+            problem,
+            cover,
+            lemmas,
+            found,
+            halves: _,
+            journal,
+        } = self;
+        if let Some(schedule) = found {
+            return Ok(Ok(Verdict::Sat(schedule)));
+        }
+        // its events share the lemmas
+        drop(journal);
+        let refutation = into_refutation(alloc, &problem, &cover, lemmas)?;
+        Ok(Ok(Verdict::Unsat(refutation)))
     }
 }
 

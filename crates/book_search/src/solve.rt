@@ -101,9 +101,9 @@ pub fn finish(
             budget = grown(budget, tools.met_conflict());
         }
     }
-    match book.conclude()? {
-        Some(verdict) => Ok(verdict),
-        None => unreachable!(),
+    match book.into_verdict()? {
+        Ok(verdict) => Ok(verdict),
+        Err(_) => unreachable!(),
     }
 }
 
