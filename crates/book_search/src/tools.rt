@@ -14,6 +14,7 @@ use std::alloc::{AllocError, Global};
 use std::marker::Model;
 use std::sync::Arc;
 use stn_core::{Literal, Problem};
+use worker_calls::Calls;
 
 /// A worker's searcher and its net, which are kept from slice to slice. Contracts see the net's points.
 #[derive(Drop)]
@@ -33,12 +34,12 @@ impl Model for Tools {
 }
 
 impl Tools {
-    /// The tools of one of several workers. The one error is want of memory.
-    pub fn new(alloc: Global, problem: &Problem) -> Result<Self, AllocError>
+    /// The tools of one of several workers, who share the calls. The one error is want of memory.
+    pub fn beside(alloc: Global, problem: &Problem, calls: Arc<Calls>) -> Result<Self, AllocError>
         ensures { IfOk result (λ tools. tools ≡ problem.now.points) }
     {
         Ok(Tools {
-            searcher: Searcher::new(alloc, problem)?,
+            searcher: Searcher::beside(alloc, problem, calls)?,
             net: Network::new(alloc, problem.points)?,
         })
     }

@@ -15,6 +15,7 @@ mod cube;
 mod delivery;
 mod distances;
 mod divide;
+mod hearing;
 mod model;
 mod propagate;
 mod roots;

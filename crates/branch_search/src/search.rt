@@ -116,7 +116,12 @@ impl State {
             return Ok(Turn::Ended(Found::Excluded(j)));
         }
         self.guide.forget()?;
-        if self.conflicts % LOOK == 0 && rest.target <= net.adds() && !self.guide.has_plan() {
+        let is_spent = self.conflicts % LOOK == 0 && rest.target <= net.adds();
+        let is_in_plan = self.guide.has_plan();
+        if self
+            .hearing
+            .ends_slice(self.conflicts, is_spent, is_in_plan)
+        {
             return Ok(Turn::Ended(Found::Spent));
         }
         self.restart(problem, handed, cube, net);
@@ -151,9 +156,11 @@ impl State {
         Ok(Turn::Decided)
     }
 
-    // Whether the budget is spent, as it is looked at before a decision.
+    // Whether the slice ends, as it is looked at before a decision.
     fn is_spent<N: Net>(&self, net: &N, rest: Rest) -> bool {
-        rest.decisions == 0 || (!self.met_conflict && rest.target <= net.adds())
+        rest.decisions == 0
+            || (!self.met_conflict && rest.target <= net.adds())
+            || self.hearing.is_over()
     }
 
     // A model, where one is likely or nothing is open.

@@ -8,13 +8,16 @@ ghost use Rattle.branch_search.specs.Divisions.{IsDivision, IsSlice, HasSpent};
 
 use crate::answer::Slice;
 use crate::divide::Division;
+use crate::hearing::Hearing;
 use crate::search::{Found, Rest};
 use crate::state::State;
 use refute_tree::Earlier;
 use search_distances::Distances;
 use search_guide::{Guide, Policy};
 use std::alloc::{AllocError, Global};
+use std::sync::Arc;
 use stn_core::{Literal, Mark, Net, Problem};
+use worker_calls::Calls;
 
 impl State {
     // The cube, the clauses of one literal, and then the search.
@@ -125,6 +128,7 @@ fn divide_cube<E: Earlier, N: Net>(
     ensures answer { IfOk result (IsSlice (question_of problem.now (E.clauses handed.now) cube.now)) }
     ensures spent { OnOk result (target ≤ N.adds_of net.new) }
 {
+    state.hearing.answer();
     let place = state.dividing(cube);
     net.retract(Mark { length: 0 });
     spend(net, problem, target)?;
@@ -184,7 +188,7 @@ fn run<E: Earlier, N: Net>(
 /// phases. Kept or not, and whatever a searcher was used for before, a slice answers by the same contract.
 #[derive(Drop)]
 pub struct Searcher {
-    state: State,
+    state: Box<State>,
 }
 
 impl Searcher {
@@ -208,10 +212,26 @@ impl Searcher {
         problem: &Problem,
         policy: Policy,
     ) -> Result<Self, AllocError> {
+        Searcher::hearing(alloc, problem, policy, Hearing::nobody())
+    }
+
+    /// A searcher beside others: it ends its slice sooner where nothing is left to do, or where one of them waits for a
+    /// half of its cube. The one error is want of memory.
+    pub fn beside(alloc: Global, problem: &Problem, calls: Arc<Calls>) -> Result<Self, AllocError> {
+        Searcher::hearing(alloc, problem, Policy::default(), Hearing::of(calls))
+    }
+
+    fn hearing(
+        alloc: Global,
+        problem: &Problem,
+        policy: Policy,
+        hearing: Hearing,
+    ) -> Result<Self, AllocError> {
         let guide = Guide::with_policy(alloc, problem, policy)?;
         let distances = Distances::new(alloc, &guide, problem.points)?;
+        let state = State::new(alloc, guide, distances, hearing);
         Ok(Searcher {
-            state: State::new(alloc, guide, distances),
+            state: Box::new(alloc, state)?,
         })
     }
 

@@ -6,6 +6,7 @@ ghost use Rattle.branch_search.specs.Search.{question_of, level_at, start_of, in
 ghost use Rattle.branch_search.specs.Search.{IsNetAfter};
 ghost use Rattle.branch_search.specs.Search.{adds_limit};
 
+use crate::hearing::Hearing;
 use conflict_analysis::{Conflict, Entry, Level, Reason, Tables, is_standing, literal_on};
 use refute_tree::{Earlier, Lemma};
 use search_distances::Distances;
@@ -37,6 +38,8 @@ pub struct State {
     /// how many conflicts and decisions there were in all slices
     pub conflicts: u64,
     pub decisions: u64,
+    /// what other workers tell
+    pub hearing: Hearing,
 }
 
 // Whether the guide has as many literals and the same first one for the clause of the lemma with this number, or
@@ -109,7 +112,7 @@ fn retract_distances(distances: &mut Option<Distances>, start: usize) {
 }
 
 impl State {
-    pub fn new(alloc: Global, guide: Guide, distances: Option<Distances>) -> Self
+    pub fn new(alloc: Global, guide: Guide, distances: Option<Distances>, hearing: Hearing) -> Self
         ensures entries { result.entries.items ≡ [] }
         ensures levels { result.levels.items ≡ [] }
         ensures own { result.own.items ≡ [] }
@@ -128,6 +131,7 @@ impl State {
             seen: 0,
             conflicts: 0,
             decisions: 0,
+            hearing,
         }
     }
 
@@ -146,6 +150,7 @@ impl State {
         self.clear();
         self.own.truncate(0);
         self.met_conflict = false;
+        self.hearing.renew(self.conflicts);
         match start_of_own(&self.guide, handed, self.seen) {
             Some(start) => self.guide.renumber(self.seen, start, handed.count())?,
             None => {

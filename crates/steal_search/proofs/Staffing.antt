@@ -70,7 +70,7 @@ module _ (desk : Place) (problem : Problem) (pool : List Deque) (all more : List
   seats_more was = all_pushed (λ k d. (d.seat.desk ≡ desk.id) × (d.seat.view.number ≡ k + 1) × (d.seat.cube ≡ None)) more all w e was
       (ap (λ (x : Sight). x.desk) seat ∙ first.desk_is, ap (λ (x : Sight). x.view.number) seat ∙ first.count, ap (λ (x : Sight). x.cube) seat)
 
-  pub work_more : AllMayWork desk problem pool all → w.hand.pool ≡ pool → IfSome w.pace (λ (pace : Pace). pace.tools.value ≡ problem.points) → AllMayWork desk problem pool more
+  pub work_more : AllMayWork desk problem pool all → w.hand.pool ≡ pool → IfSome w.pace (λ (pace : Pace). pace.tools ≡ problem.points) → AllMayWork desk problem pool more
   work_more was hand pace = all_pushed (λ k d. MayWork desk problem pool d) more all w e was (record {
     desk_is = ap (λ (x : Sight). x.desk) seat ∙ first.desk_is;
     problem_is = ap (λ (x : Sight). x.view.problem) seat ∙ first.problem_is;

@@ -12,7 +12,7 @@ pub record MayWork (desk : Place) (problem : Problem) (pool : List Deque) (worke
   pub problem_is : worker.seat.view.problem ≡ problem
   pub none : worker.seat.cube ≡ None
   pub pool_is : worker.hand.pool ≡ pool
-  pub pace : IfSome worker.pace (λ (pace : Pace). pace.tools.value ≡ problem.points)
+  pub pace : IfSome worker.pace (λ (pace : Pace). pace.tools ≡ problem.points)
 
 -- the worker's seat is the same, and holds no cube
 abbrev pub IsSameWorker : Worker → Worker → Type 0

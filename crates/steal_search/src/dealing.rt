@@ -5,8 +5,9 @@ ghost use Rattle.steal_search.specs.Workers.{GoesOn, IsJustifiedThere, IsSearchi
 use book_lock::{Desk, Seat};
 use book_search::{Delivery, Tools};
 use std::alloc::{AllocError, Global};
-use std::sync::Wait;
+use std::sync::{Arc, Wait};
 use stn_core::Problem;
+use worker_calls::Calls;
 use worker_gates::Gate;
 
 /// The greatest budget of a slice, where none was given that is greater.
@@ -18,23 +19,30 @@ const SHORT_LIMIT: u64 = 32_000;
 /// How many times the last budget the next one is then.
 const GROWTH: u64 = 8;
 
-/// What a worker keeps from slice to slice: its tools, the budget of its next slice, and how many it has made. The tools
-/// are some two hundred words, so they stay where they are when a worker moves.
+/// What a worker keeps from slice to slice: its tools, the budget of its next slice, how many it has made, and what it
+/// tells the others.
 #[derive(Drop)]
 pub struct Pace {
-    pub(crate) tools: Box<Tools>,
+    pub(crate) tools: Tools,
     pub(crate) budget: u64,
     pub(crate) slices: u64,
+    pub(crate) calls: Arc<Calls>,
 }
 
 impl Pace {
-    pub(crate) fn new(alloc: Global, problem: &Problem, budget: u64) -> Result<Self, AllocError>
-        ensures { IfOk result (λ pace. pace.tools.value ≡ problem.now.points) }
+    pub(crate) fn new(
+        alloc: Global,
+        problem: &Problem,
+        budget: u64,
+        calls: &Arc<Calls>,
+    ) -> Result<Self, AllocError>
+        ensures { IfOk result (λ pace. pace.tools ≡ problem.now.points) }
     {
         Ok(Pace {
-            tools: Box::new(alloc, Tools::new(alloc, problem)?)?,
+            tools: Tools::beside(alloc, problem, Arc::try_clone(calls)?)?,
             budget,
             slices: 0,
+            calls: Arc::try_clone(calls)?,
         })
     }
 
@@ -58,9 +66,9 @@ fn search(
     seat: &Seat,
     pace: &mut Pace,
 ) -> Result<Delivery, AllocError>
-    requires tools { pace.old.tools.value ≡ problem.now.points }
+    requires tools { pace.old.tools ≡ problem.now.points }
     requires searching { IsSearching problem.now seat.now }
-    ensures tools { pace.new.tools.value ≡ pace.old.tools.value }
+    ensures tools { pace.new.tools ≡ pace.old.tools }
     ensures justified { IfOk result (λ d. IsJustifiedThere problem.now seat.now d.batch d.outcome) }
 {
     seat.sound();
@@ -108,11 +116,11 @@ pub(crate) fn deal<R: Wait, G: Gate>(
     gate: &G,
 ) -> Result<bool, AllocError>
     requires desk { seat.old.desk ≡ desk.now.id }
-    requires tools { pace.old.tools.value ≡ problem.now.points }
+    requires tools { pace.old.tools ≡ problem.now.points }
     requires searching { IsSearching problem.now seat.old }
     ensures seat { GoesOn seat.old seat.new }
     ensures none { seat.new.cube ≡ None }
-    ensures tools { pace.new.tools.value ≡ pace.old.tools.value }
+    ensures tools { pace.new.tools ≡ pace.old.tools }
 {
     match search(alloc, problem, seat, pace) {
         Ok(delivery) => {

@@ -12,10 +12,11 @@ use book_lock::{Desk, Seat, Taken};
 use book_search::{decide_units, finish};
 use cube_pool::{Hand, Pool};
 use std::alloc::{AllocError, Global};
-use std::sync::Wait;
+use std::sync::{Arc, Wait};
 use std::thread;
 use std::thread::Threads;
 use stn_core::Problem;
+use worker_calls::Calls;
 use worker_gates::Gate;
 
 /// The most slices that the caller makes alone.
@@ -36,14 +37,15 @@ fn pace_of(
     alloc: Global,
     problem: &Problem,
     budget: u64,
+    calls: &Arc<Calls>,
     pace: &mut Option<Pace>,
 ) -> Result<Pace, AllocError>
-    requires { IfSome pace.old (λ pace. pace.tools.value ≡ problem.now.points) }
-    ensures { IfOk result (λ pace. pace.tools.value ≡ problem.now.points) }
+    requires { IfSome pace.old (λ pace. pace.tools ≡ problem.now.points) }
+    ensures { IfOk result (λ pace. pace.tools ≡ problem.now.points) }
 {
     match pace.take() {
         Some(pace) => Ok(pace),
-        None => Pace::new(alloc, problem, budget),
+        None => Pace::new(alloc, problem, budget, calls),
     }
 }
 
@@ -56,12 +58,13 @@ fn run<R: Wait, G: Gate>(
     pool: &Pool,
     worker: &mut Worker,
     budget: u64,
+    calls: &Arc<Calls>,
     gate: &G,
 )
     requires { MayWork desk.now problem.now pool.now worker.old }
     ensures { IsSameWorker worker.old worker.new }
 {
-    if let Ok(mut pace) = pace_of(alloc, problem, budget, &mut worker.pace) {
+    if let Ok(mut pace) = pace_of(alloc, problem, budget, calls, &mut worker.pace) {
         let _ = go_on(
             rt,
             alloc,
@@ -86,6 +89,7 @@ fn run_all<R: Threads + Wait + Sync, G: Gate>(
     pool: &Pool,
     staff: &mut [Worker],
     budget: u64,
+    calls: &Arc<Calls>,
     gate: &G,
 )
     requires staff { AllMayWork desk.now problem.now pool.now staff.old }
@@ -102,7 +106,7 @@ fn run_all<R: Threads + Wait + Sync, G: Gate>(
         &|_, worker|
             requires { MayWork desk.now problem.now pool.now worker.old }
             ensures { IsSameWorker worker.old worker.new }
-        { run(rt, alloc, problem, desk, pool, worker, budget, gate) },
+        { run(rt, alloc, problem, desk, pool, worker, budget, calls, gate) },
     );
 }
 
@@ -119,7 +123,7 @@ fn staff_of(
     requires seat { IsFirst desk.now problem.now 1 seat.old }
     requires few { vec_len hands ≤ 64 }
     requires hands { AreOfPool pool.now hands.items }
-    requires tools { pace.tools.value ≡ problem.now.points }
+    requires tools { pace.tools ≡ problem.now.points }
     ensures seat { OnOk result (IsFirst desk.now problem.now (vec_len hands + 1) seat.new) }
     ensures count { IfOk result (λ staff. vec_len staff ≡ vec_len hands) }
     ensures seats { IfOk result (λ staff. AreSeated desk.now staff.items) }
@@ -173,10 +177,11 @@ fn share_out<R: Threads + Wait + Sync, G: Gate>(
 ) -> Result<(), AllocError>
     requires workers { (1 ≤ workers) × (workers ≤ 64) }
     requires seat { IsFirst desk.now problem.now 1 seat.old }
-    requires tools { pace.tools.value ≡ problem.now.points }
+    requires tools { pace.tools ≡ problem.now.points }
     ensures seat { OnOk result (IsFirst desk.now problem.now (workers + 1) seat.new) }
     ensures all { OnOk result (AllJoined seat.new.view) }
 {
+    let calls = Arc::try_clone(&pace.calls)?;
     let (pool, hands) = Pool::open(alloc, workers)?;
     let mut staff = staff_of(alloc, problem, desk, seat, &pool, hands, pace)?;
     run_all(
@@ -187,6 +192,7 @@ fn share_out<R: Threads + Wait + Sync, G: Gate>(
         &pool,
         staff.as_mut_slice(),
         budget,
+        &calls,
         gate,
     );
     gather(desk, problem, seat, staff);
@@ -205,9 +211,9 @@ fn slice_alone<R: Wait, G: Gate>(
     gate: &G,
 ) -> Result<Option<bool>, AllocError>
     requires seat { IsFirst desk.now problem.now 1 seat.old }
-    requires tools { pace.old.tools.value ≡ problem.now.points }
+    requires tools { pace.old.tools ≡ problem.now.points }
     ensures seat { IsFirst desk.now problem.now 1 seat.new }
-    ensures tools { pace.new.tools.value ≡ pace.old.tools.value }
+    ensures tools { pace.new.tools ≡ pace.old.tools }
 {
     pace.budget = budget;
     match desk.take(rt, seat)? {
@@ -232,9 +238,9 @@ fn begin<R: Wait, G: Gate>(
     gate: &G,
 ) -> Result<bool, AllocError>
     requires seat { IsFirst desk.now problem.now 1 seat.old }
-    requires tools { pace.old.tools.value ≡ problem.now.points }
+    requires tools { pace.old.tools ≡ problem.now.points }
     ensures seat { IsFirst desk.now problem.now 1 seat.new }
-    ensures tools { pace.new.tools.value ≡ pace.old.tools.value }
+    ensures tools { pace.new.tools ≡ pace.old.tools }
 {
     for slice in 0..FIRST_SLICES {
         match slice_alone(rt, alloc, problem, desk, seat, pace, budget, gate)? {
@@ -262,7 +268,7 @@ fn closed<R: Threads + Wait + Sync, G: Gate>(
     ensures { IfOk result (IsWaiting problem.now) }
 {
     let (desk, mut seat) = Desk::start(alloc, problem.copy()?)?;
-    let mut pace = Pace::new(alloc, problem, budget)?;
+    let mut pace = Pace::new(alloc, problem, budget, &Arc::new(alloc, Calls::new())?)?;
     if begin(
         rt, alloc, problem, &desk, &mut seat, &mut pace, budget, gate,
     )? {
@@ -293,8 +299,8 @@ pub fn solve_shared<R: Threads + Wait + Sync, G: Gate>(
         return Ok(verdict);
     }
     let book = closed(rt, alloc, problem, workers, budget, gate)?;
-    match book.conclude()? {
-        Some(verdict) => Ok(verdict),
-        None => finish(alloc, problem, book, budget),
+    match book.into_verdict()? {
+        Ok(verdict) => Ok(verdict),
+        Err(book) => finish(alloc, problem, book, budget),
     }
 }

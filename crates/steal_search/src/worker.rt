@@ -6,8 +6,9 @@ use crate::dealing::{Pace, deal};
 use book_lock::{Desk, Seat, Taken};
 use cube_pool::{Hand, Pool};
 use std::alloc::{AllocError, Global};
-use std::sync::Wait;
+use std::sync::{Arc, Wait};
 use stn_core::Problem;
+use worker_calls::Calls;
 use worker_gates::Gate;
 
 // A cube, the one whose number was fetched if it is free.
@@ -17,6 +18,7 @@ fn fetched<R: Wait>(
     seat: &mut Seat,
     pool: &Pool,
     hand: &mut Hand,
+    calls: &Calls,
 ) -> Result<Taken, AllocError>
     requires desk { seat.old.desk ≡ desk.now.id }
     requires none { seat.old.cube ≡ None }
@@ -28,7 +30,10 @@ fn fetched<R: Wait>(
 {
     match pool.fetch(rt, hand) {
         Some(id) => desk.take_near(rt, seat, id as usize),
-        None => desk.take(rt, seat),
+        None => {
+            calls.ask();
+            desk.take(rt, seat)
+        }
     }
 }
 
@@ -40,6 +45,7 @@ fn next<R: Wait>(
     pool: &Pool,
     hand: &mut Hand,
     near: Option<usize>,
+    calls: &Calls,
 ) -> Result<Taken, AllocError>
     requires desk { seat.old.desk ≡ desk.now.id }
     requires none { seat.old.cube ≡ None }
@@ -51,7 +57,7 @@ fn next<R: Wait>(
 {
     match near {
         Some(id) => desk.take_near(rt, seat, id),
-        None => fetched(rt, desk, seat, pool, hand),
+        None => fetched(rt, desk, seat, pool, hand, calls),
     }
 }
 
@@ -97,7 +103,7 @@ pub(crate) fn go_on<R: Wait, G: Gate>(
     requires desk { seat.old.desk ≡ desk.now.id }
     requires none { seat.old.cube ≡ None }
     requires hand { hand.old.pool ≡ pool.now }
-    requires tools { pace.old.tools.value ≡ problem.now.points }
+    requires tools { pace.old.tools ≡ problem.now.points }
     ensures seat { GoesOn seat.old seat.new }
     ensures none { seat.new.cube ≡ None }
     ensures hand { HandGoesOn hand.old hand.new }
@@ -105,14 +111,17 @@ pub(crate) fn go_on<R: Wait, G: Gate>(
 {
     let mut near = None;
     for _ in rt.forever() {
-        match next(rt, desk, seat, pool, hand, near.take())? {
+        match next(rt, desk, seat, pool, hand, near.take(), &pace.calls)? {
             Taken::Cube => {
                 if deal(rt, alloc, problem, desk, seat, pace, worker, gate)? {
                     near = share(pool, hand, seat);
                 }
             }
             Taken::Idle => {}
-            Taken::Done => return Ok(()),
+            Taken::Done => {
+                pace.calls.end();
+                return Ok(());
+            }
         }
     }
     unreachable!()
@@ -122,6 +131,9 @@ pub(crate) fn go_on<R: Wait, G: Gate>(
 /// passes the gate, and delivers what it found. Where a cube was divided, it goes on with one half and pushes the
 /// other. The slice after one that divided its cube has twice its budget, up to 1,000,000, or once there was a conflict
 /// eight times its budget, up to 32,000.
+///
+/// All workers of the desk share the calls: by them one that waits, or was told that nothing is left to do, ends the slices
+/// of the others sooner.
 ///
 /// `Ok` comes where nothing is left to do. Where there is no memory for a slice or a delivery, the worker gives
 /// its cube back and ends. What the other workers deliver goes on, and the desk's book can be finished by
@@ -136,6 +148,7 @@ pub fn work<R: Wait, G: Gate>(
     hand: &mut Hand,
     worker: u32,
     budget: u64,
+    calls: &Arc<Calls>,
     gate: &G,
 ) -> Result<(), AllocError>
     requires problem { seat.old.view.problem ≡ problem.now }
@@ -147,7 +160,7 @@ pub fn work<R: Wait, G: Gate>(
     ensures hand { HandGoesOn hand.old hand.new }
     ensures ended { OnOk result (HasEnded seat.new) }
 {
-    let mut pace = Pace::new(alloc, problem, budget)?;
+    let mut pace = Pace::new(alloc, problem, budget, calls)?;
     go_on(
         rt, alloc, problem, desk, seat, pool, hand, &mut pace, worker, gate,
     )

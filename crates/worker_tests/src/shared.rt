@@ -4,6 +4,7 @@ use std::alloc::{AllocError, Global};
 use std::test::Fail;
 use steal_search::{HoldSecond, NoGate, solve_shared};
 use stn_core::{Clause, Clauses, Literal, Problem};
+use worker_calls::Calls;
 
 const FIRST: [Literal; 2] = [Literal { x: 1, y: 2, c: -1 }, Literal { x: 2, y: 1, c: -1 }];
 
@@ -38,5 +39,19 @@ fn two_meet(rt: HostRuntime) -> Result<(), Fail> {
     let found = is_sat(&solve_shared(&rt, alloc, &problem, 2, 1, &gate)?);
     assert_eq!(rt; (found, gate.met()), (true, true));
     assert!(rt; is_sat(&solve_shared(&rt, alloc, &problem, 8, 1, &NoGate)?));
+    Ok(())
+}
+
+#[test]
+fn who_waits_is_answered_once(rt: HostRuntime) -> Result<(), Fail> {
+    let calls = Calls::new();
+    let before = calls.answer();
+    calls.ask();
+    calls.ask();
+    let answers = [calls.answer(), calls.answer(), calls.answer()];
+    assert_eq!(rt; (before, answers), (false, [true, true, false]));
+    assert!(rt; !calls.is_over());
+    calls.end();
+    assert!(rt; calls.is_over());
     Ok(())
 }

@@ -10,12 +10,13 @@ use book_core::Book;
 use book_lock::{Desk, Seat};
 use cube_pool::{Hand, Pool};
 use std::alloc::{AllocError, Global};
-use std::sync::Wait;
+use std::sync::{Arc, Wait};
 use std::test::Fail;
 use std::thread;
 use std::thread::Threads;
 use steal_search::{HoldSecond, work};
 use stn_core::Problem;
+use worker_calls::Calls;
 
 /// The seat after a worker's call, and whether that was `Ok`.
 fn run<R: Wait>(
@@ -27,6 +28,7 @@ fn run<R: Wait>(
     pool: &Pool,
     hand: Hand,
     worker: u32,
+    calls: &Arc<Calls>,
     gate: &HoldSecond,
 ) -> (Seat, bool)
     requires desk { seat.desk ≡ desk.now.id }
@@ -39,7 +41,7 @@ fn run<R: Wait>(
     let mut seat = seat;
     let mut hand = hand;
     let ended = work(
-        rt, alloc, problem, desk, &mut seat, pool, &mut hand, worker, 1, gate,
+        rt, alloc, problem, desk, &mut seat, pool, &mut hand, worker, 1, calls, gate,
     );
     let is_ok = ended.is_ok();
     (seat, is_ok)
@@ -54,6 +56,7 @@ fn run_both<R: Threads + Wait + Sync>(
     seats: (Seat, Seat),
     pool: &Pool,
     hands: (Hand, Hand),
+    calls: &Arc<Calls>,
     gate: &HoldSecond,
 ) -> ((Seat, bool), (Seat, bool))
     requires first { IsSeatOf desk.now problem.now 0 2 seats.0 }
@@ -69,11 +72,15 @@ fn run_both<R: Threads + Wait + Sync>(
         move || -> (Seat, bool)
             requires { IsSeatOf desk.now problem.now 0 2 seat × (own.pool ≡ pool.now) }
             ensures { IsSeatOf desk.entry.now problem.entry.now 0 2 result.0 }
-        { run(rt, alloc, problem, desk, seat, pool, own, 0, gate) },
+        { run(rt, alloc, problem, desk, seat, pool, own, 0, calls, gate) },
         move || -> (Seat, bool)
             requires { IsSeatOf desk.now problem.now 1 0 newcomer × (other.pool ≡ pool.now) }
             ensures { IsSeatOf desk.entry.now problem.entry.now 1 0 result.0 }
-        { run(rt, alloc, problem, desk, newcomer, pool, other, 1, gate) },
+        {
+            run(
+                rt, alloc, problem, desk, newcomer, pool, other, 1, calls, gate,
+            )
+        },
     )
 }
 
@@ -94,7 +101,8 @@ fn book_of<R: Threads + Wait + Sync>(
     let newcomer = desk.split_seat(&mut seat)?;
     let seats = (seat, newcomer);
     let hands = (first, second);
-    let (one, other) = run_both(rt, alloc, problem, &desk, seats, &pool, hands, gate);
+    let calls = Arc::new(alloc, Calls::new())?;
+    let (one, other) = run_both(rt, alloc, problem, &desk, seats, &pool, hands, &calls, gate);
     let book = closed(desk, problem, one.0, other.0);
     Ok((book, [one.1, other.1]))
 }

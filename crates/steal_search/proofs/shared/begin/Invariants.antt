@@ -5,5 +5,5 @@ use Rattle.steal_search.proofs.shared.begin.Given as goal
 abbrev pub invariant-loop-slice : goal.invariant-loop-slice
 invariant-loop-slice g l = record {
   seat : IsFirst l.desk l.problem 1 l.seat;
-  tools : l.pace.tools.value ≡ l.fn.pace.tools.value;
+  tools : l.pace.tools ≡ l.fn.pace.tools;
 }

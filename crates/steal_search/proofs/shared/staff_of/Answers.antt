@@ -24,12 +24,12 @@ hands-preserved c =
     let longer : length more ≡ length all + 1 = length_pushed more all w e in
     let P : ℕ → Doings → Type 0 = λ k d. d.pool ≡ pool in
     let now : length more ≡ vec_len c.push.new.self = omega arith in
-    let pace : IfSome c.take.result (λ (p : Pace). p.tools.value ≡ problem.points) = subst (λ (o : Option Pace). IfSome o (λ (p : Pace). p.tools.value ≡ problem.points)) (sym c.take.ensures.value) v.first in
+    let pace : IfSome c.take.result (λ (p : Pace). p.tools ≡ problem.points) = subst (λ (o : Option Pace). IfSome o (λ (p : Pace). p.tools ≡ problem.points)) (sym c.take.ensures.value) v.first in
     record {
       seat = subst (λ (n : ℕ). IsFirst desk problem (n + 1) c.split_seat.new.seat) now (first_split desk problem pool all more w e c.hands.seat c.split_seat.new.seat c.in_ok-seat.seat first c.in_ok-seat.ensures.seat c.in_ok-seat.ensures.ok refl);
       count = omega (arith, popped, longer, v.count);
       hands = first_of P c.hands.hands.items c.pop.new.self.items c.in-Some.hand c.in-Some.ensures.items v.hands;
       seats = seats_more desk problem pool all more w e c.hands.seat c.split_seat.new.seat c.in_ok-seat.seat first c.in_ok-seat.ensures.seat c.in_ok-seat.ensures.ok refl v.seats;
       work = work_more desk problem pool all more w e c.hands.seat c.split_seat.new.seat c.in_ok-seat.seat first c.in_ok-seat.ensures.seat c.in_ok-seat.ensures.ok refl v.work (last_of P c.hands.hands.items c.pop.new.self.items c.in-Some.hand c.in-Some.ensures.items v.hands) pace;
-      first = subst (λ (o : Option Pace). IfSome o (λ (p : Pace). p.tools.value ≡ problem.points)) (sym c.take.ensures.after) tt;
+      first = subst (λ (o : Option Pace). IfSome o (λ (p : Pace). p.tools ≡ problem.points)) (sym c.take.ensures.after) tt;
     }

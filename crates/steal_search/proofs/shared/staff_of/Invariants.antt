@@ -11,7 +11,7 @@ invariant-hands l = record {
   hands : AreOfPool l.pool l.hands.items;
   seats : AreSeated l.desk l.staff.items;
   work : AllMayWork l.desk l.problem l.pool l.staff.items;
-  first : IfSome l.first (λ (pace : Pace). pace.tools.value ≡ l.problem.points);
+  first : IfSome l.first (λ (pace : Pace). pace.tools ≡ l.problem.points);
 }
 
 abbrev pub decreases-hands : goal.decreases-hands

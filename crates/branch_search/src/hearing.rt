@@ -1,0 +1,80 @@
+//! When a search ends its slice for other workers.
+use std::sync::Arc;
+use worker_calls::Calls;
+
+/// So many conflicts a slice has at least before it ends for a worker that waits: with fewer its cube is divided badly,
+/// and the lemmas that come from it are few.
+const FEWEST: u64 = 100;
+
+/// What a searcher hears of other workers, where there are some. Whatever it hears, it answers by the same contract.
+#[derive(Drop)]
+pub struct Hearing {
+    calls: Option<Arc<Calls>>,
+    /// how many conflicts there were before this slice
+    before: u64,
+    /// whether this slice answered one that waits
+    has_answered: bool,
+}
+
+impl Hearing {
+    /// Nobody is there.
+    pub fn nobody() -> Self {
+        Hearing {
+            calls: None,
+            before: 0,
+            has_answered: false,
+        }
+    }
+
+    /// Of the workers that share these calls.
+    pub fn of(calls: Arc<Calls>) -> Self {
+        Hearing {
+            calls: Some(calls),
+            ..Hearing::nobody()
+        }
+    }
+
+    /// A slice begins, after so many conflicts.
+    pub fn renew(&mut self, conflicts: u64) {
+        self.before = conflicts;
+        self.has_answered = false;
+    }
+
+    /// Whether nothing is left to do.
+    pub fn is_over(&self) -> bool {
+        match &self.calls {
+            Some(calls) => calls.is_over(),
+            None => false,
+        }
+    }
+
+    /// Whether the slice ends at this conflict: nothing is left to do, its budget is spent, or one waits. A plan is
+    /// carried out first.
+    pub fn ends_slice(&mut self, conflicts: u64, is_spent: bool, is_in_plan: bool) -> bool {
+        if self.is_over() {
+            return true;
+        }
+        if is_in_plan {
+            return false;
+        }
+        is_spent || self.is_asked(conflicts)
+    }
+
+    // Whether one waits, and is answered now: the slice has met enough conflicts by this one.
+    fn is_asked(&mut self, conflicts: u64) -> bool {
+        if conflicts.saturating_sub(self.before) >= FEWEST {
+            self.answer();
+        }
+        self.has_answered
+    }
+
+    /// The cube is divided: one of those that wait has a half, unless one was answered already.
+    pub fn answer(&mut self) {
+        if self.has_answered {
+            return;
+        }
+        if let Some(calls) = &self.calls {
+            self.has_answered = calls.answer();
+        }
+    }
+}
