@@ -22,6 +22,10 @@ use worker_gates::Gate;
 /// The most slices that the caller makes alone.
 const FIRST_SLICES: u32 = 4;
 
+/// How many times the first budget such a slice has once there was a conflict: on a large problem a slice of the first
+/// budget can end before it comes to another one.
+const FIRST_GROWTH: u64 = 4;
+
 /// What a worker's thread has.
 #[derive(Drop)]
 pub struct Worker {
@@ -199,7 +203,7 @@ fn share_out<R: Threads + Wait + Sync, G: Gate>(
     Ok(())
 }
 
-// One slice of the first budget on the caller's thread: whether it divided its cube. None where nothing is left to do.
+// One of the first slices, on the caller's thread: whether it divided its cube. None where nothing is left to do.
 fn slice_alone<R: Wait, G: Gate>(
     rt: &R,
     alloc: Global,
@@ -215,7 +219,11 @@ fn slice_alone<R: Wait, G: Gate>(
     ensures seat { IsFirst desk.now problem.now 1 seat.new }
     ensures tools { pace.new.tools ≡ pace.old.tools }
 {
-    pace.budget = budget;
+    pace.budget = if pace.tools.met_conflict() {
+        budget.saturating_mul(FIRST_GROWTH)
+    } else {
+        budget
+    };
     match desk.take(rt, seat)? {
         Taken::Cube => {
             let divided = deal(rt, alloc, problem, desk, seat, pace, 0, gate)?;
