@@ -36,6 +36,7 @@ STAND_INS = [
     (r"use (atomic_table|crossbeam_deque)::", r"use shim::\1::"),
     (r"\batomic_table::Seat", "shim::atomic_table::Seat"),
     (r"use indexmap::(\w+);", r"use shim::\1;"),
+    (r"use smallvec::(\w+);", r"use shim::\1;"),
     (r"use (bstr::ByteSlice|bstr::ByteVec|itoa::Buffer);", r"use shim::\1;"),
     (r"\bformat!\(in alloc;", "shim::format_in!(in alloc;"),
     (r"\.to_string\(alloc\)", ".to_string_in(alloc)"),

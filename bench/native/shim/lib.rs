@@ -709,3 +709,36 @@ impl String {
 pub fn args() -> Result<impl Iterator<Item = String>, AllocError> {
     Ok(std::env::args().map(String))
 }
+/// Up to so many items in the value itself, and more in a `Vec`; as the proved library's, an enum of the two, so that it has room for both
+/// lengths.
+pub enum SmallVec<T, const N: usize> {
+    Inline([T; N], usize),
+    Heap(Vec<T>),
+}
+impl<T: Default + Copy, const N: usize> SmallVec<T, N> {
+    pub fn new(_: Global) -> Self {
+        SmallVec::Inline([T::default(); N], 0)
+    }
+    fn inline_of(s: &[T]) -> Self {
+        let mut items = [T::default(); N];
+        items[..s.len()].copy_from_slice(s);
+        SmallVec::Inline(items, s.len())
+    }
+    /// Keeps the `Vec` where it has room for more.
+    pub fn from_vec(v: Vec<T>) -> Self {
+        if v.capacity() <= N { Self::inline_of(&v) } else { SmallVec::Heap(v) }
+    }
+    pub fn from_slice(_: Global, s: &[T]) -> Result<Self, AllocError> {
+        Ok(if s.len() <= N { Self::inline_of(s) } else { SmallVec::Heap(Vec(s.to_vec())) })
+    }
+    pub fn allocator(&self) -> &Global {
+        &Global
+    }
+    #[inline(always)]
+    pub fn as_slice(&self) -> &[T] {
+        match self {
+            SmallVec::Inline(items, length) => &items[..*length],
+            SmallVec::Heap(v) => v,
+        }
+    }
+}

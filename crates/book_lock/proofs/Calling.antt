@@ -1,5 +1,6 @@
 -- A seat's view after a call.
-use Rattle.std.proofs.Common.{◌≡◌, ℕ, Bool, false, List, [], ◌∷◌, ◌++◌, length, drop, Option, None, refl, sym, ap, ◌∙◌, subst, append_assoc}
+use Rattle.std.proofs.Common.{◌≡◌, ℕ, Bool, false, List, [], ◌∷◌, ◌++◌, length, drop, Option, None, refl, sym, ap, ◌∙◌, subst, arith, append_assoc}
+use Rattle.std.proofs.lemmas.List.{take_all}
 use Rattle.std.proofs.Math.Seq.{drop-append_seam}
 use Rattle.refute_tree.specs.declared.lemma.Lemma.{Lemma}
 use Rattle.book_core.specs.declared.event.Event.{Event}
@@ -66,7 +67,8 @@ module _ (v : View) (log : List Event) (e : Event) (rests : v.turn ≡ false) (b
     holds = tt;
     orderly = subst (λ (es : List Event). IsOrderlyFrom None (v.calls ++ es)) (sym last) (orderly_snoc None v.calls e s.orderly (subst (λ (h : Option ℕ). IsDue h e) (sym s.held) due));
     held = ap (λ (es : List Event). held_from None (v.calls ++ es)) last ∙ (held_snoc None v.calls e ∙ none);
-    count = count;
+    within = omega (arith, count);
+    before = ap (calls_by v.number) (take_all now (log ++ e ∷ []) (omega (arith, count))) ∙ (calls_after ∙ ap (λ (es : List Event). v.calls ++ es) (sym last));
     idle = sym is ∙ (sym (idle_snoc false v.calls e) ∙ ap (λ (es : List Event). ended_idle (v.calls ++ es)) (sym last));
     kept = s.kept;
   }

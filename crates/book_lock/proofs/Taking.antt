@@ -1,7 +1,7 @@
 -- Lemmas that a seat takes over, and what it delivers over them.
-use Rattle.std.proofs.Common.{◌≡◌, ℕ, zero, suc, ◌+◌, ◌<◌, ◌≤◌, List, [], ◌∷◌, ◌++◌, length, map, take, get_or, Some, None, Option, refl, sym, ap, ◌∙◌, subst, arith}
+use Rattle.std.proofs.Common.{◌≡◌, ℕ, zero, suc, ◌+◌, ◌<◌, ◌≤◌, List, [], ◌∷◌, ◌++◌, length, length-append, map, take, drop, get_or, Some, None, Option, refl, sym, ap, ◌∙◌, subst, arith}
 use Rattle.std.specs.Prelude.{option_map, IfSome}
-use Rattle.std.proofs.lemmas.List.{take_more, take-append-le, length-map, map-append}
+use Rattle.std.proofs.lemmas.List.{take_more, take-append-le, take-append-drop, nil_from_length, length-map, map-append}
 use Rattle.std.proofs.lemmas.Option.{slice_get-map, slice_get-get_or, get_or_from_slice_get}
 use mathlib.Core.List.{IsPrefix}
 use Rattle.stn_core.specs.declared.literal.Literal.{Literal}
@@ -23,10 +23,10 @@ use Rattle.cover_tree.proofs.Sets.{get_set_same}
 use Rattle.book_lock.specs.declared.cube.Cube.{Cube}
 use Rattle.book_lock.specs.declared.cube.Taken.{Taken}
 use Rattle.book_lock.specs.declared.cube.Taken.TheVariants.{Done as TakingDone, Idle as TakingIdle, Cube as TakingHeld}
-use Rattle.book_lock.specs.Calls.{IsDue, held_after, is_idle, HasNews}
+use Rattle.book_lock.specs.Calls.{IsDue, held_after, is_idle, calls_by, HasNews, HasNewsFor}
 use Rattle.book_lock.specs.Seats.{IsHeldBy, IsCubeNear, id_of, TakenAs}
 use Rattle.book_lock.specs.Looks.{taken_of, cube_of, waits_of, Looked}
-use Rattle.book_lock.proofs.Journals.{replayed_more}
+use Rattle.book_lock.proofs.Journals.{replayed_more, calls_append}
 use Rattle.book_lock.proofs.Fronts.{prefix_length}
 
 pub taken_more : {A B : Type 0} (value : A → B) (xs new shared : List A) (k : ℕ) (x y : A) → map value xs ≡ take k (map value shared) → k < length shared → x ≡ get_or shared k x → value y ≡ value x → new ≡ xs ++ y ∷ [] → map value new ≡ take (k + 1) (map value shared)
@@ -86,11 +86,28 @@ left_by p n s TakingHeld e cube a h =
     subst (λ (t : Event × Option Cube). Left n s TakingHeld t.0 t.1) (λ i. (sym h.1 i, sym h.2 i))
     (record { due = refl; after_ = refl; idle = refl; holds = (get_set_same s.cover.nodes h.0 Free (Held n) free.1, refl) })
 
--- news past a beginning
-pub news_between : (xs ys : List Event) → HasNews (length xs) (xs ++ ys) → HasNews 0 ys
-news_between [] ys h = h
-news_between (x ∷ xs) ys (zero, e, le, get, busy) = absurd (omega (arith, le))
-news_between (x ∷ xs) ys (suc k, e, le, get, busy) = news_between xs ys (k, e, omega (arith, le), get, busy)
+calls_behind : (n j : ℕ) (xs : List Event) → length (calls_by n (drop j xs)) ≤ length (calls_by n xs)
+calls_behind n j xs = omega (arith, ap length (ap (calls_by n) (sym (take-append-drop j xs)) ∙ calls_append n (take j xs) (drop j xs)), length-append (calls_by n (take j xs)) (calls_by n (drop j xs)))
+
+-- there are no more calls behind a later place
+calls_later : (n j k : ℕ) (xs : List Event) → j ≤ k → length (calls_by n (drop k xs)) ≤ length (calls_by n (drop j xs))
+calls_later n zero k xs le = calls_behind n k xs
+calls_later n (suc j) zero xs le = absurd (omega (arith, le))
+calls_later n (suc j) (suc k) [] le = omega arith
+calls_later n (suc j) (suc k) (x ∷ xs) le = calls_later n j k xs (omega (arith, le))
+
+-- news behind so many events, which have all the calls of the seat
+module _ (n place : ℕ) (front log calls : List Event) (pre : IsPrefix front log) (within : place ≤ length front) (before : calls_by n (take place front) ≡ calls) (made : calls_by n log ≡ calls) where
+  parts : calls_by n log ≡ calls ++ calls_by n (drop place log)
+  parts =
+      let same : take place log ≡ take place front = ap (λ (es : List Event). take place es) (sym pre.1) ∙ take-append-le place front pre.0 within in
+      ap (calls_by n) (sym (take-append-drop place log)) ∙ (calls_append n (take place log) (drop place log) ∙ ap (λ (es : List Event). es ++ calls_by n (drop place log)) (ap (calls_by n) same ∙ before))
+
+  none_behind : length (calls_by n (drop place log)) ≡ 0
+  none_behind = omega (arith, ap length (sym made ∙ parts), length-append calls (calls_by n (drop place log)))
+
+  pub news_for : HasNews place log → HasNewsFor n log
+  news_for (k, e, le, get, busy) = (k, e, get, busy, nil_from_length (calls_by n (drop k log)) (omega (arith, none_behind, calls_later n place k log le)))
 
 -- the cube that is answered near a leaf is the seat's
 pub near_taken : (c : Cubes) (near : Option ℕ) (answer : Answer) → IfSome near (λ id. IsNear c id answer) → IfSome near (IsCubeNear c (cube_of answer))

@@ -1,7 +1,8 @@
 -- A seat that has the turn, makes a call and gives the turn back.
-use Rattle.std.proofs.Common.{◌≡◌, ℕ, ◌+◌, Bool, true, false, List, [], ◌∷◌, ◌++◌, length, drop, length-append, length-drop, max, Option, Some, None, refl, sym, ap, ◌∙◌, subst, arith}
+use Rattle.std.proofs.Common.{◌≡◌, ℕ, ◌+◌, Bool, true, false, List, [], ◌∷◌, ◌++◌, length, drop, length-append, Option, Some, None, refl, sym, ap, ◌∙◌, subst, arith}
 use Rattle.std.specs.Prelude.{IfSome}
 use Rattle.std.proofs.Math.Seq.{drop-append_seam}
+use Rattle.std.proofs.lemmas.List.{take_all, take-append-le}
 use mathlib.Core.List.{IsPrefix}
 use Rattle.atomic_table.specs.Seated.{TableId}
 use Rattle.stn_core.specs.declared.problem.Problem.{Problem}
@@ -18,7 +19,7 @@ use Rattle.book_core.proofs.Runs.{halves_push}
 use Rattle.book_core.specs.Runs.{IsRun, replayed, state_of, Ledger, ledger, with_event}
 use Rattle.book_lock.specs.declared.view.View.{View}
 use Rattle.book_lock.specs.declared.cube.Cube.{Cube}
-use Rattle.book_lock.specs.Calls.{seat_of, held_after, held_from, IsDue, IsOrderlyFrom, is_idle, ended_idle, HasNews}
+use Rattle.book_lock.specs.Calls.{seat_of, held_after, held_from, IsDue, IsOrderlyFrom, is_idle, ended_idle, calls_by, HasNews, HasNewsFor}
 use Rattle.book_lock.specs.Rules.{Mine, entered, Entered, Seen, telling, resting}
 use Rattle.book_lock.specs.declared.cube.Taken.{Taken}
 use Rattle.book_lock.specs.Looks.{waits_of, Looked}
@@ -26,7 +27,7 @@ use Rattle.book_lock.specs.Seats.{counted, newcomer, merged, longer, TakesNear, 
 use Rattle.book_lock.proofs.Holding.{still_held, lemmas_prefix}
 use Rattle.book_lock.proofs.Fronts.{prefix_self, prefix_trans}
 use Rattle.book_lock.proofs.Journals.{replayed_more, run_first}
-use Rattle.book_lock.proofs.Taking.{justified_now, Left, left_by, news_between}
+use Rattle.book_lock.proofs.Taking.{justified_now, Left, left_by, news_for}
 use Rattle.book_lock.proofs.Calling.{held_snoc, idle_snoc, orderly_snoc, told_of, calls_after, called, whole, run_after, seated_without}
 
 -- what a seat's parts keep
@@ -146,7 +147,8 @@ module _ (m0 : Mine) (b b' : Ledger) (m me : Mine) (number made : ℕ) (lemmas l
             )) left.holds;
         orderly = subst (λ (es : List Event). IsOrderlyFrom None (m0.0.calls ++ es)) (sym last) (orderly_snoc None m0.0.calls looked.event kept.6.orderly (subst (λ (h : Option ℕ). IsDue h looked.event) (sym none) left.due));
         held = ap (λ (es : List Event). held_from None (m0.0.calls ++ es)) last ∙ (held_snoc None m0.0.calls looked.event ∙ left.after_);
-        count = len ∙ ap length grown;
+        within = omega (arith, len ∙ ap length grown);
+        before = ap (calls_by m0.0.number) (take_all now_ (b.journal ++ looked.event ∷ []) (omega (arith, len ∙ ap length grown))) ∙ (calls_after m0.0 b.journal looked.event kept.3 kept.5 en own_take may_take ∙ ap (λ (es : List Event). m0.0.calls ++ es) (sym last));
         idle = idle ∙ (sym left.idle ∙ (sym (idle_snoc false m0.0.calls looked.event) ∙ ap (λ (es : List Event). ended_idle (m0.0.calls ++ es)) (sym last)));
         kept = kept.6.kept;
       }
@@ -168,7 +170,7 @@ module _ (m0 : Mine) (b b' : Ledger) (m me : Mine) (number made : ℕ) (lemmas l
           desk = same;
           lemmas = all ∙ (ap (λ (k : Ledger). (state_of k).lemmas) looked.longer ∙ ap (λ (k : Mine). (replayed k.0.front).lemmas) (sym is));
           halves = refl;
-          waited = λ idle. let h = news (kept.6.idle ∙ idle) in news_between m0.0.front en.1.0 (subst (λ (t : ℕ × List Event). HasNews t.0 t.1) (λ i. (kept.6.count i, sym full i)) h);
+          waited = λ idle. subst (λ (es : List Event). HasNewsFor m0.0.number es) (sym full) (news_for m0.0.number place m0.0.front b.journal m0.0.calls en.1 kept.6.within kept.6.before en.2 (news (kept.6.idle ∙ idle)));
         },
         subst (λ (es : List Event). IfSome near (IsCubeNear (replayed es).cover cube)) (sym full) by,
       )
@@ -190,28 +192,28 @@ deliver_justified m0 b number made lemmas holding place waits desk halves old cu
     (justified_now m0.0.problem (state_of b) cube.id lemmas cube.literals batch outcome (seen_now number made m0 lemmas holding place waits b kept en) (held_now number made m0 lemmas holding place waits b cube kept en has).1 j)
 
 -- a seat that was split off, and the one that counts it
-pub newcomer_kept : (number made : ℕ) (m m' : Mine) (lemmas lemmas' : List Lemma) (holding : Option Cube) (place : ℕ) (waits : Bool) → Kept number made m lemmas holding place waits → m' ≡ (newcomer m.0, []) → lemmas' ≡ lemmas → Kept made 0 m' lemmas' None place false
+pub newcomer_kept : (number made : ℕ) (m m' : Mine) (lemmas lemmas' : List Lemma) (holding : Option Cube) (place : ℕ) (waits : Bool) → Kept number made m lemmas holding place waits → m' ≡ (newcomer m.0, []) → lemmas' ≡ lemmas → Kept made 0 m' lemmas' None 0 false
 newcomer_kept number made m m' lemmas lemmas' holding place waits k is same =
-    subst (λ (t : Mine × List Lemma). Kept made 0 t.0 t.1 None place false) (λ i. (sym is i, sym same i))
-    (k.1, refl, refl, refl, refl, refl, record { run = k.6.run; seen = k.6.seen; holds = tt; orderly = tt; held = refl; count = k.6.count; idle = refl; kept = tt })
+    subst (λ (t : Mine × List Lemma). Kept made 0 t.0 t.1 None 0 false) (λ i. (sym is i, sym same i))
+    (k.1, refl, refl, refl, refl, refl, record { run = k.6.run; seen = k.6.seen; holds = tt; orderly = tt; held = refl; within = omega arith; before = refl; idle = refl; kept = tt })
 
 pub counted_kept : (number made made' : ℕ) (m m' : Mine) (lemmas : List Lemma) (holding : Option Cube) (place : ℕ) (waits : Bool) → Kept number made m lemmas holding place waits → m' ≡ (counted m.0, []) → made' ≡ made + 1 → Kept number made' m' lemmas holding place waits
 counted_kept number made made' m m' lemmas holding place waits k is more =
     let s = k.6 in
     subst (λ (t : Mine). Kept number made' t lemmas holding place waits) (sym is)
-    (k.0, more ∙ ap (λ (n : ℕ). n + 1) k.1, refl, k.3, k.4, k.5, record { run = s.run; seen = s.seen; holds = s.holds; orderly = s.orderly; held = s.held; count = s.count; idle = s.idle; kept = s.kept })
+    (k.0, more ∙ ap (λ (n : ℕ). n + 1) k.1, refl, k.3, k.4, k.5, record { run = s.run; seen = s.seen; holds = s.holds; orderly = s.orderly; held = s.held; within = s.within; before = s.before; idle = s.idle; kept = s.kept })
 
 -- a beginning of a run is a run
 pub run_prefix : (p : Problem) (xs ys : List Event) → IsPrefix xs ys → IsRun p ys → IsRun p xs
 run_prefix p xs ys pre run = run_first p opening xs pre.0 (subst (IsRun p) (sym pre.1) run)
 
 -- seat 0, when it took in another seat that holds no cube
-pub merged_kept : (number made other_number other_made : ℕ) (m w m' : Mine) (lemmas lemmas_w : List Lemma) (holding holding_w : Option Cube) (place place_w place' : ℕ) (waits waits_w : Bool)
-    → Kept number made m lemmas holding place waits → Kept other_number other_made w lemmas_w holding_w place_w waits_w → holding_w ≡ None → m' ≡ (merged m.0 w.0, []) → place' ≡ length (longer m.0.front w.0.front) → ((log : List Event) × Seen (merged m.0 w.0) log) → Kept number made m' lemmas holding place' waits
-merged_kept number made other_number other_made m w m' lemmas lemmas_w holding holding_w place place_w place' waits waits_w k o none is count all =
+pub merged_kept : (number made other_number other_made : ℕ) (m w m' : Mine) (lemmas lemmas_w : List Lemma) (holding holding_w : Option Cube) (place place_w : ℕ) (waits waits_w : Bool)
+    → Kept number made m lemmas holding place waits → Kept other_number other_made w lemmas_w holding_w place_w waits_w → holding_w ≡ None → m' ≡ (merged m.0 w.0, []) → ((log : List Event) × Seen (merged m.0 w.0) log) → Kept number made m' lemmas holding place waits
+merged_kept number made other_number other_made m w m' lemmas lemmas_w holding holding_w place place_w waits waits_w k o none is all =
     let s = k.6 in
     let begins : IsPrefix m.0.front (longer m.0.front w.0.front) = (drop (length m.0.front) w.0.front, refl) in
-    subst (λ (t : Mine). Kept number made t lemmas holding place' waits) (sym is) (
+    subst (λ (t : Mine). Kept number made t lemmas holding place waits) (sym is) (
       k.0,
       k.1,
       refl,
@@ -224,14 +226,9 @@ merged_kept number made other_number other_made m w m' lemmas lemmas_w holding h
         holds = some_also holding (WasTaken m.0) (WasTaken (merged m.0 w.0)) (λ c h. (h.0, prefix_trans h.0 m.0.front (longer m.0.front w.0.front) h.1 begins, h.2, h.3)) s.holds;
         orderly = s.orderly;
         held = s.held;
-        count = count;
+        within = omega (arith, s.within, length-append m.0.front (drop (length m.0.front) w.0.front));
+        before = ap (calls_by m.0.number) (take-append-le place m.0.front (drop (length m.0.front) w.0.front) s.within) ∙ s.before;
         idle = s.idle;
         kept = ((o.6.orderly, o.6.held ∙ ap id_of none), s.kept);
       },
     )
-
-pub longer_count : (n a b : ℕ) (xs ys : List Event) → n ≡ max a b → a ≡ length xs → b ≡ length ys → n ≡ length (longer xs ys)
-longer_count n a b xs ys is ea eb =
-    let whole_ = length-append xs (drop (length xs) ys) in
-    let rest_ = length-drop (length xs) ys in
-    omega (arith, is, ea, eb, whole_, rest_)

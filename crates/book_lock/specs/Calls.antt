@@ -1,5 +1,5 @@
 -- The calls of one seat, and what they leave it with.
-use Rattle.std.specs.Prelude.{◌≡◌, ℕ, ◌≤◌, ◌==◌, Bool, true, false, List, [], ◌∷◌, filter, Option, Some, None, slice_get}
+use Rattle.std.specs.Prelude.{◌≡◌, ℕ, ◌≤◌, ◌==◌, Bool, true, false, List, [], ◌∷◌, drop, filter, Option, Some, None, slice_get}
 use Rattle.book_core.specs.declared.event.Event.{Event}
 use Rattle.book_core.specs.declared.event.Event.TheVariants.{Take, Deliver, Release}
 use Rattle.book_core.specs.declared.event.Taken.TheVariants.{Done, Idle, Cube}
@@ -55,3 +55,8 @@ ended_idle calls = idle_from false calls
 -- from this place on there is an event other than a take answered Idle
 abbrev pub HasNews : ℕ → List Event → Type 0
 HasNews place es = (k : ℕ) × (e : Event) × (place ≤ k) × (slice_get es k ≡ Some e) × (is_idle e ≡ false)
+
+-- behind all calls of the seat there is an event other than a take answered Idle
+abbrev pub HasNewsFor : ℕ → List Event → Type 0
+HasNewsFor n es =
+    (k : ℕ) × (e : Event) × (slice_get es k ≡ Some e) × (is_idle e ≡ false) × (calls_by n (drop k es) ≡ [])

@@ -1,5 +1,5 @@
 -- What contracts see of a desk and of a seat, and what a call does.
-use Rattle.std.specs.Prelude.{◌≡◌, ◌⊎◌, ℕ, ◌+◌, ◌<◌, ◌≤◌, true, false, List, [], ◌∷◌, ◌++◌, length, drop, slice_get, Option, Some, None, IsSome, IfSome, Bool}
+use Rattle.std.specs.Prelude.{◌≡◌, ◌⊎◌, ℕ, ◌+◌, ◌<◌, ◌≤◌, true, false, List, [], ◌∷◌, ◌++◌, length, drop, take, slice_get, Option, Some, None, IsSome, IfSome, Bool}
 use Rattle.std.proofs.Common.{arith}
 use mathlib.Core.List.{IsPrefix}
 use Rattle.atomic_table.specs.Seated.{TableId}
@@ -18,7 +18,7 @@ use Rattle.book_lock.specs.declared.cube.Taken.{Taken}
 use Rattle.book_lock.specs.declared.cube.Taken.TheVariants.{Done, Idle, Cube as TakenCube}
 use Rattle.book_lock.specs.declared.view.View.{View}
 use Rattle.book_lock.specs.declared.view.Kept.{Kept}
-use Rattle.book_lock.specs.Calls.{calls_by, held_from, IsOrderlyFrom, ended_idle, HasNews}
+use Rattle.book_lock.specs.Calls.{calls_by, held_from, IsOrderlyFrom, ended_idle, HasNewsFor}
 use Rattle.book_lock.specs.Rules.{kept_of}
 
 pub record Place : Type 0 where
@@ -67,7 +67,9 @@ pub record IsSeated (v : View) (lemmas : List Lemma) (holding : Option Cube) (pl
   pub holds : IfSome holding (WasTaken v)
   pub orderly : IsOrderlyFrom None v.calls
   pub held : held_from None v.calls ≡ id_of holding
-  pub count : place ≡ length v.front
+  pub within : place ≤ length v.front
+  -- so many events of the front have all the seat's calls
+  pub before : calls_by v.number (take place v.front) ≡ v.calls
   pub idle : waits ≡ ended_idle v.calls
   pub kept : AllEnded v.kept
 
@@ -91,7 +93,8 @@ TakenAs n s TakenCube e cube =
     (id : ℕ) × (e ≡ Take n (TakeCube id)) × (cube ≡ Some (record { id = id; literals = cube_at s.cover id }))
 
 -- What a `take` does. The answer is what the book's relation gives where all that was told before the call is
--- known; the seat has all lemmas then; after an Idle there is news between, an event other than such a take
+-- known; the seat has all lemmas then; after an Idle there is news behind the seat's calls, an event other than
+-- such a take, which the seat may have come to see by taking in another seat
 pub record Takes (old new : Sight) (answer : Taken) : Type 0 where
   pub between : List Event
   pub event : Event
@@ -100,7 +103,7 @@ pub record Takes (old new : Sight) (answer : Taken) : Type 0 where
   pub desk : new.desk ≡ old.desk
   pub lemmas : new.lemmas ≡ (replayed new.view.front).lemmas
   pub halves : new.halves ≡ old.halves
-  pub waited : ended_idle old.view.calls ≡ true → HasNews 0 between
+  pub waited : ended_idle old.view.calls ≡ true → HasNewsFor old.view.number (old.view.front ++ between)
 
 -- where the leaf with this number is Free, the cube that is taken is that one
 abbrev pub IsCubeNear : Cubes → Option Cube → ℕ → Type 0

@@ -47,7 +47,7 @@ impl Model for Desk {
 pub struct Seat {
     number: u32,
     made: u64,
-    /// The length of its front.
+    /// The journal's length with its last call.
     place: usize,
     /// Its last call was a take answered `Idle`.
     waits: bool,
@@ -259,7 +259,7 @@ impl Desk {
         Ok(Seat {
             number,
             made: 0,
-            place: seat.place,
+            place: 0,
             waits: false,
             lemmas,
             cube: None,
@@ -280,7 +280,7 @@ impl Desk {
         let Seat {
             number: _,
             made: _,
-            place,
+            place: _,
             waits: _,
             lemmas: _,
             cube: _,
@@ -291,7 +291,6 @@ impl Desk {
             .shared
             .join_seat::<Joining>(&mut seat.token, token);
         see(&self.table.shared, &mut seat.token);
-        seat.place = seat.place.max(place);
     }
 
     /// The book, once all seats were joined. No leaf is held there.

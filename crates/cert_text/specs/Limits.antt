@@ -14,11 +14,11 @@ use Rattle.cert_text.specs.declared.entry.Version.TheVariants.{One, Two}
 use Rattle.cert_text.specs.declared.entry.Entry.{Entry}
 use Rattle.cert_text.specs.declared.entry.FileEntry.{FileEntry}
 use Rattle.cert_text.specs.declared.entry.FileEntry.TheVariants as file
-use Rattle.cert_text.specs.declared.number.TheConstants.{NUMBER_LIMIT}
 use Rattle.cert_text.specs.declared.entry.Entry.TheVariants.{Sat, Unsat}
 
+-- 2 to the 61
 abbrev pub limit : ℕ
-limit = NUMBER_LIMIT
+limit = 2305843009213693952
 
 abbrev pub NumberFits : ℤ → Type 0
 NumberFits n = unsigned_abs n ≤ limit

@@ -36,7 +36,7 @@ fn fails(point: u32) -> Literal
 fn unit_clause(alloc: Global, literal: Literal) -> Result<Clause, AllocError>
     ensures { IfOk result (λ clause. clause ≡ literal ∷ []) }
 {
-    Ok(Clause::new(vec![in alloc; literal]?))
+    Ok(Clause::from_slice(alloc, [literal].as_slice())?)
 }
 
 /// The member of a `not`.
@@ -139,7 +139,7 @@ impl<'a> Form<'a> {
             clause ≡ literal_pair first denied points (table_of self.now) inner number)) }
     {
         let second = self.signed_literal(number, denied);
-        Ok(Clause::new(vec![in alloc; first, second]?))
+        Ok(Clause::from_slice(alloc, [first, second].as_slice())?)
     }
 
     /// A clause for each member: this literal, and the member's.

@@ -1,3 +1,4 @@
 pub mod Lanes
 pub mod Lists
 pub mod Parts
+pub mod Orders

@@ -73,7 +73,7 @@ take_more {A = A} (y ∷ xs) (suc k) x e =
     let P : ℕ → Type 0 = λ n. take n (y ∷ xs) ≡ y ∷ (take k xs ++ x ∷ []) in
     subst P {x = suc (k + 1)} {y = suc k + 1} (omega arith) (ap (λ (ys : List A). y ∷ ys) rest)
 
-sum_by_more : {A : Type 0} (f : A → ℕ) (x : A) (xs : List A) → sum_by f (x ∷ xs) ≡ f x + sum_by f xs
+pub sum_by_more : {A : Type 0} (f : A → ℕ) (x : A) (xs : List A) → sum_by f (x ∷ xs) ≡ f x + sum_by f xs
 sum_by_more f x xs = let one : sum_by f (x ∷ xs) ≡ (0 + f x) + sum_by f xs = sum_by-append f (x ∷ []) xs in omega (arith, one)
 
 pub sum_by_map : {A B : Type 0} (f : B → ℕ) (g : A → B) (xs : List A) → sum_by f (map g xs) ≡ sum_by (λ x. f (g x)) xs

@@ -1,5 +1,5 @@
 -- What contracts see of a pool and of its hands, and what a call does to a hand.
-use Rattle.std.specs.Prelude.{◌≡◌, ℕ, ◌+◌, ◌-◌, ◌<◌, ◌≤◌, List, [], ◌∷◌, ◌++◌, length, map, sum_by, Some, None, slice_get, slice_index_or, slice_set}
+use Rattle.std.specs.Prelude.{◌≡◌, ℕ, ◌+◌, ◌-◌, ◌<◌, ◌≤◌, ◌==◌, cond, All, List, [], ◌∷◌, ◌++◌, length, map, sum_by, Some, None, slice_get, slice_index_or, slice_set}
 use Rattle.std.specs.Global.{Global}
 use Rattle.crossbeam_deque.specs.declared.handles.Worker.{Worker}
 use Rattle.crossbeam_deque.specs.Handles.{Pass, view, worker_capacity, worker_deque, worker_flavor, worker_index, worker_view}
@@ -41,9 +41,24 @@ with_fetched hand k id =
 abbrev pub WasEmptyAt : Doings → ℕ → Type 0
 WasEmptyAt hand k = WasEmpty (slip 1 [] (slice_index_or hand.fetched k []))
 
--- all hands of the pool, by their numbers
+-- 1 for a hand with this number
+abbrev pub one_for : ℕ → Doings → ℕ
+one_for n hand = cond (hand.number == n) 1 0
+
+-- how many of the hands have this number
+abbrev pub times : ℕ → List Doings → ℕ
+times n hands = sum_by (one_for n) hands
+
+-- all hands of the pool, in any order
 abbrev pub AreHandsOf : List Deque → List Doings → Type 0
 AreHandsOf pool hands =
+    (length hands ≡ length pool)
+    × All (λ (hand : Doings). hand.pool ≡ pool) hands
+    × ((n : ℕ) → n < length pool → times n hands ≡ 1)
+
+-- of the code: all hands of the pool, by their numbers
+abbrev pub AreInOrder : List Deque → List Doings → Type 0
+AreInOrder pool hands =
     (length hands ≡ length pool)
     × ((k : ℕ) (d : Doings) → k < length hands
     → ((slice_index_or hands k d).pool ≡ pool) × ((slice_index_or hands k d).number ≡ k))

@@ -1,7 +1,7 @@
 //! How a pool is closed: the hands' parts come together again, and then each deque's end knows all of it.
 ghost use Rattle.std.specs.Prelude.{◌≡◌, ◌<◌, ◌≤◌, ◌+◌, ◌-◌, ℕ, length, vec_len, IfOk, OnOk, [], map};
 ghost use Rattle.cube_pool.specs.Lanes.{whole, weigh};
-ghost use Rattle.cube_pool.specs.Hands.{AreHandsOf, deque_of, AreTakers};
+ghost use Rattle.cube_pool.specs.Hands.{AreInOrder, deque_of, AreTakers};
 ghost use Rattle.cube_pool.specs.Closings.{AreEnds, AreJoined, AreParted, AreRows, AreWhole, put_by, taken_there, taken_in, taken_over};
 
 use crate::hand::Hand;
@@ -17,7 +17,7 @@ pub(crate) fn part(
     lanes: &mut Vec<Lane>,
     rows: &mut Vec<Row>,
 ) -> Result<(), AllocError>
-    requires hands { AreHandsOf pool.now hands.items }
+    requires hands { AreInOrder pool.now hands.items }
     requires lanes { lanes.old.items ≡ [] }
     requires rows { rows.old.items ≡ [] }
     ensures { OnOk result (AreParted pool.now hands.items lanes.new.items rows.new.items) }

@@ -1,4 +1,6 @@
 //! A worker's hand on the pool.
+ghost use Rattle.std.specs.Prelude.{◌≡◌};
+
 use crate::lane::Lane;
 use crate::slip::Slip;
 use crossbeam_deque::Pass;
@@ -29,4 +31,12 @@ impl Model for Hand {
     } };
 
     ghost invariant = { λ h. IsHand h.number h.pushes h.lane h.passes.items };
+}
+
+impl Hand {
+    pub(crate) fn number(&self) -> u32
+        ensures { result ≡ self.now.number }
+    {
+        self.number
+    }
 }

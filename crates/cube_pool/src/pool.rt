@@ -93,7 +93,7 @@ impl Pool {
         lane::fetch(rt, &self.mouths[place], &mut hand.passes[place])
     }
 
-    /// What is left, once the pool has all its hands again, in the order of their numbers.
+    /// What is left, once the pool has all its hands again, in any order.
     pub fn close(self, hands: Vec<Hand>) -> Result<Vec<u32>, AllocError>
         requires { AreHandsOf self hands.items }
         ensures { IfOk result (λ left. AreSettled hands.items left.items) }
@@ -101,6 +101,8 @@ impl Pool {
         let alloc = *self.mouths.allocator();
         let mut lanes = Vec::with_capacity(alloc, hands.len())?;
         let mut rows = Vec::with_capacity(alloc, hands.len())?;
+        let mut hands = hands;
+        hands.sort_unstable_by_key(|hand| hand.number());
         part(&self, hands, &mut lanes, &mut rows)?;
         join_all(&self, &mut lanes, rows);
         drain_all(alloc, lanes)

@@ -23,7 +23,7 @@ pub use difference::{Difference, compare};
 pub use error::{DifferenceRefusal, LinearError};
 pub use examples::{worked_comparisons, worked_linear_terms};
 pub use laws::{comparison_law, linear_law};
-pub use limits::{COEFFICIENT_LIMIT, CONSTANT_LIMIT, NAMES_LIMIT, NUMBER_LIMIT};
+pub use limits::{COEFFICIENT_LIMIT, CONSTANT_LIMIT, NAMES_LIMIT, NUMBER_LIMIT, limits_law};
 pub use linear::Linear;
 pub use summand::Summand;
 pub use sums::sum_less;

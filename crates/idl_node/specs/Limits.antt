@@ -1,7 +1,6 @@
--- This project's own limits, by the constants that the code has for them.
+-- This project's own limit.
 use Rattle.std.specs.Prelude.{ℕ}
-use Rattle.idl_node.specs.declared.limits.TheConstants.{NODES_LIMIT}
 
--- the greatest number of nodes in a table
+-- the greatest number of nodes in a table: 2 to the 20
 abbrev pub nodes_limit : ℕ
-nodes_limit = NODES_LIMIT
+nodes_limit = 1048576

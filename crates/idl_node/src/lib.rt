@@ -15,7 +15,7 @@ mod truth;
 pub use error::{NodeError, NodeRefusal};
 pub use examples::{worked_formulas, worked_truths};
 pub use laws::{list_making_law, making_law, truth_law};
-pub use limits::NODES_LIMIT;
+pub use limits::{NODES_LIMIT, limits_law};
 pub use node::Node;
 pub use nodes::Nodes;
 pub use sort::Sort;

@@ -1,7 +1,6 @@
--- The limit of the lemmas of one list, by the constant that the code has for it.
+-- The limit of the lemmas of one list.
 use Rattle.std.specs.Prelude.{ℕ}
-use Rattle.refute_tree.specs.declared.limits.TheConstants.{LEMMAS_LIMIT}
 
--- the greatest count of lemmas in one list to whose end a batch can be moved
+-- the greatest count of lemmas in one list to whose end a batch can be moved: 2 to the 32
 abbrev pub lemmas_limit : ℕ
-lemmas_limit = LEMMAS_LIMIT
+lemmas_limit = 4294967296

@@ -27,7 +27,7 @@ pub use earlier::Earlier;
 pub use laws::{examples_law, lengths_law, refutation_law};
 pub use lemma::{Lemma, Refutation};
 pub use lengths::{lengthen, shorten};
-pub use limits::LEMMAS_LIMIT;
+pub use limits::{LEMMAS_LIMIT, limits_law};
 pub use path::Path;
 pub use reader::{Reader, StepView};
 pub use step::Step;

@@ -25,6 +25,6 @@ pub use examples::{worked_commands, worked_names};
 pub use exit::is_exit;
 pub use information::Information;
 pub use laws::{exit_law, mode_law, state_law};
-pub use limits::LEVELS_LIMIT;
+pub use limits::{LEVELS_LIMIT, limits_law};
 pub use state::{Effect, Level, Mode, Notice, Satisfiability, State};
 pub use value::TermValue;

@@ -1,6 +1,7 @@
 pub mod Limits
 pub mod Literal
 pub mod Problem
+pub mod Solution
 pub mod Cycle
 pub mod Schedule
 pub mod Answer

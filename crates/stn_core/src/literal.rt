@@ -5,7 +5,7 @@ use crate::limits::Value;
 use std::marker::Model;
 
 /// The bound `x - y <= c` on the values of two time points, which are given by their numbers, from 0.
-#[derive(Clone, Copy, Debug, PartialEq, Eq, Hash)]
+#[derive(Clone, Copy, Debug, Default, PartialEq, Eq, Hash)]
 pub struct Literal {
     pub x: u32,
     pub y: u32,

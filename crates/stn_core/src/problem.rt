@@ -3,13 +3,15 @@ ghost use Rattle.stn_core.specs.Limits.{points_limit};
 ghost use Rattle.stn_core.specs.Literal.{IsOver};
 
 use crate::literal::Literal;
-use std::alloc::AllocError;
+use smallvec::SmallVec;
+use std::alloc::{AllocError, Global};
 use std::marker::Model;
 
-/// Literals of which one is to hold. Without literals it never holds.
+/// Literals of which one is to hold. Without literals it never holds. Up to two lie in the clause itself, and more in memory
+/// of their own.
 #[derive(Drop)]
 pub struct Clause {
-    literals: Vec<Literal>,
+    literals: SmallVec<Literal, 2>,
 }
 
 impl Model for Clause {
@@ -25,7 +27,18 @@ impl Clause {
     pub fn new(literals: Vec<Literal>) -> Self
         ensures { result ≡ literals.items }
     {
-        Clause { literals }
+        Clause {
+            literals: SmallVec::from_vec(literals),
+        }
+    }
+
+    /// A clause of these literals.
+    pub fn from_slice(alloc: Global, literals: &[Literal]) -> Result<Self, AllocError>
+        ensures { IfOk result (λ clause. clause ≡ literals.now) }
+    {
+        Ok(Clause {
+            literals: SmallVec::from_slice(alloc, literals)?,
+        })
     }
 
     pub fn as_slice(&self) -> &[Literal]
@@ -34,19 +47,11 @@ impl Clause {
         self.literals.as_slice()
     }
 
-    /// The literals in a `Vec`, without taking memory.
-    pub fn into_vec(self) -> Vec<Literal>
-        ensures { result.items ≡ self }
-    {
-        self.literals
-    }
-
     /// An equal clause in memory of its own.
     pub fn copy(&self) -> Result<Self, AllocError>
         ensures { IfOk result (λ clause. clause ≡ self.now) }
     {
-        let alloc = *self.literals.allocator();
-        Ok(Clause::new(Vec::from_slice(alloc, &self.literals)?))
+        Clause::from_slice(*self.literals.allocator(), self.as_slice())
     }
 }
 

@@ -2,8 +2,9 @@
 use Rattle.std.proofs.Common.{arith, ◌≡◌, ℕ, zero, suc, ◌<◌, List, [], ◌∷◌, ◌++◌, length, sym, ap, ◌∙◌, subst}
 use Rattle.std.proofs.Math.ListN.{get_or}
 use Rattle.std.proofs.lemmas.Option.{get_or_from_slice_get}
-use Rattle.cube_pool.specs.Hands.{AreHandsOf, AreNewcomers, Deque, Doings, newcomer}
+use Rattle.cube_pool.specs.Hands.{AreHandsOf, AreNewcomers, Deque, Doings, newcomer, times}
 use Rattle.cube_pool.proofs.Lists.{first_of, last_of, length_pushed}
+use Rattle.cube_pool.proofs.Orders.{times_more, is_one, is_none}
 use Rattle.worker_tests.specs.Placed.{IsHandOf}
 
 -- two hands were popped, the last one first
@@ -32,6 +33,12 @@ both_at pool first second a b zero d l = a
 both_at pool first second a b (suc zero) d l = b
 both_at pool first second a b (suc (suc k)) d l = absurd (omega arith)
 
+-- each number once
+once : (pool : List Deque) (first second : Doings) → IsHandOf pool 0 first → IsHandOf pool 1 second → (n : ℕ) → n < 2 → times n (first ∷ second ∷ []) ≡ 1
+once pool first second a b zero l = omega (arith, times_more 0 first (second ∷ []), times_more 0 second [], is_one 0 first a.1, is_none 0 second (λ e. absurd (omega (arith, e, b.1))))
+once pool first second a b (suc zero) l = omega (arith, times_more 1 first (second ∷ []), times_more 1 second [], is_one 1 second b.1, is_none 1 first (λ e. absurd (omega (arith, e, a.1))))
+once pool first second a b (suc (suc n)) l = absurd (omega (arith, l))
+
 pub are_both : (pool : List Deque) (hands : List Doings) (first second : Doings) → hands ≡ first ∷ second ∷ [] → length pool ≡ 2 → IsHandOf pool 0 first → IsHandOf pool 1 second → AreHandsOf pool hands
 are_both pool hands first second e two a b =
-    subst (λ (hs : List Doings). AreHandsOf pool hs) (sym e) (sym two, λ k d l. both_at pool first second a b k d l)
+    subst (λ (hs : List Doings). AreHandsOf pool hs) (sym e) (sym two, (λ k d l. (both_at pool first second a b k d l).0), (λ n l. once pool first second a b n (omega (arith, l, two))))

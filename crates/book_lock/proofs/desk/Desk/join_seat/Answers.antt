@@ -3,7 +3,7 @@ use Rattle.book_core.specs.declared.event.Event.{Event}
 use Rattle.book_lock.specs.Rules.{Mine, Seen}
 use Rattle.book_lock.specs.Seats.{Sight, Place, merged}
 use Rattle.book_lock.proofs.Seating.{joins, join_fronts}
-use Rattle.book_lock.proofs.Turning.{merged_kept, longer_count}
+use Rattle.book_lock.proofs.Turning.{merged_kept}
 use Rattle.book_lock.proofs.desk.Desk.join_seat.Goals as goal
 
 pub join_seat-requires : goal.join_seat-requires
@@ -22,9 +22,8 @@ pub invariant_of-seat : goal.invariant_of-seat
 invariant_of-seat c =
     let i = c.seat.invariant in
     let o = c.other.invariant in
-    merged_kept c.seat.inside.number c.seat.inside.made c.other.inside.number c.other.inside.made c.seat.inside.token.me c.other.inside.token.me c.see.new.token.me _ _ c.seat.inside.cube c.other.inside.cube c.seat.inside.place c.other.inside.place c.max-seat-inside.result c.seat.inside.waits c.other.inside.waits i o
+    merged_kept c.seat.inside.number c.seat.inside.made c.other.inside.number c.other.inside.made c.seat.inside.token.me c.other.inside.token.me c.see.new.token.me _ _ c.seat.inside.cube c.other.inside.cube c.seat.inside.place c.other.inside.place c.seat.inside.waits c.other.inside.waits i o
     (ap (λ (s : Sight). s.cube) c.other.view_is ∙ c.requires.none) (search rules)
-    (longer_count c.max-seat-inside.result c.seat.inside.place c.other.inside.place c.seat.inside.token.me.0.front c.other.inside.token.me.0.front c.max-seat-inside.ensures i.6.count o.6.count)
     (let at : c.join_seat.new.seat.me ≡ (merged c.seat.inside.token.me.0 c.other.inside.token.me.0, []) = search rules in subst (λ (m : Mine). (log : List Event) × Seen m.0 log) at c.see.ensures.seen)
 
 pub returns-clause-fronts : goal.returns-clause-fronts
