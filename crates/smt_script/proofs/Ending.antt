@@ -12,7 +12,9 @@ use Rattle.idl_term.specs.Scopes.{LoweredTerm, formula, numeric}
 use Rattle.idl_term.specs.declared.error.TermRefusal.{TermRefusal}
 use Rattle.smt_script.specs.declared.error.Refusal.{Refusal}
 use Rattle.smt_script.specs.declared.error.Refusal.TheVariants.{AlreadyDeclared, LogicNotSupported, TooManyNames, TooManyLevels, PopBelowTheBottom}
-use Rattle.smt_script.specs.declared.state.Effect.TheVariants.{CheckSat, Exit, Tell}
+use Rattle.smt_script.specs.declared.state.Effect.TheVariants.{Ask, Exit, Tell}
+use Rattle.smt_script.specs.declared.state.Question.{Question}
+use Rattle.smt_script.specs.declared.state.Question.TheVariants.{CheckSat}
 use Rattle.smt_script.specs.declared.state.Notice.{Notice}
 use Rattle.smt_script.specs.declared.state.Notice.TheVariants.{Success, Unsupported, Model, Values, Proof, Inform, Echo}
 use Rattle.smt_script.specs.Commands
@@ -28,8 +30,8 @@ use Rattle.smt_script.specs.States.{State, Step, with_model, with_proof, telling
 told_apart : (notice : Notice) → Tell notice ≢ Exit
 told_apart notice e = absurd cc
 
-check_apart : CheckSat ≢ Exit
-check_apart e = absurd cc
+asked_apart : (question : Question) → Ask question ≢ Exit
+asked_apart question e = absurd cc
 
 -- what doesn't end the script
 abbrev Stays : Result Step Refusal → Type 0
@@ -113,7 +115,7 @@ exit_by s (Ok (Commands.asserting term)) step e f = absurd (stays _ step (assert
 exit_by s (Ok (Commands.naming term name)) step e f = absurd (stays _ step (named_stays s term name (lowered (scope_of s.context) s.context.nodes term)) e f)
 exit_by s (Ok (Commands.pushing n)) step e f = absurd (stays _ step (stays_if (nat_le (levels_of s + n) levels_limit) _ TooManyLevels (told_apart Success)) e f)
 exit_by s (Ok (Commands.popping n)) step e f = absurd (stays _ step (stays_if (nat_le n (levels_of s)) _ PopBelowTheBottom (told_apart Success)) e f)
-exit_by s (Ok Commands.checking) step e f = absurd (stays _ step check_apart e f)
+exit_by s (Ok Commands.checking) step e f = absurd (stays _ step (asked_apart CheckSat) e f)
 exit_by s (Ok Commands.asking_model) step e f = absurd (stays _ step (model_stays s.mode (telling s Model) (told_apart Model)) e f)
 exit_by s (Ok (Commands.asking_values terms)) step e f = absurd (stays _ step (model_stays s.mode (valued_by s (terms_refusal (scope_of s.context) s.context.nodes terms)) (valued_stays s _)) e f)
 exit_by s (Ok Commands.asking_proof) step e f = absurd (stays _ step (proof_stays s.mode (telling s Proof) (told_apart Proof)) e f)

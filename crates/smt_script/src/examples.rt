@@ -9,7 +9,8 @@ ghost use Rattle.smt_script.specs.Examples.{keyword, written, no_parameters, dec
 ghost use Rattle.smt_script.specs.States.{start_state, after, carried_out};
 ghost use Rattle.smt_script.specs.declared.error.LeftOutCommand.TheVariants.{Parameters, Sort, DefineSort};
 ghost use Rattle.smt_script.specs.declared.error.Refusal.TheVariants.{UnknownCommand, IllFormedCommand, LogicNotSupported, AlreadyDeclared, TooManyLevels, PopBelowTheBottom, NoModel, LeftOut, Term};
-ghost use Rattle.smt_script.specs.declared.state.Effect.TheVariants.{CheckSat, Exit, Tell};
+ghost use Rattle.smt_script.specs.declared.state.Effect.TheVariants.{Ask, Exit, Tell};
+ghost use Rattle.smt_script.specs.declared.state.Question.TheVariants.{CheckSat};
 ghost use Rattle.smt_script.specs.declared.state.Notice.TheVariants.{Success, Unsupported};
 
 /// Names and assertions. `with_x` is the state behind `(declare-const x Int)`, `with_p` that behind `(declare-const p Bool)`.
@@ -81,7 +82,7 @@ pub fn worked_commands()
         (form (codes "reset-assertions") [])
         ≡ carried_out (record start_state { print_success = true }) }
     ensures checks { after with_n (form (codes "check-sat") [])
-        ≡ Ok (record { state = with_n; effect = CheckSat }) }
+        ≡ Ok (record { state = with_n; effect = Ask CheckSat }) }
     ensures exits { after with_n (form (codes "exit") []) ≡ Ok (record { state = with_n; effect = Exit }) }
     ensures exit_of_one { after start_state (form (codes "exit") (numeral (codes "1") ∷ []))
         ≡ Err IllFormedCommand }

@@ -26,5 +26,5 @@ pub use exit::is_exit;
 pub use information::Information;
 pub use laws::{exit_law, mode_law, state_law};
 pub use limits::{LEVELS_LIMIT, limits_law};
-pub use state::{Effect, Level, Mode, Notice, Satisfiability, State};
+pub use state::{Effect, Level, Mode, Notice, Question, Satisfiability, State};
 pub use value::TermValue;

@@ -55,11 +55,18 @@ pub enum Notice {
     Echo,
 }
 
+/// What a command asks to be decided of the state behind it.
+#[derive(Clone, Copy, Debug, PartialEq, Eq)]
+pub enum Question {
+    /// Whether some schedule satisfies all that is asserted.
+    CheckSat,
+}
+
 /// What a command is to be answered.
 #[derive(Clone, Copy, Debug, PartialEq, Eq)]
 pub enum Effect {
-    /// A verdict on the state behind it.
-    CheckSat,
+    /// The answer to a question.
+    Ask(Question),
     /// Nothing, and the script ends.
     Exit,
     Tell(Notice),
@@ -436,7 +443,7 @@ impl<'a> State<'a> {
             Request::AssertNamed(term, name) => self.assert_named(sexprs, term, name),
             Request::Push(count) => self.push(count),
             Request::Pop(count) => self.pop(count),
-            Request::CheckSat => Ok(Effect::CheckSat),
+            Request::CheckSat => Ok(Effect::Ask(Question::CheckSat)),
             Request::Model => self.ask_model(),
             Request::Values(terms) => self.ask_values(sexprs, terms),
             Request::Proof => self.ask_proof(),
