@@ -6,14 +6,13 @@
 
 mod assertions;
 mod error;
-mod kind;
 mod laws;
 mod report;
 mod write;
 
 pub use assertions::problem;
 pub use error::SessionError;
-pub use kind::kind_of;
+pub use script_walk::kind_of;
 pub use laws::one_transcript;
 pub use report::Report;
 pub use write::write_text;
