@@ -6,6 +6,4 @@ mod moves;
 #[cfg(test)]
 mod runs;
 #[cfg(test)]
-mod solving;
-#[cfg(test)]
 mod table;

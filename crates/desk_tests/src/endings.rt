@@ -1,9 +1,11 @@
 //! What two seats leave.
 ghost use Rattle.std.specs.Prelude.{◌≡◌};
 
+use crate::calls::ask;
 use book_core::{Book, Event, Verdict};
-use book_lock::{Desk, Seat};
+use book_lock::{Desk, Seat, Taken};
 use std::alloc::AllocError;
+use std::sync::Wait;
 
 /// The kind of a call, and who made it.
 #[derive(Clone, Copy, Debug, PartialEq, Eq)]
@@ -56,6 +58,24 @@ pub(crate) fn closed(desk: Desk, mut seat: Seat, other: Seat) -> Option<Book>
     }
     desk.join_seat(&mut seat, other);
     Some(desk.close(seat))
+}
+
+/// What the first seat is answered once the other was joined to it; `None` where one of them holds a cube.
+pub(crate) fn asked_behind_join<R: Wait>(
+    rt: &R,
+    desk: &Desk,
+    seat: &mut Seat,
+    other: Seat,
+) -> Result<Option<Taken>, AllocError>
+    requires desk { (seat.old.desk ≡ desk.now.id) × (other.desk ≡ desk.now.id) }
+    requires first { seat.old.view.number ≡ 0 }
+    requires second { other.view.number ≡ 1 }
+{
+    if seat.cube().is_some() || other.cube().is_some() {
+        return Ok(None);
+    }
+    desk.join_seat(seat, other);
+    ask(rt, desk, seat)
 }
 
 fn is_refuted(book: &Book) -> Result<bool, AllocError> {

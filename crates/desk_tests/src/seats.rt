@@ -3,7 +3,7 @@ ghost use Rattle.std.specs.Prelude.{◌≡◌};
 ghost use Rattle.book_lock.specs.Seats.{IsSameSeat};
 
 use crate::calls::{ask, ask_near, deliver_justified, give_back};
-use crate::endings::{Call, closed, conclusion, first_calls, last_halves};
+use crate::endings::{Call, asked_behind_join, closed, conclusion, first_calls, last_halves};
 use crate::table::{X_BEFORE_Y, refuting, two_orders};
 use book_core::Outcome;
 use book_lock::{Desk, Seat, Taken};
@@ -121,5 +121,41 @@ fn halves_are_told_and_taken(rt: HostRuntime) -> Result<(), Fail> {
     assert_eq!(rt; told, (Some((1, 2)), Some(Taken::Cube), Some(1)));
     let book = closed(desk, seat, other);
     assert_eq!(rt; last_halves(&book), Some((1, 2)));
+    Ok(())
+}
+
+/// Seat 1 takes the whole, of which nothing is left for seat 0, and refutes it.
+fn idle<R: Wait>(
+    rt: &R,
+    alloc: Global,
+    desk: &Desk,
+    problem: &Problem,
+    seat: &mut Seat,
+    other: &mut Seat,
+) -> Result<(Option<Taken>, bool), AllocError>
+    requires desk { (seat.old.desk ≡ desk.now.id) × (other.old.desk ≡ desk.now.id) }
+    requires problem { other.old.view.problem ≡ problem.now }
+    ensures same { IsSameSeat seat.old seat.new × IsSameSeat other.old other.new }
+{
+    let _ = ask(rt, desk, other)?;
+    let answer = ask(rt, desk, seat)?;
+    let batch = refuting(alloc)?;
+    let is_justified = deliver_justified(rt, alloc, desk, other, problem, batch, Outcome::Shut(1))?;
+    Ok((answer, is_justified))
+}
+
+/// A seat that was told to wait is told of what came then, also where a join had it see that already.
+#[test]
+fn who_waited_is_told_behind_a_join(rt: HostRuntime) -> Result<(), Fail> {
+    let alloc = rt.alloc();
+    let problem = two_orders(alloc)?;
+    let (desk, mut seat) = Desk::start(alloc, problem.copy()?)?;
+    let mut other = desk.split_seat(&mut seat)?;
+    let told = idle(&rt, alloc, &desk, &problem, &mut seat, &mut other)?;
+    assert_eq!(rt; told, (Some(Taken::Idle), true));
+    assert_eq!(rt;
+        asked_behind_join(&rt, &desk, &mut seat, other)?,
+        Some(Taken::Done)
+    );
     Ok(())
 }

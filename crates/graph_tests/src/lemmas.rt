@@ -1,12 +1,10 @@
 ghost use Rattle.std.specs.Prelude.{◌≡◌, IfOk};
 
-use cert_check::{CheckError, Flaw, FlawKind, check_lemma, check_refutation, check_schedule};
+use cert_check::{CheckError, Flaw, FlawKind, check_refutation, check_schedule};
 use refute_tree::{Lemma, Refutation, StepView, Steps, cases, leaf};
 use std::alloc::{AllocError, Global};
-use std::sync::Arc;
 use std::test::Fail;
 use stn_core::{Clause, Clauses, Literal, Problem, Schedule};
-use trim_lemmas::trimmed;
 
 const X_BEFORE_Y: Literal = Literal { x: 1, y: 2, c: -1 };
 
@@ -48,27 +46,6 @@ fn refutation(alloc: Global) -> Result<Refutation, AllocError> {
     Ok(Refutation::new(vec![in alloc; lemma_of(alloc, tree(alloc)?)]?))
 }
 
-/// The last lemma cites one of three that all state the same.
-fn with_idle_lemmas(alloc: Global) -> Result<Refutation, AllocError> {
-    let mut steps = Steps::new(alloc);
-    steps.push_lemma(1)?;
-    let first = lemma_of(alloc, tree(alloc)?);
-    let second = lemma_of(alloc, tree(alloc)?);
-    let third = lemma_of(alloc, tree(alloc)?);
-    let lemmas = vec![in alloc; first, second, third, lemma_of(alloc, steps)]?;
-    Ok(Refutation::new(lemmas))
-}
-
-#[test]
-fn without_idle_lemmas(rt: HostRuntime) -> Result<(), Fail> {
-    let alloc = rt.alloc();
-    let problem = two_orders(alloc)?;
-    let shorter = trimmed(alloc, with_idle_lemmas(alloc)?)?;
-    let found = check_refutation(alloc, &problem, &shorter);
-    assert_eq!(rt; (shorter.as_slice().len(), found), (2, Ok(())));
-    Ok(())
-}
-
 #[test]
 fn refutations(rt: HostRuntime) -> Result<(), Fail> {
     let alloc = rt.alloc();
@@ -81,19 +58,6 @@ fn refutations(rt: HostRuntime) -> Result<(), Fail> {
         kind: FlawKind::NoSuchClause,
     };
     assert_eq!(rt; (right, wrong), (Ok(()), Err(CheckError::Refused(flaw))));
-    Ok(())
-}
-
-#[test]
-fn a_lemma_after_shared_ones(rt: HostRuntime) -> Result<(), Fail> {
-    let alloc = rt.alloc();
-    let first = Arc::new(alloc, lemma_of(alloc, tree(alloc)?))?;
-    let shared = vec![in alloc; first]?;
-    let mut steps = Steps::new(alloc);
-    steps.push_lemma(0)?;
-    let lemma = lemma_of(alloc, steps);
-    let found = check_lemma(alloc, &two_orders(alloc)?, &shared.as_slice(), &lemma);
-    assert_eq!(rt; found, Ok(()));
     Ok(())
 }
 

@@ -2,7 +2,10 @@
 ghost use Rattle.std.specs.Prelude.{◌≡◌, ◌+◌};
 ghost use Rattle.idl_linear.specs.Limits.{coefficient_limit, constant_limit, number_limit, points_limit};
 ghost use Rattle.idl_linear.specs.declared.limits.TheConstants.{
-    NAMES_LIMIT, COEFFICIENT_LIMIT, CONSTANT_LIMIT, NUMBER_LIMIT
+  NAMES_LIMIT,
+  COEFFICIENT_LIMIT,
+  CONSTANT_LIMIT,
+  NUMBER_LIMIT,
 };
 
 /// The greatest number of names, each of which has a time point behind the zero point.
@@ -23,5 +26,4 @@ pub fn limits_law()
     ensures constants { constant_limit ≡ CONSTANT_LIMIT }
     ensures numbers { number_limit ≡ NUMBER_LIMIT }
     ensures points { points_limit ≡ NAMES_LIMIT + 1 }
-{
-}
+{}

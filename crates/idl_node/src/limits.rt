@@ -9,5 +9,4 @@ pub const NODES_LIMIT: usize = 1 << 20;
 /// The limit that the definitions state is that of the code.
 pub fn limits_law()
     ensures { nodes_limit ≡ NODES_LIMIT }
-{
-}
+{}

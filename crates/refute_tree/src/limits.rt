@@ -8,5 +8,4 @@ pub const LEMMAS_LIMIT: usize = 1 << 32;
 /// The limit that the definitions state is that of the code.
 pub fn limits_law()
     ensures { lemmas_limit ≡ LEMMAS_LIMIT }
-{
-}
+{}

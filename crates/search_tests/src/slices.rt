@@ -72,43 +72,6 @@ fn pairs_and_orders(alloc: Global) -> Result<Problem, AllocError> {
     with_order(problem, 2, 3)
 }
 
-/// A Bool name that holds, each of which implies the next one, and the last of which doesn't hold.
-fn implications(alloc: Global, names: u32) -> Result<Problem, AllocError>
-    requires { names < points_limit }
-{
-    let mut problem = empty(alloc, names + 1);
-    problem = with_clause(problem, [literal(1, 0, 0)].as_slice())?;
-    for i in 1..names {
-        problem = with_clause(
-            problem,
-            [literal(0, i, -1), literal(i + 1, 0, 0)].as_slice(),
-        )?;
-    }
-    with_clause(problem, [literal(0, names, -1)].as_slice())
-}
-
-/// Two bounds, from which a third follows, and two clauses that can't both hold where the third does.
-fn third_bound(alloc: Global) -> Result<Problem, AllocError> {
-    let mut problem = empty(alloc, 5);
-    problem = with_clause(problem, [literal(1, 2, -5)].as_slice())?;
-    problem = with_clause(problem, [literal(2, 3, -5)].as_slice())?;
-    problem = with_clause(problem, [literal(3, 1, 1), literal(4, 0, 0)].as_slice())?;
-    with_clause(problem, [literal(3, 1, 1), literal(0, 4, -1)].as_slice())
-}
-
-/// Eight points of which each pair is in an order, all within seven places.
-fn crowd(alloc: Global) -> Result<Problem, AllocError> {
-    let mut problem = empty(alloc, 9);
-    for p in 1..9u32 {
-        problem = with_clause(problem, [literal(0, p, 0)].as_slice())?;
-        problem = with_clause(problem, [literal(p, 0, 6)].as_slice())?;
-        for q in 1..p {
-            problem = with_order(problem, p, q)?;
-        }
-    }
-    Ok(problem)
-}
-
 /// Four pairs of points, each in one of two orders.
 fn free_pairs(alloc: Global) -> Result<Problem, AllocError> {
     let mut problem = empty(alloc, 9);
@@ -118,17 +81,24 @@ fn free_pairs(alloc: Global) -> Result<Problem, AllocError> {
     Ok(problem)
 }
 
-/// Which answer it is.
-fn kind_of(answer: &Slice) -> u32 {
-    match answer {
-        Slice::Model(_, _) => 0,
-        Slice::Refuted(_, _) => 1,
-        Slice::Split(_, _) => 2,
+/// Which answer of a slice it is.
+#[derive(Clone, Copy, Debug, PartialEq, Eq)]
+enum Answer {
+    Model,
+    Refuted,
+    Split,
+}
+
+fn answer_of(slice: &Slice) -> Answer {
+    match slice {
+        Slice::Model(_, _) => Answer::Model,
+        Slice::Refuted(_, _) => Answer::Refuted,
+        Slice::Split(_, _) => Answer::Split,
     }
 }
 
 /// A slice on the problem, without a cube: which answer, how many adds, and how many lemmas.
-fn run(alloc: Global, problem: &Problem, budget: u64) -> Result<(u32, u64, usize), AllocError> {
+fn run(alloc: Global, problem: &Problem, budget: u64) -> Result<(Answer, u64, usize), AllocError> {
     let mut net = Network::new(alloc, problem.points)?;
     let handed: &[Lemma] = &[];
     let answer = slice(alloc, problem, &handed, &[], budget, &mut net)?;
@@ -137,82 +107,44 @@ fn run(alloc: Global, problem: &Problem, budget: u64) -> Result<(u32, u64, usize
         Slice::Refuted(batch, _) => batch.lemmas().len(),
         Slice::Split(_, batch) => batch.lemmas().len(),
     };
-    Ok((kind_of(&answer), net.adds(), lemmas))
+    Ok((answer_of(&answer), net.adds(), lemmas))
 }
 
 /// A slice of one add under the cube: which answer.
-fn run_under(alloc: Global, problem: &Problem, literals: &[Literal]) -> Result<u32, AllocError> {
+fn run_under(alloc: Global, problem: &Problem, literals: &[Literal]) -> Result<Answer, AllocError> {
     let mut net = Network::new(alloc, problem.points)?;
     let handed: &[Lemma] = &[];
     let cube = clause_of(alloc, problem.points, literals)?;
     let answer = slice(alloc, problem, &handed, cube.as_slice(), 1, &mut net)?;
-    Ok(kind_of(&answer))
+    Ok(answer_of(&answer))
 }
 
 /// Two slices of one searcher, the second over the lemmas of the first: which answer the second gives, and
 /// how many conflicts both met.
-fn run_twice(alloc: Global, problem: &Problem) -> Result<(u32, u64), AllocError> {
+fn run_twice(alloc: Global, problem: &Problem) -> Result<(Answer, u64), AllocError> {
     let mut net = Network::new(alloc, problem.points)?;
     let mut searcher = Searcher::new(alloc, problem)?;
     let none: &[Lemma] = &[];
     searcher.slice(alloc, problem, &none, &[], 1, &mut net)?;
     let answer = searcher.slice(alloc, problem, &none, &[], 1_000_000, &mut net)?;
-    Ok((kind_of(&answer), searcher.conflicts()))
-}
-
-/// Whether a slice refutes the problem, and how many decisions it made.
-fn run_counted(alloc: Global, problem: &Problem) -> Result<(bool, u64), AllocError> {
-    let mut net = Network::new(alloc, problem.points)?;
-    let mut searcher = Searcher::new(alloc, problem)?;
-    let none: &[Lemma] = &[];
-    let answer = searcher.slice(alloc, problem, &none, &[], 1_000, &mut net)?;
-    Ok((matches!(answer, Slice::Refuted(_, _)), searcher.decisions()))
+    Ok((answer_of(&answer), searcher.conflicts()))
 }
 
 #[test]
 fn three_orders_in_two_places(rt: HostRuntime) -> Result<(), Fail> {
     let alloc = rt.alloc();
     let problem = pairs_and_orders(alloc)?;
-    let (kind, adds, lemmas) = run(alloc, &problem, 1_000_000)?;
-    let (small_kind, small_adds, _) = run(alloc, &problem, 1)?;
-    let (again_kind, conflicts) = run_twice(alloc, &problem)?;
-    assert_eq!(rt; (kind, small_kind, again_kind), (1, 2, 1));
+    let (whole, adds, lemmas) = run(alloc, &problem, 1_000_000)?;
+    let (small, small_adds, _) = run(alloc, &problem, 1)?;
+    let (again, conflicts) = run_twice(alloc, &problem)?;
+    assert_eq!(rt;
+        (whole, small, again),
+        (Answer::Refuted, Answer::Split, Answer::Refuted)
+    );
     assert!(rt; 0 < conflicts);
     assert!(rt; adds < 1000);
     assert!(rt; lemmas < 100);
     assert!(rt; small_adds < 1000);
-    Ok(())
-}
-
-#[test]
-fn chain_of_implications(rt: HostRuntime) -> Result<(), Fail> {
-    let alloc = rt.alloc();
-    let problem = implications(alloc, 20_000)?;
-    let (kind, adds, lemmas) = run(alloc, &problem, 1_000_000)?;
-    assert_eq!(rt; (kind, adds, lemmas), (1, 0, 1));
-    Ok(())
-}
-
-#[test]
-fn distances_alone(rt: HostRuntime) -> Result<(), Fail> {
-    let alloc = rt.alloc();
-    let problem = third_bound(alloc)?;
-    let found = run_counted(alloc, &problem)?;
-    assert_eq!(rt; found, (true, 0));
-    Ok(())
-}
-
-/// There are 8 times 128 pairs of a subset of the points and one of its points, and no more conflicts.
-#[test]
-fn eight_points_in_seven_places(rt: HostRuntime) -> Result<(), Fail> {
-    let alloc = rt.alloc();
-    let problem = crowd(alloc)?;
-    let mut net = Network::new(alloc, problem.points)?;
-    let mut searcher = Searcher::new(alloc, &problem)?;
-    let none: &[Lemma] = &[];
-    let answer = searcher.slice(alloc, &problem, &none, &[], 1_000, &mut net)?;
-    assert_eq!(rt; kind_of(&answer), 1);
-    assert!(rt; searcher.conflicts() <= 1_024);
     Ok(())
 }
 
@@ -231,6 +163,9 @@ fn free_pairs_and_decided_ones(rt: HostRuntime) -> Result<(), Fail> {
         &problem,
         [one, literal(3, 4, 0), literal(4, 3, 0)].as_slice(),
     )?;
-    assert_eq!(rt; (free, some, decided, equal), (2, 2, 0, 1));
+    assert_eq!(rt;
+        (free, some, decided, equal),
+        (Answer::Split, Answer::Split, Answer::Model, Answer::Refuted)
+    );
     Ok(())
 }

@@ -9,5 +9,4 @@ pub const LEVELS_LIMIT: u64 = 65_536;
 /// The limit that the definitions state is that of the code.
 pub fn limits_law()
     ensures { levels_limit ≡ LEVELS_LIMIT }
-{
-}
+{}

@@ -23,7 +23,9 @@ mod solve;
 mod tables;
 
 pub use laws::{cycle_law, greatest_range_law, negation_kept, negation_law, one_greatest_law};
-pub use limits::{BOUND_LIMIT, NAMED_VALUE_LIMIT, POINTS_LIMIT, VALUE_LIMIT, VALUE_SPAN, Value, limits_law};
+pub use limits::{
+    BOUND_LIMIT, NAMED_VALUE_LIMIT, POINTS_LIMIT, VALUE_LIMIT, VALUE_SPAN, Value, limits_law,
+};
 pub use literal::{Literal, Literals, holds, negate};
 pub use named::{NamedValue, NamedValues};
 pub use negative::is_cycle;

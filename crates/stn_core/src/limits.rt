@@ -1,7 +1,11 @@
 ghost use Rattle.std.specs.Prelude.{◌≡◌};
 ghost use Rattle.stn_core.specs.Limits.{points_limit, bound_limit, value_limit, value_span, named_value_limit};
 ghost use Rattle.stn_core.specs.declared.limits.TheConstants.{
-    POINTS_LIMIT, BOUND_LIMIT, VALUE_LIMIT, VALUE_SPAN, NAMED_VALUE_LIMIT
+  POINTS_LIMIT,
+  BOUND_LIMIT,
+  VALUE_LIMIT,
+  VALUE_SPAN,
+  NAMED_VALUE_LIMIT,
 };
 
 /// The value of a time point. The sum of a value of a greatest schedule and any `i64` is one too.
@@ -29,5 +33,4 @@ pub fn limits_law()
     ensures value { value_limit ≡ VALUE_LIMIT }
     ensures span { value_span ≡ VALUE_SPAN }
     ensures named { named_value_limit ≡ NAMED_VALUE_LIMIT }
-{
-}
+{}

@@ -1,7 +1,0 @@
-use Rattle.std.proofs.lemmas.List.Elements.{All-push}
-use Rattle.stn_core.specs.Literal.{IsOver}
-use Rattle.graph_tests.specs.declared.chains.TheConstants.{POINTS}
-use Rattle.graph_tests.proofs.chains.chain.Goals as goal
-
-pub links-preserved : goal.links-preserved
-links-preserved c = rw c.in_ok-push.ensures.items (All-push (IsOver POINTS) _ _ c.links.invariant c.link.ensures)

@@ -1,7 +1,0 @@
-use Rattle.std.proofs.Common.{All}
-use Rattle.stn_core.specs.Literal.{IsOver}
-use Rattle.graph_tests.specs.declared.chains.TheConstants.{POINTS}
-use Rattle.graph_tests.proofs.chains.chain.Given as goal
-
-abbrev pub invariant-links : goal.invariant-links
-invariant-links l = All (IsOver POINTS) l.literals.items
