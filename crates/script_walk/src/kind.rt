@@ -5,9 +5,9 @@ ghost use Rattle.smt_answer.specs.Kinds.{kind_of};
 use smt_answer::Kind;
 use smt_script::Refusal;
 
-/// The kind of a refusal, of all that may refuse a command.
+/// The kind of a refusal of a command that was read.
 pub fn kind_of(why: Refusal) -> Kind
     ensures { result ≡ kind_of why }
 {
-    Kind::from(why)
+    Kind::Command(why)
 }

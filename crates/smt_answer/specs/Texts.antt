@@ -17,9 +17,11 @@ use Rattle.idl_term.specs.declared.error.LeftOutTerm.TheVariants as term
 use Rattle.smt_script.specs.declared.error.LeftOutCommand.{LeftOutCommand}
 use Rattle.smt_script.specs.declared.error.LeftOutCommand.TheVariants as command
 use Rattle.smt_answer.specs.declared.kind.Kind.{Kind}
-use Rattle.smt_answer.specs.declared.kind.Kind.TheVariants.{BadByte, UnclosedString, UnclosedQuotedSymbol, LeadingZero, UnclosedList, StrayClose, UnknownCommand, IllFormedCommand, LogicNotSupported, AlreadyDeclared, TooManyNames, TooManyLevels, PopBelowTheBottom, NoModel, NoProof, UnknownSymbol, IllFormedTerm, WrongCount, WrongSort, TooManyCases, NotADifference, BoundTooLarge, TooLarge, LeftOut}
-use Rattle.smt_answer.specs.declared.kind.LeftOut.{LeftOut as Construct}
-use Rattle.smt_answer.specs.declared.kind.LeftOut.TheVariants as left_out
+use Rattle.smt_answer.specs.declared.kind.Kind.TheVariants.{BadByte, UnclosedString, UnclosedQuotedSymbol, LeadingZero, UnclosedList, StrayClose, Command}
+use Rattle.idl_term.specs.declared.error.TermRefusal.{TermRefusal}
+use Rattle.idl_term.specs.declared.error.TermRefusal.TheVariants as refused_term
+use Rattle.smt_script.specs.declared.error.Refusal.{Refusal}
+use Rattle.smt_script.specs.declared.error.Refusal.TheVariants as refused
 
 abbrev pub verdict_line : Bool → List ℕ
 verdict_line true = codes "sat\n"
@@ -59,40 +61,40 @@ command_text command.DeclareSort = codes "declare-sort"
 command_text command.DeclareDatatype = codes "declare-datatype"
 command_text command.DeclareDatatypes = codes "declare-datatypes"
 
-abbrev pub left_out_text : Construct → List ℕ
-left_out_text (left_out.Term c) = term_text c
-left_out_text (left_out.Command c) = command_text c
+-- why a term is refused
+abbrev pub term_refusal_text : TermRefusal → List ℕ
+term_refusal_text refused_term.UnknownSymbol = codes "unknown symbol"
+term_refusal_text refused_term.IllFormedTerm = codes "ill-formed term"
+term_refusal_text refused_term.WrongCount = codes "wrong count of arguments"
+term_refusal_text refused_term.WrongSort = codes "wrong sort"
+term_refusal_text refused_term.TooManyCases = codes "too many cases"
+term_refusal_text refused_term.NotADifference = codes "not a difference"
+term_refusal_text refused_term.BoundTooLarge = codes "bound too large"
+term_refusal_text refused_term.TooLarge = codes "too large"
+term_refusal_text (refused_term.LeftOut c) = codes "left out: " ++ term_text c
 
--- what stands before the construct that is left out, and all of the text of another kind
-abbrev pub fixed_text : Kind → List ℕ
-fixed_text BadByte = codes "bad byte"
-fixed_text UnclosedString = codes "unclosed string"
-fixed_text UnclosedQuotedSymbol = codes "unclosed quoted symbol"
-fixed_text LeadingZero = codes "leading zero"
-fixed_text UnclosedList = codes "unclosed list"
-fixed_text StrayClose = codes "stray close"
-fixed_text UnknownCommand = codes "unknown command"
-fixed_text IllFormedCommand = codes "ill-formed command"
-fixed_text LogicNotSupported = codes "logic not supported"
-fixed_text AlreadyDeclared = codes "already declared"
-fixed_text TooManyNames = codes "too many names"
-fixed_text TooManyLevels = codes "too many levels"
-fixed_text PopBelowTheBottom = codes "pop below the bottom"
-fixed_text NoModel = codes "no model"
-fixed_text NoProof = codes "no proof"
-fixed_text UnknownSymbol = codes "unknown symbol"
-fixed_text IllFormedTerm = codes "ill-formed term"
-fixed_text WrongCount = codes "wrong count of arguments"
-fixed_text WrongSort = codes "wrong sort"
-fixed_text TooManyCases = codes "too many cases"
-fixed_text NotADifference = codes "not a difference"
-fixed_text BoundTooLarge = codes "bound too large"
-fixed_text TooLarge = codes "too large"
-fixed_text (LeftOut c) = codes "left out: "
+-- why a command is refused
+abbrev pub refusal_text : Refusal → List ℕ
+refusal_text refused.UnknownCommand = codes "unknown command"
+refusal_text refused.IllFormedCommand = codes "ill-formed command"
+refusal_text refused.LogicNotSupported = codes "logic not supported"
+refusal_text refused.AlreadyDeclared = codes "already declared"
+refusal_text refused.TooManyNames = codes "too many names"
+refusal_text refused.TooManyLevels = codes "too many levels"
+refusal_text refused.PopBelowTheBottom = codes "pop below the bottom"
+refusal_text refused.NoModel = codes "no model"
+refusal_text refused.NoProof = codes "no proof"
+refusal_text (refused.LeftOut c) = codes "left out: " ++ command_text c
+refusal_text (refused.Term why) = term_refusal_text why
 
 abbrev pub kind_text : Kind → List ℕ
-kind_text (LeftOut c) = fixed_text (LeftOut c) ++ left_out_text c
-kind_text kind = fixed_text kind
+kind_text BadByte = codes "bad byte"
+kind_text UnclosedString = codes "unclosed string"
+kind_text UnclosedQuotedSymbol = codes "unclosed quoted symbol"
+kind_text LeadingZero = codes "leading zero"
+kind_text UnclosedList = codes "unclosed list"
+kind_text StrayClose = codes "stray close"
+kind_text (Command why) = refusal_text why
 
 -- the commands are counted from 1 over all that are read
 unfoldable pub error_line : ℕ → Kind → List ℕ

@@ -5,7 +5,7 @@ mod kind;
 mod text;
 mod values;
 
-pub use kind::{Kind, LeftOut, kind_of_unreadable};
+pub use kind::{Kind, kind_of_unreadable};
 pub use text::{
     echo_text, error_text, info_text, kind_text, success_text, unsupported_text, verdict_text,
 };

@@ -1,14 +1,14 @@
 //! The texts of answers, appended to what is there. After an error what is there is as before.
 ghost use Rattle.std.specs.Prelude.{◌≡◌, ◌++◌, ◌<◌, ◌^◌, codes, take, OnOk, OnErr, IfOk};
 ghost use Rattle.std.specs.Vec.{vec_len};
-ghost use Rattle.smt_answer.specs.Texts.{fixed_text, kind_text, left_out_text, term_text, command_text, error_line, verdict_line, success_line, unsupported_line, information_line, echo_line};
+ghost use Rattle.smt_answer.specs.Texts.{kind_text, refusal_text, term_refusal_text, term_text, command_text, error_line, verdict_line, success_line, unsupported_line, information_line, echo_line};
 ghost use Rattle.smt_script.specs.declared.information.Information.TheVariants.{AssertionStackLevels};
 
-use crate::kind::{Kind, LeftOut};
+use crate::kind::Kind;
 use bstr::ByteVec;
-use idl_term::LeftOutTerm;
+use idl_term::{LeftOutTerm, TermRefusal};
 use itoa::Buffer;
-use smt_script::{Information, LeftOutCommand};
+use smt_script::{Information, LeftOutCommand, Refusal};
 use std::alloc::AllocError;
 
 /// What the error's line names of what is left out of terms.
@@ -48,44 +48,54 @@ fn command_text(construct: LeftOutCommand) -> &'static str
     }
 }
 
-fn left_out_text(construct: LeftOut) -> &'static str
-    ensures { result.now ≡ left_out_text construct }
+/// What an error's line says of a refused term, in two parts: the second is the construct that is left out.
+fn term_refusal_text(why: TermRefusal) -> (&'static str, &'static str)
+    ensures { result.0.now ++ result.1.now ≡ term_refusal_text why }
 {
-    match construct {
-        LeftOut::Term(construct) => term_text(construct),
-        LeftOut::Command(construct) => command_text(construct),
+    match why {
+        TermRefusal::UnknownSymbol => ("unknown symbol", ""),
+        TermRefusal::IllFormedTerm => ("ill-formed term", ""),
+        TermRefusal::WrongCount => ("wrong count of arguments", ""),
+        TermRefusal::WrongSort => ("wrong sort", ""),
+        TermRefusal::TooManyCases => ("too many cases", ""),
+        TermRefusal::NotADifference => ("not a difference", ""),
+        TermRefusal::BoundTooLarge => ("bound too large", ""),
+        TermRefusal::TooLarge => ("too large", ""),
+        TermRefusal::LeftOut(construct) => ("left out: ", term_text(construct)),
     }
 }
 
-/// What stands before the construct that is left out, and all of the text of another kind.
-fn fixed_text(kind: Kind) -> &'static str
-    ensures { result.now ≡ fixed_text kind }
+/// The same of a refused command.
+fn refusal_text(why: Refusal) -> (&'static str, &'static str)
+    ensures { result.0.now ++ result.1.now ≡ refusal_text why }
+{
+    match why {
+        Refusal::UnknownCommand => ("unknown command", ""),
+        Refusal::IllFormedCommand => ("ill-formed command", ""),
+        Refusal::LogicNotSupported => ("logic not supported", ""),
+        Refusal::AlreadyDeclared => ("already declared", ""),
+        Refusal::TooManyNames => ("too many names", ""),
+        Refusal::TooManyLevels => ("too many levels", ""),
+        Refusal::PopBelowTheBottom => ("pop below the bottom", ""),
+        Refusal::NoModel => ("no model", ""),
+        Refusal::NoProof => ("no proof", ""),
+        Refusal::LeftOut(construct) => ("left out: ", command_text(construct)),
+        Refusal::Term(why) => term_refusal_text(why),
+    }
+}
+
+/// The same of all that may refuse a command.
+fn parts_of(kind: Kind) -> (&'static str, &'static str)
+    ensures { result.0.now ++ result.1.now ≡ kind_text kind }
 {
     match kind {
-        Kind::BadByte => "bad byte",
-        Kind::UnclosedString => "unclosed string",
-        Kind::UnclosedQuotedSymbol => "unclosed quoted symbol",
-        Kind::LeadingZero => "leading zero",
-        Kind::UnclosedList => "unclosed list",
-        Kind::StrayClose => "stray close",
-        Kind::UnknownCommand => "unknown command",
-        Kind::IllFormedCommand => "ill-formed command",
-        Kind::LogicNotSupported => "logic not supported",
-        Kind::AlreadyDeclared => "already declared",
-        Kind::TooManyNames => "too many names",
-        Kind::TooManyLevels => "too many levels",
-        Kind::PopBelowTheBottom => "pop below the bottom",
-        Kind::NoModel => "no model",
-        Kind::NoProof => "no proof",
-        Kind::UnknownSymbol => "unknown symbol",
-        Kind::IllFormedTerm => "ill-formed term",
-        Kind::WrongCount => "wrong count of arguments",
-        Kind::WrongSort => "wrong sort",
-        Kind::TooManyCases => "too many cases",
-        Kind::NotADifference => "not a difference",
-        Kind::BoundTooLarge => "bound too large",
-        Kind::TooLarge => "too large",
-        Kind::LeftOut(_) => "left out: ",
+        Kind::BadByte => ("bad byte", ""),
+        Kind::UnclosedString => ("unclosed string", ""),
+        Kind::UnclosedQuotedSymbol => ("unclosed quoted symbol", ""),
+        Kind::LeadingZero => ("leading zero", ""),
+        Kind::UnclosedList => ("unclosed list", ""),
+        Kind::StrayClose => ("stray close", ""),
+        Kind::Command(why) => refusal_text(why),
     }
 }
 
@@ -95,11 +105,9 @@ pub fn kind_text(kind: Kind, out: &mut Vec<u8>) -> Result<(), AllocError>
     ensures err { OnErr result (out.new.items ≡ out.old.items) }
 {
     let before = out.len();
-    out.push_str(fixed_text(kind).as_bytes())?;
-    let Kind::LeftOut(construct) = kind else {
-        return Ok(());
-    };
-    match out.push_str(left_out_text(construct).as_bytes()) {
+    let (text, construct) = parts_of(kind);
+    out.push_str(text.as_bytes())?;
+    match out.push_str(construct.as_bytes()) {
         Ok(()) => Ok(()),
         Err(error) => {
             out.truncate(before);
