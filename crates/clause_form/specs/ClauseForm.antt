@@ -51,14 +51,16 @@ abbrev pub asserted_clauses : ℕ → List NodeValue → List ℕ → ℕ → No
 asserted_clauses points nodes inner k always = (stands 0 ∷ []) ∷ []
 asserted_clauses points nodes inner k (atom l) = (l ∷ []) ∷ []
 asserted_clauses points nodes inner k (disjunction ms) = literals_of points nodes inner ms ∷ []
-asserted_clauses points nodes inner k _ = []
+asserted_clauses points nodes inner k (conjunction ms) = []
+asserted_clauses points nodes inner k (denial m) = []
 
 -- the clauses of a denied node
 abbrev pub denied_clauses : ℕ → List NodeValue → List ℕ → ℕ → NodeValue → List (List Literal)
 denied_clauses points nodes inner k always = (negation_of (stands 0) ∷ []) ∷ []
 denied_clauses points nodes inner k (atom l) = (negation_of l ∷ []) ∷ []
 denied_clauses points nodes inner k (conjunction ms) = denied_literals points nodes inner ms ∷ []
-denied_clauses points nodes inner k _ = []
+denied_clauses points nodes inner k (disjunction ms) = []
+denied_clauses points nodes inner k (denial m) = []
 
 -- the clauses of an inner node with fresh point f: it is true exactly where its members say so
 abbrev pub inner_clauses : ℕ → List NodeValue → List ℕ → ℕ → NodeValue → List (List Literal)
@@ -66,7 +68,9 @@ inner_clauses points nodes inner f (conjunction ms) =
     map (λ m. fails f ∷ literal_of points nodes inner m ∷ []) ms ++ (stands f ∷ denied_literals points nodes inner ms) ∷ []
 inner_clauses points nodes inner f (disjunction ms) =
     (fails f ∷ literals_of points nodes inner ms) ∷ map (λ m. stands f ∷ denied_literal points nodes inner m ∷ []) ms
-inner_clauses points nodes inner f _ = []
+inner_clauses points nodes inner f always = []
+inner_clauses points nodes inner f (atom l) = []
+inner_clauses points nodes inner f (denial m) = []
 
 abbrev pub when : Bool → List (List Literal) → List (List Literal)
 when true clauses = clauses

@@ -2,7 +2,7 @@
 -- inner node). Members have smaller numbers than their node, so that these sets are found from the last node down.
 use Rattle.std.specs.Prelude.{ℕ, zero, suc, List, [], ◌∷◌, ◌++◌, length, Bool, true, false, if◌then◌else◌, nat_eq, slice_index_or}
 use Rattle.std.specs.List.{list_any}
-use Rattle.idl_node.specs.Nodes.{NodeValue, always, denial, conjunction, disjunction}
+use Rattle.idl_node.specs.Nodes.{NodeValue, always, atom, denial, conjunction, disjunction}
 
 abbrev pub is_among : ℕ → List ℕ → Bool
 is_among k numbers = list_any (nat_eq k) numbers
@@ -19,13 +19,17 @@ pub record Polarity : Type 0 where
 abbrev pub from_asserted : NodeValue → Polarity → Polarity
 from_asserted (conjunction ms) p = record { asserted = ms ++ p.asserted; denied = p.denied }
 from_asserted (denial m) p = record { asserted = p.asserted; denied = m ∷ p.denied }
-from_asserted _ p = p
+from_asserted always p = p
+from_asserted (atom l) p = p
+from_asserted (disjunction ms) p = p
 
 -- a denied `or` has its members denied, a denied `not` its member asserted
 abbrev pub from_denied : NodeValue → Polarity → Polarity
 from_denied (disjunction ms) p = record { asserted = p.asserted; denied = ms ++ p.denied }
 from_denied (denial m) p = record { asserted = m ∷ p.asserted; denied = p.denied }
-from_denied _ p = p
+from_denied always p = p
+from_denied (atom l) p = p
+from_denied (conjunction ms) p = p
 
 abbrev pub spread_asserted : Bool → NodeValue → Polarity → Polarity
 spread_asserted true node p = from_asserted node p
@@ -53,7 +57,10 @@ polarity_of nodes roots = polarity_below (length nodes) nodes (record { asserted
 -- the member of a `not`, else the node itself
 abbrev pub body_of : NodeValue → ℕ → ℕ
 body_of (denial m) k = m
-body_of _ k = k
+body_of always k = k
+body_of (atom l) k = k
+body_of (conjunction ms) k = k
+body_of (disjunction ms) k = k
 
 abbrev pub body_at : List NodeValue → ℕ → ℕ
 body_at nodes k = body_of (node_at nodes k) k
@@ -61,7 +68,9 @@ body_at nodes k = body_of (node_at nodes k) k
 abbrev pub is_compound : NodeValue → Bool
 is_compound (conjunction ms) = true
 is_compound (disjunction ms) = true
-is_compound _ = false
+is_compound always = false
+is_compound (atom l) = false
+is_compound (denial m) = false
 
 -- those among the members' bodies that are an `and` or an `or`
 abbrev pub compounds : List NodeValue → List ℕ → List ℕ

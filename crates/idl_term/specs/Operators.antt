@@ -91,5 +91,8 @@ takes_count (op.Connective connective.Not) n = n == 1
 takes_count (op.Connective connective.And) n = nat_le 1 n
 takes_count (op.Connective connective.Or) n = nat_le 1 n
 takes_count (op.Sum s) n = nat_le 1 n
+takes_count (op.Connective connective.Implies) n = nat_le 2 n
+takes_count (op.Connective connective.Xor) n = nat_le 2 n
+takes_count (op.Order order) n = nat_le 2 n
+takes_count (op.Equality equality) n = nat_le 2 n
 takes_count op.Ite n = n == 3
-takes_count _ n = nat_le 2 n
