@@ -13,5 +13,5 @@ mod writer;
 
 pub use entry::{Entry, FileEntry, Version, write_end, write_header};
 pub use laws::{entry_is_writable, one_entry, own_lemmas_alone, reads_back_entry};
-pub use number::NUMBER_LIMIT;
+pub use number::{NUMBER_LIMIT, limits_law};
 pub use writer::Part;

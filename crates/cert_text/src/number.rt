@@ -3,6 +3,8 @@ ghost use Rattle.std.specs.Prelude.{◌≡◌, ◌++◌, take, OnOk};
 ghost use Rattle.std.specs.Vec.{vec_len};
 ghost use Rattle.smt_sexpr.specs.Printing.{text_of};
 ghost use Rattle.cert_text.specs.Form.{numeral_text, number_of_value};
+ghost use Rattle.cert_text.specs.Limits.{limit};
+ghost use Rattle.cert_text.specs.declared.number.TheConstants.{NUMBER_LIMIT};
 
 use bstr::ByteVec;
 use itoa::Buffer;
@@ -12,6 +14,11 @@ use stn_core::Value;
 /// No bound, index or point of a certificate is greater, and no bound is below its negative. The values of names have a
 /// limit of their own, `stn_core::NAMED_VALUE_LIMIT`.
 pub const NUMBER_LIMIT: u64 = 1 << 61;
+
+/// The limit that the definitions state is that of the code.
+pub fn limits_law()
+    ensures { limit ≡ NUMBER_LIMIT }
+{}
 
 /// Appends a numeral.
 pub(crate) fn write_numeral(n: u128, out: &mut Vec<u8>) -> Result<(), AllocError>

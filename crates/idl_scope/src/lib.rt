@@ -3,6 +3,7 @@
 
 mod cases;
 mod key;
+mod limits;
 mod locals;
 mod lowered;
 mod names;
@@ -12,6 +13,7 @@ mod unfolding;
 
 pub use cases::{CASES_LIMIT, Cases};
 pub use idl_linear::NAMES_LIMIT;
+pub use limits::limits_law;
 pub use locals::Locals;
 pub use lowered::Lowered;
 pub use names::Names;
