@@ -17,7 +17,7 @@ use Rattle.stn_core.specs.declared.literal.Literal.{Literal}
 use Rattle.cert_text.specs.declared.entry.Version.{Version}
 use Rattle.cert_text.specs.Form.{numeral_text, numeral, literal_sexpr, clause_sexpr, step_sexpr, item_sexpr}
 use Rattle.cert_text.specs.declared.entry.FileEntry.TheVariants.{Unsat}
-use Rattle.cert_text.proofs.Writable.{file_entry_writable}
+use Rattle.cert_text.proofs.EntryKinds.{file_entry_writable}
 use Rattle.kept_lemmas.specs.declared.item.Item.{Item}
 use Rattle.kept_lemmas.specs.declared.item.Item.TheVariants.{Own, Keep}
 use Rattle.cert_read.specs.Parts.{item_of}

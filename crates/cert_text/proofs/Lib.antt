@@ -3,4 +3,4 @@ pub mod KeptFronts
 pub mod Writable
 pub mod OneEntry
 pub mod EachLiteral
-pub mod OwnLemmas
+pub mod EntryKinds

@@ -1,4 +1,4 @@
--- No two entries have the same s-expression.
+-- No two parts of an entry have the same s-expression, and no two headers.
 use Rattle.std.proofs.Common.{◌≡◌, ℕ, suc, ◌+◌, ◌-◌, ◌*◌, true, false, ℤ, pos, negsuc, List, [], ◌∷◌, ◌++◌, length, map, get_or, refl, sym, ap, subst, ◌∙◌, arith, eq-zero-or-pos, inl, inr}
 use Rattle.std.proofs.lemmas.Bool.{ne_eqb}
 use Rattle.std.proofs.lemmas.Int.Digits.{number_digits_of}
@@ -18,12 +18,9 @@ use Rattle.kept_lemmas.specs.declared.item.Kept.{Kept}
 use Rattle.kept_lemmas.specs.declared.item.Item.{Item}
 use Rattle.kept_lemmas.specs.declared.item.Item.TheVariants.{Own, Keep}
 use Rattle.cert_text.specs.declared.entry.Version.TheVariants.{One, Two}
-use Rattle.cert_text.specs.declared.entry.Entry.TheVariants.{Sat, Unsat}
-use Rattle.cert_text.specs.declared.entry.FileEntry.TheVariants as file
-use Rattle.cert_text.specs.Form.{numeral_text, numeral, bound_sexprs, number_of_value, literal_sexpr, step_sexpr, lemma_sexpr, kept_sexpr, item_sexpr, value_sexpr, entry_sexpr, file_entry_sexpr, line_of}
+use Rattle.cert_text.specs.Form.{numeral_text, numeral, bound_sexprs, number_of_value, literal_sexpr, step_sexpr, lemma_sexpr, kept_sexpr, item_sexpr, value_sexpr, header_sexpr, line_of}
 use Rattle.smt_sexpr.specs.Shapes.{items_of}
-use Rattle.cert_text.specs.Laws.{LineReadsBack, OneHeader, OneEntry, OneLine, OneFileEntry, OneFileLine}
-use Rattle.cert_text.proofs.Writable.{entry_back, file_entry_back}
+use Rattle.cert_text.specs.Laws.{LineReadsBack, OneHeader}
 
 -- ---- the value of a numeral
 
@@ -45,7 +42,7 @@ numeral_value n =
 -- ---- parts
 
 -- the text of a leaf, and of a list nothing
-abbrev leaf_bytes : Sexpr → List ℕ
+abbrev pub leaf_bytes : Sexpr → List ℕ
 leaf_bytes (leaf kind text) = text
 leaf_bytes (list xs) = []
 
@@ -62,7 +59,7 @@ others none = none
 others (more x xs) = xs
 
 -- the first byte of a list's first item
-abbrev first_byte : Sexpr → ℕ
+abbrev pub first_byte : Sexpr → ℕ
 first_byte x = get_or (leaf_bytes (first (parts x))) 0 0
 
 abbrev second_byte : Sexpr → ℕ
@@ -81,7 +78,7 @@ number_one (pos m) (negsuc n) e = absurd (omega (arith, ap (λ x. count (parts x
 number_one (negsuc m) (pos n) e = absurd (omega (arith, ap (λ x. count (parts x)) e))
 number_one (negsuc m) (negsuc n) e = ap negsuc (omega (arith, numeral_one (suc m) (suc n) (ap (λ x. first (others (parts x))) e)))
 
-each_one : {A : Type 0} (f : A → Sexpr) → ((x y : A) → f x ≡ f y → x ≡ y) → (xs ys : List A) → items_of (map f xs) ≡ items_of (map f ys) → xs ≡ ys
+pub each_one : {A : Type 0} (f : A → Sexpr) → ((x y : A) → f x ≡ f y → x ≡ y) → (xs ys : List A) → items_of (map f xs) ≡ items_of (map f ys) → xs ≡ ys
 each_one f one [] [] e = refl
 each_one f one [] (y ∷ ys) e = absurd (omega (arith, ap count e))
 each_one f one (x ∷ xs) [] e = absurd (omega (arith, ap count e))
@@ -124,14 +121,14 @@ kept_one l k e =
     let item = numeral_one l.item k.item (ap (λ x. first (others (others (parts x)))) e) in
     λ i. record { entry = entry i; item = item i }
 
-item_one : (l k : Item) → item_sexpr l ≡ item_sexpr k → l ≡ k
+pub item_one : (l k : Item) → item_sexpr l ≡ item_sexpr k → l ≡ k
 item_one (Own l) (Own k) e = ap Own (lemma_one l k e)
 item_one (Keep l) (Keep k) e = ap Keep (kept_one l k e)
 item_one (Own l) (Keep k) e = absurd (omega (arith, ap first_byte e))
 item_one (Keep l) (Own k) e = absurd (omega (arith, ap first_byte e))
 
 -- a number is a numeral or a list, a truth value a symbol that begins with no digit
-value_one : (v w : NamedValue) → value_sexpr v ≡ value_sexpr w → v ≡ w
+pub value_one : (v w : NamedValue) → value_sexpr v ≡ value_sexpr w → v ≡ w
 value_one (Int m) (Int n) e = ap Int (number_one m n e)
 value_one (Truth true) (Truth true) e = refl
 value_one (Truth false) (Truth false) e = refl
@@ -146,18 +143,6 @@ value_one (Truth false) (Int (pos m)) e = absurd cc
 value_one (Truth true) (Int (negsuc m)) e = absurd cc
 value_one (Truth false) (Int (negsuc m)) e = absurd cc
 
-pub entry_one : OneEntry
-entry_one (Sat vs) (Sat ws) e = ap Sat (each_one value_sexpr value_one vs ws (ap (λ x. others (parts x)) e))
-entry_one (Unsat ls) (Unsat ks) e = ap Unsat (each_one lemma_sexpr lemma_one ls ks (ap (λ x. others (parts x)) e))
-entry_one (Sat vs) (Unsat ks) e = absurd (omega (arith, ap first_byte e))
-entry_one (Unsat ls) (Sat ws) e = absurd (omega (arith, ap first_byte e))
-
-pub file_entry_one : OneFileEntry
-file_entry_one (file.Sat vs) (file.Sat ws) e = ap file.Sat (each_one value_sexpr value_one vs ws (ap (λ x. others (parts x)) e))
-file_entry_one (file.Unsat ls) (file.Unsat ks) e = ap file.Unsat (each_one item_sexpr item_one ls ks (ap (λ x. others (parts x)) e))
-file_entry_one (file.Sat vs) (file.Unsat ks) e = absurd (omega (arith, ap first_byte e))
-file_entry_one (file.Unsat ls) (file.Sat ws) e = absurd (omega (arith, ap first_byte e))
-
 pub header_one : OneHeader
 header_one One One e = refl
 header_one Two Two e = refl
@@ -166,7 +151,7 @@ header_one Two One e = absurd (omega (arith, numeral_one 2 1 (ap (λ x. first (o
 
 -- ---- lines
 
-same_line : OneValue → (x y : Sexpr) → LineReadsBack x → LineReadsBack y → line_of x ≡ line_of y → x ≡ y
+pub same_line : OneValue → (x y : Sexpr) → LineReadsBack x → LineReadsBack y → line_of x ≡ line_of y → x ≡ y
 same_line one x y back_x back_y same =
     let m = length (text_of x) in
     let n = length (text_of y) in
@@ -174,11 +159,3 @@ same_line one x y back_x back_y same =
     let there : Spells (line_of y ++ []) 0 y (0 + n) = back_y [] [] in
     let moved : Spells (line_of x ++ []) 0 y (0 + n) = subst (λ bytes. Spells (bytes ++ []) 0 y (0 + n)) (sym same) there in
     (one (line_of x ++ []) 0 x y (0 + m) (0 + n) here moved).0
-
-pub line_one : OneValue → SexprReadsBack → OneLine
-line_one one back e f same =
-    entry_one e f (same_line one (entry_sexpr e) (entry_sexpr f) (entry_back back e) (entry_back back f) same)
-
-pub file_line_one : OneValue → SexprReadsBack → OneFileLine
-file_line_one one back e f same =
-    file_entry_one e f (same_line one (file_entry_sexpr e) (file_entry_sexpr f) (file_entry_back back e) (file_entry_back back f) same)

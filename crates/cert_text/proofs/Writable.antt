@@ -20,11 +20,9 @@ use Rattle.refute_tree.specs.declared.step.Step.TheVariants.{Cycle, Input, Lemma
 use Rattle.refute_tree.specs.declared.lemma.Lemma.{Lemma}
 use Rattle.kept_lemmas.specs.declared.item.Item.{Item}
 use Rattle.kept_lemmas.specs.declared.item.Item.TheVariants.{Own, Keep}
-use Rattle.cert_text.specs.declared.entry.Entry.TheVariants.{Sat, Unsat}
-use Rattle.cert_text.specs.declared.entry.FileEntry.TheVariants as file
 use Rattle.smt_sexpr.specs.Laws.{SexprReadsBack}
-use Rattle.cert_text.specs.Laws.{HeaderIsWritable, EntryIsWritable, FileEntryIsWritable, LineReadsBack, HeaderReadsBack, EntryReadsBack, FileEntryReadsBack}
-use Rattle.cert_text.specs.Form.{numeral_text, numeral, number_of_value, literal_sexpr, step_sexpr, lemma_sexpr, item_sexpr, value_sexpr, header_sexpr, version_number, entry_sexpr, file_entry_sexpr, end_sexpr, line_of}
+use Rattle.cert_text.specs.Laws.{HeaderIsWritable, LineReadsBack, HeaderReadsBack}
+use Rattle.cert_text.specs.Form.{numeral_text, numeral, number_of_value, literal_sexpr, step_sexpr, lemma_sexpr, item_sexpr, value_sexpr, header_sexpr, version_number, end_sexpr, line_of}
 use Rattle.smt_sexpr.specs.Shapes.{items_of}
 
 -- ---- numerals
@@ -51,7 +49,7 @@ numeral_writable n =
 
 -- ---- the parts of an entry
 
-each_writable : {A : Type 0} (f : A → Sexpr) → ((x : A) → IsWritable (f x)) → (xs : List A) → AreWritable (items_of (map f xs))
+pub each_writable : {A : Type 0} (f : A → Sexpr) → ((x : A) → IsWritable (f x)) → (xs : List A) → AreWritable (items_of (map f xs))
 each_writable f h [] = tt
 each_writable f h (x ∷ xs) = (h x, each_writable f h xs)
 
@@ -75,26 +73,16 @@ lemma_writable : (lemma : Lemma) → IsWritable (lemma_sexpr lemma)
 unfolding is_quoted_byte
 lemma_writable lemma = (refl, (each_writable literal_sexpr literal_writable lemma.clause, each_writable step_sexpr step_writable lemma.steps))
 
-item_writable : (item : Item) → IsWritable (item_sexpr item)
+pub item_writable : (item : Item) → IsWritable (item_sexpr item)
 unfolding is_quoted_byte
 item_writable (Own lemma) = lemma_writable lemma
 item_writable (Keep kept) = (refl, (numeral_writable kept.entry, (numeral_writable kept.item, tt)))
 
-value_writable : (value : NamedValue) → IsWritable (value_sexpr value)
+pub value_writable : (value : NamedValue) → IsWritable (value_sexpr value)
 unfolding is_quoted_byte
 value_writable (Int n) = number_writable n
 value_writable (Truth true) = refl
 value_writable (Truth false) = refl
-
-pub entry_writable : EntryIsWritable
-unfolding is_quoted_byte
-entry_writable (Sat values) = (refl, each_writable value_sexpr value_writable values)
-entry_writable (Unsat lemmas) = (refl, each_writable lemma_sexpr lemma_writable lemmas)
-
-pub file_entry_writable : FileEntryIsWritable
-unfolding is_quoted_byte
-file_entry_writable (file.Sat values) = (refl, each_writable value_sexpr value_writable values)
-file_entry_writable (file.Unsat items) = (refl, each_writable item_sexpr item_writable items)
 
 pub header_writable : HeaderIsWritable
 unfolding is_quoted_byte
@@ -113,11 +101,3 @@ line_back back x ends w before after =
 
 pub header_back : SexprReadsBack → HeaderReadsBack
 header_back back version = line_back back (header_sexpr version) (λ rest. tt) (header_writable version)
-
-pub file_entry_back : SexprReadsBack → FileEntryReadsBack
-file_entry_back back (file.Sat values) = line_back back (file_entry_sexpr (file.Sat values)) (λ rest. tt) (file_entry_writable (file.Sat values))
-file_entry_back back (file.Unsat items) = line_back back (file_entry_sexpr (file.Unsat items)) (λ rest. tt) (file_entry_writable (file.Unsat items))
-
-pub entry_back : SexprReadsBack → EntryReadsBack
-entry_back back (Sat values) = line_back back (entry_sexpr (Sat values)) (λ rest. tt) (entry_writable (Sat values))
-entry_back back (Unsat lemmas) = line_back back (entry_sexpr (Unsat lemmas)) (λ rest. tt) (entry_writable (Unsat lemmas))

@@ -1,4 +1,5 @@
-use Rattle.cert_text.proofs.OneEntry.{header_one, entry_one, line_one, file_entry_one, file_line_one}
+use Rattle.cert_text.proofs.EntryKinds.{entry_one, line_one, file_entry_one, file_line_one}
+use Rattle.cert_text.proofs.OneEntry.{header_one}
 use Rattle.cert_text.proofs.laws.one_entry.Goals as goal
 
 pub returns : goal.returns

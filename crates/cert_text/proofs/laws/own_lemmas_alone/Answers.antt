@@ -1,5 +1,5 @@
 use Rattle.std.specs.Prelude.{◌^◌, ◌-◌}
-use Rattle.cert_text.proofs.OwnLemmas.{own_text, own_within}
+use Rattle.cert_text.proofs.EntryKinds.{own_text, own_within}
 use Rattle.cert_text.proofs.laws.own_lemmas_alone.Goals as goal
 
 pub returns : goal.returns

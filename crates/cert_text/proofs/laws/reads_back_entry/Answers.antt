@@ -1,5 +1,6 @@
 use Rattle.cert_text.specs.Form.{end_sexpr}
-use Rattle.cert_text.proofs.Writable.{line_back, header_back, entry_back, file_entry_back, end_writable}
+use Rattle.cert_text.proofs.EntryKinds.{entry_back, file_entry_back}
+use Rattle.cert_text.proofs.Writable.{line_back, header_back, end_writable}
 use Rattle.cert_text.proofs.laws.reads_back_entry.Goals as goal
 
 pub returns : goal.returns
