@@ -1,22 +1,25 @@
 -- The outcomes of a line that reads nothing, and of a run that had no memory for its words.
-use Rattle.std.proofs.Common.{arith, ◌≡◌, ℕ, List, [], Option, Some, None, refl, sym, subst, inl, inr}
+use Rattle.std.proofs.Common.{arith, ◌≡◌, ℕ, List, [], Option, Some, None, refl, sym, subst, inl}
 use Rattle.dtp_io.specs.Faults.{TookWithin}
 use Rattle.dtp_entry.proofs.Written.{appends_nothing}
 use Rattle.command_line.specs.declared.line.Line.{Line}
 use Rattle.command_line.specs.declared.line.Line.TheVariants.{Solve, Certify, Check, Convert, Bench}
 use Rattle.dtp_run.specs.declared.status.Status.{Status}
 use Rattle.dtp_run.specs.declared.status.Status.TheVariants.{OutOfMemory}
+use Rattle.dtp_entry.specs.Transcripts.{IsReport, IsReportPart}
 use Rattle.cert_text.specs.declared.entry.Version.{Version}
 use Rattle.dtp_entry.specs.declared.report.Report.TheVariants.{Certificate}
-use Rattle.dtp_run.specs.Outcomes.{Outside, outside, IsOutcome, IsReported}
+use Rattle.dtp_run.specs.Outcomes.{Outside, outside, IsOutcome, IsWorked, WithNumber}
 
 -- the outcome of the line that the words ask for
 pub outcome_of : (o : Option Line) (line : Line) (old new : Outside) (status : Status) → o ≡ Some line → IsOutcome (Some line) old new status → IsOutcome o old new status
 outcome_of o line old new status e h = subst (λ (p : Option Line). IsOutcome p old new status) (sym e) h
 
 -- in the words of the version
-pub certified_as : (v w : Version) (old new : Outside) (status : Status) → v ≡ w → IsReported (Certificate v) old new status → IsReported (Certificate w) old new status
-certified_as v w old new status e h = subst (λ (u : Version). IsReported (Certificate u) old new status) e h
+pub certified_as : (v w : Version) (old new : Outside) (status : Status) → v ≡ w
+    → IsWorked (WithNumber (IsReport (Certificate v))) (IsReportPart (Certificate v)) old new status
+    → IsWorked (WithNumber (IsReport (Certificate w))) (IsReportPart (Certificate w)) old new status
+certified_as v w old new status e h = subst (λ (u : Version). IsWorked (WithNumber (IsReport (Certificate u))) (IsReportPart (Certificate u)) old new status) e h
 
 -- nothing was taken
 took_nothing : (left : Option (List ℕ)) (limit : ℕ) → TookWithin left left limit

@@ -1,3 +1,4 @@
 pub mod Statuses
 pub mod Outcomes
+pub mod Works
 pub mod Laws
