@@ -1,4 +1,3 @@
 pub mod Statuses
 pub mod Outcomes
-pub mod Works
 pub mod Laws

@@ -27,6 +27,8 @@ use Rattle.command_line.specs.Lines.{line_of}
 use Rattle.command_line.specs.Plain.{IsPlainLine}
 use Rattle.dtp_run.specs.declared.status.Status.{Status}
 use Rattle.dtp_run.specs.declared.status.Status.TheVariants.{Done, Refused, Usage, ReadFault, WriteFault, OutOfMemory, NotAccepted, TooLong}
+use Rattle.dtp_run.specs.declared.work.Work.{Work}
+use Rattle.dtp_run.specs.declared.work.Work.TheVariants as work
 use Rattle.dtp_run.specs.Statuses.{code_of}
 
 -- what the program sees of the outside: the bytes that the source has left and those that the sink holds, where they
@@ -161,3 +163,17 @@ pub record IsRun (words : List (List ℕ)) (old new : Outside) (code : ℕ) : Ty
 
 abbrev pub texts : {A : Type 0} → List (String A) → List (List ℕ)
 texts words = map (λ word. string_bytes word) words
+
+-- ---- the same by the code's word for what is written of an input
+
+-- whole, with a status
+abbrev pub whole_of : Work → Status → List ℕ → List ℕ → Type 0
+whole_of (work.Script report options) = WithNumber (IsReport report)
+whole_of work.Check = WithJudgement IsAnswer
+whole_of work.Convert = WithJudgement IsConversion
+
+-- where it is cut short
+abbrev pub part_of : Work → List ℕ → List ℕ → Type 0
+part_of (work.Script report options) = IsReportPart report
+part_of work.Check = IsAnswerPart
+part_of work.Convert = IsConversionPart

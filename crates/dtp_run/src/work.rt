@@ -3,8 +3,7 @@ ghost use Rattle.std.specs.Prelude.{◌≡◌, ◌≢◌, ◌≤◌, ℕ, List, 
 ghost use Rattle.dtp_entry.specs.Written.{HasFault, Writes};
 ghost use Rattle.dtp_session.specs.Solving.{IsSolved};
 ghost use Rattle.dtp_run.specs.Statuses.{EndsWhole, unread_status};
-ghost use Rattle.dtp_run.specs.Outcomes.{IsWorked, outside};
-ghost use Rattle.dtp_run.specs.Works.{part_of, whole_of};
+ghost use Rattle.dtp_run.specs.Outcomes.{IsWorked, outside, part_of, whole_of};
 
 use crate::status::Status;
 use dtp_check::{Checked, check_pair};

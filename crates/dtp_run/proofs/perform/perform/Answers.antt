@@ -2,7 +2,7 @@ use Rattle.std.proofs.Common.{◌∙◌, ap, Some}
 use Rattle.command_line.specs.declared.line.Line.TheVariants.{Bench, Certify}
 use Rattle.command_line.specs.Lines.{line_of}
 use Rattle.dtp_run.specs.Outcomes.{texts, version_of}
-use Rattle.dtp_run.proofs.Benching.{outcome_of, certified_as, without_memory}
+use Rattle.dtp_run.proofs.Lines.{outcome_of, certified_as, without_memory}
 use Rattle.dtp_run.proofs.perform.perform.Goals as goal
 
 pub returns-in-Ok-Bench-clause-outcome : goal.returns-in-Ok-Bench-clause-outcome
