@@ -36,19 +36,19 @@ entered_there words e = is_there _ (level_last (built dtp_app).top (names_of (bu
 abbrev pub sub : App → Shape
 sub app = built_leaf (inherited dtp_app.top app.top)
 
-abbrev solving : Shape
+abbrev pub solving : Shape
 solving = sub (searching_app (codes "solve"))
 
-abbrev certifying : Shape
+abbrev pub certifying : Shape
 certifying = sub certifying_app
 
-abbrev checking : Shape
+abbrev pub checking : Shape
 checking = sub (plain_app (codes "check"))
 
-abbrev converting : Shape
+abbrev pub converting : Shape
 converting = sub (plain_app (codes "convert"))
 
-abbrev benching : Shape
+abbrev pub benching : Shape
 benching = sub benching_app
 
 found_by : (rest : List Text) (a b c d e : Bool)

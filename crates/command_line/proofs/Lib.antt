@@ -1,7 +1,8 @@
 pub mod Numbers
+pub mod Values
 pub mod Faults
-pub mod PlainLines
-pub mod CertifyLines
-pub mod Saying
 pub mod Faulting
+pub mod Options
+pub mod Commands
 pub mod BenchLines
+pub mod Saying

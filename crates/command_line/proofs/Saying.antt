@@ -1,120 +1,166 @@
--- Plain lines are lines, and where there is no line clap finds a fault.
-use Rattle.std.proofs.Common.{◌≡◌, ◌==◌, ◌∙◌, ◌<◌, ◌≤◌, ◌^◌, ℕ, false, List, [], ◌∷◌, Some, None, refl, ap, sym, subst, arith, codes}
-use Rattle.std.specs.Str.{bytes_eq}
-use Rattle.std.specs.Str.Parse.{IsNumeral, digits_value, without_leading_plus}
-use Rattle.std.proofs.lemmas.Bool.{ne_eqb}
-use Rattle.std.proofs.lemmas.Str.Parse.{digit_from_value}
-use Rattle.clap.specs.Words.{Text}
-use Rattle.clap.specs.Lexer.{strip_byte}
-use Rattle.command_line.specs.Lines.{line_of}
-use Rattle.command_line.specs.Plain.{IsNumeralOf, IsOptions, IsCertifying, IsFormat, number_of_format, IsPlainLine, neither, workers, slice, workers_first, slice_first, without, format, workers_format, slice_format, format_workers, format_slice, workers_slice_format, workers_format_slice, slice_workers_format, slice_format_workers, format_workers_slice, format_slice_workers, solve, certify, check, convert, bench, bench_workers, AreNumbersOf}
+-- Plain lines are lines. What a new command adds is its facts and a case of `plain_line`.
+use Rattle.std.proofs.Common.{◌≡◌, ◌∙◌, ◌++◌, ℕ, List, [], ◌∷◌, Some, None, refl, ap, arith, codes}
+use Rattle.std.specs.Prelude.{◌==◌, if◌then◌else◌}
+use Rattle.clap.specs.Words.{Text, one_of}
+use Rattle.clap.proofs.OnLiterals.{clap_on_literals}
+use Rattle.command_line.specs.Lines.{command_of, format_of, line_of, number_of, search_of, workers_of}
+use Rattle.command_line.specs.Plain.{AreNumbersOf, AreOptions, Given, IsPlainLine, OfBench, OfCertify, OfSolve, bench, certify, check, convert, format, format_in, more, none, number_of_format, search_in, slice, slice_in, solve, workers, workers_in}
 use Rattle.command_line.specs.declared.line.Format.{Format}
 use Rattle.command_line.specs.declared.line.Format.TheVariants.{One, Two}
 use Rattle.command_line.specs.declared.line.Line.{Line}
-use Rattle.command_line.specs.declared.line.Line.TheVariants.{Solve, Certify}
+use Rattle.command_line.specs.declared.line.Line.TheVariants.{Solve, Certify, Check, Convert, Bench}
 use Rattle.command_line.specs.declared.line.Search.{Search}
 use Rattle.command_line.specs.declared.line.Shop.{Shop}
-use Rattle.command_line.proofs.BenchLines.{AreValues, bench_alone, bench_workers as bench_with, same_bench}
-use Rattle.command_line.proofs.Numbers.{is_in_range}
-use Rattle.command_line.proofs.CertifyLines.{certify_alone, certify_workers, certify_slice, certify_workers_slice, certify_slice_workers, certify_format, certify_workers_format, certify_slice_format, certify_format_workers, certify_format_slice, certify_workers_slice_format, certify_workers_format_slice, certify_slice_workers_format, certify_slice_format_workers, certify_format_workers_slice, certify_format_slice_workers}
-use Rattle.command_line.proofs.PlainLines.{IsValue, the_value, the_format, format_by, check_alone, convert_alone, solve_alone, solve_workers, solve_slice, solve_workers_slice, solve_slice_workers}
+use Rattle.command_line.proofs.BenchLines.{AreValues, behind_four, four_ready, rows_3, rows_4, walk_4}
+use Rattle.command_line.proofs.Commands.{IsCommand, line_from}
+use Rattle.command_line.proofs.Faulting.{solving, certifying, checking, converting, benching}
+use Rattle.command_line.proofs.Options.{AreFresh, Ends, Has, none_right, over_options, rows_in}
+use Rattle.command_line.proofs.Values.{read_as_number, value_by}
 
-no_hyphen : (d : ℕ) (ds : Text) → (d == 45) ≡ false → strip_byte 45 (d ∷ ds) ≡ None
-no_hyphen d ds e = rw e refl
+-- ---- what the rows of options say
 
-not_dashes : (d : ℕ) (ds : Text) → (d == 45) ≡ false → bytes_eq (d ∷ ds) (45 ∷ 45 ∷ []) ≡ false
-not_dashes d ds e = rw e refl
+workers_said : {Takes : Given → Type 0} {words : List Text} {given : List Given} → AreOptions Takes words given → workers_of (rows_in words given) ≡ workers_in given
+workers_said none = refl
+workers_said (more {g = workers n} {value} taken is apart rest) = read_as_number 1 64 4 n value (omega arith) is
+workers_said (more {g = slice n} taken is apart rest) = workers_said rest
+workers_said (more {g = format version} taken is apart rest) = workers_said rest
 
-no_plus : (d : ℕ) (ds : Text) → (d == 43) ≡ false → without_leading_plus (d ∷ ds) ≡ d ∷ ds
-no_plus d ds e = rw e refl
+slice_said : {Takes : Given → Type 0} {words : List Text} {given : List Given} → AreOptions Takes words given
+    → number_of (one_of (codes "slice") (rows_in words given)) 1 1000000 1000 ≡ slice_in given
+slice_said none = refl
+slice_said (more {g = workers n} taken is apart rest) = slice_said rest
+slice_said (more {g = slice n} {value} taken is apart rest) = read_as_number 1 1000000 1000 n value (omega arith) is
+slice_said (more {g = format version} taken is apart rest) = slice_said rest
 
-value_with : (least most n d : ℕ) (ds : Text) → most < 2 ^ 64 → IsNumeralOf least most (d ∷ ds) n → (d == 45) ≡ false → (d == 43) ≡ false
-    → IsValue least most (d ∷ ds) × (the_value (d ∷ ds) ≡ n)
-value_with least most n d ds small h dash plus =
-    let bare : without_leading_plus (d ∷ ds) ≡ d ∷ ds = no_plus d ds plus in
-    let is : the_value (d ∷ ds) ≡ n = ap (λ (t : Text). digits_value 10 t) bare ∙ h.value in
-    let numeral : IsNumeral 10 (without_leading_plus (d ∷ ds)) = subst (λ (t : Text). IsNumeral 10 t) (sym bare) h.numeral in
-    let low : least ≤ the_value (d ∷ ds) = subst (λ (k : ℕ). least ≤ k) (sym is) h.first in
-    let last : the_value (d ∷ ds) ≤ most = subst (λ (k : ℕ). k ≤ most) (sym is) h.last in
-    let wide : the_value (d ∷ ds) < 2 ^ 64 = omega (arith, last, small) in
-    (record { bare = no_hyphen d ds dash; no_dashes = not_dashes d ds dash; fits = is_in_range least most (d ∷ ds) (numeral, wide, low, last) }, is)
+format_by : (format : Format) (n : ℕ) → n ≡ number_of_format format → (if n == 2 then Two else One) ≡ format
+format_by One n e = rw e refl
+format_by Two n e = rw e refl
 
-value_from_digit : (least most n d : ℕ) (ds : Text) → most < 2 ^ 64 → IsNumeralOf least most (d ∷ ds) n → 48 ≤ d → IsValue least most (d ∷ ds) × (the_value (d ∷ ds) ≡ n)
-value_from_digit least most n d ds small h digit = value_with least most n d ds small h (ne_eqb d 45 (λ e. absurd (omega (arith, e, digit)))) (ne_eqb d 43 (λ e. absurd (omega (arith, e, digit))))
+format_said : {Takes : Given → Type 0} {words : List Text} {given : List Given} → AreOptions Takes words given → format_of (rows_in words given) ≡ format_in given
+format_said none = refl
+format_said (more {g = workers n} taken is apart rest) = format_said rest
+format_said (more {g = slice n} taken is apart rest) = format_said rest
+format_said (more {g = format version} {value} taken is apart rest) = format_by version _ (read_as_number 1 2 1 (number_of_format version) value (omega arith) is)
 
-value_of_numeral : (least most n : ℕ) (t : Text) → most < 2 ^ 64 → IsNumeralOf least most t n → IsValue least most t × (the_value t ≡ n)
-value_of_numeral least most n [] small h = absurd (omega (arith, h.numeral.0))
-value_of_numeral least most n (d ∷ ds) small h = value_from_digit least most n d ds small h ((digit_from_value d h.numeral.1.0).0)
+search_said : {Takes : Given → Type 0} {words : List Text} {given : List Given} → AreOptions Takes words given → search_of (rows_in words given) ≡ search_in given
+search_said {words = words} {given = given} o =
+    ap (λ (k : ℕ). record { workers = k; slice = number_of (one_of (codes "slice") (rows_in words given)) 1 1000000 1000 }) (workers_said o)
+    ∙ ap (λ (k : ℕ). record { workers = workers_in given; slice = k }) (slice_said o)
 
-workers_value : (t : Text) (n : ℕ) → IsNumeralOf 1 64 t n → IsValue 1 64 t × (the_value t ≡ n)
-workers_value t n h = value_of_numeral 1 64 n t (omega arith) h
+-- ---- the commands
 
-slice_value : (t : Text) (n : ℕ) → IsNumeralOf 1 1000000 t n → IsValue 1 1000000 t × (the_value t ≡ n)
-slice_value t n h = value_of_numeral 1 1000000 n t (omega arith) h
+all_fresh : (given : List Given) → AreFresh [] given
+all_fresh [] = tt
+all_fresh (g ∷ given) = (refl, all_fresh given)
 
-at : (make : Search → Line) (a b n m : ℕ) → a ≡ n → b ≡ m → Some (make (record { workers = a; slice = b })) ≡ Some (make (record { workers = n; slice = m }))
-at make a b n m e f = ap (λ (k : ℕ). Some (make (record { workers = k; slice = b }))) e ∙ ap (λ (k : ℕ). Some (make (record { workers = n; slice = k }))) f
+solve_is : IsCommand (codes "solve") solving
+unfolding clap_on_literals
+solve_is = record { first = refl; right = refl; found = refl; named = refl; plain = (refl, (refl, tt)); top_right = refl }
 
-solve_line : (words : List Text) (s : Search) → IsOptions words s → line_of (codes "solve" ∷ words) ≡ Some (Solve s)
-solve_line _ _ neither = solve_alone
-solve_line _ _ (workers {t} {n} h) = let v = workers_value t n h in solve_workers t v.0 ∙ at Solve _ _ _ _ v.1 refl
-solve_line _ _ (slice {u} {b} h) = let v = slice_value u b h in solve_slice u v.0 ∙ at Solve _ _ _ _ refl v.1
-solve_line _ _ (workers_first {t} {u} {n} {b} h k) = let v = workers_value t n h in let w = slice_value u b k in solve_workers_slice t u v.0 w.0 ∙ at Solve _ _ _ _ v.1 w.1
-solve_line _ _ (slice_first {t} {u} {n} {b} h k) = let v = workers_value t n h in let w = slice_value u b k in solve_slice_workers u t w.0 v.0 ∙ at Solve _ _ _ _ v.1 w.1
+solve_has : (g : Given) → OfSolve g → Has solving g
+unfolding clap_on_literals
+solve_has (workers n) taken = record { by_long = refl; by_id = refl }
+solve_has (slice n) taken = record { by_long = refl; by_id = refl }
+solve_has (format version) taken = absurd taken
 
-format_at : (format : Format) (n : ℕ) → n ≡ number_of_format format → format_by n ≡ format
-format_at One n e = rw e refl
-format_at Two n e = rw e refl
+certify_is : IsCommand (codes "certify") certifying
+unfolding clap_on_literals
+certify_is = record { first = refl; right = refl; found = refl; named = refl; plain = (refl, (refl, (refl, tt))); top_right = refl }
 
-format_value : (t : Text) (f : Format) → IsFormat t f → IsValue 1 2 t × (the_format t ≡ f)
-format_value t f h = let v = value_of_numeral 1 2 (number_of_format f) t (omega arith) h in (v.0, format_at f (the_value t) v.1)
+certify_has : (g : Given) → OfCertify g → Has certifying g
+unfolding clap_on_literals
+certify_has (workers n) taken = record { by_long = refl; by_id = refl }
+certify_has (slice n) taken = record { by_long = refl; by_id = refl }
+certify_has (format version) taken = record { by_long = refl; by_id = refl }
 
-certified : (a b n m : ℕ) (f g : Format) → a ≡ n → b ≡ m → f ≡ g
-    → Some (Certify (record { workers = a; slice = b }) f) ≡ Some (Certify (record { workers = n; slice = m }) g)
-certified a b n m f g e d h =
-    ap (λ (k : ℕ). Some (Certify (record { workers = k; slice = b }) f)) e
-    ∙ ap (λ (k : ℕ). Some (Certify (record { workers = n; slice = k }) f)) d
-    ∙ ap (λ (k : Format). Some (Certify (record { workers = n; slice = m }) k)) h
+check_is : IsCommand (codes "check") checking
+unfolding clap_on_literals
+check_is = record { first = refl; right = refl; found = refl; named = refl; plain = tt; top_right = refl }
 
-certify_plain : (words : List Text) (s : Search) → IsOptions words s → line_of (codes "certify" ∷ words) ≡ Some (Certify s One)
-certify_plain _ _ neither = certify_alone
-certify_plain _ _ (workers {t} {n} h) = let v = workers_value t n h in certify_workers t v.0 ∙ certified _ _ _ _ _ _ v.1 refl refl
-certify_plain _ _ (slice {u} {b} h) = let v = slice_value u b h in certify_slice u v.0 ∙ certified _ _ _ _ _ _ refl v.1 refl
-certify_plain _ _ (workers_first {t} {u} {n} {b} h k) = let v = workers_value t n h in let w = slice_value u b k in certify_workers_slice t u v.0 w.0 ∙ certified _ _ _ _ _ _ v.1 w.1 refl
-certify_plain _ _ (slice_first {t} {u} {n} {b} h k) = let v = workers_value t n h in let w = slice_value u b k in certify_slice_workers u t w.0 v.0 ∙ certified _ _ _ _ _ _ v.1 w.1 refl
+convert_is : IsCommand (codes "convert") converting
+unfolding clap_on_literals
+convert_is = record { first = refl; right = refl; found = refl; named = refl; plain = tt; top_right = refl }
 
-certify_line : (words : List Text) (s : Search) (f : Format) → IsCertifying words s f → line_of (codes "certify" ∷ words) ≡ Some (Certify s f)
-certify_line _ _ _ (without {words} {search} h) = certify_plain words search h
-certify_line _ _ _ (format {v} {f} hf) = let z = format_value v f hf in certify_format v z.0 ∙ certified _ _ _ _ _ _ refl refl z.1
-certify_line _ _ _ (workers_format {t} {v} {n} {f} hw hf) = let x = workers_value t n hw in let z = format_value v f hf in certify_workers_format t v x.0 z.0 ∙ certified _ _ _ _ _ _ x.1 refl z.1
-certify_line _ _ _ (slice_format {u} {v} {b} {f} hs hf) = let y = slice_value u b hs in let z = format_value v f hf in certify_slice_format u v y.0 z.0 ∙ certified _ _ _ _ _ _ refl y.1 z.1
-certify_line _ _ _ (format_workers {t} {v} {n} {f} hw hf) = let x = workers_value t n hw in let z = format_value v f hf in certify_format_workers v t z.0 x.0 ∙ certified _ _ _ _ _ _ x.1 refl z.1
-certify_line _ _ _ (format_slice {u} {v} {b} {f} hs hf) = let y = slice_value u b hs in let z = format_value v f hf in certify_format_slice v u z.0 y.0 ∙ certified _ _ _ _ _ _ refl y.1 z.1
-certify_line _ _ _ (workers_slice_format {t} {u} {v} {n} {b} {f} hw hs hf) = let x = workers_value t n hw in let y = slice_value u b hs in let z = format_value v f hf in certify_workers_slice_format t u v x.0 y.0 z.0 ∙ certified _ _ _ _ _ _ x.1 y.1 z.1
-certify_line _ _ _ (workers_format_slice {t} {u} {v} {n} {b} {f} hw hs hf) = let x = workers_value t n hw in let y = slice_value u b hs in let z = format_value v f hf in certify_workers_format_slice t v u x.0 z.0 y.0 ∙ certified _ _ _ _ _ _ x.1 y.1 z.1
-certify_line _ _ _ (slice_workers_format {t} {u} {v} {n} {b} {f} hw hs hf) = let x = workers_value t n hw in let y = slice_value u b hs in let z = format_value v f hf in certify_slice_workers_format u t v y.0 x.0 z.0 ∙ certified _ _ _ _ _ _ x.1 y.1 z.1
-certify_line _ _ _ (slice_format_workers {t} {u} {v} {n} {b} {f} hw hs hf) = let x = workers_value t n hw in let y = slice_value u b hs in let z = format_value v f hf in certify_slice_format_workers u v t y.0 z.0 x.0 ∙ certified _ _ _ _ _ _ x.1 y.1 z.1
-certify_line _ _ _ (format_workers_slice {t} {u} {v} {n} {b} {f} hw hs hf) = let x = workers_value t n hw in let y = slice_value u b hs in let z = format_value v f hf in certify_format_workers_slice v t u z.0 x.0 y.0 ∙ certified _ _ _ _ _ _ x.1 y.1 z.1
-certify_line _ _ _ (format_slice_workers {t} {u} {v} {n} {b} {f} hw hs hf) = let x = workers_value t n hw in let y = slice_value u b hs in let z = format_value v f hf in certify_format_slice_workers v u t z.0 y.0 x.0 ∙ certified _ _ _ _ _ _ x.1 y.1 z.1
+bench_is : IsCommand (codes "bench") benching
+unfolding clap_on_literals
+bench_is = record { first = refl; right = refl; found = refl; named = refl; plain = (refl, (refl, (refl, (refl, (refl, tt))))); top_right = refl }
 
-shop_values : (a b c d : Text) (shop : Shop) → AreNumbersOf a b c d shop
-    → AreValues a b c d × (the_value a ≡ shop.jobs) × (the_value b ≡ shop.machines) × (the_value c ≡ shop.start) × (the_value d ≡ shop.deadline)
-shop_values a b c d shop h =
-    let j = value_of_numeral 1 40 shop.jobs a (omega arith) h.jobs_is in
-    let m = value_of_numeral 1 40 shop.machines b (omega arith) h.machines_is in
-    let s = value_of_numeral 0 4294967295 shop.start c (omega arith) h.start_is in
-    let e = value_of_numeral 0 1000000 shop.deadline d (omega arith) h.deadline_is in
-    (record { jobs = j.0; machines = m.0; start = s.0; deadline = e.0 }, j.1, m.1, s.1, e.1)
+bench_has : (g : Given) → OfBench g → Has benching g
+unfolding clap_on_literals
+bench_has (workers n) taken = record { by_long = refl; by_id = refl }
+bench_has (slice n) taken = absurd taken
+bench_has (format version) taken = absurd taken
+
+-- ---- the lines
+
+solve_line : (words : List Text) (given : List Given) → AreOptions OfSolve words given → line_of (codes "solve" ∷ words) ≡ Some (Solve (search_in given))
+solve_line words given o =
+    line_from (codes "solve") solving solve_is words 1 (rows_in words given) (Solve (search_in given))
+    (over_options solving 1 OfSolve solve_has o [] None refl (all_fresh given)) refl (ap (λ (s : Search). Some (Solve s)) (search_said o))
+
+certify_line : (words : List Text) (given : List Given) → AreOptions OfCertify words given
+    → line_of (codes "certify" ∷ words) ≡ Some (Certify (search_in given) (format_in given))
+certify_line words given o =
+    line_from (codes "certify") certifying certify_is words 1 (rows_in words given) (Certify (search_in given) (format_in given))
+    (over_options certifying 1 OfCertify certify_has o [] None refl (all_fresh given)) refl
+    (ap (λ (s : Search). Some (Certify s (format_of (rows_in words given)))) (search_said o)
+    ∙ ap (λ (f : Format). Some (Certify (search_in given) f)) (format_said o))
+
+check_line : line_of (codes "check" ∷ []) ≡ Some Check
+check_line =
+    line_from (codes "check") checking check_is [] 1 [] Check
+    (record { rows = []; pending = None; walks = refl; right = none_right checking _; ready = refl; all_is = refl }) refl refl
+
+convert_line : line_of (codes "convert" ∷ []) ≡ Some Convert
+convert_line =
+    line_from (codes "convert") converting convert_is [] 1 [] Convert
+    (record { rows = []; pending = None; walks = refl; right = none_right converting _; ready = refl; all_is = refl }) refl refl
+
+shop_values : (a b c d : Text) (shop : Shop) → AreNumbersOf a b c d shop → AreValues a b c d
+shop_values a b c d shop h = record {
+  jobs = value_by 1 40 shop.jobs a (omega arith) h.jobs_is;
+  machines = value_by 1 40 shop.machines b (omega arith) h.machines_is;
+  start = value_by 0 4294967295 shop.start c (omega arith) h.start_is;
+  deadline = value_by 0 1000000 shop.deadline d (omega arith) h.deadline_is;
+}
+
+fresh_behind_four : (a b c d : Text) (given : List Given) → AreFresh (rows_4 a b c d) given
+fresh_behind_four a b c d [] = tt
+fresh_behind_four a b c d (workers n ∷ given) = (refl, fresh_behind_four a b c d given)
+fresh_behind_four a b c d (slice n ∷ given) = (refl, fresh_behind_four a b c d given)
+fresh_behind_four a b c d (format version ∷ given) = (refl, fresh_behind_four a b c d given)
+
+at_shop : (j m s d w a b c e n : ℕ) → j ≡ a → m ≡ b → s ≡ c → d ≡ e → w ≡ n
+    → Some (Bench (record { jobs = j; machines = m; start = s; deadline = d }) w) ≡ Some (Bench (record { jobs = a; machines = b; start = c; deadline = e }) n)
+at_shop j m s d w a b c e n p q r t u =
+    ap (λ (x : ℕ). Some (Bench (record { jobs = x; machines = m; start = s; deadline = d }) w)) p
+    ∙ ap (λ (x : ℕ). Some (Bench (record { jobs = a; machines = x; start = s; deadline = d }) w)) q
+    ∙ ap (λ (x : ℕ). Some (Bench (record { jobs = a; machines = b; start = x; deadline = d }) w)) r
+    ∙ ap (λ (x : ℕ). Some (Bench (record { jobs = a; machines = b; start = c; deadline = x }) w)) t
+    ∙ ap (λ (x : ℕ). Some (Bench (record { jobs = a; machines = b; start = c; deadline = e }) x)) u
+
+bench_said : (a b c d : Text) (shop : Shop) (words : List Text) (given : List Given) → AreNumbersOf a b c d shop → AreOptions OfBench words given
+    → command_of (codes "bench") (rows_4 a b c d ++ rows_in words given) ≡ Some (Bench shop (workers_in given))
+unfolding clap_on_literals
+bench_said a b c d shop words given h o =
+    at_shop (number_of (Some a) 1 40 1) (number_of (Some b) 1 40 1) (number_of (Some c) 0 4294967295 0) (number_of (Some d) 0 1000000 0)
+    (workers_of (rows_in words given)) shop.jobs shop.machines shop.start shop.deadline (workers_in given)
+    (read_as_number 1 40 1 shop.jobs a (omega arith) h.jobs_is) (read_as_number 1 40 1 shop.machines b (omega arith) h.machines_is)
+    (read_as_number 0 4294967295 0 shop.start c (omega arith) h.start_is) (read_as_number 0 1000000 0 shop.deadline d (omega arith) h.deadline_is)
+    (workers_said o)
+
+bench_line : (a b c d : Text) (shop : Shop) (words : List Text) (given : List Given) → AreNumbersOf a b c d shop → AreOptions OfBench words given
+    → line_of (codes "bench" ∷ a ∷ b ∷ c ∷ d ∷ words) ≡ Some (Bench shop (workers_in given))
+bench_line a b c d shop words given h o =
+    let v = shop_values a b c d shop h in
+    let behind : Ends benching 5 (walk_4 a b c d) words (rows_4 a b c d ++ rows_in words given) =
+    over_options benching 5 OfBench bench_has o (rows_3 a b c) (Some (codes "deadline", d ∷ [])) (four_ready a b c d v.deadline) (fresh_behind_four a b c d given) in
+    line_from (codes "bench") benching bench_is (a ∷ b ∷ c ∷ d ∷ words) 5 (rows_4 a b c d ++ rows_in words given) (Bench shop (workers_in given))
+    (behind_four a b c d words _ v behind) refl (bench_said a b c d shop words given h o)
 
 pub plain_line : (words : List Text) (line : Line) → IsPlainLine words line → line_of words ≡ Some line
-plain_line _ _ (solve {words} {search} h) = solve_line words search h
-plain_line _ _ (certify {words} {search} {format} h) = certify_line words search format h
-plain_line _ _ check = check_alone
-plain_line _ _ convert = convert_alone
-plain_line _ _ (bench {a} {b} {c} {d} {shop} h) =
-    let v = shop_values a b c d shop h in
-    bench_alone a b c d v.0 ∙ same_bench a b c d 4 4 shop v.1 v.2 v.3 v.4 refl
-plain_line _ _ (bench_workers {a} {b} {c} {d} {t} {shop} {n} h k) =
-    let v = shop_values a b c d shop h in
-    let w = workers_value t n k in
-    bench_with a b c d t v.0 w.0 ∙ same_bench a b c d _ n shop v.1 v.2 v.3 v.4 w.1
+plain_line _ _ (solve {words} {given} o) = solve_line words given o
+plain_line _ _ (certify {words} {given} o) = certify_line words given o
+plain_line _ _ check = check_line
+plain_line _ _ convert = convert_line
+plain_line _ _ (bench {a} {b} {c} {d} {shop} {words} {given} h o) = bench_line a b c d shop words given h o

@@ -1,5 +1,6 @@
--- Plain lines: a command, then its options in any order, each at most once and as two words, with numerals in range.
-use Rattle.std.specs.Prelude.{◌≡◌, ◌≤◌, ℕ, List, [], ◌∷◌, codes}
+-- Plain lines: a command, its numbers, then its options in any order, each at most once and as two words, with numerals in range.
+use Rattle.std.specs.Prelude.{◌≡◌, ◌≢◌, ◌≤◌, ℕ, List, [], ◌∷◌, codes}
+use Rattle.std.specs.List.{AllByRecursion}
 use Rattle.std.specs.Str.Parse.{IsNumeral, digits_value}
 use Rattle.clap.specs.Words.{Text}
 use Rattle.command_line.specs.declared.line.Line.{Line}
@@ -16,12 +17,6 @@ pub record IsNumeralOf (least most : ℕ) (text : Text) (n : ℕ) : Type 0 where
   pub first : least ≤ n
   pub last : n ≤ most
 
-abbrev pub IsWorkers : Text → ℕ → Type 0
-IsWorkers text n = IsNumeralOf 1 64 text n
-
-abbrev pub IsSlice : Text → ℕ → Type 0
-IsSlice text n = IsNumeralOf 1 1000000 text n
-
 -- the four numbers of a job shop, in this order
 pub record AreNumbersOf (jobs machines start deadline : Text) (shop : Shop) : Type 0 where
   pub jobs_is : IsNumeralOf 1 40 jobs shop.jobs
@@ -29,42 +24,68 @@ pub record AreNumbersOf (jobs machines start deadline : Text) (shop : Shop) : Ty
   pub start_is : IsNumeralOf 0 4294967295 start shop.start
   pub deadline_is : IsNumeralOf 0 1000000 deadline shop.deadline
 
--- the options of a search; 4 workers and slices of 1,000 where they don't say it
-pub data IsOptions : List Text → Search → Type 0 where
-  neither : IsOptions [] (record { workers = 4; slice = 1000 })
-  workers : {t : Text} {n : ℕ} → IsWorkers t n → IsOptions (codes "--workers" ∷ t ∷ []) (record { workers = n; slice = 1000 })
-  slice : {u : Text} {b : ℕ} → IsSlice u b → IsOptions (codes "--slice" ∷ u ∷ []) (record { workers = 4; slice = b })
-  workers_first : {t u : Text} {n b : ℕ} → IsWorkers t n → IsSlice u b → IsOptions (codes "--workers" ∷ t ∷ codes "--slice" ∷ u ∷ []) (record { workers = n; slice = b })
-  slice_first : {t u : Text} {n b : ℕ} → IsWorkers t n → IsSlice u b → IsOptions (codes "--slice" ∷ u ∷ codes "--workers" ∷ t ∷ []) (record { workers = n; slice = b })
+-- an option that is given
+pub data Given : Type 0 where
+  workers : (n : ℕ) → Given
+  slice : (n : ℕ) → Given
+  format : (version : Format) → Given
 
--- the text is a numeral of 1 or 2, the number of the version
+abbrev pub name_of : Given → Text
+name_of (workers n) = codes "--workers"
+name_of (slice n) = codes "--slice"
+name_of (format version) = codes "--format"
+
 abbrev pub number_of_format : Format → ℕ
 number_of_format One = 1
 number_of_format Two = 2
 
-abbrev pub IsFormat : Text → Format → Type 0
-IsFormat text format = IsNumeralOf 1 2 text (number_of_format format)
+abbrev pub IsValueOf : Given → Text → Type 0
+IsValueOf (workers n) text = IsNumeralOf 1 64 text n
+IsValueOf (slice n) text = IsNumeralOf 1 1000000 text n
+IsValueOf (format version) text = IsNumeralOf 1 2 text (number_of_format version)
 
--- the options of a search, and the version at any place among them; the first version where they don't say it
-pub data IsCertifying : List Text → Search → Format → Type 0 where
-  without : {words : List Text} {search : Search} → IsOptions words search → IsCertifying words search One
-  format : {v : Text} {f : Format} → IsFormat v f → IsCertifying (codes "--format" ∷ v ∷ []) (record { workers = 4; slice = 1000 }) f
-  workers_format : {t v : Text} {n : ℕ} {f : Format} → IsWorkers t n → IsFormat v f → IsCertifying (codes "--workers" ∷ t ∷ codes "--format" ∷ v ∷ []) (record { workers = n; slice = 1000 }) f
-  slice_format : {u v : Text} {b : ℕ} {f : Format} → IsSlice u b → IsFormat v f → IsCertifying (codes "--slice" ∷ u ∷ codes "--format" ∷ v ∷ []) (record { workers = 4; slice = b }) f
-  format_workers : {t v : Text} {n : ℕ} {f : Format} → IsWorkers t n → IsFormat v f → IsCertifying (codes "--format" ∷ v ∷ codes "--workers" ∷ t ∷ []) (record { workers = n; slice = 1000 }) f
-  format_slice : {u v : Text} {b : ℕ} {f : Format} → IsSlice u b → IsFormat v f → IsCertifying (codes "--format" ∷ v ∷ codes "--slice" ∷ u ∷ []) (record { workers = 4; slice = b }) f
-  workers_slice_format : {t u v : Text} {n b : ℕ} {f : Format} → IsWorkers t n → IsSlice u b → IsFormat v f → IsCertifying (codes "--workers" ∷ t ∷ codes "--slice" ∷ u ∷ codes "--format" ∷ v ∷ []) (record { workers = n; slice = b }) f
-  workers_format_slice : {t u v : Text} {n b : ℕ} {f : Format} → IsWorkers t n → IsSlice u b → IsFormat v f → IsCertifying (codes "--workers" ∷ t ∷ codes "--format" ∷ v ∷ codes "--slice" ∷ u ∷ []) (record { workers = n; slice = b }) f
-  slice_workers_format : {t u v : Text} {n b : ℕ} {f : Format} → IsWorkers t n → IsSlice u b → IsFormat v f → IsCertifying (codes "--slice" ∷ u ∷ codes "--workers" ∷ t ∷ codes "--format" ∷ v ∷ []) (record { workers = n; slice = b }) f
-  slice_format_workers : {t u v : Text} {n b : ℕ} {f : Format} → IsWorkers t n → IsSlice u b → IsFormat v f → IsCertifying (codes "--slice" ∷ u ∷ codes "--format" ∷ v ∷ codes "--workers" ∷ t ∷ []) (record { workers = n; slice = b }) f
-  format_workers_slice : {t u v : Text} {n b : ℕ} {f : Format} → IsWorkers t n → IsSlice u b → IsFormat v f → IsCertifying (codes "--format" ∷ v ∷ codes "--workers" ∷ t ∷ codes "--slice" ∷ u ∷ []) (record { workers = n; slice = b }) f
-  format_slice_workers : {t u v : Text} {n b : ℕ} {f : Format} → IsWorkers t n → IsSlice u b → IsFormat v f → IsCertifying (codes "--format" ∷ v ∷ codes "--slice" ∷ u ∷ codes "--workers" ∷ t ∷ []) (record { workers = n; slice = b }) f
+-- the words are options that a command takes, each as its name and its value, and no two of the same name
+pub data AreOptions (Takes : Given → Type 0) : List Text → List Given → Type 0 where
+  none : AreOptions Takes [] []
+  more : {g : Given} {value : Text} {words : List Text} {given : List Given} → Takes g → IsValueOf g value
+      → AllByRecursion (λ other. name_of other ≢ name_of g) given → AreOptions Takes words given
+      → AreOptions Takes (name_of g ∷ value ∷ words) (g ∷ given)
+
+-- the options of `solve`, of `certify` and of `bench`
+abbrev pub OfSolve : Given → Type 0
+OfSolve (format version) = ⊥
+OfSolve _ = Unit {0}
+
+abbrev pub OfCertify : Given → Type 0
+OfCertify _ = Unit {0}
+
+abbrev pub OfBench : Given → Type 0
+OfBench (workers n) = Unit {0}
+OfBench _ = ⊥
+
+-- what they say; 4 workers, slices of 1,000 and the first version where they don't say it
+abbrev pub workers_in : List Given → ℕ
+workers_in [] = 4
+workers_in (workers n ∷ given) = n
+workers_in (_ ∷ given) = workers_in given
+
+abbrev pub slice_in : List Given → ℕ
+slice_in [] = 1000
+slice_in (slice n ∷ given) = n
+slice_in (_ ∷ given) = slice_in given
+
+abbrev pub format_in : List Given → Format
+format_in [] = One
+format_in (format version ∷ given) = version
+format_in (_ ∷ given) = format_in given
+
+abbrev pub search_in : List Given → Search
+search_in given = record { workers = workers_in given; slice = slice_in given }
 
 pub data IsPlainLine : List Text → Line → Type 0 where
-  solve : {words : List Text} {search : Search} → IsOptions words search → IsPlainLine (codes "solve" ∷ words) (Solve search)
-  certify : {words : List Text} {search : Search} {format : Format} → IsCertifying words search format → IsPlainLine (codes "certify" ∷ words) (Certify search format)
+  solve : {words : List Text} {given : List Given} → AreOptions OfSolve words given → IsPlainLine (codes "solve" ∷ words) (Solve (search_in given))
+  certify : {words : List Text} {given : List Given} → AreOptions OfCertify words given → IsPlainLine (codes "certify" ∷ words) (Certify (search_in given) (format_in given))
   check : IsPlainLine (codes "check" ∷ []) Check
   convert : IsPlainLine (codes "convert" ∷ []) Convert
-  bench : {a b c d : Text} {shop : Shop} → AreNumbersOf a b c d shop → IsPlainLine (codes "bench" ∷ a ∷ b ∷ c ∷ d ∷ []) (Bench shop 4)
-  bench_workers : {a b c d t : Text} {shop : Shop} {n : ℕ} → AreNumbersOf a b c d shop → IsWorkers t n
-      → IsPlainLine (codes "bench" ∷ a ∷ b ∷ c ∷ d ∷ codes "--workers" ∷ t ∷ []) (Bench shop n)
+  bench : {a b c d : Text} {shop : Shop} {words : List Text} {given : List Given} → AreNumbersOf a b c d shop → AreOptions OfBench words given
+      → IsPlainLine (codes "bench" ∷ a ∷ b ∷ c ∷ d ∷ words) (Bench shop (workers_in given))

@@ -1,3 +1,2 @@
-pub mod Usages
-pub mod Benching
+pub mod Lines
 pub mod Runs

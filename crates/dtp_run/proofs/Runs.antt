@@ -6,7 +6,7 @@ use Rattle.command_line.specs.declared.line.Line.{Line}
 use Rattle.dtp_entry.specs.Transcripts.{IsReport}
 use Rattle.cert_text.specs.declared.entry.Version.{Version}
 use Rattle.dtp_entry.specs.declared.report.Report.TheVariants.{Certificate}
-use Rattle.dtp_check.specs.Answered.{checked_of}
+use Rattle.dtp_check.specs.Answered.{IsAnswer, checked_of}
 use Rattle.dtp_check.specs.Judged.{IsJudged}
 use Rattle.dtp_check.specs.declared.check.Checked.{Checked}
 use Rattle.dtp_check.specs.declared.check.Checked.TheVariants.{Accepted, NotAccepted as Unaccepted}
@@ -15,7 +15,7 @@ use Rattle.dtp_check.specs.declared.judgement.Judgement.TheVariants as judgement
 use Rattle.dtp_run.specs.declared.status.Status.{Status}
 use Rattle.dtp_run.specs.declared.status.Status.TheVariants.{Done, Refused, Usage, ReadFault, WriteFault, OutOfMemory, NotAccepted, TooLong}
 use Rattle.dtp_run.specs.Statuses.{code_of}
-use Rattle.dtp_run.specs.Outcomes.{version_of, Outside, IsInput, IsOutcome, Reports, Checks}
+use Rattle.dtp_run.specs.Outcomes.{version_of, Outside, IsInput, IsOutcome, WritesOf}
 use Rattle.dtp_run.specs.Laws.{Runs, Gives, CertifiedIsNotRefused, AcceptedSaysNothingFalse}
 use Rattle.dtp_check.specs.Laws.{CertifiedIsAccepted, OneJudgement, NothingFalseIsAccepted}
 
@@ -72,7 +72,7 @@ added_by (Some xs) (Some ys) held added out before now h =
 
 -- the certificate of a run that ended well is the script's
 certificate_of : (version : Version) (script certificate : List ℕ) (old new : Outside) → old.left ≡ Some script
-    → Gives certificate old new → Reports (Certificate version) old new 0 → IsReport (Certificate version) script certificate 0
+    → Gives certificate old new → WritesOf (λ input text. IsReport (Certificate version) input text 0) old new → IsReport (Certificate version) script certificate 0
 certificate_of version script certificate old new has gives (read, out, input, appends, report) =
     let first : read ≡ script = input_of has input in
     let second : out ≡ certificate =
@@ -85,7 +85,7 @@ abbrev IsEnd : List ℕ → Checked → Type 0
 IsEnd source checked = (j : Judgement) × IsJudged source j × (checked ≡ checked_of j)
 
 is_judged : (checked : Checked) (source : List ℕ) (old new : Outside) → old.left ≡ Some source
-    → Checks checked old new → IsEnd source checked
+    → WritesOf (λ input text. IsAnswer input text checked) old new → IsEnd source checked
 is_judged checked source old new has (read, line, input, appends, (j, judged, text, end)) =
     (j, subst (λ z. IsJudged z j) (input_of has input) judged, end)
 

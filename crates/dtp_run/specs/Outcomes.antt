@@ -6,7 +6,6 @@ use Rattle.dtp_io.specs.Reading.{Stops}
 use Rattle.dtp_io.specs.declared.all.ReadError.{ReadError}
 use Rattle.dtp_io.specs.declared.all.ReadError.TheVariants as reading
 use Rattle.dtp_entry.specs.Transcripts.{IsReport, IsReportPart}
-use Rattle.dtp_entry.specs.declared.report.Report.{Report}
 use Rattle.dtp_entry.specs.declared.report.Report.TheVariants.{Verdicts, Certificate}
 use Rattle.dtp_check.specs.Answered.{IsAnswer, IsAnswerPart}
 use Rattle.dtp_check.specs.declared.check.Checked.{Checked}
@@ -28,6 +27,8 @@ use Rattle.command_line.specs.Lines.{line_of}
 use Rattle.command_line.specs.Plain.{IsPlainLine}
 use Rattle.dtp_run.specs.declared.status.Status.{Status}
 use Rattle.dtp_run.specs.declared.status.Status.TheVariants.{Done, Refused, Usage, ReadFault, WriteFault, OutOfMemory, NotAccepted, TooLong}
+use Rattle.dtp_run.specs.declared.work.Work.{Work}
+use Rattle.dtp_run.specs.declared.work.Work.TheVariants as work
 use Rattle.dtp_run.specs.Statuses.{code_of}
 
 -- what the program sees of the outside: the bytes that the source has left and those that the sink holds, where they
@@ -79,71 +80,32 @@ WritesUsage before now faults_before faults_now =
 abbrev pub IsUsage : Outside → Outside → Type 0
 IsUsage old new = WritesUsage old.holds new.holds old.write_faults new.write_faults
 
--- what is to be written of the script is written whole, and it is the one with this status
-abbrev pub Reports : Report → Outside → Outside → ℕ → Type 0
-Reports report old new status =
-    (script : List ℕ) × (out : List ℕ) × IsInput old new script
-    × Appends old.holds new.holds out × IsReport report script out status
+-- the source was read to its end, and a text was written of which this is true with what the source gave
+abbrev pub WritesOf : (List ℕ → List ℕ → Type 0) → Outside → Outside → Type 0
+WritesOf Says old new =
+    (input : List ℕ) × (text : List ℕ) × IsInput old new input × Appends old.holds new.holds text × Says input text
 
--- a legal front of it is written
-abbrev pub ReportsPart : Report → Outside → Outside → Type 0
-ReportsPart report old new =
-    (script : List ℕ) × (out : List ℕ) × IsInput old new script
-    × Appends old.holds new.holds out × IsReportPart report script out
+-- The outcomes of a line that reads its input, by the text that is whole with each status, and by what may have been written
+-- where it is cut short.
+abbrev pub IsWorked : (Status → List ℕ → List ℕ → Type 0) → (List ℕ → List ℕ → Type 0) → Outside → Outside → Status → Type 0
+IsWorked Whole Part old new Usage = ⊥
+IsWorked Whole Part old new ReadFault = IsUnfinished reading.ReadFault old new
+IsWorked Whole Part old new TooLong = IsUnfinished reading.TooLong old new
+IsWorked Whole Part old new WriteFault = Rose old.write_faults new.write_faults × WritesOf Part old new
+IsWorked Whole Part old new OutOfMemory = IsUnfinished reading.OutOfMemory old new ⊎ WritesOf Part old new
+IsWorked Whole Part old new status = WritesOf (Whole status) old new
 
-abbrev pub IsReported : Report → Outside → Outside → Status → Type 0
-IsReported report old new Done = Reports report old new 0
-IsReported report old new Refused = Reports report old new 1
-IsReported report old new Usage = ⊥
-IsReported report old new ReadFault = IsUnfinished reading.ReadFault old new
-IsReported report old new WriteFault = Rose old.write_faults new.write_faults × ReportsPart report old new
-IsReported report old new OutOfMemory = IsUnfinished reading.OutOfMemory old new ⊎ ReportsPart report old new
-IsReported report old new NotAccepted = ⊥
-IsReported report old new TooLong = IsUnfinished reading.TooLong old new
+-- A line's texts by the status that they end with. A report (dtp_entry) has a number, 1 where a command is refused; an answer
+-- and a conversion (dtp_check, dtp_convert) accept or don't.
+abbrev pub WithNumber : (List ℕ → List ℕ → ℕ → Type 0) → Status → List ℕ → List ℕ → Type 0
+WithNumber Says Done input text = Says input text 0
+WithNumber Says Refused input text = Says input text 1
+WithNumber Says _ input text = ⊥
 
--- the line that accepts or refuses the source is written whole, and it is the one with this end
-abbrev pub Checks : Checked → Outside → Outside → Type 0
-Checks checked old new =
-    (source : List ℕ) × (line : List ℕ) × IsInput old new source
-    × Appends old.holds new.holds line × IsAnswer source line checked
-
--- a front of it is written
-abbrev pub ChecksPart : Outside → Outside → Type 0
-ChecksPart old new =
-    (source : List ℕ) × (written : List ℕ) × IsInput old new source
-    × Appends old.holds new.holds written × IsAnswerPart source written
-
-abbrev pub IsChecked : Outside → Outside → Status → Type 0
-IsChecked old new Done = Checks Accepted old new
-IsChecked old new Refused = ⊥
-IsChecked old new Usage = ⊥
-IsChecked old new ReadFault = IsUnfinished reading.ReadFault old new
-IsChecked old new WriteFault = Rose old.write_faults new.write_faults × ChecksPart old new
-IsChecked old new OutOfMemory = IsUnfinished reading.OutOfMemory old new ⊎ ChecksPart old new
-IsChecked old new NotAccepted = Checks Unaccepted old new
-IsChecked old new TooLong = IsUnfinished reading.TooLong old new
-
--- the certificate is written anew whole, or the line that refuses the source, with this end
-abbrev pub Converts : Checked → Outside → Outside → Type 0
-Converts checked old new =
-    (source : List ℕ) × (text : List ℕ) × IsInput old new source
-    × Appends old.holds new.holds text × IsConversion source text checked
-
--- a front of it is written
-abbrev pub ConvertsPart : Outside → Outside → Type 0
-ConvertsPart old new =
-    (source : List ℕ) × (written : List ℕ) × IsInput old new source
-    × Appends old.holds new.holds written × IsConversionPart source written
-
-abbrev pub IsConvertedWith : Outside → Outside → Status → Type 0
-IsConvertedWith old new Done = Converts Accepted old new
-IsConvertedWith old new Refused = ⊥
-IsConvertedWith old new Usage = ⊥
-IsConvertedWith old new ReadFault = IsUnfinished reading.ReadFault old new
-IsConvertedWith old new WriteFault = Rose old.write_faults new.write_faults × ConvertsPart old new
-IsConvertedWith old new OutOfMemory = IsUnfinished reading.OutOfMemory old new ⊎ ConvertsPart old new
-IsConvertedWith old new NotAccepted = Converts Unaccepted old new
-IsConvertedWith old new TooLong = IsUnfinished reading.TooLong old new
+abbrev pub WithJudgement : (List ℕ → List ℕ → Checked → Type 0) → Status → List ℕ → List ℕ → Type 0
+WithJudgement Says Done input text = Says input text Accepted
+WithJudgement Says NotAccepted input text = Says input text Unaccepted
+WithJudgement Says _ input text = ⊥
 
 -- the version of certificates that is asked for
 abbrev pub version_of : Format → Version
@@ -170,10 +132,11 @@ IsBenched p old new _ = ⊥
 
 -- each kind of line has its own outcomes
 abbrev pub IsOutcomeOf : Line → Outside → Outside → Status → Type 0
-IsOutcomeOf (Solve search) old new status = IsReported Verdicts old new status
-IsOutcomeOf (Certify search format) old new status = IsReported (Certificate (version_of format)) old new status
-IsOutcomeOf Check old new status = IsChecked old new status
-IsOutcomeOf Convert old new status = IsConvertedWith old new status
+IsOutcomeOf (Solve search) old new status = IsWorked (WithNumber (IsReport Verdicts)) (IsReportPart Verdicts) old new status
+IsOutcomeOf (Certify search format) old new status =
+    let report = Certificate (version_of format) in IsWorked (WithNumber (IsReport report)) (IsReportPart report) old new status
+IsOutcomeOf Check old new status = IsWorked (WithJudgement IsAnswer) IsAnswerPart old new status
+IsOutcomeOf Convert old new status = IsWorked (WithJudgement IsConversion) IsConversionPart old new status
 IsOutcomeOf (Bench shop workers) old new status = IsBenched (plan_of shop) old new status
 
 -- the words are no command line: the usage line, or nothing for want of memory; the source isn't read
@@ -200,3 +163,17 @@ pub record IsRun (words : List (List ℕ)) (old new : Outside) (code : ℕ) : Ty
 
 abbrev pub texts : {A : Type 0} → List (String A) → List (List ℕ)
 texts words = map (λ word. string_bytes word) words
+
+-- ---- the same by the code's word for what is written of an input
+
+-- whole, with a status
+abbrev pub whole_of : Work → Status → List ℕ → List ℕ → Type 0
+whole_of (work.Script report options) = WithNumber (IsReport report)
+whole_of work.Check = WithJudgement IsAnswer
+whole_of work.Convert = WithJudgement IsConversion
+
+-- where it is cut short
+abbrev pub part_of : Work → List ℕ → List ℕ → Type 0
+part_of (work.Script report options) = IsReportPart report
+part_of work.Check = IsAnswerPart
+part_of work.Convert = IsConversionPart

@@ -6,6 +6,7 @@ mod laws;
 mod perform;
 mod process;
 mod status;
+mod work;
 
 pub use dtp_session::{Gate, NoGate};
 pub use laws::{accepted_says_nothing_false, certified_is_not_refused};

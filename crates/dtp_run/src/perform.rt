@@ -1,25 +1,19 @@
 //! The top call: from the words and the source to the sink and a status.
 ghost use Rattle.std.specs.Prelude.{◌≡◌, ◌≤◌, ℕ, List, Option};
-ghost use Rattle.dtp_session.specs.Solving.{IsSolved};
 ghost use Rattle.command_line.specs.Lines.{IsSearchInRange, IsShopInRange, line_of};
-ghost use Rattle.dtp_run.specs.Statuses.{unread_status};
-ghost use Rattle.dtp_run.specs.Outcomes.{version_of, IsRun, IsOutcome, IsReported, IsChecked, IsConvertedWith, IsBenched, WritesUsage, outside, plan_of, texts};
+ghost use Rattle.dtp_run.specs.Outcomes.{version_of, IsRun, IsOutcome, IsBenched, WritesUsage, outside, plan_of, texts};
 
 use crate::status::Status;
+use crate::work::{Work, work_on};
 use cert_text::Version;
 use command_line::{Format, Line, LineError, Search, Shop, read_line};
 use dtp_bench::PlanNumbers;
-use dtp_check::{Checked, check_pair};
-use dtp_convert::convert_pair;
 use dtp_entry::{Report, SessionError};
-use dtp_io::{ReadError, Sink, Source, read_all, write_all_of};
-use dtp_session::{Gate, SearchOptions, Solved, certify_script, solve_script};
+use dtp_io::{Sink, Source, write_all_of};
+use dtp_session::{Gate, SearchOptions};
 use std::alloc::Global;
 use std::sync::Wait;
 use std::thread::Threads;
-
-/// How many bytes a source may give.
-const INPUT_LIMIT: u64 = 1 << 30;
 
 const USAGE: &[u8] =
     b"usage: dtp solve [--workers N] [--slice B], dtp certify [--workers N] [--slice B] [--format F], dtp check, dtp convert, dtp bench J M S D [--workers N]\n";
@@ -59,14 +53,16 @@ fn perform<R: Threads + Wait + Sync, S: Source, K: Sink, G: Gate>(
 {
     match read_line(alloc, words) {
         Ok(Line::Solve(search)) => {
-            report_on(rt, alloc, source, sink, Report::Verdicts, search, gate)
+            let work = Work::Script(Report::Verdicts, options_of(search));
+            work_on(rt, alloc, source, sink, work, gate)
         }
         Ok(Line::Certify(search, format)) => {
             let report = Report::Certificate(version_of(format));
-            report_on(rt, alloc, source, sink, report, search, gate)
+            let work = Work::Script(report, options_of(search));
+            work_on(rt, alloc, source, sink, work, gate)
         }
-        Ok(Line::Check) => check(alloc, source, sink),
-        Ok(Line::Convert) => convert(alloc, source, sink),
+        Ok(Line::Check) => work_on(rt, alloc, source, sink, Work::Check, gate),
+        Ok(Line::Convert) => work_on(rt, alloc, source, sink, Work::Convert, gate),
         Ok(Line::Bench(shop, workers)) => bench(rt, alloc, shop, workers, sink, gate),
         Err(LineError::Refused) => usage(sink),
         Err(LineError::OutOfMemory) => Status::OutOfMemory,
@@ -83,6 +79,16 @@ fn version_of(format: Format) -> Version
     }
 }
 
+/// How the line says to search.
+fn options_of(search: Search) -> SearchOptions
+    requires range { IsSearchInRange search }
+{
+    SearchOptions {
+        workers: search.workers,
+        slice: search.slice,
+    }
+}
+
 /// Writes the usage line. A fault in writing it changes nothing of the status.
 #[tactic(auto, unfolding(crate::specs::Outcomes::usage_line))]
 fn usage<K: Sink>(sink: &mut K) -> Status
@@ -94,115 +100,6 @@ fn usage<K: Sink>(sink: &mut K) -> Status
     match write_all_of(sink, USAGE) {
         Ok(()) => Status::Usage,
         Err(_) => Status::Usage,
-    }
-}
-
-/// The status of a run whose source wasn't read to its end.
-fn unread(error: ReadError) -> Status
-    ensures { result ≡ unread_status error }
-{
-    match error {
-        ReadError::OutOfMemory => Status::OutOfMemory,
-        ReadError::ReadFault => Status::ReadFault,
-        ReadError::TooLong => Status::TooLong,
-    }
-}
-
-/// Reads the script whole, and writes this report of it.
-fn report_on<R: Threads + Wait + Sync, S: Source, K: Sink, G: Gate>(
-    rt: &R,
-    alloc: Global,
-    source: &mut S,
-    sink: &mut K,
-    report: Report,
-    search: Search,
-    gate: &G,
-) -> Status
-    requires range { IsSearchInRange search }
-    ensures reported { IsReported report
-        (outside (S.left source.old) (S.faults source.old) (K.holds sink.old) (K.faults sink.old))
-        (outside (S.left source.new) (S.faults source.new) (K.holds sink.new) (K.faults sink.new))
-        result }
-    ensures read_later { S.faults source.old ≤ S.faults source.new }
-    ensures write_later { K.faults sink.old ≤ K.faults sink.new }
-{
-    let script = match read_all(alloc, source, INPUT_LIMIT) {
-        Ok(script) => script,
-        Err(error) => return unread(error),
-    };
-    match write_report(rt, alloc, &script, sink, report, search, gate) {
-        Ok(Solved::Done) => Status::Done,
-        Ok(Solved::ScriptStopped) => Status::Refused,
-        Err(SessionError::WriteFault) => Status::WriteFault,
-        Err(SessionError::OutOfMemory) => Status::OutOfMemory,
-    }
-}
-
-/// Writes this report of the script.
-fn write_report<R: Threads + Wait + Sync, K: Sink, G: Gate>(
-    rt: &R,
-    alloc: Global,
-    script: &[u8],
-    sink: &mut K,
-    report: Report,
-    search: Search,
-    gate: &G,
-) -> Result<Solved, SessionError>
-    requires range { IsSearchInRange search }
-    ensures solved { IsSolved report script.now (K.holds sink.old) (K.holds sink.new)
-        (K.faults sink.old) (K.faults sink.new) result }
-{
-    let options = SearchOptions {
-        workers: search.workers,
-        slice: search.slice,
-    };
-    match report {
-        Report::Verdicts => solve_script(rt, alloc, script, sink, options, gate),
-        Report::Certificate(version) => {
-            certify_script(rt, alloc, script, sink, options, gate, version)
-        }
-    }
-}
-
-/// Reads a script and its certificate whole, and writes whether the certificate is right.
-fn check<S: Source, K: Sink>(alloc: Global, source: &mut S, sink: &mut K) -> Status
-    ensures checked { IsChecked
-        (outside (S.left source.old) (S.faults source.old) (K.holds sink.old) (K.faults sink.old))
-        (outside (S.left source.new) (S.faults source.new) (K.holds sink.new) (K.faults sink.new))
-        result }
-    ensures read_later { S.faults source.old ≤ S.faults source.new }
-    ensures write_later { K.faults sink.old ≤ K.faults sink.new }
-{
-    let bytes = match read_all(alloc, source, INPUT_LIMIT) {
-        Ok(bytes) => bytes,
-        Err(error) => return unread(error),
-    };
-    match check_pair(alloc, &bytes, sink) {
-        Ok(Checked::Accepted) => Status::Done,
-        Ok(Checked::NotAccepted) => Status::NotAccepted,
-        Err(SessionError::WriteFault) => Status::WriteFault,
-        Err(SessionError::OutOfMemory) => Status::OutOfMemory,
-    }
-}
-
-/// Reads a script and its certificate whole, and writes the certificate anew, in the first version, where it is right.
-fn convert<S: Source, K: Sink>(alloc: Global, source: &mut S, sink: &mut K) -> Status
-    ensures converted { IsConvertedWith
-        (outside (S.left source.old) (S.faults source.old) (K.holds sink.old) (K.faults sink.old))
-        (outside (S.left source.new) (S.faults source.new) (K.holds sink.new) (K.faults sink.new))
-        result }
-    ensures read_later { S.faults source.old ≤ S.faults source.new }
-    ensures write_later { K.faults sink.old ≤ K.faults sink.new }
-{
-    let bytes = match read_all(alloc, source, INPUT_LIMIT) {
-        Ok(bytes) => bytes,
-        Err(error) => return unread(error),
-    };
-    match convert_pair(alloc, &bytes, sink) {
-        Ok(Checked::Accepted) => Status::Done,
-        Ok(Checked::NotAccepted) => Status::NotAccepted,
-        Err(SessionError::WriteFault) => Status::WriteFault,
-        Err(SessionError::OutOfMemory) => Status::OutOfMemory,
     }
 }
 

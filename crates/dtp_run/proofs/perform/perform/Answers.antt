@@ -1,8 +1,8 @@
 use Rattle.std.proofs.Common.{◌∙◌, ap, Some}
 use Rattle.command_line.specs.declared.line.Line.TheVariants.{Bench, Certify}
 use Rattle.command_line.specs.Lines.{line_of}
-use Rattle.dtp_run.specs.Outcomes.{outside, texts, version_of}
-use Rattle.dtp_run.proofs.Benching.{outcome_of, certified_as, without_memory}
+use Rattle.dtp_run.specs.Outcomes.{texts, version_of}
+use Rattle.dtp_run.proofs.Lines.{outcome_of, certified_as, without_memory}
 use Rattle.dtp_run.proofs.perform.perform.Goals as goal
 
 pub returns-in-Ok-Bench-clause-outcome : goal.returns-in-Ok-Bench-clause-outcome
@@ -15,5 +15,5 @@ returns-in-Err-OutOfMemory-clause-outcome g c = without_memory (line_of (texts c
 
 pub returns-in-Ok-Certify-clause-outcome : goal.returns-in-Ok-Certify-clause-outcome
 returns-in-Ok-Certify-clause-outcome g c =
-    outcome_of (line_of (texts c.args.words.now)) (Certify c.in-Ok-Certify.search c.in-Ok-Certify.format) _ _ c.report_on-in-Ok-Certify.result (c.in-Ok-Certify.ensures.line ∙ ap Some c.in-Ok-Certify.field-0-is)
-    (certified_as c.version_of.result (version_of c.in-Ok-Certify.format) _ _ c.report_on-in-Ok-Certify.result c.version_of.ensures c.report_on-in-Ok-Certify.ensures.reported)
+    outcome_of (line_of (texts c.args.words.now)) (Certify c.in-Ok-Certify.search c.in-Ok-Certify.format) _ _ c.work_on-in-Ok-Certify.result (c.in-Ok-Certify.ensures.line ∙ ap Some c.in-Ok-Certify.field-0-is)
+    (certified_as c.version_of.result (version_of c.in-Ok-Certify.format) _ _ c.work_on-in-Ok-Certify.result c.version_of.ensures c.work_on-in-Ok-Certify.ensures.worked)

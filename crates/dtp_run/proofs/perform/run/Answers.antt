@@ -1,4 +1,4 @@
-use Rattle.dtp_run.proofs.Usages.{has_fault, not_on_plain}
+use Rattle.dtp_run.proofs.Lines.{has_fault, not_on_plain}
 use Rattle.dtp_run.specs.Outcomes.{texts}
 use Rattle.dtp_run.proofs.perform.run.Goals as goal
 
