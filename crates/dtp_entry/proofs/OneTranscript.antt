@@ -282,19 +282,19 @@ module _ (one : OneOutcome) (asked_told : AskedIsTold) (bytes : List ℕ) (r q :
       → Commands bytes at ys j → EndsAs bytes j f
       → OneTurns r q held other xs (course verdict_of (place k s held left) xs e) (course verdict_of (place k s other others) ys f)
   unfolding course
-  course_one [] [] held other k s left others at h j e f reads ends reads_too ends_too =
-      closes_one held other k s left others at e f (ends_here at h e reads ends) (ends_here at j f reads_too ends_too)
-  course_one [] (y ∷ ys) held other k s left others at h j e f reads ends reads_too ends_too legal over legal_too over_too =
-      absurd (no_command (place k s held left) at e y reads_too.0 (ends_here at h e reads ends) over reads_too.1)
-  course_one (x ∷ xs) [] held other k s left others at h j e f reads ends reads_too ends_too legal over legal_too over_too =
-      absurd (no_command (place k s other others) at f x reads.0 (ends_here at j f reads_too ends_too) over_too reads.1)
-  course_one (x ∷ xs) (y ∷ ys) held other k s left others at h j e f reads ends reads_too ends_too =
+  course_one [] [] held other k s left others at h j e f reads end reads_too end_too =
+      closes_one held other k s left others at e f (ends_here at h e reads end) (ends_here at j f reads_too end_too)
+  course_one [] (y ∷ ys) held other k s left others at h j e f reads end reads_too end_too =
+      λ legal over legal_too over_too. absurd (no_command (place k s held left) at e y reads_too.0 (ends_here at h e reads end) over reads_too.1)
+  course_one (x ∷ xs) [] held other k s left others at h j e f reads end reads_too end_too =
+      λ legal over legal_too over_too. absurd (no_command (place k s other others) at f x reads.0 (ends_here at j f reads_too end_too) over_too reads.1)
+  course_one (x ∷ xs) (y ∷ ys) held other k s left others at h j e f reads end reads_too end_too =
       let same = one bytes at (expression x) (expression y) reads.0 reads_too.0 reads.1 reads_too.1 in
       let from : Commands bytes reads.0 ys j = subst (λ (p : ℕ). Commands bytes p ys j) (sym same.1) reads_too.2 in
       subst (λ (z : Sexpr). OneTurns r q held other (x ∷ xs) (by_command verdict_of (place k s held left) x (after s x) (λ next. course verdict_of next xs e)) (by_command verdict_of (place k s other others) z (after s z) (λ next. course verdict_of next ys f)))
       (same_expression x y same.0)
       (command_turns r q k x xs (λ next. course verdict_of next xs e) (λ next. course verdict_of next ys f)
-      (λ kept kept_too next rest rest_too. course_one xs ys kept kept_too (k + 1) next rest rest_too reads.0 h j e f reads.2 ends from ends_too)
+      (λ kept kept_too next rest rest_too. course_one xs ys kept kept_too (k + 1) next rest rest_too reads.0 h j e f reads.2 end from end_too)
       held other s left others (after s x) (λ step is. asked_told s x step is))
 
   -- with a reason for the same text: the same entries, or commands that ask for none

@@ -141,4 +141,3 @@ IsTranscript script text status = IsReport Verdicts script text status
 -- the certificate of a script, of a version: its header, an entry for each check-sat, and the end or the error line
 abbrev pub IsCertificate : Version → List ℕ → List ℕ → ℕ → Type 0
 IsCertificate version script text status = IsReport (Certificate version) script text status
-
