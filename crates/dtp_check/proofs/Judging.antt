@@ -31,9 +31,9 @@ use Rattle.smt_script.specs.Kept.{Kept, StandsFor, Steps}
 use Rattle.smt_script.specs.States.{State, Step, IsMadeState, after, settled}
 use Rattle.smt_answer.specs.Kinds.{kind_of}
 use Rattle.kept_lemmas.specs.Entries.{Placed}
-use Rattle.dtp_entry.specs.Standing.{Stands}
+use Rattle.script_walk.specs.Standing.{Stands}
 use Rattle.smt_script.specs.Laws.{StepMade, SettledMade, OnlyExitEnds}
-use Rattle.dtp_entry.proofs.Standing.{stands_after}
+use Rattle.script_walk.proofs.Standing.{stands_after}
 use Rattle.dtp_entry.proofs.Verdicts.{sorts_count, table_over}
 use Rattle.dtp_check.specs.declared.judge.Turn.{Turn}
 use Rattle.dtp_check.specs.declared.judge.Turn.TheVariants.{Going, Judged}

@@ -7,7 +7,7 @@ use Rattle.kept_lemmas.specs.Entries.{Placed}
 use Rattle.smt_script.specs.Commands.{is_exit}
 use Rattle.smt_script.specs.Kept.{Kept}
 use Rattle.smt_script.specs.States.{State}
-use Rattle.dtp_entry.specs.Standing.{Stands}
+use Rattle.script_walk.specs.Standing.{Stands}
 use Rattle.dtp_check.specs.declared.judge.Turn.{Turn}
 use Rattle.dtp_check.specs.declared.judge.Turn.TheVariants.{Going, Judged}
 use Rattle.dtp_check.specs.declared.judgement.Judgement.{Judgement}

@@ -4,7 +4,7 @@ ghost use Rattle.smt_sexpr.specs.Tree.{Sexpr};
 ghost use Rattle.smt_sexpr.specs.Table.{Means, HasMeaning};
 ghost use Rattle.smt_script.specs.States.{State as Meaning, start_state};
 ghost use Rattle.kept_lemmas.specs.Entries.{Placed as Place};
-ghost use Rattle.dtp_entry.specs.Standing.{Stands};
+ghost use Rattle.script_walk.specs.Standing.{Stands};
 ghost use Rattle.dtp_check.specs.Earlier.{Holds, Suffices};
 ghost use Rattle.dtp_check.specs.declared.script_part.PartEnd.{PartEnd as End};
 ghost use Rattle.dtp_check.specs.Judged.{surplus_of, judged, told_by, ScriptPart};

@@ -16,7 +16,7 @@ use Rattle.smt_script.specs.States.{State, Step, IsMadeState, after, settled}
 use Rattle.smt_answer.specs.Kinds.{kind_of}
 use Rattle.dtp_entry.specs.Entries.{verdict_of}
 use Rattle.dtp_entry.specs.Transcripts.{Decides}
-use Rattle.dtp_entry.proofs.Standing.{stands_after}
+use Rattle.script_walk.proofs.Standing.{stands_after}
 use Rattle.dtp_check.specs.declared.earlier.Earlier.{Earlier}
 use Rattle.dtp_check.specs.declared.judgement.EntryFlaw.{EntryFlaw}
 use Rattle.dtp_check.specs.declared.judgement.Judgement.{Judgement}

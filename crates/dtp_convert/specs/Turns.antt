@@ -14,7 +14,7 @@ use Rattle.smt_script.specs.Commands.{is_exit}
 use Rattle.smt_script.specs.Kept.{Kept}
 use Rattle.smt_script.specs.States.{State, Step, after, settled}
 use Rattle.dtp_entry.specs.Entries.{verdict_of}
-use Rattle.dtp_entry.specs.Standing.{Stands}
+use Rattle.script_walk.specs.Standing.{Stands}
 use Rattle.dtp_entry.specs.Transcripts.{Decides}
 use Rattle.dtp_check.specs.declared.earlier.Earlier.{Earlier}
 use Rattle.dtp_check.specs.declared.judgement.Judgement.TheVariants.{Accepted}

@@ -12,9 +12,11 @@ use Rattle.cert_text.specs.declared.entry.Entry.TheVariants.{Sat, Unsat}
 use Rattle.idl_term.specs.Contexts.{Context}
 use Rattle.smt_answer.specs.declared.kind.Kind.{Kind}
 use Rattle.smt_answer.specs.Kinds.{kind_of, kind_of_unreadable}
+use Rattle.smt_answer.specs.Texts.{error_line}
 use Rattle.smt_script.specs.declared.error.Refusal.{Refusal as Why}
 use Rattle.smt_script.specs.declared.state.Effect.{Effect}
-use Rattle.smt_script.specs.declared.state.Effect.TheVariants.{CheckSat, Exit, Tell}
+use Rattle.smt_script.specs.declared.state.Effect.TheVariants.{Ask, Exit, Tell}
+use Rattle.smt_script.specs.declared.state.Question.{Question}
 use Rattle.smt_script.specs.declared.state.Notice.{Notice}
 use Rattle.smt_script.specs.declared.state.Notice.TheVariants.{Success, Unsupported, Model, Values, Proof, Inform, Echo}
 use Rattle.smt_script.specs.declared.state.Satisfiability.{Satisfiability}
@@ -22,11 +24,13 @@ use Rattle.smt_script.specs.declared.state.Satisfiability.TheVariants as verdict
 use Rattle.smt_script.specs.Commands.{asks_verdict}
 use Rattle.smt_script.specs.Laws.{AskedIsTold}
 use Rattle.smt_script.specs.States.{State, Step, start_state, after, settled}
+use Rattle.script_walk.specs.Course.{Place, Turn, tells, answers, asks, ends, fails, turn, behind_told, behind_answer, asked, taken, by_effect, by_command, last_turn, course, status_of, answers_of}
+use Rattle.script_walk.specs.Questions.{refusal_of}
 use Rattle.dtp_entry.specs.declared.report.Report.{Report}
 use Rattle.dtp_entry.specs.declared.report.Report.TheVariants.{Verdicts, Certificate}
 use Rattle.dtp_entry.specs.Entries.{verdict_of}
 use Rattle.dtp_entry.specs.Laws.{OneVerdict, OneTranscriptByEntries, OneTranscript}
-use Rattle.dtp_entry.specs.Transcripts.{IsVerdict, Held, told, decision_line, opening, closing, checked, Answered, Reply, answered, last, error, Answers, RepliesBy, Output, done, refused, behind, Closes, GoesOn, Follows, IsOutput}
+use Rattle.dtp_entry.specs.Transcripts.{IsVerdict, Held, told, decision_line, opening, closing, pieces, IsLegal, Output, IsOutput}
 
 same_refusal : (e f : SexprRefusal) → unreadable e ≡ unreadable f → e ≡ f
 same_refusal e f h = cc
@@ -51,22 +55,6 @@ SameText Verdicts Verdicts a b = a ≡ b
 SameText Verdicts (Certificate w) a b = Unit {0}
 SameText (Certificate v) q a b = Unit {0}
 
--- the text where there is a reason for it
-record Same (r q : Report) (Reason : Type 0) (a b : Output) : Type 0 where
-  text : Reason → SameText r q a.text b.text
-  verdicts : map verdict_of a.found ≡ map verdict_of b.found
-  status : a.status ≡ b.status
-
--- the reason for the same text from here on: the same entries, or that none of the commands asks for what they hold
-abbrev Agree : Held → Held → List Sexpr → Output → Output → Type 0
-Agree held other xs a b = ((held ≡ other) × (a.found ≡ b.found)) ⊎ AllByRecursion (λ (x : Sexpr). asks_verdict x ≡ false) xs
-
-abbrev SameAt : Report → Report → Held → Held → List Sexpr → Output → Output → Type 0
-SameAt r q held other xs a b = Same r q (Agree held other xs a b) a b
-
-same_by : (r q : Report) (held other : Held) (xs : List Sexpr) (a b c d : Output) → a ≡ c → b ≡ d → SameAt r q held other xs c d → SameAt r q held other xs a b
-same_by r q held other xs a b c d e f h = subst (λ (o : Output). SameAt r q held other xs o b) (sym e) (subst (λ (o : Output). SameAt r q held other xs c o) (sym f) h)
-
 text_append : (r q : Report) (a b c d : List ℕ) → SameText r q a b → SameText r q c d → SameText r q (a ++ c) (b ++ d)
 text_append Verdicts Verdicts a b c d e f = ap (λ (t : List ℕ). t ++ c) e ∙ ap (λ (t : List ℕ). b ++ t) f
 text_append Verdicts (Certificate w) a b c d e f = tt
@@ -77,13 +65,21 @@ text_refl Verdicts Verdicts a = refl
 text_refl Verdicts (Certificate w) a = tt
 text_refl (Certificate v) q a = tt
 
-verdicts_append : (a b : List Entry) → map verdict_of (a ++ b) ≡ map verdict_of a ++ map verdict_of b
-verdicts_append [] b = refl
-verdicts_append (e ∷ a) b = ap (λ (vs : List Satisfiability). verdict_of e ∷ vs) (verdicts_append a b)
+text_by : (r q : Report) (a b c d : List ℕ) → a ≡ c → b ≡ d → SameText r q c d → SameText r q a b
+text_by r q a b c d e f h = subst (λ (t : List ℕ). SameText r q t b) (sym e) (subst (λ (t : List ℕ). SameText r q c t) (sym f) h)
 
-verdicts_joined : (a b c d : List Entry) → map verdict_of a ≡ map verdict_of b → map verdict_of c ≡ map verdict_of d → map verdict_of (a ++ c) ≡ map verdict_of (b ++ d)
-verdicts_joined a b c d e f =
-    verdicts_append a c ∙ ap (λ (vs : List Satisfiability). vs ++ map verdict_of c) e ∙ ap (λ (vs : List Satisfiability). map verdict_of b ++ vs) f ∙ sym (verdicts_append b d)
+-- the turns from here on, the text where there is a reason for it
+record Same (r q : Report) (Reason : Type 0) (ts us : List (Turn Entry)) : Type 0 where
+  text : Reason → SameText r q (pieces r ts) (pieces q us)
+  verdicts : map verdict_of (answers_of ts) ≡ map verdict_of (answers_of us)
+  status : status_of ts ≡ status_of us
+
+-- the reason for the same text from here on: the same entries, or that none of the commands asks for what they hold
+abbrev Agree : Held → Held → List Sexpr → List (Turn Entry) → List (Turn Entry) → Type 0
+Agree held other xs ts us = ((held ≡ other) × (answers_of ts ≡ answers_of us)) ⊎ AllByRecursion (λ (x : Sexpr). asks_verdict x ≡ false) xs
+
+abbrev SameAt : Report → Report → Held → Held → List Sexpr → List (Turn Entry) → List (Turn Entry) → Type 0
+SameAt r q held other xs ts us = Same r q (Agree held other xs ts us) ts us
 
 -- ---- the answers
 
@@ -135,152 +131,216 @@ opening_one Verdicts Verdicts = refl
 opening_one Verdicts (Certificate w) = tt
 opening_one (Certificate v) q = tt
 
--- two answers to a command are alike
-record AlikeAnswers (r q : Report) (held other : Held) (x : Sexpr) (a b : Answered) : Type 0 where
-  text : AgreeNow held other x → SameText r q a.text b.text
-  verdicts : map verdict_of a.found ≡ map verdict_of b.found
-  state : a.state ≡ b.state
-  next : (rest others : List Entry) → held ≡ other → a.found ++ rest ≡ b.found ++ others → (a.held ≡ b.held) × (rest ≡ others)
-
-abbrev Alike : Report → Report → Held → Held → Sexpr → Reply → Reply → Type 0
-Alike r q held other x (answered a) (answered b) = AlikeAnswers r q held other x a b
-Alike r q held other x (last t) (last u) = SameText r q t u
-Alike r q held other x (error k) (error l) = k ≡ l
-Alike r q held other x _ _ = ⊥
-
-alike_by : (r q : Report) (held other : Held) (x : Sexpr) (m n i j : Reply) → m ≡ i → n ≡ j → Alike r q held other x i j → Alike r q held other x m n
-alike_by r q held other x m n i j e f h = subst (λ (o : Reply). Alike r q held other x o n) (sym e) (subst (λ (o : Reply). Alike r q held other x i o) (sym f) h)
-
-first_entries : (e f : Entry) (rest others : List Entry) → (e ∷ rest) ≡ (f ∷ others) → (◌≡◌ {A = Held} (Some e) (Some f)) × (rest ≡ others)
-first_entries e f rest others same = let one : e ≡ f = cc in (ap Some one, cc)
-
-answers_alike : (r q : Report) (held other : Held) (s : State) (x : Sexpr) (effect : Effect) (m n : Reply) → (asks_verdict x ≡ false → TellsHeld effect → ⊥) → Answers r held s x effect m → Answers q other s x effect n → Alike r q held other x m n
-answers_alike r q held other s x CheckSat m n free (e, d, is) (f, g, same) =
-    let v : verdict_of e ≡ verdict_of f = verdict_one s.context (verdict_of e) (verdict_of f) d.so g.so in
-    alike_by r q held other x m n (answered (checked r s e)) (answered (checked q s f)) is same (record {
-      text = λ agree. decision_one r q e f v;
-      verdicts = ap (λ (w : Satisfiability). w ∷ []) v;
-      state = ap (λ (w : Satisfiability). settled w s) v;
-      next = λ rest others keeps found. first_entries e f rest others found;
-    })
-answers_alike r q held other s x (Tell notice) m n free is same =
-    alike_by r q held other x m n _ _ is same (record {
-      text = told_one r q held other s x notice free;
-      verdicts = refl;
-      state = refl;
-      next = λ rest others keeps found. (keeps, found);
-    })
-answers_alike r q held other s x Exit m n free is same = alike_by r q held other x m n (last (closing r)) (last (closing q)) is same (closing_one r q)
-
 -- what a command is asked for is told, and nothing else
 abbrev IsAsked : Sexpr → Result Step Why → Type 0
 IsAsked x found = (step : Step) → found ≡ Ok step → asks_verdict x ≡ false → TellsHeld step.effect → ⊥
 
-replies_alike : (r q : Report) (held other : Held) (x : Sexpr) (found : Result Step Why) (m n : Reply) → IsAsked x found → RepliesBy r held x found m → RepliesBy q other x found n → Alike r q held other x m n
-replies_alike r q held other x (Ok step) m n free h k = answers_alike r q held other step.state x step.effect m n (free step refl) h k
-replies_alike r q held other x (Err why) m n free is same = alike_by r q held other x m n (error (kind_of why)) (error (kind_of why)) is same refl
+-- ---- a command
 
-abbrev OneRest : Report → Report → List Sexpr → (Held → State → Output → Type 0) → (Held → State → Output → Type 0) → Type 0
-OneRest r q xs P Q = (held other : Held) (s : State) (a b : Output) → P held s a → Q other s b → SameAt r q held other xs a b
+abbrev place : ℕ → State → Held → List Entry → Place Entry
+place k s held left = record { number = k; state = s; held = held; left = left }
+
+abbrev AreLegal : Report → List (Turn Entry) → Type 0
+AreLegal r ts = AllByRecursion (IsLegal r) ts
+
+-- the turns end the script
+abbrev AreOver : List (Turn Entry) → Type 0
+AreOver ts = (n : ℕ) × (status_of ts ≡ Some n)
+
+abbrev OneTurns : Report → Report → Held → Held → List Sexpr → List (Turn Entry) → List (Turn Entry) → Type 0
+OneTurns r q held other xs ts us = AreLegal r ts → AreOver ts → AreLegal q us → AreOver us → SameAt r q held other xs ts us
+
+abbrev OneRest : Report → Report → ℕ → List Sexpr → (Place Entry → List (Turn Entry)) → (Place Entry → List (Turn Entry)) → Type 0
+OneRest r q k xs P Q = (held other : Held) (s : State) (left others : List Entry)
+    → OneTurns r q held other xs (P (place k s held left)) (Q (place k s other others))
 
 module _ (r q : Report) (held other : Held) (x : Sexpr) (xs : List Sexpr) where
-  agree_now : (a b : Output) → Agree held other (x ∷ xs) a b → AgreeNow held other x
-  agree_now a b (inl same) = inl same.0
-  agree_now a b (inr all) = inr all.0
+  agree_now : (ts us : List (Turn Entry)) → Agree held other (x ∷ xs) ts us → AgreeNow held other x
+  agree_now ts us (inl same) = inl same.0
+  agree_now ts us (inr all) = inr all.0
 
-  agree_then : (a b : Answered) (rest others : Output) → AlikeAnswers r q held other x a b → Agree held other (x ∷ xs) (behind a.text a.found rest) (behind b.text b.found others) → Agree a.held b.held xs rest others
-  agree_then a b rest others alike (inl (same, found)) = inl (alike.next rest.found others.found same found)
-  agree_then a b rest others alike (inr all) = inr all.1
+  fails_one : (p o : Place Entry) (s : State) (kind : Kind) → p.number ≡ o.number → OneTurns r q held other (x ∷ xs) (turn p s (fails kind) ∷ []) (turn o s (fails kind) ∷ [])
+  fails_one p o s kind e legal over legal_too over_too = record {
+    text = λ agree. text_by r q _ (error_line o.number kind ++ []) _ (error_line o.number kind ++ []) (ap (λ (k : ℕ). error_line k kind ++ []) e) refl (text_refl r q (error_line o.number kind ++ []));
+    verdicts = refl;
+    status = refl;
+  }
 
-  goes_on_one : (k : ℕ) (m n : Reply) → Alike r q held other x m n → (ys : List Sexpr) (e f : Ending) (a b : Output) (P Q : Held → State → Output → Type 0) → OneRest r q xs P Q
-      → GoesOn k m xs e a P → GoesOn k n ys f b Q → SameAt r q held other (x ∷ xs) a b
-  goes_on_one k (answered m) (answered n) alike ys e f a b P Q one (rest, h, is) (others, j, same) =
-      let behind_it = one m.held n.held n.state rest others (subst (λ (s : State). P m.held s rest) alike.state h) j in
-      same_by r q held other (x ∷ xs) a b (behind m.text m.found rest) (behind n.text n.found others) is same (record {
-        text = λ agree. text_append r q m.text n.text rest.text others.text (alike.text (agree_now (behind m.text m.found rest) (behind n.text n.found others) agree)) (behind_it.text (agree_then m n rest others alike agree));
-        verdicts = verdicts_joined m.found n.found rest.found others.found alike.verdicts behind_it.verdicts;
-        status = behind_it.status;
-      })
-  goes_on_one k (last t) (last u) alike ys e f a b P Q one (stops, is) (ends, same) =
-      same_by r q held other (x ∷ xs) a b (done t) (done u) is same (record { text = λ agree. alike; verdicts = refl; status = refl })
-  goes_on_one k (error m) (error n) alike ys e f a b P Q one (stops, is) (ends, same) =
-      same_by r q held other (x ∷ xs) a b (refused k m) (refused k m) is (same ∙ ap (refused k) (sym alike)) (record { text = λ agree. text_refl r q (refused k m).text; verdicts = refl; status = refl })
-  goes_on_one k (answered m) (last u) alike ys e f a b P Q one h j = absurd alike
-  goes_on_one k (answered m) (error n) alike ys e f a b P Q one h j = absurd alike
-  goes_on_one k (last t) (answered n) alike ys e f a b P Q one h j = absurd alike
-  goes_on_one k (last t) (error n) alike ys e f a b P Q one h j = absurd alike
-  goes_on_one k (error m) (answered n) alike ys e f a b P Q one h j = absurd alike
-  goes_on_one k (error m) (last u) alike ys e f a b P Q one h j = absurd alike
+module _ (r q : Report) (k : ℕ) (x : Sexpr) (xs : List Sexpr) (P Q : Place Entry → List (Turn Entry)) (one : OneRest r q (k + 1) xs P Q) where
+  told_rest : (held other : Held) (t u : Turn Entry) (ts us : List (Turn Entry)) → answers_of (t ∷ ts) ≡ answers_of ts → answers_of (u ∷ us) ≡ answers_of us
+      → Agree held other (x ∷ xs) (t ∷ ts) (u ∷ us) → Agree held other xs ts us
+  told_rest held other t u ts us e f (inl (same, found)) = inl (same, sym e ∙ found ∙ f)
+  told_rest held other t u ts us e f (inr all) = inr all.1
 
-module _ (one : OneOutcome) (asked : AskedIsTold) (bytes : List ℕ) (r q : Report) where
-  refused_one : (held other : Held) (k : ℕ) (a b : Output) (m n : Kind) → m ≡ n → a ≡ refused k m → b ≡ refused k n → SameAt r q held other [] a b
-  refused_one held other k a b m n e is same =
-      same_by r q held other [] a b (refused k m) (refused k m) is (same ∙ ap (refused k) (sym e)) (record { text = λ agree. text_refl r q (refused k m).text; verdicts = refl; status = refl })
+  told_turns : (held other : Held) (st s : State) (left others : List Entry) (notice : Notice) → (asks_verdict x ≡ false → TellsHeld (Tell notice) → ⊥)
+      → OneTurns r q held other (x ∷ xs) (turn (place k st held left) s (tells x notice) ∷ P (place (k + 1) s held left)) (turn (place k st other others) s (tells x notice) ∷ Q (place (k + 1) s other others))
+  told_turns held other st s left others notice free legal over legal_too over_too =
+      let rest = one held other s left others legal.1 over legal_too.1 over_too in
+      let t = turn (place k st held left) s (tells x notice) in
+      let u = turn (place k st other others) s (tells x notice) in
+      let ts = P (place (k + 1) s held left) in
+      let us = Q (place (k + 1) s other others) in
+      record {
+        text = λ agree. text_append r q (told r held s x notice) (told q other s x notice) (pieces r ts) (pieces q us)
+            (told_one r q held other s x notice free (agree_now r q held other x xs (t ∷ ts) (u ∷ us) agree)) (rest.text (told_rest held other t u ts us refl refl agree));
+        verdicts = rest.verdicts;
+        status = rest.status;
+      }
 
-  closes_one : (held other : Held) (k place : ℕ) (e f : Ending) (a b : Output) → EndsAs bytes place e → EndsAs bytes place f → Closes r k e a → Closes q k f b → SameAt r q held other [] a b
-  closes_one held other k place ended ended a b p o c d =
-      same_by r q held other [] a b (done (closing r)) (done (closing q)) c d (record { text = λ agree. closing_one r q; verdicts = refl; status = refl })
-  closes_one held other k place ended (unread why) a b p o c d = absurd (end_no_refusal why (one bytes place finished (unreadable why) p.0 o.0 p.1 o.1).0)
-  closes_one held other k place ended stopped a b p o c d = absurd d
-  closes_one held other k place (unread why) ended a b p o c d = absurd (end_no_refusal why (one bytes place finished (unreadable why) o.0 p.0 o.1 p.1).0)
-  closes_one held other k place (unread why) (unread because) a b p o c d =
-      let same = same_refusal why because (one bytes place (unreadable why) (unreadable because) p.0 o.0 p.1 o.1).0 in
-      refused_one held other k a b (kind_of_unreadable why) (kind_of_unreadable because) (ap kind_of_unreadable same) c d
-  closes_one held other k place (unread why) stopped a b p o c d = absurd d
-  closes_one held other k place stopped f a b p o c d = absurd c
+  first_entries : (e f : Entry) (rest others : List Entry) → (e ∷ rest) ≡ (f ∷ others) → (◌≡◌ {A = Held} (Some e) (Some f)) × (rest ≡ others)
+  first_entries e f rest others same = let both : e ≡ f = cc in (ap Some both, cc)
+
+  answered_rest : (held other : Held) (e f : Entry) (t u : Turn Entry) (ts us : List (Turn Entry)) → answers_of (t ∷ ts) ≡ e ∷ answers_of ts → answers_of (u ∷ us) ≡ f ∷ answers_of us
+      → Agree held other (x ∷ xs) (t ∷ ts) (u ∷ us) → Agree (Some e) (Some f) xs ts us
+  answered_rest held other e f t u ts us i j (inl (same, found)) = inl (first_entries e f (answers_of ts) (answers_of us) (sym i ∙ found ∙ j))
+  answered_rest held other e f t u ts us i j (inr all) = inr all.1
+
+  -- behind the same verdict
+  one_settled : (held other : Held) (s : State) (v w : Satisfiability) (left others : List Entry) → v ≡ w
+      → OneTurns r q held other xs (P (place (k + 1) (settled v s) held left)) (Q (place (k + 1) (settled w s) other others))
+  one_settled held other s v w left others e =
+      subst (λ (u : Satisfiability). OneTurns r q held other xs (P (place (k + 1) (settled v s) held left)) (Q (place (k + 1) (settled u s) other others))) e
+      (one held other (settled v s) left others)
+
+  asked_turns : (held other : Held) (st s : State) (left others : List Entry) (question : Question)
+      → OneTurns r q held other (x ∷ xs) (asked verdict_of (place k st held left) s question x left P) (asked verdict_of (place k st other others) s question x others Q)
+  asked_turns held other st s [] others question legal over legal_too over_too = absurd legal.0
+  asked_turns held other st s (e ∷ left) [] question legal over legal_too over_too = absurd legal_too.0
+  asked_turns held other st s (e ∷ left) (f ∷ others) question legal over legal_too over_too =
+      let v : verdict_of e ≡ verdict_of f = verdict_one s.context (verdict_of e) (verdict_of f) legal.0.so legal_too.0.so in
+      let rest = one_settled (Some e) (Some f) s (verdict_of e) (verdict_of f) left others v legal.1 over legal_too.1 over_too in
+      let t = turn (place k st held (e ∷ left)) s (answers question x e) in
+      let u = turn (place k st other (f ∷ others)) s (answers question x f) in
+      let ts = P (place (k + 1) (settled (verdict_of e) s) (Some e) left) in
+      let us = Q (place (k + 1) (settled (verdict_of f) s) (Some f) others) in
+      record {
+        text = λ agree. text_append r q (decision_line r e) (decision_line q f) (pieces r ts) (pieces q us)
+            (decision_one r q e f v) (rest.text (answered_rest held other e f t u ts us refl refl agree));
+        verdicts = ap (λ (w : Satisfiability). w ∷ map verdict_of (answers_of ts)) v ∙ ap (λ (vs : List Satisfiability). verdict_of f ∷ vs) rest.verdicts;
+        status = rest.status;
+      }
+
+  taken_turns : (held other : Held) (st s : State) (left others : List Entry) (question : Question) (refused : Option Kind)
+      → OneTurns r q held other (x ∷ xs) (taken verdict_of (place k st held left) s question x refused P) (taken verdict_of (place k st other others) s question x refused Q)
+  taken_turns held other st s left others question (Some kind) = fails_one r q held other x xs (place k st held left) (place k st other others) s kind refl
+  taken_turns held other st s left others question None = asked_turns held other st s left others question
+
+  ends_turns : (held other : Held) (st s : State) (left others : List Entry)
+      → OneTurns r q held other (x ∷ xs) (turn (place k st held left) s ends ∷ []) (turn (place k st other others) s ends ∷ [])
+  ends_turns held other st s left others legal over legal_too over_too =
+      record { text = λ agree. text_append r q (closing r) (closing q) [] [] (closing_one r q) (text_refl r q []); verdicts = refl; status = refl }
+
+  effect_turns : (held other : Held) (st s : State) (left others : List Entry) (effect : Effect) → (asks_verdict x ≡ false → TellsHeld effect → ⊥)
+      → OneTurns r q held other (x ∷ xs) (by_effect verdict_of (place k st held left) s x effect P) (by_effect verdict_of (place k st other others) s x effect Q)
+  effect_turns held other st s left others (Tell notice) free = told_turns held other st s left others notice free
+  effect_turns held other st s left others (Ask question) free = taken_turns held other st s left others question (refusal_of question s x)
+  effect_turns held other st s left others Exit free = ends_turns held other st s left others
+
+  command_turns : (held other : Held) (st : State) (left others : List Entry) (found : Result Step Why) → IsAsked x found
+      → OneTurns r q held other (x ∷ xs) (by_command verdict_of (place k st held left) x found P) (by_command verdict_of (place k st other others) x found Q)
+  command_turns held other st left others (Ok step) free = effect_turns held other st step.state left others step.effect (free step refl)
+  command_turns held other st left others (Err why) free = fails_one r q held other x xs (place k st held left) (place k st other others) st (kind_of why) refl
+
+-- ---- a script
+
+module _ (one : OneOutcome) (asked_told : AskedIsTold) (bytes : List ℕ) (r q : Report) where
+  no_status : (n : ℕ) → ◌≡◌ {A = Option ℕ} None (Some n) → ⊥
+  no_status n e = cc
+
+  unread_turns : (held other : Held) (k : ℕ) (s : State) (left others : List Entry) (m n : Kind) → m ≡ n
+      → Same r q (Agree held other [] (turn (place k s held left) s (fails m) ∷ []) (turn (place k s other others) s (fails n) ∷ []))
+      (turn (place k s held left) s (fails m) ∷ []) (turn (place k s other others) s (fails n) ∷ [])
+  unread_turns held other k s left others m n e = record {
+    text = λ agree. text_by r q _ (error_line k n ++ []) _ (error_line k n ++ []) (ap (λ (kind : Kind). error_line k kind ++ []) e) refl (text_refl r q (error_line k n ++ []));
+    verdicts = refl;
+    status = refl;
+  }
+
+  closes_one : (held other : Held) (k : ℕ) (s : State) (left others : List Entry) (at : ℕ) (e f : Ending) → EndsAs bytes at e → EndsAs bytes at f
+      → OneTurns r q held other [] (last_turn (place k s held left) e) (last_turn (place k s other others) f)
+  closes_one held other k s left others at ended ended p o legal over legal_too over_too =
+      record { text = λ agree. text_append r q (closing r) (closing q) [] [] (closing_one r q) (text_refl r q []); verdicts = refl; status = refl }
+  closes_one held other k s left others at ended (unread why) p o legal over legal_too over_too = absurd (end_no_refusal why (one bytes at finished (unreadable why) p.0 o.0 p.1 o.1).0)
+  closes_one held other k s left others at (unread why) ended p o legal over legal_too over_too = absurd (end_no_refusal why (one bytes at finished (unreadable why) o.0 p.0 o.1 p.1).0)
+  closes_one held other k s left others at (unread why) (unread because) p o legal over legal_too over_too =
+      let same = same_refusal why because (one bytes at (unreadable why) (unreadable because) p.0 o.0 p.1 o.1).0 in
+      unread_turns held other k s left others (kind_of_unreadable why) (kind_of_unreadable because) (ap kind_of_unreadable same)
+  closes_one held other k s left others at stopped f p o legal over legal_too over_too = absurd (no_status over.0 over.1)
+  closes_one held other k s left others at ended stopped p o legal over legal_too over_too = absurd (no_status over_too.0 over_too.1)
+  closes_one held other k s left others at (unread why) stopped p o legal over legal_too over_too = absurd (no_status over_too.0 over_too.1)
 
   -- where the text ends no command is read
-  no_command : (report : Report) (k place : ℕ) (e : Ending) (a : Output) (x : Sexpr) (m : ℕ) → EndsAs bytes place e → Closes report k e a → Spells bytes place x m → ⊥
-  no_command report k place ended a x m p c spells = end_no_expression x (one bytes place finished (expression x) p.0 m p.1 spells).0
-  no_command report k place (unread why) a x m p c spells = refusal_no_expression why x (one bytes place (unreadable why) (expression x) p.0 m p.1 spells).0
-  no_command report k place stopped a x m p c spells = absurd c
+  no_command : (p : Place Entry) (at : ℕ) (e : Ending) (x : Sexpr) (m : ℕ) → EndsAs bytes at e → AreOver (last_turn p e) → Spells bytes at x m → ⊥
+  no_command p at ended x m h over spells = end_no_expression x (one bytes at finished (expression x) h.0 m h.1 spells).0
+  no_command p at (unread why) x m h over spells = refusal_no_expression why x (one bytes at (unreadable why) (expression x) h.0 m h.1 spells).0
+  no_command p at stopped x m h over spells = no_status over.0 over.1
 
-  ends_here : (place here : ℕ) (e : Ending) → place ≡ here → EndsAs bytes here e → EndsAs bytes place e
-  ends_here place here e same h = subst (λ (p : ℕ). EndsAs bytes p e) (sym same) h
+  ends_here : (at here : ℕ) (e : Ending) → at ≡ here → EndsAs bytes here e → EndsAs bytes at e
+  ends_here at here e same h = subst (λ (p : ℕ). EndsAs bytes p e) (sym same) h
 
-  follows_one : (xs ys : List Sexpr) (held other : Held) (st : State) (k place h j : ℕ) (e f : Ending) (a b : Output) → Commands bytes place xs h → EndsAs bytes h e → Follows r held st k xs e a
-      → Commands bytes place ys j → EndsAs bytes j f → Follows q other st k ys f b → SameAt r q held other xs a b
-  unfolding Follows
-  follows_one [] [] held other st k place h j e f a b reads ends c others others_end d =
-      closes_one held other k place e f a b (ends_here place h e reads ends) (ends_here place j f others others_end) c d
-  follows_one [] (y ∷ ys) held other st k place h j e f a b reads ends c others others_end d = absurd (no_command r k place e a y others.0 (ends_here place h e reads ends) c others.1)
-  follows_one (x ∷ xs) [] held other st k place h j e f a b reads ends c others others_end d = absurd (no_command q k place f b x reads.0 (ends_here place j f others others_end) d reads.1)
-  follows_one (x ∷ xs) (y ∷ ys) held other st k place h j e f a b reads ends c others others_end d =
-      let same = one bytes place (expression x) (expression y) reads.0 others.0 reads.1 others.1 in
-      let first : Follows q other st k (x ∷ ys) f b = subst (λ (z : Sexpr). Follows q other st k (z ∷ ys) f b) (sym (same_expression x y same.0)) d in
-      let from : Commands bytes reads.0 ys j = subst (λ (p : ℕ). Commands bytes p ys j) (sym same.1) others.2 in
-      goes_on_one r q held other x xs k c.0 first.0 (replies_alike r q held other x (after st x) c.0 first.0 (λ step is free. asked st x step is free) c.1 first.1) ys e f a b
-      (λ kept next p. Follows r kept next (k + 1) xs e p) (λ kept next p. Follows q kept next (k + 1) ys f p)
-      (λ kept kept_too next p o u v. follows_one xs ys kept kept_too next (k + 1) reads.0 h j e f p o reads.2 ends u from others_end v) c.2 first.2
+  course_one : (xs ys : List Sexpr) (held other : Held) (k : ℕ) (s : State) (left others : List Entry) (at h j : ℕ) (e f : Ending) → Commands bytes at xs h → EndsAs bytes h e
+      → Commands bytes at ys j → EndsAs bytes j f
+      → OneTurns r q held other xs (course verdict_of (place k s held left) xs e) (course verdict_of (place k s other others) ys f)
+  unfolding course
+  course_one [] [] held other k s left others at h j e f reads end reads_too end_too =
+      closes_one held other k s left others at e f (ends_here at h e reads end) (ends_here at j f reads_too end_too)
+  course_one [] (y ∷ ys) held other k s left others at h j e f reads end reads_too end_too =
+      λ legal over legal_too over_too. absurd (no_command (place k s held left) at e y reads_too.0 (ends_here at h e reads end) over reads_too.1)
+  course_one (x ∷ xs) [] held other k s left others at h j e f reads end reads_too end_too =
+      λ legal over legal_too over_too. absurd (no_command (place k s other others) at f x reads.0 (ends_here at j f reads_too end_too) over_too reads.1)
+  course_one (x ∷ xs) (y ∷ ys) held other k s left others at h j e f reads end reads_too end_too =
+      let same = one bytes at (expression x) (expression y) reads.0 reads_too.0 reads.1 reads_too.1 in
+      let from : Commands bytes reads.0 ys j = subst (λ (p : ℕ). Commands bytes p ys j) (sym same.1) reads_too.2 in
+      subst (λ (z : Sexpr). OneTurns r q held other (x ∷ xs) (by_command verdict_of (place k s held left) x (after s x) (λ next. course verdict_of next xs e)) (by_command verdict_of (place k s other others) z (after s z) (λ next. course verdict_of next ys f)))
+      (same_expression x y same.0)
+      (command_turns r q k x xs (λ next. course verdict_of next xs e) (λ next. course verdict_of next ys f)
+      (λ kept kept_too next rest rest_too. course_one xs ys kept kept_too (k + 1) next rest rest_too reads.0 h j e f reads.2 end from end_too)
+      held other s left others (after s x) (λ step is. asked_told s x step is))
 
   -- with a reason for the same text: the same entries, or commands that ask for none
   abbrev Reason : List Sexpr → Output → Output → Type 0
   Reason xs a b = (a.found ≡ b.found) ⊎ AllByRecursion (λ (x : Sexpr). asks_verdict x ≡ false) xs
-
-  agree_at_start : (xs : List Sexpr) (a b : Output) → Reason xs a b → Agree None None xs a b
-  agree_at_start xs a b (inl found) = inl (refl, found)
-  agree_at_start xs a b (inr all) = inr all
 
   record OneOutput (xs : List Sexpr) (a b : Output) : Type 0 where
     text : Reason xs a b → SameText r q a.text b.text
     verdicts : map verdict_of a.found ≡ map verdict_of b.found
     status : a.status ≡ b.status
 
-  abbrev commands_of : (a : Output) → IsOutput r bytes a → List Sexpr
-  commands_of a (rest, h, is) = h.commands
+  agree_at_start : (xs : List Sexpr) (a b : Output) (ts us : List (Turn Entry)) → answers_of ts ≡ a.found → answers_of us ≡ b.found → Reason xs a b → Agree None None xs ts us
+  agree_at_start xs a b ts us e f (inl found) = inl (refl, e ∙ found ∙ sym f)
+  agree_at_start xs a b ts us e f (inr all) = inr all
 
-  output_by : (xs : List Sexpr) (a b c d : Output) → a ≡ c → b ≡ d → OneOutput xs c d → OneOutput xs a b
-  output_by xs a b c d e f h = subst (λ (o : Output). OneOutput xs o b) (sym e) (subst (λ (o : Output). OneOutput xs c o) (sym f) h)
+  same_status : (a b : ℕ) → ◌≡◌ {A = Option ℕ} (Some a) (Some b) → a ≡ b
+  same_status a b e = cc
 
-  output_one : (a b : Output) (h : IsOutput r bytes a) → IsOutput q bytes b → OneOutput (commands_of a h) a b
-  output_one a b (rest, h, is) (others, k, same) =
-      let w = follows_one h.commands k.commands None None start_state 1 0 h.here k.here h.ending k.ending rest others h.reads h.ends h.answers k.reads k.ends k.answers in
-      output_by h.commands a b (behind (opening r) [] rest) (behind (opening q) [] others) is same
-      (record {
-        text = λ reason. text_append r q (opening r) (opening q) rest.text others.text (opening_one r q) (w.text (agree_at_start h.commands rest others reason));
-        verdicts = w.verdicts;
-        status = w.status;
-      })
+  module _ (a b : Output) (h : IsOutput r bytes a) (k : IsOutput q bytes b) where
+    abbrev ts : List (Turn Entry)
+    ts = course verdict_of (place 1 start_state None a.found) h.are.are.commands h.are.are.ending
+
+    abbrev us : List (Turn Entry)
+    us = course verdict_of (place 1 start_state None b.found) k.are.are.commands k.are.are.ending
+
+    same_turns : SameAt r q None None h.are.are.commands ts us
+    same_turns = course_one h.are.are.commands k.are.are.commands None None 1 start_state a.found b.found 0 h.are.are.behind k.are.are.behind h.are.are.ending k.are.are.ending
+        h.are.are.reads h.are.are.ends k.are.are.reads k.are.are.ends
+        (subst (AreLegal r) h.are.are.are h.are.legal) (a.status, sym (ap (λ (l : List (Turn Entry)). status_of l) h.are.are.are) ∙ h.over)
+        (subst (AreLegal q) k.are.are.are k.are.legal) (b.status, sym (ap (λ (l : List (Turn Entry)). status_of l) k.are.are.are) ∙ k.over)
+
+    used : answers_of ts ≡ a.found
+    used = sym (ap (λ (l : List (Turn Entry)). answers_of l) h.are.are.are) ∙ h.used
+
+    used_too : answers_of us ≡ b.found
+    used_too = sym (ap (λ (l : List (Turn Entry)). answers_of l) k.are.are.are) ∙ k.used
+
+    output_one : OneOutput h.are.are.commands a b
+    output_one = record {
+      text = λ reason. text_by r q a.text b.text (opening r ++ pieces r ts) (opening q ++ pieces q us)
+          (h.text ∙ ap (λ (l : List (Turn Entry)). opening r ++ pieces r l) h.are.are.are) (k.text ∙ ap (λ (l : List (Turn Entry)). opening q ++ pieces q l) k.are.are.are)
+          (text_append r q (opening r) (opening q) (pieces r ts) (pieces q us) (opening_one r q) (same_turns.text (agree_at_start h.are.are.commands a b ts us used used_too reason)));
+      verdicts = sym (ap (map verdict_of) used) ∙ same_turns.verdicts ∙ ap (map verdict_of) used_too;
+      status = same_status a.status b.status
+          (sym h.over ∙ ap (λ (l : List (Turn Entry)). status_of l) h.are.are.are ∙ same_turns.status ∙ sym (ap (λ (l : List (Turn Entry)). status_of l) k.are.are.are) ∙ k.over);
+    }
 
 pub verdicts_one : OneOutcome → AskedIsTold → OneVerdict
 verdicts_one one asked script r q a b h k = let w = output_one one asked script r q a b h k in (w.verdicts, w.status)
@@ -296,6 +356,6 @@ entries_one one asked script a b h k found =
     output_is a b (w.text (inl found)) found w.status
 
 pub transcript_one : OneOutcome → AskedIsTold → OneTranscript
-transcript_one one asked script a b s t quiet (found, (rest, h, is)) (others, k) =
-    let w = output_one one asked script Verdicts Verdicts (record { text = a; found = found; status = s }) (record { text = b; found = others; status = t }) (rest, h, is) k in
-    (w.text (inr (quiet h.commands h.here h.reads)), w.status)
+transcript_one one asked script a b s t quiet (found, h) (others, k) =
+    let w = output_one one asked script Verdicts Verdicts (record { text = a; found = found; status = s }) (record { text = b; found = others; status = t }) h k in
+    (w.text (inr (quiet h.are.are.commands h.are.are.behind h.are.are.reads)), w.status)

@@ -1,7 +1,6 @@
 pub mod Reports
 pub mod Entries
 pub mod Laws
-pub mod Standing
 pub mod Transcripts
 pub mod Written
 pub use Rattle.dtp_io.specs.Faults
@@ -14,3 +13,4 @@ pub use Rattle.idl_term.specs.Contexts
 pub use Rattle.cert_text.specs.Limits
 pub use Rattle.smt_script.specs.States
 pub use Rattle.smt_answer.specs.Kinds
+pub use Rattle.script_walk.specs.Course

@@ -21,8 +21,8 @@ use Rattle.smt_script.specs.Laws.{StepMade, ModeIsKept, ModelNeedsSat, ValuesNee
 use Rattle.smt_script.specs.States.{State, Step, after}
 use Rattle.dtp_entry.specs.declared.report.Report.{Report}
 use Rattle.dtp_entry.specs.declared.report.Report.TheVariants.{Verdicts, Certificate}
-use Rattle.dtp_entry.specs.Standing.{Stands}
-use Rattle.dtp_entry.proofs.Standing.{stands_after}
+use Rattle.script_walk.specs.Standing.{Stands}
+use Rattle.script_walk.proofs.Standing.{stands_after}
 use Rattle.dtp_entry.specs.Transcripts.{Held, closing, told, told_proof, decision_line, checked, Answered, Reply, answered, last, error, Answers, RepliesBy, Replies, Decides}
 use Rattle.dtp_entry.specs.Reports.{version_of}
 use Rattle.dtp_session.specs.declared.piece.Piece.{Piece}

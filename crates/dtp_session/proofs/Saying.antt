@@ -30,7 +30,7 @@ use Rattle.smt_script.specs.declared.state.Notice.{Notice}
 use Rattle.smt_script.specs.declared.state.Notice.TheVariants as notice
 use Rattle.smt_script.specs.declared.value.TermValue.{TermValue}
 use Rattle.smt_script.proofs.Levels.{levels_count}
-use Rattle.dtp_entry.specs.Standing.{Stands}
+use Rattle.script_walk.specs.Standing.{Stands}
 use Rattle.dtp_entry.specs.Transcripts.{Held, told, told_model, told_values}
 use Rattle.dtp_entry.specs.declared.report.Report.TheVariants.{Verdicts}
 use Rattle.dtp_entry.proofs.Verdicts.{sorts_count}

@@ -21,7 +21,7 @@ use Rattle.smt_script.specs.States.{State, start_state, terms_refusal, settled}
 use Rattle.dtp_entry.specs.declared.report.Report.{Report}
 use Rattle.dtp_entry.specs.Entries.{verdict_of}
 use Rattle.dtp_entry.specs.Reports.{version_of}
-use Rattle.dtp_entry.specs.Standing.{Stands}
+use Rattle.script_walk.specs.Standing.{Stands}
 use Rattle.dtp_entry.specs.Transcripts.{Held, opening, closing, decision_line, Answered, Reply, answered, last, error, Decides, Output, behind, TranscribesFrom, TranscribesPartFrom}
 use Rattle.dtp_entry.specs.Written.{IsFront}
 use Rattle.dtp_session.specs.declared.piece.Piece.{Piece}

@@ -11,7 +11,7 @@ ghost use Rattle.smt_answer.specs.Answers.{AreAnswers};
 ghost use Rattle.smt_script.specs.States.{State as Meaning, terms_refusal};
 ghost use Rattle.smt_script.specs.declared.state.Effect.TheVariants.{Tell};
 ghost use Rattle.smt_script.specs.declared.state.Notice.TheVariants as told_of;
-ghost use Rattle.dtp_entry.specs.Standing.{Stands};
+ghost use Rattle.script_walk.specs.Standing.{Stands};
 ghost use Rattle.dtp_entry.specs.Transcripts.{Answers, told};
 ghost use Rattle.dtp_entry.specs.declared.report.Report.TheVariants.{Verdicts};
 ghost use Rattle.dtp_session.specs.Sessions.{Holds, MayTell, KeepsReading, KeepsVerdict, Gives};

@@ -1,6 +1,10 @@
-//! The course of a script: its commands one after the other, each with what it leads to.
+//! The course of a script: its commands one after the other, each with what it leads to ([`Walk`]).
 #![tactic(auto)]
 
 mod kind;
+mod reader;
+mod walk;
 
 pub use kind::kind_of;
+pub use reader::{Next, read_next};
+pub use walk::{Event, Walk};

@@ -5,7 +5,7 @@ use Rattle.smt_script.specs.declared.state.Effect.TheVariants.{CheckSat, Exit, T
 use Rattle.smt_script.specs.Kept.{Kept, Steps}
 use Rattle.smt_script.specs.States.{State as Meaning}
 use Rattle.smt_answer.specs.Kinds.{kind_of}
-use Rattle.dtp_entry.proofs.Standing.{stands_after}
+use Rattle.script_walk.proofs.Standing.{stands_after}
 use Rattle.dtp_check.specs.declared.judgement.Judgement.TheVariants.{Script}
 use Rattle.dtp_check.proofs.Judging.{notice_judged, check_judged, exit_judged, judged_err}
 use Rattle.dtp_check.proofs.judge.judge_command.Goals as goal

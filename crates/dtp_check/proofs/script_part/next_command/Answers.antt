@@ -2,7 +2,7 @@ use Rattle.std.proofs.Common.{◌≡◌, ◌∙◌, sym, ap, subst}
 use Rattle.smt_sexpr.specs.Reading.{Explains}
 use Rattle.smt_sexpr.specs.Table.{Table}
 use Rattle.smt_sexpr.specs.declared.error.SexprError.{SexprError}
-use Rattle.dtp_entry.proofs.Reading.{found_error}
+use Rattle.script_walk.proofs.Reading.{found_error}
 use Rattle.dtp_check.proofs.script_part.next_command.Goals as goal
 
 pub returns-in-Err-Refused-clause-next : goal.returns-in-Err-Refused-clause-next

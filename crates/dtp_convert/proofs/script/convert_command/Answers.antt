@@ -4,7 +4,7 @@ use Rattle.smt_script.specs.declared.state.Effect.{Effect}
 use Rattle.smt_script.specs.declared.state.Effect.TheVariants.{CheckSat, Exit, Tell}
 use Rattle.smt_script.specs.Kept.{Kept, Steps}
 use Rattle.smt_script.specs.States.{State as Meaning}
-use Rattle.dtp_entry.proofs.Standing.{stands_after}
+use Rattle.script_walk.proofs.Standing.{stands_after}
 use Rattle.dtp_convert.proofs.Commands.{tell_goes, check_accepted, check_goes_on, exit_over, not_refused}
 use Rattle.dtp_convert.proofs.script.convert_command.Goals as goal
 

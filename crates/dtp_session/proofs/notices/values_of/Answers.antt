@@ -5,7 +5,7 @@ use Rattle.idl_term.specs.Applied.{Made}
 use Rattle.idl_term.specs.Contexts.{environment, scope_of}
 use Rattle.idl_term.specs.Values.{value}
 use Rattle.idl_term.specs.declared.error.TermRefusal.{TermRefusal}
-use Rattle.dtp_entry.specs.Standing.{Stands}
+use Rattle.script_walk.specs.Standing.{Stands}
 use Rattle.dtp_session.proofs.Saying.{AreTestedFrom, tested_next, answered_more, answered_all}
 use Rattle.dtp_session.proofs.notices.values_of.Goals as goal
 

@@ -1,7 +1,7 @@
 use Rattle.std.proofs.Common.{◌≡◌, ◌∙◌, refl, ap}
 use Rattle.smt_answer.specs.Kinds.{kind_of_unreadable}
 use Rattle.smt_sexpr.specs.Table.{Table}
-use Rattle.dtp_entry.proofs.Reading.{found_one, found_none}
+use Rattle.script_walk.proofs.Reading.{found_one, found_none}
 use Rattle.dtp_session.proofs.Transcribing.{command_next, end_next, found_refusal, unread_next}
 use Rattle.dtp_session.proofs.session.Session.next_piece.Goals as goal
 

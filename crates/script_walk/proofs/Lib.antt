@@ -1,0 +1,4 @@
+pub mod Carrying
+pub mod Reading
+pub mod Standing
+pub mod Turns

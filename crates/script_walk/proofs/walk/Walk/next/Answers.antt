@@ -1,0 +1,9 @@
+use Rattle.std.proofs.Common.{refl}
+use Rattle.script_walk.specs.declared.walk.Walk.{Walk}
+use Rattle.script_walk.proofs.Carrying.{end_event}
+use Rattle.script_walk.proofs.walk.Walk.next.Goals as goal
+
+pub returns-in-End-clause-event : goal.returns-in-End-clause-event
+returns-in-End-clause-event c = λ s stands.
+    let w : Walk = record c.args.self.now { lexer = c.read_next.new.lexer; sexprs = c.read_next.new.sexprs } in
+    end_event c.args.self.now w s c.read_next.new.sexprs c.read_next.new.lexer.place c.in_ok-id.field-0 c.in-End.is c.in_ok-id.ensures.next refl refl
