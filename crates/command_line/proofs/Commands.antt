@@ -1,10 +1,10 @@
 -- The words behind a command's name are the command's, and what it makes of them is the line.
 use Rattle.std.proofs.Common.{◌≡◌, ◌∙◌, ℕ, Bool, true, false, List, [], ◌∷◌, Option, Some, refl, ap, sym}
 use Rattle.std.specs.Prelude.{find, fold, is_some, ◌||◌, if◌then◌else◌}
-use Rattle.clap.specs.Words.{Kinds, Row, Rule, Shape, Text, built, fault_of, subcommand_of}
+use Rattle.clap.specs.Words.{App, Kinds, Row, Rule, Shape, Text, built, fault_of, subcommand_of}
 use Rattle.clap.specs.Faults.{check_fault, default_fault, defaults_fault, entered_fault, level_fault, settle_fault, turn_fault, walk_fault}
 use Rattle.clap.specs.Kinds.{or_else}
-use Rattle.clap.specs.Simple.{entered, label_of, names_of, rows_at}
+use Rattle.clap.specs.Simple.{built_leaf, inherited, entered, label_of, names_of, rows_at}
 use Rattle.clap.specs.Walk.{Held, Names, Walk, answers_to, default_rows, finished, has_row, nothing_held, reading_by, settled, walk, walk_from, walked, with_default}
 use Rattle.clap.specs.declared.builder.value_parser.Reading.{Reading}
 use Rattle.clap.proofs.FaultLemmas.{stopped_fault}
@@ -13,6 +13,10 @@ use Rattle.command_line.specs.Apps.{dtp_app}
 use Rattle.command_line.specs.Lines.{asked, command_of, line_of}
 use Rattle.command_line.specs.declared.line.Line.{Line}
 use Rattle.command_line.proofs.Options.{Ends, at_rest, either_fault}
+
+-- a command, as it is built
+abbrev pub sub : App → Shape
+sub app = built_leaf (inherited dtp_app.top app.top)
 
 -- ---- rules without defaults
 

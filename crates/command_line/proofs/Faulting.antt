@@ -1,13 +1,14 @@
--- Where clap finds no fault in the words, one of the five commands is found.
-use Rattle.std.proofs.Common.{◌≡◌, Bool, true, false, List, [], ◌∷◌, Option, Some, None, refl, codes, is_some}
-use Rattle.std.specs.Prelude.{not, ◌&&◌, option_map, cond}
-use Rattle.clap.specs.Words.{App, Kinds, Shape, Text, built, fault_of, subcommand_of}
+-- Where clap finds no fault in the words, one of the commands is found.
+use Rattle.std.proofs.Common.{◌≡◌, Bool, true, false, List, [], ◌∷◌, Option, Some, None, refl, is_some}
+use Rattle.std.specs.Prelude.{not, ◌&&◌, option_map, cond, find}
+use Rattle.clap.specs.Words.{Kinds, Row, Shape, Text, built, fault_of, subcommand_of}
 use Rattle.clap.specs.Kinds.{check_kinds, or_else}
 use Rattle.clap.specs.Faults.{check_fault, defaults_fault, entered_fault, level_fault, settle_fault, walk_fault}
-use Rattle.clap.specs.Simple.{built_leaf, entered, inherited, label_of, names_of, rows_at}
+use Rattle.clap.specs.Simple.{entered, label_of, names_of, rows_at}
 use Rattle.clap.specs.Walk.{Held, Names, answers_to, finished, nothing_held, settled, walk, walk_from}
-use Rattle.command_line.specs.Apps.{benching_app, certifying_app, dtp_app, plain_app, searching_app}
-use Rattle.command_line.specs.Lines.{asked, line_of}
+use Rattle.command_line.specs.Apps.{dtp_app}
+use Rattle.command_line.specs.Lines.{asked, command_of, line_of}
+use Rattle.command_line.specs.declared.line.Line.{Line}
 
 or_else_second : (a b : Kinds) → or_else a b ≡ [] → b ≡ []
 or_else_second [] b e = e
@@ -32,38 +33,39 @@ level_last s names h words b below e =
 entered_there : (words : List Text) → fault_of dtp_app words ≡ [] → is_some (entered (built dtp_app) (stop_of words)) ≡ true
 entered_there words e = is_there _ (level_last (built dtp_app).top (names_of (built dtp_app)) nothing_held words (is_some (entered (built dtp_app) (stop_of words))) (entered_fault (built dtp_app) (stop_of words)) e)
 
--- the first of the five commands that passes a test, by the tests' answers
-abbrev pub sub : App → Shape
-sub app = built_leaf (inherited dtp_app.top app.top)
+-- each command has a line, whatever its rows are
+abbrev have_lines : List Shape → List Row → Bool
+have_lines [] rows = true
+have_lines (s ∷ shapes) rows = is_some (command_of s.name rows) && have_lines shapes rows
 
-abbrev pub solving : Shape
-solving = sub (searching_app (codes "solve"))
+all_have : (rows : List Row) → have_lines (built dtp_app).subs rows ≡ true
+all_have rows = refl
 
-abbrev pub certifying : Shape
-certifying = sub certifying_app
+both : (a b : Bool) → (a && b) ≡ true → (a ≡ true) × (b ≡ true)
+both true b e = (refl, e)
+both false b e = cc
 
-abbrev pub checking : Shape
-checking = sub (plain_app (codes "check"))
+is_none : (o : Option Line) → is_some o ≡ true → o ≡ None → ⊥
+is_none None e f = cc
+is_none (Some line) e f = cc
 
-abbrev pub converting : Shape
-converting = sub (plain_app (codes "convert"))
+abbrev NoneIsFound : List Text → Option Shape → Type 0
+NoneIsFound rest found = is_some (option_map (λ s. rows_at s rest) found) ≡ true → asked [] (option_map (λ s. rows_at s rest) found) ≡ None → ⊥
 
-abbrev pub benching : Shape
-benching = sub benching_app
+found_first : (s : Shape) (rest : List Text) (others : Option Shape) (b : Bool) → ((rows : List Row) → is_some (command_of s.name rows) ≡ true)
+    → NoneIsFound rest others → NoneIsFound rest (cond b (Some s) others)
+found_first s rest others true has behind e f = is_none (command_of s.name (rows_at s rest).1) (has (rows_at s rest).1) f
+found_first s rest others false has behind e f = behind e f
 
-found_by : (rest : List Text) (a b c d e : Bool)
-    → is_some (option_map (λ s. rows_at s rest) (cond a (Some solving) (cond b (Some certifying) (cond c (Some checking) (cond d (Some converting) (cond e (Some benching) None)))))) ≡ true
-    → asked [] (option_map (λ s. rows_at s rest) (cond a (Some solving) (cond b (Some certifying) (cond c (Some checking) (cond d (Some converting) (cond e (Some benching) None)))))) ≡ None → ⊥
-found_by rest true b c d e f g = cc
-found_by rest false true c d e f g = cc
-found_by rest false false true d e f g = cc
-found_by rest false false false true e f g = cc
-found_by rest false false false false true f g = cc
-found_by rest false false false false false f g = cc
+found_among : (shapes : List Shape) (test : Shape → Bool) (rest : List Text) → ((rows : List Row) → have_lines shapes rows ≡ true) → NoneIsFound rest (find test shapes)
+found_among [] test rest have e f = cc
+found_among (s ∷ shapes) test rest have e f =
+    found_first s rest (find test shapes) (test s) (λ rows. (both _ (have_lines shapes rows) (have rows)).0)
+    (found_among shapes test rest (λ rows. (both (is_some (command_of s.name rows)) _ (have rows)).1)) e f
 
 line_there : (stop : Option (Text × List Text)) → is_some (entered (built dtp_app) stop) ≡ true → asked [] (entered (built dtp_app) stop) ≡ None → ⊥
 line_there None e f = cc
-line_there (Some p) e f = found_by p.1 (answers_to p.0 (label_of solving)) (answers_to p.0 (label_of certifying)) (answers_to p.0 (label_of checking)) (answers_to p.0 (label_of converting)) (answers_to p.0 (label_of benching)) e f
+line_there (Some p) e f = found_among (built dtp_app).subs (λ s. answers_to p.0 (label_of s)) p.1 all_have e f
 
 asked_none : (kinds : Kinds) (words : List Text) → kinds ≡ [] → asked kinds (subcommand_of dtp_app words) ≡ None → asked [] (subcommand_of dtp_app words) ≡ None
 asked_none [] words e f = f

@@ -11,9 +11,10 @@ use Rattle.command_line.specs.declared.line.Line.{Line}
 use Rattle.command_line.specs.declared.line.Line.TheVariants.{Solve, Certify, Check, Convert, Bench}
 use Rattle.command_line.specs.declared.line.Search.{Search}
 use Rattle.command_line.specs.declared.line.Shop.{Shop}
-use Rattle.command_line.proofs.BenchLines.{AreValues, behind_four, four_ready, rows_3, rows_4, walk_4}
-use Rattle.command_line.proofs.Commands.{IsCommand, line_from}
-use Rattle.command_line.proofs.Faulting.{solving, certifying, checking, converting, benching}
+use Rattle.command_line.proofs.BenchLines.{AreValues, benching, behind_four, four_ready, rows_3, rows_4, walk_4}
+use Rattle.command_line.proofs.Commands.{IsCommand, line_from, sub}
+use Rattle.clap.specs.Words.{Shape}
+use Rattle.command_line.specs.Apps.{certifying_app, plain_app, searching_app}
 use Rattle.command_line.proofs.Options.{AreFresh, Ends, Has, none_right, over_options, rows_in}
 use Rattle.command_line.proofs.Values.{read_as_number, value_by}
 
@@ -53,6 +54,9 @@ all_fresh : (given : List Given) → AreFresh [] given
 all_fresh [] = tt
 all_fresh (g ∷ given) = (refl, all_fresh given)
 
+abbrev solving : Shape
+solving = sub (searching_app (codes "solve"))
+
 solve_is : IsCommand (codes "solve") solving
 unfolding clap_on_literals
 solve_is = record { first = refl; right = refl; found = refl; named = refl; plain = (refl, (refl, tt)); top_right = refl }
@@ -62,6 +66,9 @@ unfolding clap_on_literals
 solve_has (workers n) taken = record { by_long = refl; by_id = refl }
 solve_has (slice n) taken = record { by_long = refl; by_id = refl }
 solve_has (format version) taken = absurd taken
+
+abbrev certifying : Shape
+certifying = sub certifying_app
 
 certify_is : IsCommand (codes "certify") certifying
 unfolding clap_on_literals
@@ -73,9 +80,15 @@ certify_has (workers n) taken = record { by_long = refl; by_id = refl }
 certify_has (slice n) taken = record { by_long = refl; by_id = refl }
 certify_has (format version) taken = record { by_long = refl; by_id = refl }
 
+abbrev checking : Shape
+checking = sub (plain_app (codes "check"))
+
 check_is : IsCommand (codes "check") checking
 unfolding clap_on_literals
 check_is = record { first = refl; right = refl; found = refl; named = refl; plain = tt; top_right = refl }
+
+abbrev converting : Shape
+converting = sub (plain_app (codes "convert"))
 
 convert_is : IsCommand (codes "convert") converting
 unfolding clap_on_literals

@@ -53,11 +53,14 @@ pub data AreOptions (Takes : Given → Type 0) : List Text → List Given → Ty
 
 -- the options of `solve`, of `certify` and of `bench`
 abbrev pub OfSolve : Given → Type 0
-OfSolve (format version) = ⊥
-OfSolve _ = Unit {0}
+OfSolve (workers n) = Unit {0}
+OfSolve (slice n) = Unit {0}
+OfSolve _ = ⊥
 
 abbrev pub OfCertify : Given → Type 0
-OfCertify _ = Unit {0}
+OfCertify (workers n) = Unit {0}
+OfCertify (slice n) = Unit {0}
+OfCertify (format version) = Unit {0}
 
 abbrev pub OfBench : Given → Type 0
 OfBench (workers n) = Unit {0}
