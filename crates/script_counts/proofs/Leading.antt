@@ -1,12 +1,12 @@
 -- Where a walk without answers leads.
-use Rattle.std.proofs.Common.{refl, sym, subst, ◌≡◌, ◌∙◌, ℕ, List, [], ◌∷◌, Some}
+use Rattle.std.proofs.Common.{arith, refl, sym, subst, ◌≡◌, ◌∙◌, ◌≤◌, ◌+◌, length, ℕ, List, [], ◌∷◌, Some}
 use Rattle.smt_script.specs.declared.state.Notice.{Notice}
 use Rattle.smt_script.specs.declared.state.Question.{Question}
 use Rattle.smt_script.specs.declared.state.Satisfiability.{Satisfiability}
-use Rattle.smt_script.specs.States.{State}
+use Rattle.smt_script.specs.States.{State, start_state}
 use Rattle.smt_answer.specs.declared.kind.Kind.{Kind}
 use Rattle.script_walk.specs.Course.{Place, start_with, Turn, tells, asks, ends, fails, turn, behind_told, IsCourseOf}
-use Rattle.script_walk.specs.Events.{IsStart, IsEvent}
+use Rattle.script_walk.specs.Events.{IsStart, IsReady, IsEvent}
 use Rattle.script_walk.specs.Standing.{Stands}
 use Rattle.script_walk.specs.declared.walk.Event.{Event}
 use Rattle.script_walk.specs.declared.walk.Event.TheVariants.{Told, Asked, Ended, Failed}
@@ -26,6 +26,19 @@ pub record IsSoFar (script : List ℕ) (w : Walk) : Type 0 where
   pub leads : (turns : List (Turn Satisfiability)) → IsCourseOf says w.lexer.bytes w.lexer.place here turns
       → (last : State) → last_state turns ≡ Some last → IsLast script last
 
+pub ready_at_start : (w : Walk) → IsStart w → IsReady w
+ready_at_start w start =
+    let place = start.place in
+    let number = start.number in
+    record {
+      fresh = start.fresh;
+      same = start.same;
+      within = omega (arith, place);
+      counted = omega (arith, place, number);
+      few = start.few;
+      stands = (start_state, start.stands);
+    }
+
 pub so_far_starts : (w : Walk) → IsStart w → IsSoFar w.lexer.bytes w
 so_far_starts w start = record {
   here = start_with [];
@@ -39,6 +52,9 @@ so_far_starts w start = record {
 }
 
 module _ (script : List ℕ) (v w : Walk) (h : IsSoFar script v) where
+  pub event_as : (event other : Event) → event ≡ other → IsEvent v w h.here.state event → IsEvent v w h.here.state other
+  event_as event other e is = subst (λ (f : Event). IsEvent v w h.here.state f) e is
+
   pub so_far_goes : (id : ℕ) (notice : Notice) → IsEvent v w h.here.state (Told id notice) → w.lexer.bytes ≡ v.lexer.bytes → IsSoFar script w
   so_far_goes id notice event bytes =
       let to = event.carries.1 in record {
