@@ -19,7 +19,8 @@ use Rattle.cover_tree.proofs.Sets.{get_behind}
 use Rattle.cover_tree.proofs.Tables.{get_map}
 use Rattle.book_core.specs.declared.event.Event.{Event}
 use Rattle.book_core.specs.declared.verdict.Verdict.TheVariants.{Sat, Unsat}
-use Rattle.book_core.specs.Books.{State, IsDone, IsSolution, IsDecidable, IsAtom}
+use Rattle.book_core.specs.Books.{State, IsDone, IsDecidable}
+use Rattle.stn_core.specs.Solution.{IsSolution, IsAtom}
 use Rattle.book_core.specs.Runs.{IsKept}
 use Rattle.book_core.specs.Facts.{AreShut, IsSound}
 use Rattle.book_core.specs.Verdicts.{IsRight, EndsEmpty, last_lemma, ended_by}

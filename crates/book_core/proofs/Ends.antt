@@ -18,7 +18,8 @@ use Rattle.book_core.specs.declared.event.Taken.TheVariants.{Done, Idle, Cube}
 use Rattle.book_core.specs.declared.event.Outcome.TheVariants.{Found, Shut as ShutBy, Split as SplitBy}
 use Rattle.refute_tree.specs.Moves.{moved_number}
 use Rattle.refute_tree.specs.Batches.{MovedBatchLaw, JoinedLaw}
-use Rattle.book_core.specs.Books.{State, opening, IsAtom, IsDecidable, IsAllowed, after, first_found}
+use Rattle.book_core.specs.Books.{State, opening, IsDecidable, IsAllowed, after, first_found}
+use Rattle.stn_core.specs.Solution.{IsAtom}
 use Rattle.book_core.specs.Facts.{IsApart, IsSound}
 use Rattle.book_core.specs.Runs.{IsRun, IsRunFrom, replayed, replayed_from}
 use Rattle.book_core.specs.Ends.{all_literals, most_nodes, nodes_at, nodes_left, schedules_left, left_to_do, Leaves, deliveries}

@@ -24,7 +24,8 @@ use Rattle.book_core.specs.declared.event.Event.TheVariants.{Take, Deliver, Rele
 use Rattle.book_core.specs.declared.event.Taken.TheVariants.{Done, Idle, Cube}
 use Rattle.book_core.specs.declared.event.Outcome.{Outcome}
 use Rattle.book_core.specs.declared.event.Outcome.TheVariants.{Found, Shut as ShutBy, Split as SplitBy}
-use Rattle.book_core.specs.Books.{State, opening, IsDone, IsSolution, IsAtom, IsDecidable, IsShutBy, IsJustified, IsAllowed, first_found, found_delivered, lemmas_delivered, after}
+use Rattle.book_core.specs.Books.{State, opening, IsDone, IsDecidable, IsShutBy, IsJustified, IsAllowed, first_found, found_delivered, lemmas_delivered, after}
+use Rattle.stn_core.specs.Solution.{IsSolution, IsAtom}
 use Rattle.book_core.specs.Runs.{IsRun, IsRunFrom, replayed_from, replayed}
 use Rattle.book_core.specs.Facts.{IsApart, AreShut, IsSound}
 

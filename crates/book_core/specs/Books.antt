@@ -5,8 +5,7 @@ use Rattle.std.specs.Prelude.{◌≡◌, ◌⊎◌, ℕ, ◌≤◌, List, [], �
 use Rattle.stn_core.specs.declared.literal.Literal.{Literal}
 use Rattle.stn_core.specs.declared.problem.Problem.{Problem}
 use Rattle.stn_core.specs.Literal.{negation_of}
-use Rattle.stn_core.specs.Problem.{ProblemHolds}
-use Rattle.stn_core.specs.Schedule.{IsInRange}
+use Rattle.stn_core.specs.Solution.{IsSolution, IsAtom}
 use Rattle.refute_tree.specs.declared.lemma.Lemma.{Lemma}
 use Rattle.refute_tree.specs.Trees.{IsDenied, stated}
 use Rattle.refute_tree.specs.Moves.{moved_number}
@@ -36,16 +35,6 @@ opening = state_with whole [] None
 -- a schedule is found, or every leaf is Shut
 abbrev pub IsDone : State → Type 0
 IsDone s = IsSome s.found ⊎ (NoneFree s.cover × NoneHeld s.cover)
-
--- one value for each point, within the limits, on which the problem holds
-pub record IsSolution (problem : Problem) (values : List ℤ) : Type 0 where
-  pub count : length values ≡ problem.points
-  pub range : All IsInRange values
-  pub holds : ProblemHolds values problem.clauses
-
--- the literal is in a clause of the problem
-abbrev pub IsAtom : Problem → Literal → Type 0
-IsAtom problem l = (clause : List Literal) × Contains problem.clauses clause × Contains clause l
 
 -- the literal or its negation is
 abbrev pub IsDecidable : Problem → Literal → Type 0

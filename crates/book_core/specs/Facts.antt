@@ -9,7 +9,8 @@ use Rattle.cover_tree.specs.declared.node.Node.TheVariants.{Shut}
 use Rattle.cover_tree.specs.Covers.{Cubes, IsCover, node_at, cube_at}
 use Rattle.cover_tree.specs.Partition.{IsInOne}
 use Rattle.book_core.specs.declared.event.Event.{Event}
-use Rattle.book_core.specs.Books.{State, IsSolution, IsDecidable, IsShutBy, IsDone, IsAllowed, after}
+use Rattle.book_core.specs.Books.{State, IsDecidable, IsShutBy, IsDone, IsAllowed, after}
+use Rattle.stn_core.specs.Solution.{IsSolution}
 use Rattle.book_core.specs.Runs.{IsRun, replayed}
 
 -- two literals of which neither is the other, nor its negation

@@ -7,7 +7,8 @@ use Rattle.refute_tree.specs.Trees.{IsRefutation}
 use Rattle.refute_tree.specs.Batches.{LemmaIsOver}
 use Rattle.book_core.specs.declared.verdict.Verdict.{Verdict}
 use Rattle.book_core.specs.declared.verdict.Verdict.TheVariants.{Sat, Unsat}
-use Rattle.book_core.specs.Books.{State, IsDone, IsSolution}
+use Rattle.book_core.specs.Books.{State, IsDone}
+use Rattle.stn_core.specs.Solution.{IsSolution}
 
 -- a solution, or a refutation whose literals are within the limits
 abbrev pub IsRight : Problem → Verdict → Type 0
@@ -15,10 +16,15 @@ IsRight problem (Sat values) = IsSolution problem values
 IsRight problem (Unsat lemmas) =
     IsRefutation problem.points problem.clauses lemmas × All (LemmaIsOver problem.points) lemmas
 
+-- the schedule is the one that was found first, and a refutation comes where none was found
+abbrev pub AgreesWith : State → Verdict → Type 0
+AgreesWith s (Sat values) = s.found ≡ Some values
+AgreesWith s (Unsat lemmas) = s.found ≡ None
+
 -- a right verdict exactly where nothing is left to do
 abbrev pub Concludes : Problem → State → Option Verdict → Type 0
 Concludes problem s None = IsDone s → ⊥
-Concludes problem s (Some verdict) = IsDone s × IsRight problem verdict
+Concludes problem s (Some verdict) = IsDone s × IsRight problem verdict × AgreesWith s verdict
 
 -- the lemma without literals
 abbrev pub last_lemma : List Step → Lemma

@@ -12,7 +12,8 @@ use Rattle.refute_tree.specs.declared.lemma.Lemma.{Lemma}
 use Rattle.refute_tree.specs.Trees.{IsDenied, IsRefuted, stated}
 use Rattle.refute_tree.specs.Batches.{NamesOver, LemmaBatch, LemmaIsOver, AreRefuted}
 use Rattle.refute_tree.proofs.Moved.{joined}
-use Rattle.book_core.specs.Books.{IsShutBy, IsAtom, IsJustified, Fits}
+use Rattle.book_core.specs.Books.{IsShutBy, IsJustified, Fits}
+use Rattle.stn_core.specs.Solution.{IsAtom}
 use Rattle.book_core.specs.declared.event.Outcome.{Outcome}
 use Rattle.book_core.proofs.Concluding.{got, shared_clauses}
 use Rattle.cover_tree.proofs.Tables.{get_map}

@@ -3,7 +3,8 @@ ghost use Rattle.std.specs.Prelude.{◌≡◌, IsTrue, OnOk, All, map};
 ghost use Rattle.stn_core.specs.Schedule.{IsInRange};
 ghost use Rattle.cert_check.specs.Tests.{is_assumed};
 ghost use Rattle.refute_tree.specs.Trees.{IsDenied, stated};
-ghost use Rattle.book_core.specs.Books.{Fits, IsAtom, IsDecidable, IsShutBy, IsSolution, IsUndecided};
+ghost use Rattle.book_core.specs.Books.{Fits, IsDecidable, IsShutBy, IsUndecided};
+ghost use Rattle.stn_core.specs.Solution.{IsAtom, IsSolution};
 ghost use Rattle.book_core.specs.Shared.{lemmas_of};
 
 use crate::judging::Fault;

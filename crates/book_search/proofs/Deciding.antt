@@ -14,7 +14,7 @@ use Rattle.refute_tree.specs.declared.lemma.Lemma.{Lemma}
 use Rattle.refute_tree.specs.Trees.{Tree}
 use Rattle.refute_tree.specs.Batches.{NamesOver, LemmaIsOver}
 use Rattle.book_core.specs.declared.verdict.Verdict.TheVariants.{Unsat}
-use Rattle.book_core.specs.Books.{IsSolution}
+use Rattle.stn_core.specs.Solution.{IsSolution}
 use Rattle.book_core.specs.Verdicts.{IsRight, last_lemma}
 use Rattle.book_core.proofs.Concluding.{closed_refutation}
 use Rattle.book_search.specs.Base.{Base, IsBase, BaseIsOver, steps_of, unit_steps, leaf_steps}

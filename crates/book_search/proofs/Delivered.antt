@@ -22,7 +22,8 @@ use Rattle.book_core.specs.declared.event.Outcome.TheVariants.{Found, Shut as Sh
 use Rattle.cover_tree.specs.Covers.{cube_at}
 use Rattle.book_core.specs.Facts.{IsSound}
 use Rattle.book_core.proofs.Concluding.{shared_clauses, cubes_over}
-use Rattle.book_core.specs.Books.{State, IsJustified, IsSolution, IsShutBy, IsDecidable, IsUndecided, Fits}
+use Rattle.book_core.specs.Books.{State, IsJustified, IsShutBy, IsDecidable, IsUndecided, Fits}
+use Rattle.stn_core.specs.Solution.{IsSolution}
 use Rattle.book_core.proofs.Sound.{negation_twice}
 use Rattle.book_search.specs.Deliveries.{Delivers}
 

@@ -2,7 +2,8 @@ ghost use Rattle.std.specs.Prelude.{◌≡◌, ◌≤◌, ◌<◌, ℕ, List, Al
 ghost use Rattle.stn_core.specs.declared.literal.Literal.{Literal as Bound};
 ghost use Rattle.stn_core.specs.Literal.{IsOver};
 ghost use Rattle.net_batch.specs.Batches.{IsBatchAdded, IsBatchTried, IsLonger, IsPart, IsPlaceTried};
-ghost use Rattle.net_batch.specs.Batches.{adds_limit, is_marked};
+ghost use Rattle.net_batch.specs.Batches.{is_marked, HasRisen, IsMarkedRisen, IsTriedRisen};
+ghost use Rattle.stn_core.specs.Limits.{adds_limit};
 
 use crate::order::first_places;
 use std::alloc::{AllocError, Global};
@@ -23,6 +24,9 @@ fn add_at<N: Net>(
         → IsPart old literals.now marks.new (N.literals_of net.new) }
     ensures tried { (old : List Bound) → IsPart old literals.now marks.old (N.literals_of net.old)
         → IfOk result (IsPlaceTried old literals.now marks.new place) }
+    ensures risen { (old : List Bound) (before : ℕ)
+        → IsMarkedRisen old literals.now before marks.old (N.literals_of net.old) (N.adds_of net.old)
+        → IfOk result (IsTriedRisen old literals.now before marks.new (N.literals_of net.new) (N.adds_of net.new)) }
     ensures marked { (j : ℕ) → is_marked marks.old j ≡ true → is_marked marks.new j ≡ true }
 {
     if place >= literals.len() || marks[place] {
@@ -49,6 +53,8 @@ fn add_in_order<N: Net>(
     ensures counts { min (N.adds_of net.old) adds_limit ≤ N.adds_of net.new }
     ensures longer { IsLonger (N.literals_of net.old) literals.now (N.literals_of net.new) }
     ensures tried { IfOk result (IsBatchTried (N.literals_of net.old) literals.now (N.literals_of net.new)) }
+    ensures risen { IfOk result (HasRisen (N.literals_of net.old) literals.now (N.adds_of net.old)
+        (N.literals_of net.new) (N.adds_of net.new)) }
 {
     let mut marks = vec![in alloc; false; literals.len()]?;
     'first: for place in places {
@@ -64,7 +70,7 @@ fn add_in_order<N: Net>(
     Ok(None)
 }
 
-/// All of the literals go into the net, behind those that it has, in an order of its own; or none does, since some of
+/// All of the literals go into the net, each once, behind those that it has, in an order of its own; or none does, since some of
 /// them and of the net's are the negative cycle that it answers. Their points are among the net's, and their bounds from
 /// `-BOUND_LIMIT - 1` to `BOUND_LIMIT`. The one error is want of memory, and leaves the net's literals as they were.
 ///
@@ -78,6 +84,8 @@ pub fn add_all<N: Net>(
     ensures points { N.points_of net.new ≡ N.points_of net.old }
     ensures counts { min (N.adds_of net.old) adds_limit ≤ N.adds_of net.new }
     ensures added { IfOk result (IsBatchAdded (N.literals_of net.old) literals.now (N.literals_of net.new)) }
+    ensures risen { IfOk result (HasRisen (N.literals_of net.old) literals.now (N.adds_of net.old)
+        (N.literals_of net.new) (N.adds_of net.new)) }
     ensures err { OnErr result (N.literals_of net.new ≡ N.literals_of net.old) }
 {
     let schedule = match greatest(alloc, net.points(), literals)? {

@@ -14,7 +14,8 @@ use Rattle.book_core.specs.declared.event.Event.{Event}
 use Rattle.book_core.specs.declared.event.Event.TheVariants.{Take}
 use Rattle.book_core.specs.declared.event.Taken.TheVariants.{Done as TakeDone}
 use Rattle.book_core.specs.declared.event.Outcome.{Outcome}
-use Rattle.book_core.specs.Books.{IsAtom, IsDecidable, IsJustified}
+use Rattle.book_core.specs.Books.{IsDecidable, IsJustified}
+use Rattle.stn_core.specs.Solution.{IsAtom}
 use Rattle.book_core.proofs.Sound.{negation_twice}
 use Rattle.book_lock.specs.declared.cube.Cube.{Cube}
 use Rattle.book_lock.specs.declared.cube.Taken.{Taken}

@@ -8,7 +8,7 @@ use Rattle.cert_text.specs.Limits.{limit}
 use Rattle.clause_form.specs.Restricting.{restricted}
 use Rattle.idl_node.specs.declared.sort.Sort.{Sort}
 use Rattle.idl_term.specs.Scopes.{Scope, sorts_of}
-use Rattle.book_core.specs.Books.{IsSolution}
+use Rattle.stn_core.specs.Solution.{IsSolution}
 use Rattle.dtp_entry.specs.Entries.{points_of, problem_of}
 use Rattle.dtp_entry.specs.Transcripts.{Decides}
 use Rattle.dtp_session.specs.Forms.{formed, version_wanted}
