@@ -1,4 +1,4 @@
--- The s-expression of an entry within the limits stands for this entry.
+-- The s-expression of a part within the limits stands for this part.
 use Rattle.std.proofs.Common.{◌≡◌, ◌∙◌, refl, ap, arith, ℕ, suc, ◌<◌, ◌≤◌, ◌^◌, ℤ, pos, negsuc, true, false, List, [], ◌∷◌, map, Option, Some, None}
 use Rattle.std.specs.Prelude.{All, min, nat_le, unsigned_abs}
 use Rattle.std.proofs.lemmas.Int.{ints}
@@ -17,11 +17,9 @@ use Rattle.kept_lemmas.specs.declared.item.Item.{Item}
 use Rattle.kept_lemmas.specs.declared.item.Item.TheVariants.{Own, Keep}
 use Rattle.cert_text.specs.declared.entry.Version.{Version}
 use Rattle.cert_text.specs.declared.entry.Version.TheVariants.{One, Two}
-use Rattle.cert_text.specs.declared.entry.FileEntry.TheVariants.{Sat, Unsat}
 use Rattle.cert_text.specs.Form.{numeral, bound_sexprs, number_of_value, literal_sexpr, step_sexpr, item_sexpr, value_sexpr}
 use Rattle.smt_sexpr.specs.Shapes.{items_of}
 use Rattle.cert_text.proofs.OneEntry.{numeral_value}
-use Rattle.cert_read.specs.Laws.{EntryIsItsForm}
 use Rattle.cert_read.specs.Parts.{limit, limited, numeral_within, index_of, point_of, number_within, number_of, each_of, bound_of, literal_of, step_of, item_of, named_value_of}
 use Rattle.cert_read.specs.Written.{NumberFits, LiteralWithin, StepWithin, ItemWithin, ValueFits}
 
@@ -66,14 +64,14 @@ LiteralFits l = LiteralWithin (2 ^ 32) l
 abbrev StepFits : Version → Step → Type 0
 StepFits version s = StepWithin version (2 ^ 32) s
 
-abbrev ItemFits : Version → Item → Type 0
+abbrev pub ItemFits : Version → Item → Type 0
 ItemFits version item = ItemWithin version (2 ^ 32) item
 
 each_from : {A : Type 0} (f : Sexpr → Option A) (g : A → Sexpr) (P : A → Type 0) → ((x : A) → P x → f (g x) ≡ Some x) → (xs : List A) → AllByRecursion P xs → each_of f (items_of (map g xs)) ≡ Some xs
 each_from f g P back [] h = refl
 each_from f g P back (x ∷ xs) h = rw (back x h.0, each_from f g P back xs h.1) refl
 
-each_back : {A : Type 0} (f : Sexpr → Option A) (g : A → Sexpr) (P : A → Type 0) → ((x : A) → P x → f (g x) ≡ Some x) → (xs : List A) → All P xs → each_of f (items_of (map g xs)) ≡ Some xs
+pub each_back : {A : Type 0} (f : Sexpr → Option A) (g : A → Sexpr) (P : A → Type 0) → ((x : A) → P x → f (g x) ≡ Some x) → (xs : List A) → All P xs → each_of f (items_of (map g xs)) ≡ Some xs
 each_back f g P back xs h = each_from f g P back xs (recursion_from_All P xs h)
 
 bound_back : (l : Literal) → LiteralFits l → bound_of (items_of (bound_sexprs l)) ≡ Some l
@@ -95,11 +93,7 @@ item_back version (Own l) h = rw (literals_back l.clause h.clause, each_back (st
 item_back One (Keep k) h = absurd h
 item_back Two (Keep k) h = rw (index_back k.entry h.0, index_back k.item h.1) refl
 
-value_back : (v : NamedValue) → ValueFits v → named_value_of (value_sexpr v) ≡ Some v
+pub value_back : (v : NamedValue) → ValueFits v → named_value_of (value_sexpr v) ≡ Some v
 value_back (Int n) h = rw (within_back named_value_limit n (least_size named_value_limit n h)) refl
 value_back (Truth true) h = refl
 value_back (Truth false) h = refl
-
-pub entry_back : EntryIsItsForm
-entry_back version (Sat values) h = rw (each_back named_value_of value_sexpr ValueFits value_back values h) refl
-entry_back version (Unsat items) h = rw (each_back (item_of version) item_sexpr (ItemFits version) (item_back version) items h) refl

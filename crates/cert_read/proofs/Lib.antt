@@ -2,7 +2,6 @@ pub mod EachItem
 pub mod NegativeNumbers
 pub mod HeaderAndEnd
 pub mod ItemByItem
-pub mod OpenedLines
 pub mod CertificateLines
 pub mod OneCertificate
 pub mod EntryBack
@@ -11,3 +10,5 @@ pub mod NumeralTexts
 pub mod OnlyForms
 pub mod LemmaForms
 pub mod QuickTexts
+pub mod EntryKinds
+pub mod OpenedLines

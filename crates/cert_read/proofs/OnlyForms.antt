@@ -25,12 +25,10 @@ use Rattle.kept_lemmas.specs.declared.item.Item.{Item}
 use Rattle.kept_lemmas.specs.declared.item.Item.TheVariants.{Own, Keep}
 use Rattle.cert_text.specs.declared.entry.Version.{Version}
 use Rattle.cert_text.specs.declared.entry.Version.TheVariants.{One, Two}
-use Rattle.cert_text.specs.declared.entry.FileEntry.{FileEntry}
-use Rattle.cert_text.specs.declared.entry.FileEntry.TheVariants.{Sat, Unsat}
-use Rattle.cert_text.specs.Form.{numeral_text, numeral, bound_sexprs, number_of_value, literal_sexpr, clause_sexpr, step_sexpr, item_sexpr, value_sexpr, file_entry_sexpr}
+use Rattle.cert_text.specs.Form.{numeral_text, numeral, bound_sexprs, number_of_value, literal_sexpr, clause_sexpr, step_sexpr, item_sexpr, value_sexpr}
 use Rattle.smt_sexpr.specs.Shapes.{symbol, items_of, is_symbol, headed_of}
-use Rattle.cert_read.specs.Parts.{limit, numeral_within, index_of, point_of, negative, negative_within, number_within, number_of, whole_of, put, each_of, literal_with, bound_of, literal_of, clause_of, single_of, only_in_two, step_named, step_of, lemma_with, lemma_from, kept_with, kept_from, item_named, item_of, truth_named, named_value_of, entry_named, entry_of}
-use Rattle.cert_read.specs.Written.{NumberFits, LiteralWithin, StepWithin, LemmaWithin, ItemWithin, ValueFits, FileEntryFits, IsPlainFileEntry}
+use Rattle.cert_read.specs.Parts.{limit, numeral_within, index_of, point_of, negative, negative_within, number_within, number_of, whole_of, put, each_of, literal_with, bound_of, literal_of, clause_of, single_of, only_in_two, step_named, step_of, lemma_with, lemma_from, kept_with, kept_from, item_named, item_of, truth_named, named_value_of}
+use Rattle.cert_read.specs.Written.{NumberFits, LiteralWithin, StepWithin, LemmaWithin, ItemWithin, ValueFits}
 use Rattle.cert_read.proofs.HeaderAndEnd.{symbol_is}
 use Rattle.cert_read.proofs.NumeralTexts.{text_of_value}
 
@@ -42,20 +40,20 @@ some_same x y e = cc
 none_some : {A : Type 0} (x : A) → ◌≡◌ {A = Option A} None (Some x) → ⊥
 none_some x e = cc
 
-mapped : {A B : Type 0} (f : A → B) (o : Option A) (y : B) → option_map f o ≡ Some y → (x : A) × (o ≡ Some x) × (f x ≡ y)
+pub mapped : {A B : Type 0} (f : A → B) (o : Option A) (y : B) → option_map f o ≡ Some y → (x : A) × (o ≡ Some x) × (f x ≡ y)
 mapped f None y e = absurd (none_some y e)
 mapped f (Some x) y e = (x, refl, some_same (f x) y e)
 
-chained : {A B : Type 0} (f : A → Option B) (o : Option A) (y : B) → option_and_then f o ≡ Some y → (x : A) × (o ≡ Some x) × (f x ≡ Some y)
+pub chained : {A B : Type 0} (f : A → Option B) (o : Option A) (y : B) → option_and_then f o ≡ Some y → (x : A) × (o ≡ Some x) × (f x ≡ Some y)
 chained f None y e = absurd (none_some y e)
 chained f (Some x) y e = (x, refl, e)
 
-branch : {A : Type 0} (b : Bool) (o p : Option A) (y : A) → (if b then o else p) ≡ Some y → ((b ≡ true) × (o ≡ Some y)) ⊎ (p ≡ Some y)
+pub branch : {A : Type 0} (b : Bool) (o p : Option A) (y : A) → (if b then o else p) ≡ Some y → ((b ≡ true) × (o ≡ Some y)) ⊎ (p ≡ Some y)
 branch true o p y e = inl (refl, e)
 branch false o p y e = inr e
 
 -- a test, or nothing
-tested : {A : Type 0} (b : Bool) (o : Option A) (y : A) → (if b then o else None) ≡ Some y → (b ≡ true) × (o ≡ Some y)
+pub tested : {A : Type 0} (b : Bool) (o : Option A) (y : A) → (if b then o else None) ≡ Some y → (b ≡ true) × (o ≡ Some y)
 tested true o y e = (refl, e)
 tested false o y e = absurd (none_some y e)
 
@@ -126,7 +124,7 @@ between most (negsuc n) h = (omega (arith, ints, h), omega (arith, ints, h))
 -- ---- lists
 
 -- what is read is within the limits, and has its own form where it is plain
-abbrev Only : {A : Type 0} → (Sexpr → Option A) → (A → Sexpr) → (A → Type 0) → (A → Type 0) → Type 0
+abbrev pub Only : {A : Type 0} → (Sexpr → Option A) → (A → Sexpr) → (A → Type 0) → (A → Type 0) → Type 0
 Only {A} f g Fits Plain = (x : Sexpr) (a : A) → IsWritable x → f x ≡ Some a → Fits a × (Plain a → x ≡ g a)
 
 put_parts : {A : Type 0} (o : Option A) (p : Option (List A)) (ys : List A) → put o p ≡ Some ys → (z : A) × (zs : List A) × (o ≡ Some z) × (p ≡ Some zs) × (z ∷ zs ≡ ys)
@@ -134,7 +132,7 @@ put_parts None p ys e = absurd (none_some ys e)
 put_parts (Some z) None ys e = absurd (none_some ys e)
 put_parts (Some z) (Some zs) ys e = (z, zs, refl, refl, some_same (z ∷ zs) ys e)
 
-abbrev EachOnly : {A : Type 0} → (A → Sexpr) → (A → Type 0) → (A → Type 0) → Items → List A → Type 0
+abbrev pub EachOnly : {A : Type 0} → (A → Sexpr) → (A → Type 0) → (A → Type 0) → Items → List A → Type 0
 EachOnly g Fits Plain xs ys = AllByRecursion Fits ys × (AllByRecursion Plain ys → xs ≡ items_of (map g ys))
 
 more_same : (x y : Sexpr) (xs ys : Items) → x ≡ y → xs ≡ ys → more x xs ≡ more y ys
@@ -149,7 +147,7 @@ each_from {A} f g Fits Plain only (more x xs) ys w e =
     let rest = each_from f g Fits Plain only xs p.1 w.1 p.3 in
     subst (λ (zs : List A). EachOnly g Fits Plain (more x xs) zs) p.4 ((first.0, rest.0), λ plain. more_same x (g p.0) xs (items_of (map g p.1)) (first.1 plain.0) (rest.1 plain.1))
 
-each_only : {A : Type 0} (f : Sexpr → Option A) (g : A → Sexpr) (Fits Plain : A → Type 0) → Only f g Fits Plain → (xs : Items) (ys : List A) → AreWritable xs → each_of f xs ≡ Some ys → All Fits ys × (All Plain ys → xs ≡ items_of (map g ys))
+pub each_only : {A : Type 0} (f : Sexpr → Option A) (g : A → Sexpr) (Fits Plain : A → Type 0) → Only f g Fits Plain → (xs : Items) (ys : List A) → AreWritable xs → each_of f xs ≡ Some ys → All Fits ys × (All Plain ys → xs ≡ items_of (map g ys))
 each_only f g Fits Plain only xs ys w e =
     let h = each_from f g Fits Plain only xs ys w e in
     (All-from_recursion Fits ys h.0, λ plain. h.1 (recursion_from_All Plain ys plain))
@@ -200,7 +198,7 @@ symbol_only (leaf Symbol text) name e = ap symbol (some_same text name e)
 symbol_only (leaf other text) name e = absurd (none_some name e)
 symbol_only (list xs) name e = absurd (none_some name e)
 
-headed_only : (x : Sexpr) (name : List ℕ) (xs : Items) → IsWritable x → headed_of x ≡ Some (name, xs) → (x ≡ list (more (symbol name) xs)) × AreWritable xs
+pub headed_only : (x : Sexpr) (name : List ℕ) (xs : Items) → IsWritable x → headed_of x ≡ Some (name, xs) → (x ≡ list (more (symbol name) xs)) × AreWritable xs
 headed_only (leaf kind text) name xs w e = absurd (none_some (name, xs) e)
 headed_only (list none) name xs w e = absurd (none_some (name, xs) e)
 headed_only (list (more head rest)) name xs w e =
@@ -211,7 +209,7 @@ headed_only (list (more head rest)) name xs w e =
     ((λ i. list (more (first i) (items i))), subst AreWritable items w.1)
 
 -- a list whose head has this name
-named : (x : Sexpr) (name text : List ℕ) (xs ys : Items) → x ≡ list (more (symbol name) xs) → bytes_eq name text ≡ true → xs ≡ ys → x ≡ list (more (symbol text) ys)
+pub named : (x : Sexpr) (name text : List ℕ) (xs ys : Items) → x ≡ list (more (symbol name) xs) → bytes_eq name text ≡ true → xs ≡ ys → x ≡ list (more (symbol text) ys)
 named x name text xs ys e test same = e ∙ (λ i. list (more (symbol ((bytes_eq-Decides name text).0 test i)) (same i)))
 
 -- ---- steps
@@ -360,7 +358,7 @@ module _ (version : Version) (x : Sexpr) (name : List ℕ) (xs : Items) (is : x 
         | inr e2 ↦ (let h = tested (bytes_eq name (codes "keep")) (option_map Keep (only_in_two version (kept_from xs))) item e2 in keep_only item h.0 h.1)
       ]
 
-item_only : (version : Version) → Only (item_of version) item_sexpr (ItemWithin version (2 ^ 32)) (ItemWithin version (2 ^ 32 - 1))
+pub item_only : (version : Version) → Only (item_of version) item_sexpr (ItemWithin version (2 ^ 32)) (ItemWithin version (2 ^ 32 - 1))
 item_only version x item w e =
     let c = chained (λ (p : List ℕ × Items). item_named version p.0 p.1) (headed_of x) item e in
     let h = headed_only x c.0.0 c.0.1 w c.1 in
@@ -382,38 +380,8 @@ value_from : (o : Option ℤ) (p : Option NamedValue) (v : NamedValue) → optio
 value_from None p v e = inr e
 value_from (Some n) p v e = inl (n, refl, some_same (Int n) v e)
 
-value_only : Only named_value_of value_sexpr ValueFits ValueFits
+pub value_only : Only named_value_of value_sexpr ValueFits ValueFits
 value_only x v w e = elim (value_from (whole_of x) (option_and_then truth_named (symbol_of x)) v e) [
   | inl h ↦ (let n = within_only named_value_limit x h.0 w h.1 in subst (ValueOnly x) h.2 (between named_value_limit h.0 n.0, λ fits. n.1))
   | inr e2 ↦ (let c = chained truth_named (symbol_of x) v e2 in truth_cases x c.0 v (symbol_only x c.0 c.1) c.2)
 ]
-
--- ---- entries
-
-abbrev EntryOnly : Version → Sexpr → FileEntry → Type 0
-EntryOnly version x e = FileEntryFits version e × (IsPlainFileEntry version e → x ≡ file_entry_sexpr e)
-
-module _ (version : Version) (x : Sexpr) (name : List ℕ) (xs : Items) (is : x ≡ list (more (symbol name) xs)) (w : AreWritable xs) where
-  sat_only : (entry : FileEntry) → bytes_eq name (codes "sat") ≡ true → option_map Sat (each_of named_value_of xs) ≡ Some entry → EntryOnly version x entry
-  sat_only entry test e =
-      let m = mapped Sat (each_of named_value_of xs) entry e in
-      let h = each_only named_value_of value_sexpr ValueFits ValueFits value_only xs m.0 w m.1 in
-      subst (EntryOnly version x) m.2 (h.0, λ plain. named x name (codes "sat") xs (items_of (map value_sexpr m.0)) is test (h.1 plain))
-
-  unsat_only : (entry : FileEntry) → bytes_eq name (codes "unsat") ≡ true → option_map Unsat (each_of (item_of version) xs) ≡ Some entry → EntryOnly version x entry
-  unsat_only entry test e =
-      let m = mapped Unsat (each_of (item_of version) xs) entry e in
-      let h = each_only (item_of version) item_sexpr (ItemWithin version (2 ^ 32)) (ItemWithin version (2 ^ 32 - 1)) (item_only version) xs m.0 w m.1 in
-      subst (EntryOnly version x) m.2 (h.0, λ plain. named x name (codes "unsat") xs (items_of (map item_sexpr m.0)) is test (h.1 plain))
-
-  entry_cases : (entry : FileEntry) → entry_named version name xs ≡ Some entry → EntryOnly version x entry
-  entry_cases entry e = elim (branch (bytes_eq name (codes "sat")) (option_map Sat (each_of named_value_of xs)) (if bytes_eq name (codes "unsat") then option_map Unsat (each_of (item_of version) xs) else None) entry e) [
-    | inl h ↦ sat_only entry h.0 h.1
-    | inr e2 ↦ (let h = tested (bytes_eq name (codes "unsat")) (option_map Unsat (each_of (item_of version) xs)) entry e2 in unsat_only entry h.0 h.1)
-  ]
-
-pub entry_only : (version : Version) (x : Sexpr) (entry : FileEntry) → IsWritable x → entry_of version x ≡ Some entry → EntryOnly version x entry
-entry_only version x entry w e =
-    let c = chained (λ (p : List ℕ × Items). entry_named version p.0 p.1) (headed_of x) entry e in
-    let h = headed_only x c.0.0 c.0.1 w c.1 in
-    entry_cases version x c.0.0 c.0.1 h.0 h.1 entry c.2

@@ -3,8 +3,6 @@ use Rattle.std.proofs.Common.{◌≡◌, ◌≢◌, ◌∙◌, inl, inr, refl, s
 use Rattle.std.specs.Prelude.{codes, slice_range, if◌then◌else◌, option_map, option_and_then}
 use Rattle.std.specs.Option.{option_map_or}
 use Rattle.std.specs.Str.{bytes_eq}
-use Rattle.stn_core.specs.declared.named.NamedValue.{NamedValue}
-use Rattle.kept_lemmas.specs.declared.item.Item.{Item}
 use Rattle.smt_lex.specs.declared.token.TokenKind.{TokenKind}
 use Rattle.smt_lex.specs.declared.token.TokenKind.TheVariants.{Left, Right}
 use Rattle.smt_lex.specs.declared.token.Token.{Token}
@@ -19,9 +17,8 @@ use Rattle.smt_sexpr.proofs.LeafTexts.{token_forward}
 use Rattle.cert_text.proofs.OneEntry.{parts, first}
 use Rattle.cert_text.specs.declared.entry.Version.{Version}
 use Rattle.cert_text.specs.declared.entry.FileEntry.{FileEntry}
-use Rattle.cert_text.specs.declared.entry.FileEntry.TheVariants.{Sat, Unsat}
 use Rattle.cert_text.specs.Form.{end_sexpr}
-use Rattle.cert_read.specs.Parts.{each_of, named_value_of, item_of, entry_named, entry_of}
+use Rattle.cert_read.specs.Parts.{each_of, entry_named, entry_of}
 use Rattle.cert_read.specs.Certificates.{RefusesBehind}
 use Rattle.cert_read.specs.declared.error.CertificateRefusal.TheVariants.{IllFormed as NoEntry}
 use Rattle.cert_read.specs.declared.line.Line.{Line}
@@ -31,25 +28,11 @@ use Rattle.cert_read.specs.declared.line.Head.TheVariants as head
 use Rattle.cert_read.specs.declared.error.PartError.{PartError}
 use Rattle.cert_read.specs.declared.error.PartError.TheVariants.{OutOfMemory, IllFormed}
 use Rattle.cert_read.specs.Lines.{IfIllFormed, LineIs, IsClosing, Closed, NeverCloses, IsListOf, LacksList, HasItems, head_of, IsLineOf, IsNoLine}
+use Rattle.cert_read.proofs.EntryKinds.{entry_by, head_by, by_tests, head_tests}
 use Rattle.cert_read.proofs.HeaderAndEnd.{is_end_line, end_alone}
 use Rattle.cert_read.proofs.ItemByItem.{closed_none, closed_more, closed_forward, never_more}
 
 -- ---- what a list stands for, by its head
-
-abbrev entry_by : Version → Head → Items → Option FileEntry
-entry_by version head.Sat xs = option_map Sat (each_of named_value_of xs)
-entry_by version head.Unsat xs = option_map Unsat (each_of (item_of version) xs)
-entry_by version head.End xs = None
-entry_by version head.Other xs = None
-
-abbrev head_by : Bool → Bool → Bool → Head
-head_by a b c = if a then head.Sat else (if b then head.Unsat else (if c then head.End else head.Other))
-
-by_tests : (version : Version) (xs : Items) (a b c : Bool) → (if a then option_map Sat (each_of named_value_of xs) else (if b then option_map Unsat (each_of (item_of version) xs) else None)) ≡ entry_by version (head_by a b c) xs
-by_tests version xs true b c = refl
-by_tests version xs false true c = refl
-by_tests version xs false false true = refl
-by_tests version xs false false false = refl
 
 abbrev is_named : Option (List ℕ) → List ℕ → Bool
 is_named o text = option_map_or (λ (name : List ℕ). bytes_eq name text) o false
@@ -64,25 +47,16 @@ entry_is version x xs = by_symbol version xs (symbol_of x)
 end_head : (x : Sexpr) (xs : Items) → list (more x xs) ≡ end_sexpr → head_of x ≡ head.End
 end_head x xs e = ap (λ (y : Sexpr). head_of (first (parts y))) e
 
-head_tests : (a b c : Bool) → head_by a b c ≡ head.End → c ≡ true
-head_tests true b c e = absurd cc
-head_tests false true c e = absurd cc
-head_tests false false true e = refl
-head_tests false false false e = absurd cc
-
 end_named : (x : Sexpr) → head_of x ≡ head.End → is_symbol (codes "end") x ≡ true
 end_named x e = head_tests (is_symbol (codes "sat") x) (is_symbol (codes "unsat") x) (is_symbol (codes "end") x) e
 
 -- ---- the list behind its parenthesis
 
 module _ (version : Version) (bytes : List ℕ) (place mid : ℕ) (x : Sexpr) (s : Spells bytes place x mid) where
-  pub opened_sat : (values : List NamedValue) (after : ℕ) → head_of x ≡ head.Sat → IsListOf named_value_of bytes mid values after → IsLineOf version bytes place (Shown (Sat values)) after
-  opened_sat values after h (xs, closed, are) =
-      (more x xs, closed_more bytes place mid after x xs s closed, entry_is version x xs ∙ ap (λ (k : Head). entry_by version k xs) h ∙ ap (option_map Sat) are)
-
-  pub opened_unsat : (items : List Item) (after : ℕ) → head_of x ≡ head.Unsat → IsListOf (item_of version) bytes mid items after → IsLineOf version bytes place (Shown (Unsat items)) after
-  opened_unsat items after h (xs, closed, are) =
-      (more x xs, closed_more bytes place mid after x xs s closed, entry_is version x xs ∙ ap (λ (k : Head). entry_by version k xs) h ∙ ap (option_map Unsat) are)
+  -- items of the kind that a head stands for
+  pub opened : {A : Type 0} (f : Sexpr → Option A) (make : List A → FileEntry) (k : Head) → ((xs : Items) → entry_by version k xs ≡ option_map make (each_of f xs)) → (parts : List A) (after : ℕ) → head_of x ≡ k → IsListOf f bytes mid parts after → IsLineOf version bytes place (Shown (make parts)) after
+  opened f make k by parts after h (xs, closed, are) =
+      (more x xs, closed_more bytes place mid after x xs s closed, entry_is version x xs ∙ ap (λ (l : Head). entry_by version l xs) h ∙ by xs ∙ ap (option_map make) are)
 
   pub opened_end : (after : ℕ) → head_of x ≡ head.End → Closed bytes mid none after → IsLineOf version bytes place End after
   opened_end after h closed = (more x none, closed_more bytes place mid after x none s closed, is_end_line x (end_named x h))
@@ -94,15 +68,10 @@ module _ (version : Version) (bytes : List ℕ) (place mid : ℕ) (x : Sexpr) (s
   no_line k xs after h other closed none_there =
       inr (more x xs, after, closed_more bytes place mid after x xs s closed, (entry_is version x xs ∙ ap (λ (l : Head). entry_by version l xs) h ∙ none_there, not_end k xs h other))
 
-  pub no_values : (error : PartError) → head_of x ≡ head.Sat → IfIllFormed (LacksList named_value_of bytes mid) error → IfIllFormed (IsNoLine version bytes place) error
-  no_values IllFormed h (inl never) = inl (never_more bytes place mid x s never)
-  no_values IllFormed h (inr (xs, after, closed, lacks)) = no_line head.Sat xs after h (λ e. absurd cc) closed (ap (option_map Sat) lacks)
-  no_values OutOfMemory h lacks = tt
-
-  pub no_items : (error : PartError) → head_of x ≡ head.Unsat → IfIllFormed (LacksList (item_of version) bytes mid) error → IfIllFormed (IsNoLine version bytes place) error
-  no_items IllFormed h (inl never) = inl (never_more bytes place mid x s never)
-  no_items IllFormed h (inr (xs, after, closed, lacks)) = no_line head.Unsat xs after h (λ e. absurd cc) closed (ap (option_map Unsat) lacks)
-  no_items OutOfMemory h lacks = tt
+  pub lacking : {A : Type 0} (f : Sexpr → Option A) (make : List A → FileEntry) (k : Head) → ((xs : Items) → entry_by version k xs ≡ option_map make (each_of f xs)) → k ≢ head.End → (error : PartError) → head_of x ≡ k → IfIllFormed (LacksList f bytes mid) error → IfIllFormed (IsNoLine version bytes place) error
+  lacking f make k by other IllFormed h (inl never) = inl (never_more bytes place mid x s never)
+  lacking f make k by other IllFormed h (inr (xs, after, closed, lacks)) = no_line k xs after h other closed (by xs ∙ ap (option_map make) lacks)
+  lacking f make k by other OutOfMemory h lacks = tt
 
   pub not_alone : (error : PartError) → head_of x ≡ head.End → IfIllFormed (HasItems bytes mid) error → IfIllFormed (IsNoLine version bytes place) error
   not_alone IllFormed h (inl never) = inl (never_more bytes place mid x s never)

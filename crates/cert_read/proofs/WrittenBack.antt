@@ -18,7 +18,7 @@ use Rattle.cert_text.specs.Laws.{HeaderReadsBack, FileEntryReadsBack, LineReadsB
 use Rattle.cert_read.specs.Laws.{CertificateReadsBack}
 use Rattle.cert_read.specs.Certificates.{certificate, ReadsEntries, ReadsCertificate}
 use Rattle.cert_read.specs.Written.{entries_text, certificate_text, IsClosedGap, FileEntryFits}
-use Rattle.cert_read.proofs.EntryBack.{entry_back}
+use Rattle.cert_read.proofs.EntryKinds.{entry_back}
 
 -- ---- what stands behind a gap is read in front of it
 

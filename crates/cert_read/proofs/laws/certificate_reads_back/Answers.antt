@@ -1,4 +1,4 @@
-use Rattle.cert_read.proofs.EntryBack.{entry_back}
+use Rattle.cert_read.proofs.EntryKinds.{entry_back}
 use Rattle.cert_read.proofs.WrittenBack.{certificate_back}
 use Rattle.cert_read.proofs.laws.certificate_reads_back.Goals as goal
 

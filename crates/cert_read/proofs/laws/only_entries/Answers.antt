@@ -1,4 +1,4 @@
-use Rattle.cert_read.proofs.OnlyForms.{entry_only}
+use Rattle.cert_read.proofs.EntryKinds.{entry_only}
 use Rattle.cert_read.proofs.laws.only_entries.Goals as goal
 
 pub returns : goal.returns
