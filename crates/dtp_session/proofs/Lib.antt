@@ -3,6 +3,7 @@ pub mod Fitting
 pub mod Shortening
 pub mod Looping
 pub mod Solving
+pub mod Stepping
 pub mod Transcribing
 pub mod Verdicts
 pub mod Telling

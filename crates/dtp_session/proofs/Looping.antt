@@ -1,20 +1,24 @@
 -- The loop over the commands of a script.
-use Rattle.std.proofs.Common.{refl, sym, ap, subst, inl, inr, ◌∙◌, ◌≡◌, ℕ, ◌+◌, List, [], ◌++◌, Option, None, Ok}
+use Rattle.std.proofs.Common.{arith, refl, sym, ap, subst, inl, inr, ◌∙◌, ◌≡◌, ◌+◌, ◌≤◌, length, ℕ, List, [], ◌++◌, Option, None, Ok}
 use Rattle.std.specs.Io.KnownBytes.{Appends}
 use Rattle.std.proofs.KnownBytes.{Appends-trans}
 use Rattle.std.proofs.lemmas.List.{append_assoc}
 use Rattle.cert_text.specs.declared.entry.Entry.{Entry}
 use Rattle.smt_answer.specs.declared.kind.Kind.{Kind}
 use Rattle.smt_script.specs.States.{State, start_state}
+use Rattle.script_walk.specs.Course.{Place, Turn, start_with, IsCourseOf}
+use Rattle.script_walk.specs.Events.{IsReady as IsWalkReady}
+use Rattle.script_walk.proofs.Turns.{stopped_from}
 use Rattle.dtp_entry.specs.declared.report.Report.{Report}
-use Rattle.dtp_entry.specs.Transcripts.{Held, opening, Output, behind, TranscribesFrom, TranscribesPartFrom, IsOutput, IsReport, IsReportPart}
+use Rattle.dtp_entry.specs.Entries.{verdict_of}
+use Rattle.dtp_entry.specs.Transcripts.{Held, opening, Output, pieces, IsOutput, IsReport, IsReportPart}
 use Rattle.dtp_entry.specs.Written.{Writes, IsFront, IsPartOf, HasFault}
 use Rattle.dtp_entry.proofs.Written.{appends_nothing}
 use Rattle.dtp_session.specs.declared.piece.Piece.{Piece}
 use Rattle.dtp_session.specs.declared.piece.Piece.TheVariants.{Opening, Decision, Proof, Told, Closing, Error}
 use Rattle.dtp_session.specs.declared.session.Session.{Session}
-use Rattle.dtp_session.specs.Sessions.{IsText, Holds, IsStart, From, PartFrom, IsGoing, Ends, GoesOn, Leads, IsNext}
-use Rattle.dtp_session.proofs.Transcribing.{nothing_yet}
+use Rattle.dtp_session.specs.Sessions.{IsText, Holds, IsStart, place_of, From, PartFrom, behind, IsGoing, Ends, GoesOn, Leads, IsNext}
+use Rattle.dtp_session.proofs.Transcribing.{nothing_yet, front_more, front_of, front_behind, nothing_front, same_place}
 
 -- what was written goes on to what is written of the whole script
 pub record IsSoFar (report : Report) (script : List ℕ) (p : Session) (before now : Option (List ℕ)) : Type 0 where
@@ -23,44 +27,72 @@ pub record IsSoFar (report : Report) (script : List ℕ) (p : Session) (before n
   pub written : List ℕ
   pub found : List Entry
   pub adds : Appends before now written
-  pub whole : (rest : Output) → From p s p.command rest → IsOutput report script (behind written found rest)
-  pub part : (text : List ℕ) → PartFrom p s p.command text → IsReportPart report script (written ++ text)
+  pub whole : (rest : Output) → From p s rest → IsOutput report script (behind written found rest)
+  pub part : (text : List ℕ) → PartFrom p s text → IsReportPart report script (written ++ text)
 
 -- ---- the start
 
 module _ (p : Session) (start : IsStart p) where
-  start_from : (rest : Output) → From p start_state p.command rest → TranscribesFrom p.report p.lexer.bytes 0 None start_state 1 rest
-  start_from rest from =
-      let at_place = subst (λ (n : ℕ). TranscribesFrom p.report p.lexer.bytes n p.held start_state p.command rest) start.place from in
-      let of_held = subst (λ (h : Held). TranscribesFrom p.report p.lexer.bytes 0 h start_state p.command rest) start.held at_place in
-      subst (λ (k : ℕ). TranscribesFrom p.report p.lexer.bytes 0 None start_state k rest) start.command of_held
+  start_are : (left : List Entry) (turns : List (Turn Entry)) → IsCourseOf verdict_of p.walk.lexer.bytes p.walk.lexer.place (place_of p start_state left) turns
+      → IsCourseOf verdict_of p.walk.lexer.bytes 0 (start_with left) turns
+  start_are left turns h =
+      let at_start = subst (λ (o : Place Entry). IsCourseOf verdict_of p.walk.lexer.bytes p.walk.lexer.place o turns) (same_place p start_state None left 1 start.walk.number start.held) h in
+      subst (λ (n : ℕ). IsCourseOf verdict_of p.walk.lexer.bytes n (start_with left) turns) start.walk.place at_start
 
-  start_part : (text : List ℕ) → PartFrom p start_state p.command text → TranscribesPartFrom p.report p.lexer.bytes 0 None start_state 1 text
-  start_part text from =
-      let at_place = subst (λ (n : ℕ). TranscribesPartFrom p.report p.lexer.bytes n p.held start_state p.command text) start.place from in
-      let of_held = subst (λ (h : Held). TranscribesPartFrom p.report p.lexer.bytes 0 h start_state p.command text) start.held at_place in
-      subst (λ (k : ℕ). TranscribesPartFrom p.report p.lexer.bytes 0 None start_state k text) start.command of_held
-
-  so_far_by : (before now : Option (List ℕ)) (text : List ℕ) → Appends before now text → text ≡ opening p.report → IsSoFar p.report p.lexer.bytes p before now
+  so_far_by : (before now : Option (List ℕ)) (text : List ℕ) → Appends before now text → text ≡ opening p.report → IsSoFar p.report p.walk.lexer.bytes p before now
   so_far_by before now text adds is = record {
     s = start_state;
     stands = start.stands;
     written = text;
     found = [];
     adds = adds;
-    whole = λ rest from. (rest, start_from rest from, ap (λ (t : List ℕ). behind t [] rest) is);
-    part = λ rest from. inr (rest, start_part rest from, ap (λ (t : List ℕ). t ++ rest) is);
+    whole = λ rest from. record {
+      turns = from.turns;
+      are = record { are = start_are rest.found from.turns from.are; legal = from.legal };
+      over = from.over;
+      used = from.used;
+      text = ap (λ (t : List ℕ). t ++ rest.text) is ∙ ap (λ (t : List ℕ). opening p.report ++ t) from.text;
+    };
+    part = λ rest from. record {
+      found = from.found;
+      turns = from.turns;
+      are = record { are = start_are from.found from.turns from.are; legal = from.legal };
+      front = subst (λ (t : List ℕ). IsFront (t ++ rest) (opening p.report ++ pieces p.report from.turns)) (sym is)
+          (front_behind (opening p.report) rest (pieces p.report from.turns) from.front);
+    };
   }
 
-  pub so_far_starts : (before now : Option (List ℕ)) → Writes before now (IsText p Opening) → IsSoFar p.report p.lexer.bytes p before now
+  pub so_far_starts : (before now : Option (List ℕ)) → Writes before now (IsText p Opening) → IsSoFar p.report p.walk.lexer.bytes p before now
   so_far_starts before now (text, adds, is) = so_far_by before now text adds is
 
-  opening_part : (added : List ℕ) → IsPartOf (IsText p Opening) added → IsReportPart p.report p.lexer.bytes added
-  opening_part added (inl e) = inl (opening p.report, ap (λ (t : List ℕ). t ++ opening p.report) (sym e))
-  opening_part added (inr (text, is, front)) = inl (subst (IsFront added) is front)
+  opening_front : (added : List ℕ) → IsFront added (opening p.report ++ []) → IsReportPart p.report p.walk.lexer.bytes added
+  opening_front added front = record {
+    found = [];
+    turns = [];
+    are = record { are = stopped_from verdict_of p.walk.lexer.bytes 0 (start_with []); legal = tt };
+    front = front;
+  }
 
-  pub opening_cut : (before now : Option (List ℕ)) → Writes before now (IsPartOf (IsText p Opening)) → Writes before now (IsReportPart p.report p.lexer.bytes)
+  opening_part : (added : List ℕ) → IsPartOf (IsText p Opening) added → IsReportPart p.report p.walk.lexer.bytes added
+  opening_part added (inl e) = opening_front added (nothing_front added (opening p.report ++ []) e)
+  opening_part added (inr (text, is, front)) = opening_front added (front_more added (opening p.report) [] (front_of added text (opening p.report) is front))
+
+  pub opening_cut : (before now : Option (List ℕ)) → Writes before now (IsPartOf (IsText p Opening)) → Writes before now (IsReportPart p.report p.walk.lexer.bytes)
   opening_cut before now (added, adds, part) = (added, adds, opening_part added part)
+
+-- a session before the first command is ready
+pub start_ready : (p : Session) → IsStart p → IsWalkReady p.walk
+start_ready p start =
+    let place = start.walk.place in
+    let number = start.walk.number in
+    record {
+      fresh = start.walk.fresh;
+      same = start.walk.same;
+      within = omega (arith, place);
+      counted = omega (arith, place, number);
+      few = start.walk.few;
+      stands = (start_state, start.walk.stands);
+    }
 
 -- ---- a turn
 
@@ -72,20 +104,18 @@ behind_behind a b es fs rest =
     ap (λ (t : List ℕ). of_text rest t) texts ∙ ap (λ (f : List Entry). behind (a ++ b) [] (record { text = rest.text; found = f; status = rest.status })) found
 
 module _ (report : Report) (script : List ℕ) (p q : Session) (before now after : Option (List ℕ)) (h : IsSoFar report script p before now) where
-  pub goes_on : (piece : Piece) → q.command ≡ p.command → GoesOn p q h.s piece → Writes now after (IsText q piece) → IsSoFar report script (record q { command = q.command + 1 }) before after
-  goes_on piece e g (text, adds, is) =
-      let k : q.command + 1 ≡ p.command + 1 = ap (λ (n : ℕ). n + 1) e in
-      record {
-        s = g.next;
-        stands = record { stands = g.stands.stands; shows = g.stands.shows };
-        written = h.written ++ text;
-        found = h.found ++ g.found;
-        adds = Appends-trans before now after h.written text h.adds adds;
-        whole = λ rest from. subst (λ (o : Output). IsOutput report script o) (behind_behind h.written text h.found g.found rest)
-            (h.whole (behind text g.found rest) (g.whole text is rest (subst (λ (n : ℕ). From q g.next n rest) k from)));
-        part = λ rest from. subst (λ (t : List ℕ). IsReportPart report script t) (sym (append_assoc h.written text rest))
-            (h.part (text ++ rest) (g.part text rest is (subst (λ (n : ℕ). PartFrom q g.next n rest) k from)));
-      }
+  pub goes_on : (piece : Piece) → GoesOn p q h.s piece → Writes now after (IsText q piece) → IsSoFar report script q before after
+  goes_on piece g (text, adds, is) = record {
+    s = g.next;
+    stands = g.stands;
+    written = h.written ++ text;
+    found = h.found ++ g.found;
+    adds = Appends-trans before now after h.written text h.adds adds;
+    whole = λ rest from. subst (λ (o : Output). IsOutput report script o) (behind_behind h.written text h.found g.found rest)
+        (h.whole (behind text g.found rest) (g.whole text is rest from));
+    part = λ rest from. subst (λ (t : List ℕ). IsReportPart report script t) (sym (append_assoc h.written text rest))
+        (h.part (text ++ rest) (g.part text rest is from));
+  }
 
   pub next_going : (piece : Piece) → IsGoing piece → Leads p q h.s piece → GoesOn p q h.s piece
   next_going Opening going g = g
@@ -103,7 +133,7 @@ module _ (report : Report) (script : List ℕ) (p q : Session) (before now after
   )
 
   part_by : (piece : Piece) → IsNext p q h.s piece → (added : List ℕ) → IsPartOf (IsText q piece) added → IsReportPart report script (h.written ++ added)
-  part_by piece next added (inl e) = h.part added (nothing_yet p h.s p.command added e)
+  part_by piece next added (inl e) = h.part added (nothing_yet p h.s added e)
   part_by piece next added (inr (text, is, front)) = h.part added (next.cut text added is front)
 
   pub cut : (piece : Piece) → IsNext p q h.s piece → Writes now after (IsPartOf (IsText q piece)) → Writes before after (IsReportPart report script)
@@ -121,7 +151,7 @@ module _ (report : Report) (script : List ℕ) (p q : Session) (before now after
 
 pub nothing_more : (report : Report) (script : List ℕ) (p : Session) (before now : Option (List ℕ)) → IsSoFar report script p before now → Writes before now (IsReportPart report script)
 nothing_more report script p before now h =
-    (h.written ++ [], Appends-trans before now now h.written [] h.adds (appends_nothing now), h.part [] (nothing_yet p h.s p.command [] refl))
+    (h.written ++ [], Appends-trans before now now h.written [] h.adds (appends_nothing now), h.part [] (nothing_yet p h.s [] refl))
 
 pub is_going : (piece : Piece) → (piece ≡ Closing → ⊥) → ((kind : Kind) → piece ≡ Error kind → ⊥) → IsGoing piece
 is_going Opening f g = tt

@@ -1,198 +1,223 @@
 -- From a turn to what is written of the script.
-use Rattle.std.proofs.Common.{refl, sym, ap, subst, inl, inr, ◌∙◌, ◌≡◌, ℕ, ◌+◌, List, [], ◌∷◌, ◌++◌, Err}
+use Rattle.std.proofs.Common.{refl, sym, ap, subst, ◌∙◌, ◌≡◌, ℕ, ◌+◌, List, [], ◌∷◌, ◌++◌, Option, None, Some}
+use Rattle.std.specs.List.{AllByRecursion}
+use Rattle.std.proofs.lemmas.List.{append_assoc, append-nil}
+use Rattle.cert_text.specs.declared.entry.Entry.{Entry}
 use Rattle.smt_lex.specs.Lexing.{Lexing}
-use Rattle.smt_sexpr.specs.Tree.{Sexpr}
-use Rattle.smt_sexpr.specs.declared.error.SexprError.{SexprError}
-use Rattle.smt_sexpr.specs.declared.error.SexprError.TheVariants.{Refused}
-use Rattle.smt_sexpr.specs.declared.error.SexprRefusal.{SexprRefusal}
-use Rattle.smt_sexpr.specs.Reading.{Explains, Finds, Spells, Outcomes, finished, refused as unreadable}
-use Rattle.smt_sexpr.specs.Table.{Table}
-use Rattle.smt_sexpr.specs.Commands.{Ending, ended, stopped, unread}
 use Rattle.smt_answer.specs.declared.kind.Kind.{Kind}
-use Rattle.smt_answer.specs.Kinds.{kind_of_unreadable}
 use Rattle.smt_answer.specs.Texts.{error_line}
-use Rattle.smt_script.specs.States.{State}
+use Rattle.smt_script.specs.declared.state.Notice.{Notice}
+use Rattle.smt_script.specs.declared.state.Question.{Question}
+use Rattle.smt_script.specs.States.{State, settled}
+use Rattle.script_walk.specs.Course.{Place, Turn, tells, answers, ends, fails, turn, IsCourseOf, status_of, answers_of}
+use Rattle.script_walk.specs.Events.{IsEvent}
+use Rattle.script_walk.specs.declared.walk.Event.TheVariants.{Told as ToldOf, Asked, Ended, Failed}
+use Rattle.script_walk.specs.declared.walk.Walk.{Walk}
+use Rattle.script_walk.proofs.Turns.{IsLast, stopped_from, told_from, answered_from}
 use Rattle.dtp_entry.specs.declared.report.Report.{Report}
-use Rattle.dtp_entry.specs.Transcripts.{Held, closing, Answered, answered, last, error, Replies, Output, done, refused, behind, Closes, Follows, FollowsPart, TranscribesFrom, TranscribesPartFrom}
+use Rattle.dtp_entry.specs.Entries.{verdict_of}
+use Rattle.dtp_entry.specs.Reports.{version_of}
+use Rattle.dtp_entry.specs.Transcripts.{Held, closing, decision_line, told, Decides, Output, pieces, IsLegal}
 use Rattle.dtp_entry.specs.Written.{IsFront}
 use Rattle.dtp_session.specs.declared.piece.Piece.{Piece}
 use Rattle.dtp_session.specs.declared.piece.Piece.TheVariants.{Opening, Decision, Proof, Told, Closing, Error}
 use Rattle.dtp_session.specs.declared.session.Session.{Session}
-use Rattle.dtp_session.specs.Sessions.{IsText, From, PartFrom, IsAnsweredBy, Gives, GoesOn, IsNext}
+use Rattle.dtp_session.specs.Sessions.{IsText, Holds, place_of, From, PartFrom, behind, KeepsReading, Tells, IsChecked, IsGoing, Ends, GoesOn, Leads, IsNext}
 
--- ---- the commands from here on
+-- ---- fronts
 
-module _ (report : Report) (held : Held) (s : State) (k : ℕ) (x : Sexpr) where
-  follows_more : (a : Answered) → Replies report held s x (answered a) → (xs : List Sexpr) (ending : Ending) (rest : Output) → Follows report a.held a.state (k + 1) xs ending rest → Follows report held s k (x ∷ xs) ending (behind a.text a.found rest)
-  unfolding Follows
-  follows_more a h xs ending rest follows = (answered a, h, (rest, follows, refl))
+pub front_more : (added piece others : List ℕ) → IsFront added piece → IsFront added (piece ++ others)
+front_more added piece others (rest, e) = (rest ++ others, ap (λ (t : List ℕ). t ++ others) e ∙ append_assoc added rest others)
 
-  follows_last : (text : List ℕ) → Replies report held s x (last text) → Follows report held s k (x ∷ []) stopped (done text)
-  unfolding Follows
-  follows_last text h = (last text, h, ((refl, refl), refl))
+pub front_behind : (text added whole : List ℕ) → IsFront added whole → IsFront (text ++ added) (text ++ whole)
+front_behind text added whole (rest, e) = (rest, ap (λ (t : List ℕ). text ++ t) e ∙ sym (append_assoc text added rest))
 
-  follows_error : (kind : Kind) → Replies report held s x (error kind) → Follows report held s k (x ∷ []) stopped (refused k kind)
-  unfolding Follows
-  follows_error kind h = (error kind, h, ((refl, refl), refl))
-
-  part_more : (a : Answered) → Replies report held s x (answered a) → (xs : List Sexpr) (ending : Ending) (rest : List ℕ) → FollowsPart report a.held a.state (k + 1) xs ending rest → FollowsPart report held s k (x ∷ xs) ending (a.text ++ rest)
-  unfolding FollowsPart
-  part_more a h xs ending rest follows = (answered a, h, inr (rest, follows, refl))
-
-  part_answer : (a : Answered) → Replies report held s x (answered a) → (added : List ℕ) → IsFront added a.text → FollowsPart report held s k (x ∷ []) stopped added
-  unfolding FollowsPart
-  part_answer a h added front = (answered a, h, inl ((refl, refl), front))
-
-  part_last : (text : List ℕ) → Replies report held s x (last text) → (added : List ℕ) → IsFront added text → FollowsPart report held s k (x ∷ []) stopped added
-  unfolding FollowsPart
-  part_last text h added front = (last text, h, ((refl, refl), front))
-
-  part_error : (kind : Kind) → Replies report held s x (error kind) → (added : List ℕ) → IsFront added (error_line k kind) → FollowsPart report held s k (x ∷ []) stopped added
-  unfolding FollowsPart
-  part_error kind h added front = (error kind, h, ((refl, refl), front))
-
-follows_end : (report : Report) (held : Held) (s : State) (k : ℕ) (ending : Ending) (out : Output) → Closes report k ending out → Follows report held s k [] ending out
-unfolding Follows
-follows_end report held s k ending out h = h
-
-part_end : (report : Report) (held : Held) (s : State) (k : ℕ) (ending : Ending) (out : Output) (added : List ℕ) → Closes report k ending out → IsFront added out.text → FollowsPart report held s k [] ending added
-unfolding FollowsPart
-part_end report held s k ending out added h front = inr (out, h, front)
-
-part_nothing : (report : Report) (held : Held) (s : State) (k : ℕ) (ending : Ending) (added : List ℕ) → added ≡ [] → FollowsPart report held s k [] ending added
-unfolding FollowsPart
-part_nothing report held s k ending added e = inl e
-
--- nothing is a front of whatever is written
-pub nothing_yet : (p : Session) (s : State) (k : ℕ) (added : List ℕ) → added ≡ [] → PartFrom p s k added
-nothing_yet p s k added e = record { commands = []; here = p.lexer.place; ending = stopped; reads = refl; ends = tt; answers = part_nothing p.report p.held s k stopped added e }
-
--- ---- the text from here on
-
-module _ (report : Report) (bytes : List ℕ) (place mid : ℕ) (held : Held) (s : State) (k : ℕ) (x : Sexpr) (spells : Spells bytes place x mid) where
-  from_more : (a : Answered) → Replies report held s x (answered a) → (rest : Output) → TranscribesFrom report bytes mid a.held a.state (k + 1) rest → TranscribesFrom report bytes place held s k (behind a.text a.found rest)
-  from_more a h rest t =
-      record { commands = x ∷ t.commands; here = t.here; ending = t.ending; reads = (mid, spells, t.reads); ends = t.ends; answers = follows_more report held s k x a h t.commands t.ending rest t.answers }
-
-  part_from_more : (a : Answered) → Replies report held s x (answered a) → (rest : List ℕ) → TranscribesPartFrom report bytes mid a.held a.state (k + 1) rest → TranscribesPartFrom report bytes place held s k (a.text ++ rest)
-  part_from_more a h rest t =
-      record { commands = x ∷ t.commands; here = t.here; ending = t.ending; reads = (mid, spells, t.reads); ends = t.ends; answers = part_more report held s k x a h t.commands t.ending rest t.answers }
-
-  from_one : (out : Output) → Follows report held s k (x ∷ []) stopped out → TranscribesFrom report bytes place held s k out
-  from_one out h = record { commands = x ∷ []; here = mid; ending = stopped; reads = (mid, spells, refl); ends = tt; answers = h }
-
-  part_from_one : (added : List ℕ) → FollowsPart report held s k (x ∷ []) stopped added → TranscribesPartFrom report bytes place held s k added
-  part_from_one added h = record { commands = x ∷ []; here = mid; ending = stopped; reads = (mid, spells, refl); ends = tt; answers = h }
-
--- ---- what the reader refused
-
-pub found_refusal : (t : Table) (bytes : List ℕ) (place after : ℕ) (fault : SexprError) (why : SexprRefusal) → t.bytes ≡ bytes → fault ≡ Refused why → Finds t place (Err fault) after → Outcomes bytes place (unreadable why) after
-found_refusal t bytes place after fault why e f h =
-    let there : Outcomes t.bytes place (unreadable why) after = subst (λ (r : SexprError). Explains t.bytes place r after) f h in
-    subst (λ (b : List ℕ). Outcomes b place (unreadable why) after) e there
-
--- ---- a turn
-
-front_of : (added text whole : List ℕ) → text ≡ whole → IsFront added text → IsFront added whole
+pub front_of : (added text whole : List ℕ) → text ≡ whole → IsFront added text → IsFront added whole
 front_of added text whole e front = subst (IsFront added) e front
 
-module _ (p q : Session) (s : State) (lexed : Lexing) (lexer : q.lexer ≡ lexed) (bytes : lexed.bytes ≡ p.lexer.bytes) (report : q.report ≡ p.report) (command : q.command ≡ p.command) where
-  -- what is written from the session behind the turn, in the words of the one before it
-  from_there : (a : Answered) (k : ℕ) (rest : Output) → q.held ≡ a.held → From q a.state k rest → TranscribesFrom p.report p.lexer.bytes lexed.place a.held a.state k rest
-  from_there a k rest held from =
-      let here = subst (λ (l : Lexing). TranscribesFrom q.report l.bytes l.place q.held a.state k rest) lexer from in
-      let of_report = subst (λ (r : Report). TranscribesFrom r lexed.bytes lexed.place q.held a.state k rest) report here in
-      let of_bytes = subst (λ (b : List ℕ). TranscribesFrom p.report b lexed.place q.held a.state k rest) bytes of_report in
-      subst (λ (h : Held). TranscribesFrom p.report p.lexer.bytes lexed.place h a.state k rest) held of_bytes
+pub nothing_front : (added whole : List ℕ) → added ≡ [] → IsFront added whole
+nothing_front added whole e = (whole, ap (λ (t : List ℕ). t ++ whole) (sym e))
 
-  part_from_there : (a : Answered) (k : ℕ) (rest : List ℕ) → q.held ≡ a.held → PartFrom q a.state k rest → TranscribesPartFrom p.report p.lexer.bytes lexed.place a.held a.state k rest
-  part_from_there a k rest held from =
-      let here = subst (λ (l : Lexing). TranscribesPartFrom q.report l.bytes l.place q.held a.state k rest) lexer from in
-      let of_report = subst (λ (r : Report). TranscribesPartFrom r lexed.bytes lexed.place q.held a.state k rest) report here in
-      let of_bytes = subst (λ (b : List ℕ). TranscribesPartFrom p.report b lexed.place q.held a.state k rest) bytes of_report in
-      subst (λ (h : Held). TranscribesPartFrom p.report p.lexer.bytes lexed.place h a.state k rest) held of_bytes
+-- nothing is a front of whatever is written
+pub nothing_yet : (p : Session) (s : State) (added : List ℕ) → added ≡ [] → PartFrom p s added
+nothing_yet p s added e = record {
+  found = [];
+  turns = [];
+  are = stopped_from verdict_of p.walk.lexer.bytes p.walk.lexer.place (place_of p s []);
+  legal = tt;
+  front = nothing_front added [] e;
+}
 
-  is_closing : (text : List ℕ) → text ≡ closing q.report → text ≡ closing p.report
-  is_closing text e = e ∙ ap closing report
+-- ---- the last turn
 
-  is_error : (kind : Kind) (text : List ℕ) → text ≡ error_line q.command kind → text ≡ error_line p.command kind
-  is_error kind text e = e ∙ ap (λ (k : ℕ). error_line k kind) command
+module _ (p q : Session) (s : State) (report : q.report ≡ p.report) where
+  pub closing_next : IsLast verdict_of p.walk q.walk (place_of p s []) ends → IsNext p q s Closing
+  closing_next end =
+      let t : Turn Entry = turn (place_of p s []) end.last ends in record {
+        cut = λ text added is front. record {
+          found = [];
+          turns = t ∷ [];
+          are = end.is;
+          legal = (tt, tt);
+          front = front_more added (closing p.report) [] (front_of added text (closing p.report) (is ∙ ap closing report) front);
+        };
+        leads = λ text is. record {
+          turns = t ∷ [];
+          are = end.is;
+          legal = (tt, tt);
+          over = refl;
+          used = refl;
+          text = is ∙ ap closing report ∙ sym (append-nil (closing p.report));
+        };
+      }
 
-  done_as : (text : List ℕ) → text ≡ closing q.report → From p s p.command (done (closing p.report)) → From p s p.command (done text)
-  done_as text e h = subst (λ (t : List ℕ). From p s p.command (done t)) (sym (is_closing text e)) h
+  pub error_next : (kind : Kind) → IsLast verdict_of p.walk q.walk (place_of p s []) (fails kind) → IsNext p q s (Error kind)
+  error_next kind end =
+      let t : Turn Entry = turn (place_of p s []) end.last (fails kind) in
+      let line : error_line q.walk.number kind ≡ error_line p.walk.number kind = ap (λ (k : ℕ). error_line k kind) end.number in
+      record {
+        cut = λ text added is front. record {
+          found = [];
+          turns = t ∷ [];
+          are = end.is;
+          legal = (tt, tt);
+          front = front_more added (error_line p.walk.number kind) [] (front_of added text (error_line p.walk.number kind) (is ∙ line) front);
+        };
+        leads = λ text is. record {
+          turns = t ∷ [];
+          are = end.is;
+          legal = (tt, tt);
+          over = refl;
+          used = refl;
+          text = is ∙ line ∙ sym (append-nil (error_line p.walk.number kind));
+        };
+      }
 
-  refused_as : (kind : Kind) (text : List ℕ) → text ≡ error_line q.command kind → From p s p.command (refused p.command kind) → From p s p.command (record { text = text; found = []; status = 1 })
-  refused_as kind text e h = subst (λ (t : List ℕ). From p s p.command (record { text = t; found = []; status = 1 })) (sym (is_error kind text e)) h
+-- ---- a turn behind which the script goes on
 
-  module _ (x : Sexpr) (spells : Spells p.lexer.bytes p.lexer.place x lexed.place) where
-    going_next : (piece : Piece) (a : Answered) → Replies p.report p.held s x (answered a) → IsAnsweredBy q piece a → GoesOn p q s piece
-    going_next piece a h by = record {
-      next = a.state;
-      found = a.found;
-      stands = by.stands;
-      whole = λ text is rest from. subst (λ (t : List ℕ). From p s p.command (behind t a.found rest)) (sym (by.text text is))
-          (from_more p.report p.lexer.bytes p.lexer.place lexed.place p.held s p.command x spells a h rest (from_there a (p.command + 1) rest by.held from));
-      part = λ text rest is from. subst (λ (t : List ℕ). PartFrom p s p.command (t ++ rest)) (sym (by.text text is))
-          (part_from_more p.report p.lexer.bytes p.lexer.place lexed.place p.held s p.command x spells a h rest (part_from_there a (p.command + 1) rest by.held from));
-    }
+abbrev pub next_place : Session → State → Held → List Entry → Place Entry
+next_place p next held left = record { number = p.walk.number + 1; state = next; held = held; left = left }
 
-    going_cut : (piece : Piece) (a : Answered) → Replies p.report p.held s x (answered a) → IsAnsweredBy q piece a → (text added : List ℕ) → IsText q piece text → IsFront added text → PartFrom p s p.command added
-    going_cut piece a h by text added is front =
-        part_from_one p.report p.lexer.bytes p.lexer.place lexed.place p.held s p.command x spells added
-        (part_answer p.report p.held s p.command x a h added (front_of added text a.text (by.text text is) front))
+-- a first turn from here, with these entries used and this line written, and a state behind it
+pub record IsStep (p : Session) (s : State) (mid : ℕ) (next : State) (held : Held) (found : List Entry) (line : List ℕ) : Type 0 where
+  pub first : List Entry → Turn Entry
+  pub are : (left : List Entry) (turns : List (Turn Entry)) → IsCourseOf verdict_of p.walk.lexer.bytes mid (next_place p next held left) turns
+      → IsCourseOf verdict_of p.walk.lexer.bytes p.walk.lexer.place (place_of p s (found ++ left)) (first left ∷ turns)
+  pub legal : (left : List Entry) → IsLegal p.report (first left)
+  pub used : (left : List Entry) (turns : List (Turn Entry)) → answers_of (first left ∷ turns) ≡ found ++ answers_of turns
+  pub status : (left : List Entry) (turns : List (Turn Entry)) → status_of (first left ∷ turns) ≡ status_of turns
+  pub text : (left : List Entry) (turns : List (Turn Entry)) → pieces p.report (first left ∷ turns) ≡ line ++ pieces p.report turns
 
-    pub command_next : (piece : Piece) → Gives p.report q (Replies p.report p.held s x) piece → IsNext p q s piece
-    command_next Closing h = record {
-      cut = λ text added is front. part_from_one p.report p.lexer.bytes p.lexer.place lexed.place p.held s p.command x spells added
-          (part_last p.report p.held s p.command x (closing p.report) h added (front_of added text (closing p.report) (is_closing text is) front));
-      leads = λ text is. done_as text is (from_one p.report p.lexer.bytes p.lexer.place lexed.place p.held s p.command x spells (done (closing p.report)) (follows_last p.report p.held s p.command x (closing p.report) h));
-    }
-    command_next (Error kind) h = record {
-      cut = λ text added is front. part_from_one p.report p.lexer.bytes p.lexer.place lexed.place p.held s p.command x spells added
-          (part_error p.report p.held s p.command x kind h added (front_of added text (error_line p.command kind) (is_error kind text is) front));
-      leads = λ text is. refused_as kind text is (from_one p.report p.lexer.bytes p.lexer.place lexed.place p.held s p.command x spells (refused p.command kind) (follows_error p.report p.held s p.command x kind h));
-    }
-    command_next Opening (a, h, by) = record { cut = going_cut Opening a h by; leads = going_next Opening a h by }
-    command_next Decision (a, h, by) = record { cut = going_cut Decision a h by; leads = going_next Decision a h by }
-    command_next Proof (a, h, by) = record { cut = going_cut Proof a h by; leads = going_next Proof a h by }
-    command_next Told (a, h, by) = record { cut = going_cut Told a h by; leads = going_next Told a h by }
+going_leads : (p q : Session) (s : State) (piece : Piece) → IsGoing piece → GoesOn p q s piece → Leads p q s piece
+going_leads p q s Opening going h = h
+going_leads p q s Decision going h = h
+going_leads p q s Proof going h = h
+going_leads p q s Told going h = h
+going_leads p q s Closing going h = absurd going
+going_leads p q s (Error kind) going h = absurd going
 
-  pub end_next : (after : ℕ) → Outcomes p.lexer.bytes p.lexer.place finished after → IsNext p q s Closing
-  end_next after h = record {
-    cut = λ text added is front. record {
-      commands = [];
-      here = p.lexer.place;
-      ending = ended;
-      reads = refl;
-      ends = (after, h);
-      answers = part_end p.report p.held s p.command ended (done (closing p.report)) added refl (front_of added text (closing p.report) (is_closing text is) front);
+-- the same place in the words of the session before
+pub same_place : (q : Session) (next : State) (held : Held) (left : List Entry) (k : ℕ) → q.walk.number ≡ k → q.held ≡ held
+    → place_of q next left ≡ record { number = k; state = next; held = held; left = left }
+same_place q next held left k e f =
+    let of_all : ℕ → Held → Place Entry = λ n h. record { number = n; state = next; held = h; left = left } in
+    ap (λ (n : ℕ). of_all n q.held) e ∙ ap (λ (h : Held). of_all k h) f
+
+-- the session behind the turn
+pub record IsBehind (p q : Session) (mid : ℕ) (held : Held) : Type 0 where
+  pub place : q.walk.lexer.place ≡ mid
+  pub bytes : q.walk.lexer.bytes ≡ p.walk.lexer.bytes
+  pub number : q.walk.number ≡ p.walk.number + 1
+  pub shows : q.held ≡ held
+  pub report : q.report ≡ p.report
+
+module _ (p q : Session) (s : State) (mid : ℕ) (next : State) (held : Held) (found : List Entry) (line : List ℕ) (step : IsStep p s mid next held found line) (there : IsBehind p q mid held) where
+  are_there : (left : List Entry) (turns : List (Turn Entry)) → IsCourseOf verdict_of q.walk.lexer.bytes q.walk.lexer.place (place_of q next left) turns
+      → IsCourseOf verdict_of p.walk.lexer.bytes mid (next_place p next held left) turns
+  are_there left turns h =
+      let at_place = subst (λ (o : Place Entry). IsCourseOf verdict_of q.walk.lexer.bytes q.walk.lexer.place o turns) (same_place q next held left (p.walk.number + 1) there.number there.shows) h in
+      let at_mid = subst (λ (n : ℕ). IsCourseOf verdict_of q.walk.lexer.bytes n (next_place p next held left) turns) there.place at_place in
+      subst (λ (b : List ℕ). IsCourseOf verdict_of b mid (next_place p next held left) turns) there.bytes at_mid
+
+  legal_there : (turns : List (Turn Entry)) → AllByRecursion (IsLegal q.report) turns → AllByRecursion (IsLegal p.report) turns
+  legal_there turns h = subst (λ (r : Report). AllByRecursion (IsLegal r) turns) there.report h
+
+  pieces_there : (turns : List (Turn Entry)) → pieces q.report turns ≡ pieces p.report turns
+  pieces_there turns = ap (λ (r : Report). pieces r turns) there.report
+
+  going_on : (piece : Piece) → ((text : List ℕ) → IsText q piece text → text ≡ line) → Holds q next → GoesOn p q s piece
+  going_on piece is_line holds = record {
+    next = next;
+    found = found;
+    stands = holds;
+    whole = λ text is rest from. record {
+      turns = step.first rest.found ∷ from.turns;
+      are = step.are rest.found from.turns (are_there rest.found from.turns from.are);
+      legal = (step.legal rest.found, legal_there from.turns from.legal);
+      over = step.status rest.found from.turns ∙ from.over;
+      used = step.used rest.found from.turns ∙ ap (λ (es : List Entry). found ++ es) from.used;
+      text = ap (λ (t : List ℕ). t ++ rest.text) (is_line text is) ∙ ap (λ (t : List ℕ). line ++ t) (from.text ∙ pieces_there from.turns) ∙ sym (step.text rest.found from.turns);
     };
-    leads = λ text is. done_as text is (record {
-      commands = [];
-      here = p.lexer.place;
-      ending = ended;
-      reads = refl;
-      ends = (after, h);
-      answers = follows_end p.report p.held s p.command ended (done (closing p.report)) refl;
-    });
+    part = λ text rest is from. record {
+      found = found ++ from.found;
+      turns = step.first from.found ∷ from.turns;
+      are = step.are from.found from.turns (are_there from.found from.turns from.are);
+      legal = (step.legal from.found, legal_there from.turns from.legal);
+      front = subst (λ (t : List ℕ). IsFront (t ++ rest) (pieces p.report (step.first from.found ∷ from.turns))) (sym (is_line text is))
+          (front_of (line ++ rest) (line ++ pieces p.report from.turns) (pieces p.report (step.first from.found ∷ from.turns)) (sym (step.text from.found from.turns))
+          (front_behind line rest (pieces p.report from.turns) (front_of rest (pieces q.report from.turns) (pieces p.report from.turns) (pieces_there from.turns) from.front)));
+    };
   }
 
-  pub unread_next : (after : ℕ) (why : SexprRefusal) (kind : Kind) → kind ≡ kind_of_unreadable why → Outcomes p.lexer.bytes p.lexer.place (unreadable why) after → IsNext p q s (Error kind)
-  unread_next after why kind same h = record {
+  pub going_next : (piece : Piece) → IsGoing piece → ((text : List ℕ) → IsText q piece text → text ≡ line) → Holds q next → IsNext p q s piece
+  going_next piece going is_line holds = record {
     cut = λ text added is front. record {
-      commands = [];
-      here = p.lexer.place;
-      ending = unread why;
-      reads = refl;
-      ends = (after, h);
-      answers = part_end p.report p.held s p.command (unread why) (refused p.command kind) added (ap (refused p.command) same) (front_of added text (error_line p.command kind) (is_error kind text is) front);
+      found = found ++ [];
+      turns = step.first [] ∷ [];
+      are = step.are [] [] (stopped_from verdict_of p.walk.lexer.bytes mid (next_place p next held []));
+      legal = (step.legal [], tt);
+      front = front_of added (line ++ []) (pieces p.report (step.first [] ∷ [])) (sym (step.text [] []))
+          (front_more added line [] (front_of added text line (is_line text is) front));
     };
-    leads = λ text is. refused_as kind text is (record {
-      commands = [];
-      here = p.lexer.place;
-      ending = unread why;
-      reads = refl;
-      ends = (after, h);
-      answers = follows_end p.report p.held s p.command (unread why) (refused p.command kind) (ap (refused p.command) same);
-    });
+    leads = going_leads p q s piece going (going_on piece is_line holds);
   }
+
+-- ---- what a command comes to
+
+module _ (p q : Session) (w : Walk) (s : State) (bytes : w.lexer.bytes ≡ p.walk.lexer.bytes) (keeps : KeepsReading (record p { walk = w }) q) where
+  is_behind : (held : Held) → w.number ≡ p.walk.number + 1 → q.held ≡ held → IsBehind p q w.lexer.place held
+  is_behind held number h = record {
+    place = ap (λ (l : Lexing). l.place) keeps.lexer;
+    bytes = ap (λ (l : Lexing). l.bytes) keeps.lexer ∙ bytes;
+    number = keeps.number ∙ number;
+    shows = h;
+    report = keeps.report;
+  }
+
+  pub told_next : (id : ℕ) (n : Notice) (piece : Piece) → (event : IsEvent p.walk w s (ToldOf id n)) → Tells (record p { walk = w }) q event.carries.1.next event.x n piece → IsNext p q s piece
+  told_next id n piece event told_so =
+      let to = event.carries.1 in
+      let step : IsStep p s w.lexer.place to.next p.held [] (told p.report p.held to.next event.x n) = record {
+        first = λ left. turn (place_of p s left) to.next (tells event.x n);
+        are = λ left turns h. told_from verdict_of p.walk.lexer.bytes p.walk.lexer.place w.lexer.place (place_of p s left) event.x event.spells to.next n to.leads turns h;
+        legal = λ left. tt;
+        used = λ left turns. refl;
+        status = λ left turns. refl;
+        text = λ left turns. refl;
+      } in
+      going_next p q s w.lexer.place to.next p.held [] (told p.report p.held to.next event.x n) step (is_behind p.held event.carries.2 told_so.held) piece told_so.going told_so.text told_so.stands
+
+  pub checked_next : (id : ℕ) (question : Question) → (event : IsEvent p.walk w s (Asked id question)) → IsChecked q event.carries.1.0.next → IsNext p q s Decision
+  checked_next id question event h =
+      let to = event.carries.1.0 in
+      let decides : Decides (version_of p.report) to.next.context h.entry = subst (λ (r : Report). Decides (version_of r) to.next.context h.entry) keeps.report h.decides in
+      let step : IsStep p s w.lexer.place (settled (verdict_of h.entry) to.next) (Some h.entry) (h.entry ∷ []) (decision_line p.report h.entry) = record {
+        first = λ left. turn (place_of p s (h.entry ∷ left)) to.next (answers question event.x h.entry);
+        are = λ left turns k. answered_from verdict_of p.walk.lexer.bytes p.walk.lexer.place w.lexer.place (place_of p s (h.entry ∷ left)) event.x event.spells to.next question h.entry left to.leads event.carries.1.1 refl turns k;
+        legal = λ left. decides;
+        used = λ left turns. refl;
+        status = λ left turns. refl;
+        text = λ left turns. refl;
+      } in
+      going_next p q s w.lexer.place (settled (verdict_of h.entry) to.next) (Some h.entry) (h.entry ∷ []) (decision_line p.report h.entry) step (is_behind (Some h.entry) event.carries.2 h.held) Decision tt
+      (λ text is. is h.entry h.held ∙ ap (λ (r : Report). decision_line r h.entry) keeps.report) h.stands

@@ -9,12 +9,11 @@ ghost use Rattle.idl_term.specs.Contexts.{IsScheduleFor, environment, scope_of};
 ghost use Rattle.idl_term.specs.Values.{value};
 ghost use Rattle.smt_answer.specs.Answers.{AreAnswers};
 ghost use Rattle.smt_script.specs.States.{State as Meaning, terms_refusal};
-ghost use Rattle.smt_script.specs.declared.state.Effect.TheVariants.{Tell};
 ghost use Rattle.smt_script.specs.declared.state.Notice.TheVariants as told_of;
 ghost use Rattle.script_walk.specs.Standing.{Stands};
-ghost use Rattle.dtp_entry.specs.Transcripts.{Answers, told};
+ghost use Rattle.dtp_entry.specs.Transcripts.{told};
 ghost use Rattle.dtp_entry.specs.declared.report.Report.TheVariants.{Verdicts};
-ghost use Rattle.dtp_session.specs.Sessions.{Holds, MayTell, KeepsReading, KeepsVerdict, Gives};
+ghost use Rattle.dtp_session.specs.Sessions.{Holds, MayTell, KeepsReading, KeepsVerdict, Tells};
 
 use crate::piece::Piece;
 use crate::session::Session;
@@ -61,9 +60,9 @@ fn values_of<'a>(
 impl<'a> Session<'a> {
     /// `get-model`.
     fn tell_model(&mut self) -> Result<(), AllocError>
-        requires may { (s : Meaning) × (x : Sexpr) × Holds self.old s × MayTell s x (Tell told_of.Model) }
+        requires may { (s : Meaning) × (x : Sexpr) × Holds self.old s × MayTell s x told_of.Model }
         requires empty { self.old.text.items ≡ [] }
-        ensures told { OnOk result ((s : Meaning) (x : Sexpr) → Holds self.old s → MayTell s x (Tell told_of.Model)
+        ensures told { OnOk result ((s : Meaning) (x : Sexpr) → Holds self.old s → MayTell s x told_of.Model
             → self.new.text.items ≡ told Verdicts self.old.held s x told_of.Model) }
         ensures keeps { KeepsVerdict self.old self.new }
         ensures marks { self.new.marks ≡ self.old.marks }
@@ -74,17 +73,17 @@ impl<'a> Session<'a> {
         let Some(values) = found.schedule() else {
             unreachable!()
         };
-        model_text(self.state.names(), values, &mut self.text)?;
+        model_text(self.walk.state.names(), values, &mut self.text)?;
         Ok(())
     }
 
     /// `get-value`.
     fn tell_values(&mut self, id: SexprId) -> Result<(), AllocError>
-        requires may { (s : Meaning) × (x : Sexpr) × Holds self.old s × Means self.old.sexprs id x
-            × MayTell s x (Tell told_of.Values) }
+        requires may { (s : Meaning) × (x : Sexpr) × Holds self.old s × Means self.old.walk.sexprs id x
+            × MayTell s x told_of.Values }
         requires empty { self.old.text.items ≡ [] }
-        ensures told { OnOk result ((s : Meaning) (x : Sexpr) → Holds self.old s → Means self.old.sexprs id x
-            → MayTell s x (Tell told_of.Values)
+        ensures told { OnOk result ((s : Meaning) (x : Sexpr) → Holds self.old s → Means self.old.walk.sexprs id x
+            → MayTell s x told_of.Values
             → (self.new.text.items ≡ told Verdicts self.old.held s x told_of.Values) × Holds self.new s) }
         ensures keeps { KeepsVerdict self.old self.new }
     {
@@ -94,34 +93,35 @@ impl<'a> Session<'a> {
         let Some(values) = found.schedule() else {
             unreachable!()
         };
-        let terms = asked_terms(&self.sexprs, id);
+        let walk = &mut self.walk;
+        let terms = asked_terms(&walk.sexprs, id);
         let answers = values_of(
             self.alloc,
-            &self.sexprs,
+            &walk.sexprs,
             terms,
-            &mut self.state,
+            &mut walk.state,
             values,
             &mut self.marks,
         )?;
-        values_text(&self.sexprs, terms, &answers, &mut self.text)?;
+        values_text(&walk.sexprs, terms, &answers, &mut self.text)?;
         Ok(())
     }
 
     /// What rests on no verdict.
     fn tell_plain(&mut self, id: SexprId, notice: Notice) -> Result<(), AllocError>
-        requires meaning { HasMeaning self.old.sexprs id }
+        requires meaning { HasMeaning self.old.walk.sexprs id }
         requires model { notice ≢ told_of.Model }
         requires values { notice ≢ told_of.Values }
         requires proof { notice ≢ told_of.Proof }
         requires empty { self.old.text.items ≡ [] }
-        ensures told { OnOk result ((s : Meaning) (x : Sexpr) → Holds self.old s → Means self.old.sexprs id x
+        ensures told { OnOk result ((s : Meaning) (x : Sexpr) → Holds self.old s → Means self.old.walk.sexprs id x
             → self.new.text.items ≡ told Verdicts self.old.held s x notice) }
         ensures keeps { KeepsVerdict self.old self.new }
         ensures marks { self.new.marks ≡ self.old.marks }
     {
         match notice {
             Notice::Success => {
-                if self.state.print_success() {
+                if self.walk.state.print_success() {
                     success_text(&mut self.text)
                 } else {
                     Ok(())
@@ -129,24 +129,24 @@ impl<'a> Session<'a> {
             }
             Notice::Unsupported => unsupported_text(&mut self.text),
             Notice::Inform(information) => {
-                let levels = self.state.levels();
+                let levels = self.walk.state.levels();
                 info_text(information, levels, &mut self.text)?;
                 Ok(())
             }
-            Notice::Echo => echo_text(echoed_text(&self.sexprs, id), &mut self.text),
+            Notice::Echo => echo_text(echoed_text(&self.walk.sexprs, id), &mut self.text),
             Notice::Model | Notice::Values | Notice::Proof => unreachable!(),
         }
     }
 
     /// The piece that tells of the command in a transcript.
     fn tell_in_transcript(&mut self, id: SexprId, notice: Notice) -> Result<Piece, AllocError>
-        requires may { (s : Meaning) × (x : Sexpr) × Holds self.old s × Means self.old.sexprs id x
-            × MayTell s x (Tell notice) }
+        requires may { (s : Meaning) × (x : Sexpr) × Holds self.old s × Means self.old.walk.sexprs id x
+            × MayTell s x notice }
         requires report { self.old.report ≡ Verdicts }
         requires empty { self.old.text.items ≡ [] }
-        ensures gives { IfOk result (λ piece. (s : Meaning) (x : Sexpr) → Holds self.old s
-            → Means self.old.sexprs id x → MayTell s x (Tell notice)
-            → Gives self.old.report self.new (Answers self.old.report self.old.held s x (Tell notice)) piece) }
+        ensures tells { IfOk result (λ piece. (s : Meaning) (x : Sexpr) → Holds self.old s
+            → Means self.old.walk.sexprs id x → MayTell s x notice
+            → Tells self.old self.new s x notice piece) }
         ensures keeps { KeepsReading self.old self.new }
     {
         match notice {
@@ -160,11 +160,11 @@ impl<'a> Session<'a> {
 
     /// The piece that tells of the command. A certificate tells of none.
     pub fn tell(&mut self, id: SexprId, notice: Notice) -> Result<Piece, AllocError>
-        requires { (s : Meaning) × (x : Sexpr) × Holds self.old s × Means self.old.sexprs id x
-            × MayTell s x (Tell notice) }
-        ensures gives { IfOk result (λ piece. (s : Meaning) (x : Sexpr) → Holds self.old s
-            → Means self.old.sexprs id x → MayTell s x (Tell notice)
-            → Gives self.old.report self.new (Answers self.old.report self.old.held s x (Tell notice)) piece) }
+        requires { (s : Meaning) × (x : Sexpr) × Holds self.old s × Means self.old.walk.sexprs id x
+            × MayTell s x notice }
+        ensures tells { IfOk result (λ piece. (s : Meaning) (x : Sexpr) → Holds self.old s
+            → Means self.old.walk.sexprs id x → MayTell s x notice
+            → Tells self.old self.new s x notice piece) }
         ensures keeps { KeepsReading self.old self.new }
     {
         self.text.clear();

@@ -80,7 +80,7 @@ impl<'a> Session<'a> {
                 Report::Verdicts => Ok(()),
                 Report::Certificate(_) => write_end(text),
             },
-            Piece::Error(kind) => error_text(self.command, kind, text),
+            Piece::Error(kind) => error_text(self.walk.number, kind, text),
         }
     }
 

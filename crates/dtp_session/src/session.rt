@@ -1,13 +1,12 @@
 //! A script that is being answered: the loop of the program.
-ghost use Rattle.std.specs.Prelude.{◌≡◌, ◌≢◌, ◌≤◌, ◌<◌, IfOk, OnOk, OnErr, Err, None, length};
+ghost use Rattle.std.specs.Prelude.{◌≡◌, ◌≢◌, ◌≤◌, ◌<◌, IfOk, OnOk, OnErr, Err};
 ghost use Rattle.dtp_io.specs.Faults.{Rose};
-ghost use Rattle.smt_sexpr.specs.Tree.{Sexpr};
-ghost use Rattle.smt_sexpr.specs.Table.{Means, HasMeaning};
 ghost use Rattle.smt_script.specs.States.{State as Meaning};
+ghost use Rattle.script_walk.specs.Events.{IsReady as IsWalkReady};
 ghost use Rattle.dtp_entry.specs.Reports.{version_of};
-ghost use Rattle.dtp_entry.specs.Transcripts.{Answers, Replies, IsReport, IsReportPart};
+ghost use Rattle.dtp_entry.specs.Transcripts.{IsReport, IsReportPart};
 ghost use Rattle.dtp_entry.specs.Written.{Writes};
-ghost use Rattle.dtp_session.specs.Sessions.{Holds, MayTell, IsReady, IsStart, KeepsReading, KeepsScript, Gives, IsChecked, IsGoing, IsNext};
+ghost use Rattle.dtp_session.specs.Sessions.{Holds, IsReady, IsStart, KeepsReading, KeepsScript, IsChecked, IsGoing, IsNext};
 ghost use Rattle.dtp_session.specs.Ends.{status_of};
 ghost use Rattle.dtp_session.specs.Forms.{version_wanted};
 
@@ -17,18 +16,16 @@ use crate::options::SearchOptions;
 use crate::piece::Piece;
 use crate::wanted::{Wanted, last_proof};
 use cert_text::Version;
-use dtp_entry::{Report, SessionError, kind_of};
+use dtp_entry::{Report, SessionError};
 use dtp_io::Sink;
-use smt_answer::kind_of_unreadable;
-use smt_lex::Lexer;
-use smt_script::{Effect, ScriptError, State};
-use smt_sexpr::{SexprError, SexprId, Sexprs};
+use script_walk::{Event, Walk};
+use smt_script::Question;
 use std::alloc::{AllocError, Global};
 use std::sync::Wait;
 use std::thread::Threads;
 use steal_search::Gate;
 
-/// A script that is being answered: what is read of it, and what it has led to.
+/// A script that is being answered.
 #[derive(Drop)]
 pub struct Session<'a> {
     /// Where all that it makes is allocated.
@@ -37,12 +34,8 @@ pub struct Session<'a> {
     pub report: Report,
     /// How check-sats are searched.
     pub options: SearchOptions,
-    /// Reads the script.
-    pub lexer: Lexer<'a>,
-    /// The command that was read last.
-    pub sexprs: Sexprs<'a>,
-    /// What the commands have led to.
-    pub state: State<'a>,
+    /// What is read of the script, and what it has led to.
+    pub walk: Walk<'a>,
     /// What the mode holds: the entry that decided the last check-sat.
     pub held: Option<Found>,
     /// Behind this place of the script no proof is asked for, where it was looked up.
@@ -51,8 +44,6 @@ pub struct Session<'a> {
     pub marks: Vec<bool>,
     /// What is told of the last command.
     pub text: Vec<u8>,
-    /// The number of the next command, from 1.
-    pub command: u64,
 }
 
 /// How a script ended that was answered to its end.
@@ -69,21 +60,17 @@ impl<'a> Session<'a> {
     pub fn new(alloc: Global, bytes: &'a [u8], report: Report, options: SearchOptions) -> Self
         ensures start { IsStart result }
         ensures report { result.report ≡ report }
-        ensures bytes { result.lexer.bytes ≡ bytes.now }
+        ensures bytes { result.walk.lexer.bytes ≡ bytes.now }
     {
-        smt_script::state_law();
         Session {
             alloc,
             report,
             options,
-            lexer: Lexer::new(bytes),
-            sexprs: Sexprs::new(alloc, bytes),
-            state: State::new(alloc),
+            walk: Walk::new(alloc, bytes),
             held: None,
             last_proof: None,
             marks: Vec::new(alloc),
             text: Vec::new(alloc),
-            command: 1,
         }
     }
 
@@ -97,9 +84,9 @@ impl<'a> Session<'a> {
     ) -> Result<Solved, SessionError>
         requires { IsStart self.old }
         ensures whole { IfOk result (λ end. Writes (K.holds sink.old) (K.holds sink.new)
-            (λ added. IsReport self.old.report self.old.lexer.bytes added (status_of end))) }
+            (λ added. IsReport self.old.report self.old.walk.lexer.bytes added (status_of end))) }
         ensures part { OnErr result (Writes (K.holds sink.old) (K.holds sink.new)
-            (IsReportPart self.old.report self.old.lexer.bytes)) }
+            (IsReportPart self.old.report self.old.walk.lexer.bytes)) }
         ensures fault { result ≡ Err SessionError.WriteFault → Rose (K.faults sink.old) (K.faults sink.new) }
         ensures quiet { result ≢ Err SessionError.WriteFault → K.faults sink.new ≡ K.faults sink.old }
         ensures later { K.faults sink.old ≤ K.faults sink.new }
@@ -111,12 +98,12 @@ impl<'a> Session<'a> {
             match piece {
                 Piece::Closing => return Ok(Solved::Done),
                 Piece::Error(_) => return Ok(Solved::ScriptStopped),
-                _ => self.command += 1,
+                _ => {}
             }
         }
     }
 
-    /// Reads the next command, and carries it out: the piece that answers it, or the last one.
+    /// Goes on to the next event, and gives the piece that answers it.
     fn next_piece<R: Threads + Wait + Sync, G: Gate>(
         &mut self,
         rt: &R,
@@ -125,74 +112,23 @@ impl<'a> Session<'a> {
         requires { IsReady self.old }
         ensures next { IfOk result (λ piece. (s : Meaning) → Holds self.old s
             → IsNext self.old self.new s piece) }
-        ensures fresh { IfOk result (λ piece. IsGoing piece → self.new.lexer.failed ≡ None) }
-        ensures forward { IfOk result (λ piece. IsGoing piece → self.old.lexer.place < self.new.lexer.place) }
-        ensures within { self.new.lexer.place ≤ length self.new.lexer.bytes }
+        ensures ready { IfOk result (λ piece. IsGoing piece → IsWalkReady self.new.walk) }
+        ensures forward { IfOk result (λ piece. IsGoing piece
+            → self.old.walk.lexer.place < self.new.walk.lexer.place) }
         ensures keeps { KeepsScript self.old self.new }
     {
-        self.sexprs.clear();
-        match self.sexprs.read_one(&mut self.lexer) {
-            Ok(Some(id)) => {
-                let piece = self.carry_out(rt, id, gate)?;
-                Ok(piece)
-            }
-            Ok(None) => Ok(Piece::Closing),
-            Err(SexprError::Refused(why)) => Ok(Piece::Error(kind_of_unreadable(why))),
-            Err(SexprError::OutOfMemory) => Err(AllocError),
-        }
-    }
-
-    /// Carries out a command, and gives the piece that answers it.
-    fn carry_out<R: Threads + Wait + Sync, G: Gate>(
-        &mut self,
-        rt: &R,
-        id: SexprId,
-        gate: &G,
-    ) -> Result<Piece, AllocError>
-        requires meaning { HasMeaning self.old.sexprs id }
-        requires stands { (s : Meaning) × Holds self.old s }
-        ensures gives { IfOk result (λ piece. (s : Meaning) (x : Sexpr)
-            → Holds self.old s → Means self.old.sexprs id x
-            → Gives self.old.report self.new (Replies self.old.report self.old.held s x) piece) }
-        ensures keeps { KeepsReading self.old self.new }
-    {
-        smt_script::state_law();
         smt_script::mode_law();
-        match self.state.step(&self.sexprs, id) {
-            Ok(effect) => {
-                let piece = self.answer_effect(rt, id, effect, gate)?;
-                Ok(piece)
-            }
-            Err(ScriptError::Refused(why)) => Ok(Piece::Error(kind_of(why))),
-            Err(ScriptError::OutOfMemory) => Err(AllocError),
-        }
-    }
-
-    /// The piece that answers an effect of the command.
-    fn answer_effect<R: Threads + Wait + Sync, G: Gate>(
-        &mut self,
-        rt: &R,
-        id: SexprId,
-        effect: Effect,
-        gate: &G,
-    ) -> Result<Piece, AllocError>
-        requires may { (s : Meaning) × (x : Sexpr) × Holds self.old s × Means self.old.sexprs id x
-            × MayTell s x effect }
-        ensures gives { IfOk result (λ piece. (s : Meaning) (x : Sexpr) → Holds self.old s
-            → Means self.old.sexprs id x → MayTell s x effect
-            → Gives self.old.report self.new (Answers self.old.report self.old.held s x effect) piece) }
-        ensures keeps { KeepsReading self.old self.new }
-    {
-        match effect {
-            Effect::CheckSat => {
-                self.check(rt, gate)?;
-                Ok(Piece::Decision)
-            }
-            Effect::Tell(notice) => {
+        match self.walk.next()? {
+            Event::Told(id, notice) => {
                 let piece = self.tell(id, notice)?;
                 Ok(piece)
             }
-            Effect::Exit => Ok(Piece::Closing),
+            Event::Asked(_, Question::CheckSat) => {
+                self.check(rt, gate)?;
+                Ok(Piece::Decision)
+            }
+            Event::Ended => Ok(Piece::Closing),
+            Event::Failed(kind) => Ok(Piece::Error(kind)),
         }
     }
 
@@ -206,12 +142,11 @@ impl<'a> Session<'a> {
         ensures checked { OnOk result ((s : Meaning) → Holds self.old s → IsChecked self.new s) }
         ensures keeps { KeepsReading self.old self.new }
     {
-        smt_script::state_law();
         self.held = None;
         self.marks.clear();
         let wanted = self.wanted();
-        let found = decide(rt, self.alloc, &self.state, wanted, self.options, gate)?;
-        self.state.settle(found.verdict());
+        let found = decide(rt, self.alloc, &self.walk.state, wanted, self.options, gate)?;
+        self.walk.settle(found.verdict());
         self.held = Some(found);
         Ok(())
     }
@@ -226,10 +161,10 @@ impl<'a> Session<'a> {
             Report::Verdicts => {
                 let last = match self.last_proof {
                     Some(place) => place,
-                    None => last_proof(self.lexer.bytes()),
+                    None => last_proof(self.walk.lexer.bytes()),
                 };
                 self.last_proof = Some(last);
-                if self.lexer.place() <= last {
+                if self.walk.lexer.place() <= last {
                     Wanted::Entry(Version::One)
                 } else {
                     Wanted::Verdict

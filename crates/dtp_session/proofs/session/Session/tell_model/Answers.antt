@@ -11,4 +11,4 @@ model_text-requires c =
     let values = c.in-Some-schedule.values.now in
     let held : c.args.self.now.held ≡ Some (Sat values) = c.in-Some.is ∙ ap Some (is_schedule c.in-Some.found values (search rules)) in
     let shown = values_shown c.args.self.now s values holds (c.requires.may.3.model refl) held in
-    values_counted c.args.self.now.state s values holds.stands shown.fits ∙ sym (ap (λ (ds : List Declaration). length ds) c.names.ensures.names)
+    values_counted c.args.self.now.walk.state s values holds.stands shown.fits ∙ sym (ap (λ (ds : List Declaration). length ds) c.names.ensures.names)
