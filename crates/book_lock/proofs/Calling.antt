@@ -8,11 +8,11 @@ use Rattle.book_core.specs.Books.{IsAllowed}
 use Rattle.book_core.specs.Runs.{IsRun, replayed}
 use Rattle.book_lock.specs.declared.view.View.{View}
 use Rattle.book_lock.specs.declared.cube.Cube.{Cube}
-use Rattle.book_lock.specs.Calls.{calls_by, seat_of, held_from, held_after, IsDue, IsOrderlyFrom, idle_from, is_idle, ended_idle}
+use Rattle.book_lock.specs.SeatEvents.{events_by, seat_of, held_from, held_after, IsDue, IsOrderlyFrom, idle_from, is_idle, ended_idle}
 use Rattle.book_lock.specs.Rules.{entered, Entered, telling, resting}
 use Rattle.book_lock.specs.Seats.{IsSeated, Called, calling, id_of}
 use Rattle.book_lock.proofs.Fronts.{prefix_trans}
-use Rattle.book_lock.proofs.Journals.{run_snoc, calls_own}
+use Rattle.book_lock.proofs.Journals.{run_snoc, events_own}
 use Rattle.book_lock.proofs.Holding.{lemmas_prefix}
 
 pub held_snoc : (held : Option ℕ) (es : List Event) (e : Event) → held_from held (es ++ e ∷ []) ≡ held_after e
@@ -42,20 +42,20 @@ module _ (v : View) (log : List Event) (e : Event) (rests : v.turn ≡ false) (b
   last = drop-append_seam log (e ∷ [])
 
   pub view_after : told_of v log e ≡ calling v between e
-  view_after = λ i. record v { turn = sym rests i; known = sym blank i; front = sym whole i ++ e ∷ []; calls = v.calls ++ last i }
+  view_after = λ i. record v { turn = sym rests i; known = sym blank i; front = sym whole i ++ e ∷ []; events = v.events ++ last i }
 
   pub run_after : IsRun v.problem (log ++ e ∷ [])
   run_after = run_snoc v.problem log e en.0 a
 
-  pub calls_after : calls_by v.number (log ++ e ∷ []) ≡ v.calls ++ e ∷ []
-  calls_after = calls_own v.number log e own ∙ ap (λ (es : List Event). es ++ e ∷ []) en.2
+  pub events_after : events_by v.number (log ++ e ∷ []) ≡ v.events ++ e ∷ []
+  events_after = events_own v.number log e own ∙ ap (λ (es : List Event). es ++ e ∷ []) en.2
 
   pub called : (w : View) → w ≡ told_of v log e → Called v w between e
   called w is = record {
     view = is ∙ view_after;
     allowed = subst (λ (es : List Event). IsAllowed v.problem (replayed es) e) (sym whole) a;
     run = subst (λ (x : View). IsRun v.problem x.front) (sym is) run_after;
-    made = subst (λ (x : View). calls_by v.number x.front ≡ x.calls) (sym is) (calls_after ∙ ap (λ (es : List Event). v.calls ++ es) (sym last));
+    made = subst (λ (x : View). events_by v.number x.front ≡ x.events) (sym is) (events_after ∙ ap (λ (es : List Event). v.events ++ es) (sym last));
   }
 
   -- the seat's parts after a call that leaves it without a cube
@@ -65,11 +65,11 @@ module _ (v : View) (log : List Event) (e : Event) (rests : v.turn ≡ false) (b
     run = run_after;
     seen = prefix_trans lemmas (replayed v.front).lemmas (replayed (log ++ e ∷ [])).lemmas s.seen (lemmas_prefix v.front (log ++ e ∷ []) (between ++ e ∷ [], more_front));
     holds = tt;
-    orderly = subst (λ (es : List Event). IsOrderlyFrom None (v.calls ++ es)) (sym last) (orderly_snoc None v.calls e s.orderly (subst (λ (h : Option ℕ). IsDue h e) (sym s.held) due));
-    held = ap (λ (es : List Event). held_from None (v.calls ++ es)) last ∙ (held_snoc None v.calls e ∙ none);
+    orderly = subst (λ (es : List Event). IsOrderlyFrom None (v.events ++ es)) (sym last) (orderly_snoc None v.events e s.orderly (subst (λ (h : Option ℕ). IsDue h e) (sym s.held) due));
+    held = ap (λ (es : List Event). held_from None (v.events ++ es)) last ∙ (held_snoc None v.events e ∙ none);
     within = omega (arith, count);
-    before = ap (calls_by v.number) (take_all now (log ++ e ∷ []) (omega (arith, count))) ∙ (calls_after ∙ ap (λ (es : List Event). v.calls ++ es) (sym last));
-    idle = sym is ∙ (sym (idle_snoc false v.calls e) ∙ ap (λ (es : List Event). ended_idle (v.calls ++ es)) (sym last));
+    before = ap (events_by v.number) (take_all now (log ++ e ∷ []) (omega (arith, count))) ∙ (events_after ∙ ap (λ (es : List Event). v.events ++ es) (sym last));
+    idle = sym is ∙ (sym (idle_snoc false v.events e) ∙ ap (λ (es : List Event). ended_idle (v.events ++ es)) (sym last));
     kept = s.kept;
   }
     where

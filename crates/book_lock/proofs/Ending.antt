@@ -21,7 +21,7 @@ use Rattle.book_core.specs.Runs.{IsRun, IsRunFrom, replayed_from, replayed}
 use Rattle.book_core.proofs.Sound.{done_kept}
 use Rattle.book_lock.specs.declared.view.View.{View}
 use Rattle.book_lock.specs.declared.view.Kept.{Kept}
-use Rattle.book_lock.specs.Calls.{seat_of, calls_by, held_after, held_from, IsDue, IsOrderlyFrom}
+use Rattle.book_lock.specs.SeatEvents.{seat_of, events_by, held_after, held_from, IsDue, IsOrderlyFrom}
 use Rattle.book_lock.specs.Rules.{kept_of}
 use Rattle.book_lock.specs.Seats.{AreEnded, AllEnded, AllKnown, WasDone}
 
@@ -90,10 +90,10 @@ held_step p s (Take seat (TakenCube k)) h a due hb id n is = taken_by s h seat k
 held_step p s (Deliver seat k batch outcome) h a due hb id n is = ended_by s (after s (Deliver seat k batch outcome)) h seat k hb due (elsewhere_deliver s seat k batch outcome a.0) id n is
 held_step p s (Release seat k) h a due hb id n is = ended_by s (after s (Release seat k)) h seat k hb due (λ i m x. elsewhere_set s.cover.nodes k (Held seat) Free a (λ _ e. cc (e)) i m x) id n is
 
-due_here : (h : ℕ → Option ℕ) (e : Event) (es : List Event) → IsOrderlyFrom (h (seat_of e)) (calls_by (seat_of e) (e ∷ es)) → IsDue (h (seat_of e)) e
+due_here : (h : ℕ → Option ℕ) (e : Event) (es : List Event) → IsOrderlyFrom (h (seat_of e)) (events_by (seat_of e) (e ∷ es)) → IsDue (h (seat_of e)) e
 due_here h e es o =
     let n : ℕ = seat_of e in
-    (subst (λ (b : Bool). IsOrderlyFrom (h n) (cond b (e ∷ calls_by n es) (calls_by n es))) (eq-eqb n n refl) o).0
+    (subst (λ (b : Bool). IsOrderlyFrom (h n) (cond b (e ∷ events_by n es) (events_by n es))) (eq-eqb n n refl) o).0
 
 orderly_next : (h : ℕ → Option ℕ) (e : Event) (cs : List Event) (n : ℕ) (b : Bool) → IsOrderlyFrom (h n) (cond b (e ∷ cs) cs) → IsOrderlyFrom (cond b (held_after e) (h n)) cs
 orderly_next h e cs n true o = o.1
@@ -103,11 +103,11 @@ held_next : (h : ℕ → Option ℕ) (e : Event) (cs : List Event) (n : ℕ) (b 
 held_next h e cs n true = refl
 held_next h e cs n false = refl
 
-pub holders : (p : Problem) (s : State) (es : List Event) (h : ℕ → Option ℕ) → IsRunFrom p s es → ((n : ℕ) → IsOrderlyFrom (h n) (calls_by n es)) → HeldBy s h → (id n : ℕ) → node_at (replayed_from s es).cover id ≡ Some (Held n) → held_from (h n) (calls_by n es) ≡ Some id
+pub holders : (p : Problem) (s : State) (es : List Event) (h : ℕ → Option ℕ) → IsRunFrom p s es → ((n : ℕ) → IsOrderlyFrom (h n) (events_by n es)) → HeldBy s h → (id n : ℕ) → node_at (replayed_from s es).cover id ≡ Some (Held n) → held_from (h n) (events_by n es) ≡ Some id
 holders p s [] h r o hb id n is = hb id n is
 holders p s (e ∷ es) h r o hb id n is =
-    held_next h e (calls_by n es) n (seat_of e == n)
-    ∙ holders p (after s e) es (next h e) r.1 (λ m. orderly_next h e (calls_by m es) m (seat_of e == m) (o m)) (held_step p s e h r.0 (due_here h e es (o (seat_of e))) hb) id n is
+    held_next h e (events_by n es) n (seat_of e == n)
+    ∙ holders p (after s e) es (next h e) r.1 (λ m. orderly_next h e (events_by m es) m (seat_of e == m) (o m)) (held_step p s e h r.0 (due_here h e es (o (seat_of e))) hb) id n is
 
 none_at_first : HeldBy opening (λ _. None)
 none_at_first zero n e = absurd (cc (e))
@@ -116,19 +116,19 @@ none_at_first (suc id) n e = absurd (cc (e))
 ended_of : (n : ℕ) (ks : List Kept) (cs : List Event) → AllEnded ks → kept_of n ks ≡ Some cs → AreEnded cs
 ended_of n [] cs all e = absurd (cc (e))
 ended_of n (k ∷ ks) cs all e = dite (ℕ_discrete k.number n)
-    (λ q. let a : Some k.calls ≡ Some cs = sym (ap (λ (b : Bool). cond b (Some k.calls) (kept_of n ks)) (eq-eqb k.number n q)) ∙ e in let b : k.calls ≡ cs = cc (a) in subst AreEnded b all.0)
-    (λ ne. ended_of n ks cs all.1 (sym (ap (λ (b : Bool). cond b (Some k.calls) (kept_of n ks)) (ne_eqb k.number n ne)) ∙ e))
+    (λ q. let a : Some k.events ≡ Some cs = sym (ap (λ (b : Bool). cond b (Some k.events) (kept_of n ks)) (eq-eqb k.number n q)) ∙ e in let b : k.events ≡ cs = cc (a) in subst AreEnded b all.0)
+    (λ ne. ended_of n ks cs all.1 (sym (ap (λ (b : Bool). cond b (Some k.events) (kept_of n ks)) (ne_eqb k.number n ne)) ∙ e))
 
--- where the calls of all seats are known, and each ended its cubes, no leaf is held
-pub none_held : (p : Problem) (v : View) → IsRun p v.front → AllKnown v → AreEnded v.calls → AllEnded v.kept → NoneHeld (replayed v.front).cover
+-- where the events of all seats are known, and each ended its cubes, no leaf is held
+pub none_held : (p : Problem) (v : View) → IsRun p v.front → AllKnown v → AreEnded v.events → AllEnded v.kept → NoneHeld (replayed v.front).cover
 none_held p v run known mine all id n is =
-    let ended : (m : ℕ) → AreEnded (calls_by m v.front) = λ m. dite (ℕ_discrete m 0)
-    (λ z. subst AreEnded (sym known.0 ∙ ap (λ (j : ℕ). calls_by j v.front) (sym z)) mine)
+    let ended : (m : ℕ) → AreEnded (events_by m v.front) = λ m. dite (ℕ_discrete m 0)
+    (λ z. subst AreEnded (sym known.0 ∙ ap (λ (j : ℕ). events_by j v.front) (sym z)) mine)
     (λ nz. ⊎_elim
-    (λ (l : m < v.seats). ended_of m v.kept (calls_by m v.front) all (known.1 m (omega (arith, nz)) l))
+    (λ (l : m < v.seats). ended_of m v.kept (events_by m v.front) all (known.1 m (omega (arith, nz)) l))
     (λ (l : v.seats ≤ m). subst AreEnded (sym (known.2 m l)) (tt, refl))
     (cases_lt m v.seats)) in
-    let a : held_from None (calls_by n v.front) ≡ Some id = holders p opening v.front (λ _. None) run (λ m. (ended m).0) none_at_first id n is in
+    let a : held_from None (events_by n v.front) ≡ Some id = holders p opening v.front (λ _. None) run (λ m. (ended m).0) none_at_first id n is in
     let b : None ≡ Some id = sym (ended n).1 ∙ a in
     cc (b)
 

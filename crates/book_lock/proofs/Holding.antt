@@ -24,10 +24,10 @@ use Rattle.book_core.specs.declared.event.Outcome.TheVariants.{Found, Shut as Sh
 use Rattle.book_core.specs.Books.{State, opening, IsAllowed, after, cover_delivered}
 use Rattle.book_core.specs.Runs.{IsRun, IsRunFrom, replayed_from, replayed}
 use Rattle.book_lock.specs.declared.cube.Cube.{Cube}
-use Rattle.book_lock.specs.Calls.{calls_by, seat_of}
-use Rattle.book_lock.specs.Seats.{IsHeldBy}
+use Rattle.book_lock.specs.SeatEvents.{events_by, seat_of}
+use Rattle.book_lock.specs.Seats.{IsCubeOfSeat}
 use Rattle.book_lock.proofs.Fronts.{prefix_self, prefix_trans}
-use Rattle.book_lock.proofs.Journals.{run_first, run_rest, replayed_more, calls_append}
+use Rattle.book_lock.proofs.Journals.{run_first, run_rest, replayed_more, events_append}
 
 -- the lemmas only grow
 pub lemmas_step : (s : State) (e : Event) → IsPrefix s.lemmas (after s e).lemmas
@@ -83,11 +83,11 @@ stands_step p s (Deliver seat k batch outcome) id n cube a ne h = stands_deliver
 stands_step p s (Release seat k) id n cube a ne h = stands_set s.cover k id Free (Held n) cube (held_apart s.cover k id seat n a h.node ne) h
 
 -- what a seat holds stays while it makes no call
-pub stands : (p : Problem) (s : State) (es : List Event) (id n : ℕ) (cube : List Literal) → IsRunFrom p s es → calls_by n es ≡ [] → Stands s.cover id (Held n) cube → Stands (replayed_from s es).cover id (Held n) cube
+pub stands : (p : Problem) (s : State) (es : List Event) (id n : ℕ) (cube : List Literal) → IsRunFrom p s es → events_by n es ≡ [] → Stands s.cover id (Held n) cube → Stands (replayed_from s es).cover id (Held n) cube
 stands p s [] id n cube r none h = h
 stands p s (e ∷ es) id n cube r none h = dite (ℕ_discrete (seat_of e) n)
-    (λ q. let full : e ∷ calls_by n es ≡ [] = sym (ap (λ (b : Bool). cond b (e ∷ calls_by n es) (calls_by n es)) (eq-eqb (seat_of e) n q)) ∙ none in absurd cc)
-    (λ ne. stands p (after s e) es id n cube r.1 (sym (ap (λ (b : Bool). cond b (e ∷ calls_by n es) (calls_by n es)) (ne_eqb (seat_of e) n ne)) ∙ none) (stands_step p s e id n cube r.0 ne h))
+    (λ q. let full : e ∷ events_by n es ≡ [] = sym (ap (λ (b : Bool). cond b (e ∷ events_by n es) (events_by n es)) (eq-eqb (seat_of e) n q)) ∙ none in absurd cc)
+    (λ ne. stands p (after s e) es id n cube r.1 (sym (ap (λ (b : Bool). cond b (e ∷ events_by n es) (events_by n es)) (ne_eqb (seat_of e) n ne)) ∙ none) (stands_step p s e id n cube r.0 ne h))
 
 -- a held cube of a run stands, with its literals
 pub stands_at : (c : Cubes) (id n : ℕ) → IsCover c → node_at c id ≡ Some (Held n) → Stands c id (Held n) (cube_at c id)
@@ -115,15 +115,15 @@ none_left [] ys zs e same = e ∙ sym same
 none_left (x ∷ xs) ys [] e same = absurd cc
 none_left (x ∷ xs) ys (z ∷ zs) e same = none_left xs ys zs (cc (e)) (cc (same))
 
-pub quiet_between : (n : ℕ) (xs ys zs calls : List Event) → xs ++ ys ≡ zs → calls_by n zs ≡ calls → calls_by n xs ≡ calls → calls_by n ys ≡ []
-quiet_between n xs ys zs calls e a b = none_left (calls_by n xs) (calls_by n ys) calls (sym (calls_append n xs ys) ∙ (ap (calls_by n) e ∙ a)) b
+pub quiet_between : (n : ℕ) (xs ys zs events : List Event) → xs ++ ys ≡ zs → events_by n zs ≡ events → events_by n xs ≡ events → events_by n ys ≡ []
+quiet_between n xs ys zs events e a b = none_left (events_by n xs) (events_by n ys) events (sym (events_append n xs ys) ∙ (ap (events_by n) e ∙ a)) b
 
--- the cube that a seat holds by its front is held in each longer journal without more calls by it
-pub still_held : (p : Problem) (front log calls : List Event) (n : ℕ) (cube : Cube) → IsRun p log → IsPrefix front log → calls_by n log ≡ calls → calls_by n front ≡ calls → IsHeldBy (replayed front).cover n cube → IsHeldBy (replayed log).cover n cube
-still_held p front log calls n cube run pre made seen h =
+-- the cube that a seat holds by its front is held in each longer journal without more events by it
+pub still_held : (p : Problem) (front log events : List Event) (n : ℕ) (cube : Cube) → IsRun p log → IsPrefix front log → events_by n log ≡ events → events_by n front ≡ events → IsCubeOfSeat (replayed front).cover n cube → IsCubeOfSeat (replayed log).cover n cube
+still_held p front log events n cube run pre made seen h =
     let whole : IsRunFrom p opening (front ++ pre.0) = subst (IsRun p) (sym pre.1) run in
     let covered = covered_by p opening front opening_whole (run_first p opening front pre.0 whole) in
-    let quiet : calls_by n pre.0 ≡ [] = quiet_between n front pre.0 log calls pre.1 made seen in
+    let quiet : events_by n pre.0 ≡ [] = quiet_between n front pre.0 log events pre.1 made seen in
     let then = stands p (replayed front) pre.0 cube.id n (cube_at (replayed front).cover cube.id) (run_rest p opening front pre.0 whole) quiet (stands_at (replayed front).cover cube.id n covered h.0) in
     let same : replayed_from (replayed front) pre.0 ≡ replayed log = sym (replayed_more opening front pre.0) ∙ ap replayed pre.1 in
     let node : node_at (replayed log).cover cube.id ≡ Some (Held n) = ap (λ (s : State). node_at s.cover cube.id) (sym same) ∙ then.node in

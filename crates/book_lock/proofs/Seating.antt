@@ -19,11 +19,11 @@ use Rattle.book_core.specs.declared.event.Event.{Event}
 use Rattle.book_lock.specs.declared.view.View.{View}
 use Rattle.book_lock.specs.declared.view.Kept.{Kept}
 use Rattle.book_core.specs.Runs.{Ledger, ledger, IsRun}
-use Rattle.book_lock.specs.Calls.{calls_by}
+use Rattle.book_lock.specs.SeatEvents.{events_by}
 use Rattle.book_lock.specs.Rules.{St, Mine, At, Active, kept_of, AllBegin, Fits, Seen, Sees, Holds, opener}
 use Rattle.book_lock.specs.Seats.{counted, newcomer, longer, merged, OneBegins, nobody, AllJoined, AllKnown}
 use Rattle.book_lock.proofs.Fronts.{prefix_trans, prefix_self, prefix_shorter, prefix_whole, prefix_length}
-use Rattle.book_lock.proofs.Journals.{calls_none, calls_between}
+use Rattle.book_lock.proofs.Journals.{events_none, events_between}
 use Rattle.book_lock.proofs.Steps.{at_below, same_at, each, true_false}
 
 -- the table at the start
@@ -122,7 +122,7 @@ module _ (p : Problem) (id : ℕ) (v : View) (first : v.number ≡ 0) (unspent :
         spent = each_end (λ j u. u.spent ≡ true → u.turn ≡ false) s.views id w x (λ _. rests) (λ _ _ _. refl) (λ j u _ a. r.spent j u a);
         fits = each_end (λ j u. u.spent ≡ false → Fits p r.log (r.seats + 1) u) s.views id w x
             (λ _. record { front = f.front; made = f.made; seen = f.seen; problem = f.problem; known = f.known; below = let b = f.below in omega (arith, b) })
-            (λ _ _ _. let none : calls_by v.seats r.log ≡ [] = r.beyond v.seats (omega (arith, seats)) in record { front = f.front; made = none; seen = calls_none v.seats v.front r.log f.front none; problem = f.problem; known = λ t. absurd (true_false false t refl); below = omega (arith, seats) })
+            (λ _ _ _. let none : events_by v.seats r.log ≡ [] = r.beyond v.seats (omega (arith, seats)) in record { front = f.front; made = none; seen = events_none v.seats v.front r.log f.front none; problem = f.problem; known = λ t. absurd (true_false false t refl); below = omega (arith, seats) })
             (λ j u _ a sp. let g = r.fits j u a sp in record { front = g.front; made = g.made; seen = g.seen; problem = g.problem; known = g.known; below = let b = g.below in omega (arith, b) });
         apart = λ i j u y a b.
             each_end (λ i u. u.spent ≡ false → y.spent ≡ false → u.number ≡ y.number → i ≡ j) s.views id w x
@@ -144,7 +144,7 @@ module _ (p : Problem) (id : ℕ) (v : View) (first : v.number ≡ 0) (unspent :
             (λ (t : Active n s.views). inl (dite (ℕ_discrete t.0 id)
             (λ e. (id, w, mine, unspent, ap (λ (y : View). y.number) (same_at s.views id v t.1 at (subst (λ (k : ℕ). At s.views k t.1) e t.2)) ∙ t.4))
             (λ ne'. (t.0, t.1, still t.0 t.1 ne' t.2, t.3, t.4))))
-            (λ (k : kept_of n r.kept ≡ Some (calls_by n r.log)). inr k)
+            (λ (k : kept_of n r.kept ≡ Some (events_by n r.log)). inr k)
             (r.joined n (omega (arith, seats, l))));
         away = each_end (λ j u. u.spent ≡ false → kept_of u.number r.kept ≡ None) s.views id w x (λ _. r.away id v at unspent) (λ _ _ _. r.unmade v.seats (omega (arith, seats))) (λ j u _ a. r.away j u a);
         beyond = λ n l. r.beyond n (omega arith);
@@ -185,7 +185,7 @@ module _ (p : Problem) (id : ℕ) (v : View) (first : v.number ≡ 0) (unspent :
       let f = r.fits id v at unspent in
       let g = r.fits other w was unspent' in
       let t = longer_front v.front w.front r.log f.front g.front in
-      let more : List Kept = record { number = w.number; front = w.front; calls = w.calls } ∷ r.kept in
+      let more : List Kept = record { number = w.number; front = w.front; events = w.events } ∷ r.kept in
       let mine : At (set vs other nobody) id b = set_else vs other id nobody (λ e. ne (sym e)) ∙ set_here s.views id b (at_below s.views id v at) in
       let still : (j : ℕ) (u : View) → j ≢ id → j ≢ other → At s.views j u → At (set vs other nobody) j u = λ j u n m a. set_else vs other j nobody m ∙ (set_else s.views id j b n ∙ a) in
       let all : (P : ℕ → View → Type 0) → P id b → P other nobody → ((j : ℕ) (u : View) → j ≢ id → j ≢ other → At s.views j u → P j u) → (j : ℕ) (u : View) → At (set vs other nobody) j u → P j u =
@@ -193,8 +193,8 @@ module _ (p : Problem) (id : ℕ) (v : View) (first : v.number ≡ 0) (unspent :
       (λ (q : (j ≡ id) × (b ≡ u)). subst (λ (y : ℕ × View). P y.0 y.1) (λ i'. (sym q.0 i', q.1 i')) i)
       (λ (q : (j ≢ id) × (get_elem? s.views j ≡ some u)). k j u q.0 m q.1)
       (at_set s.views id j b u a)) in
-      let kept_else : (n : ℕ) → n ≢ w.number → kept_of n more ≡ kept_of n r.kept = λ n m. ap (λ (c : Bool). cond c (Some w.calls) (kept_of n r.kept)) (ne_eqb w.number n (λ e. m (sym e))) in
-      let kept_here : (n : ℕ) → n ≡ w.number → kept_of n more ≡ Some w.calls = λ n m. ap (λ (c : Bool). cond c (Some w.calls) (kept_of n r.kept)) (eq-eqb w.number n (sym m)) in
+      let kept_else : (n : ℕ) → n ≢ w.number → kept_of n more ≡ kept_of n r.kept = λ n m. ap (λ (c : Bool). cond c (Some w.events) (kept_of n r.kept)) (ne_eqb w.number n (λ e. m (sym e))) in
+      let kept_here : (n : ℕ) → n ≡ w.number → kept_of n more ≡ Some w.events = λ n m. ap (λ (c : Bool). cond c (Some w.events) (kept_of n r.kept)) (eq-eqb w.number n (sym m)) in
       let quiet : (j : ℕ) (u : View) → At s.views j u → u.turn ≡ true → (j ≢ id) × (j ≢ other) = λ j u a on. (
         (λ e. true_false u.turn on (subst (λ (y : View). y.turn ≡ false) (same_at s.views id v u at (subst (λ (k : ℕ). At s.views k u) e a)) rests)),
         (λ e. true_false u.turn on (subst (λ (y : View). y.turn ≡ false) (same_at s.views other w u was (subst (λ (k : ℕ). At s.views k u) e a)) rests')),
@@ -204,7 +204,7 @@ module _ (p : Problem) (id : ℕ) (v : View) (first : v.number ≡ 0) (unspent :
         seats = r.seats;
         kept = more;
         run = r.run;
-        head = (b, subst (λ (k : ℕ). At (set vs other nobody) k b) h.0 mine, first, unspent, seats, ap (λ (l : List Kept). let k : Kept = record { number = w.number; front = w.front; calls = w.calls } in k ∷ l) kept);
+        head = (b, subst (λ (k : ℕ). At (set vs other nobody) k b) h.0 mine, first, unspent, seats, ap (λ (l : List Kept). let k : Kept = record { number = w.number; front = w.front; events = w.events } in k ∷ l) kept);
         wide = r.wide;
         told = r.told;
         longest = dite (ℕ_discrete r.longest.0 id)
@@ -221,7 +221,7 @@ module _ (p : Problem) (id : ℕ) (v : View) (first : v.number ≡ 0) (unspent :
             i u a;
         spent = all (λ j u. u.spent ≡ true → u.turn ≡ false) (λ _. rests) (λ _. refl) (λ j u _ _ a. r.spent j u a);
         fits = all (λ j u. u.spent ≡ false → Fits p r.log r.seats u)
-            (λ _. record { front = t.0; made = f.made; seen = calls_between v.number v.front (longer v.front w.front) r.log t.1 t.0 (f.seen ∙ sym f.made) ∙ f.seen; problem = f.problem; known = f.known; below = f.below })
+            (λ _. record { front = t.0; made = f.made; seen = events_between v.number v.front (longer v.front w.front) r.log t.1 t.0 (f.seen ∙ sym f.made) ∙ f.seen; problem = f.problem; known = f.known; below = f.below })
             (λ sp. absurd (true_false true refl sp))
             (λ j u _ _ a. r.fits j u a);
         apart = λ i j u y a c.
@@ -234,11 +234,11 @@ module _ (p : Problem) (id : ℕ) (v : View) (first : v.number ≡ 0) (unspent :
             (λ (k : Active n s.views). dite (ℕ_discrete k.0 other)
             (λ e. let same : w ≡ k.1 = same_at s.views other w k.1 was (subst (λ (m : ℕ). At s.views m k.1) e k.2) in
             let num : n ≡ w.number = sym k.4 ∙ sym (ap (λ (y : View). y.number) same) in
-            inr (kept_here n num ∙ ap (λ (es : List Event). Some es) (sym g.made ∙ ap (λ (m : ℕ). calls_by m r.log) (sym num))))
+            inr (kept_here n num ∙ ap (λ (es : List Event). Some es) (sym g.made ∙ ap (λ (m : ℕ). events_by m r.log) (sym num))))
             (λ m. inl (dite (ℕ_discrete k.0 id)
             (λ e. (id, b, mine, unspent, ap (λ (y : View). y.number) (same_at s.views id v k.1 at (subst (λ (q : ℕ). At s.views q k.1) e k.2)) ∙ k.4))
             (λ q. (k.0, k.1, still k.0 k.1 q m k.2, k.3, k.4)))))
-            (λ (k : kept_of n r.kept ≡ Some (calls_by n r.log)). inr (kept_else n (λ e. let none : kept_of w.number r.kept ≡ None = r.away other w was unspent' in let q = ap (λ (m : ℕ). kept_of m r.kept) e in absurd cc) ∙ k))
+            (λ (k : kept_of n r.kept ≡ Some (events_by n r.log)). inr (kept_else n (λ e. let none : kept_of w.number r.kept ≡ None = r.away other w was unspent' in let q = ap (λ (m : ℕ). kept_of m r.kept) e in absurd cc) ∙ k))
             (r.joined n l);
         away = all (λ j u. u.spent ≡ false → kept_of u.number more ≡ None)
             (λ sp. kept_else v.number (λ e. ne (r.apart other id w v was at unspent' unspent (sym e))) ∙ r.away id v at unspent)
@@ -313,12 +313,12 @@ closes p id v first unspent rests joined s r at =
     let whole : v.front ≡ r.log = ap (λ (y : View). y.front) (same_at s.views id v m.1 at (subst (λ (k : ℕ). At s.views k m.1) (alone m.0 m.1 m.2 m.3) m.2)) ∙ m.4 in (
       r.free free ∙ ap (λ (l : List Event). some (some (Some (ledger p l)))) (sym whole),
       (
-        ap (λ (n : ℕ). calls_by n v.front) (sym first) ∙ f.seen,
+        ap (λ (n : ℕ). events_by n v.front) (sym first) ∙ f.seen,
         (λ n pos l. ⊎_elim
             (λ (k : Active n s.views). let e = ap (λ (y : View). y.number) (same_at s.views id v k.1 at (subst (λ (q : ℕ). At s.views q k.1) (alone k.0 k.1 k.2 k.3) k.2)) in let num = k.4 in absurd (omega (arith, e, num, first, pos)))
-            (λ (k : kept_of n r.kept ≡ Some (calls_by n r.log)). ap (kept_of n) kept ∙ (k ∙ ap (λ (l : List Event). Some (calls_by n l)) (sym whole)))
+            (λ (k : kept_of n r.kept ≡ Some (events_by n r.log)). ap (kept_of n) kept ∙ (k ∙ ap (λ (l : List Event). Some (events_by n l)) (sym whole)))
             (r.joined n (omega (arith, seats, l)))),
-        (λ n l. ap (calls_by n) whole ∙ r.beyond n (omega (arith, seats, l))),
+        (λ n l. ap (events_by n) whole ∙ r.beyond n (omega (arith, seats, l))),
       ),
       subst (IsRun p) (sym whole) r.run,
       subst (λ (t : List Kept × List Event). AllBegin t.0 t.1) (λ i. (sym kept i, sym whole i)) r.fronts,
@@ -333,7 +333,7 @@ closes p id v first unspent rests joined s r at =
 
 -- a look-up of what is kept, with one seat more
 pub kept_more : (n : ℕ) (k : Kept) (ks : List Kept) → IsSome (kept_of n ks) → IsSome (kept_of n (k ∷ ks))
-kept_more n k ks h = elim (k.number == n) as (λ b. IsSome (cond b (Some k.calls) (kept_of n ks))) [ true ↦ refl | false ↦ h ]
+kept_more n k ks h = elim (k.number == n) as (λ b. IsSome (cond b (Some k.events) (kept_of n ks))) [ true ↦ refl | false ↦ h ]
 
 pub kept_this : (n : ℕ) (k : Kept) (ks : List Kept) → k.number ≡ n → IsSome (kept_of n (k ∷ ks))
-kept_this n k ks e = let P : Bool → Type 0 = λ b. IsSome (cond b (Some k.calls) (kept_of n ks)) in subst P (sym (eq-eqb k.number n e)) refl
+kept_this n k ks e = let P : Bool → Type 0 = λ b. IsSome (cond b (Some k.events) (kept_of n ks)) in subst P (sym (eq-eqb k.number n e)) refl

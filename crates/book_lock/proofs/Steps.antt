@@ -17,10 +17,10 @@ use Rattle.book_core.specs.declared.event.Event.{Event}
 use Rattle.book_lock.specs.declared.view.View.{View}
 use Rattle.book_lock.specs.declared.view.Kept.{Kept}
 use Rattle.book_core.specs.Runs.{Ledger, ledger, IsRun}
-use Rattle.book_lock.specs.Calls.{calls_by, seat_of}
+use Rattle.book_lock.specs.SeatEvents.{events_by, seat_of}
 use Rattle.book_lock.specs.Rules.{St, Mine, At, Active, kept_of, AllBegin, Fits, Holds, entered, Entered, Enters, journal_of, telling, Tells, resting, Leaves}
 use Rattle.book_lock.proofs.Fronts.{prefix_self, prefix_trans}
-use Rattle.book_lock.proofs.Journals.{calls_own, calls_other}
+use Rattle.book_lock.proofs.Journals.{events_own, events_other}
 
 pub at_below : {A : Type 0} (xs : List A) (i : ℕ) (a : A) → get_elem? xs i ≡ some a → i < length xs
 at_below [] i a e = absurd (some-ne-none a (sym e))
@@ -58,7 +58,7 @@ pub record Change (p : Problem) (s : St) (r : Holds p s) (id : ℕ) (v w : View)
   pub wide : length words ≡ 2
   pub told : slice_index words 1 ≡ length log
   pub grows : IsPrefix r.log log
-  pub calls : (n : ℕ) → n ≢ v.number → calls_by n log ≡ calls_by n r.log
+  pub events : (n : ℕ) → n ≢ v.number → events_by n log ≡ events_by n r.log
   pub alone : w.turn ≡ true → (j : ℕ) (u : View) → j ≢ id → At s.views j u → u.turn ≡ false
   pub quiet : (j : ℕ) (u : View) → j ≢ id → At s.views j u → u.turn ≡ true → r.log ≡ log
   pub longest : (i : ℕ) × (u : View) × At (set s.views id w) i u × (u.spent ≡ false) × (u.front ≡ log)
@@ -86,13 +86,13 @@ module _ (p : Problem) (s : St) (r : Holds p s) (id : ℕ) (v w : View) (words :
       (λ e. (id, w, here, c.stays.0, c.stays.1 ∙ (ap (λ (x : View). x.number) (same_at s.views id v a.1 c.was (subst (λ (k : ℕ). At s.views k a.1) e a.2)) ∙ a.4)))
       (λ ne. (a.0, a.1, set_else s.views id a.0 w ne ∙ a.2, a.3, a.4))
 
-  not_kept : (n : ℕ) → kept_of n r.kept ≡ Some (calls_by n r.log) → n ≢ v.number
+  not_kept : (n : ℕ) → kept_of n r.kept ≡ Some (events_by n r.log) → n ≢ v.number
   not_kept n k same = absurd (let none : kept_of v.number r.kept ≡ None = r.away id v c.was c.unspent in let e = ap (λ (m : ℕ). kept_of m r.kept) same in cc)
 
   fits_other : (j : ℕ) (u : View) → j ≢ id → At s.views j u → u.spent ≡ false → Fits p log r.seats u
   fits_other j u ne at sp = let f = r.fits j u at sp in record {
     front = prefix_trans u.front r.log log f.front c.grows;
-    made = c.calls u.number (other_number j u ne at sp) ∙ f.made;
+    made = c.events u.number (other_number j u ne at sp) ∙ f.made;
     seen = f.seen;
     problem = f.problem;
     known = λ t. f.known t ∙ c.quiet j u ne at t;
@@ -126,10 +126,10 @@ module _ (p : Problem) (s : St) (r : Holds p s) (id : ℕ) (v w : View) (words :
         i u atu;
     joined = λ n l. ⊎_elim
         (λ (a : Active n s.views). inl (active n a))
-        (λ (k : kept_of n r.kept ≡ Some (calls_by n r.log)). inr (k ∙ ap (λ (es : List Event). Some es) (sym (c.calls n (not_kept n k)))))
+        (λ (k : kept_of n r.kept ≡ Some (events_by n r.log)). inr (k ∙ ap (λ (es : List Event). Some es) (sym (c.events n (not_kept n k)))))
         (r.joined n l);
     away = each (λ j u. u.spent ≡ false → kept_of u.number r.kept ≡ None) s.views id w (λ _. ap (λ (m : ℕ). kept_of m r.kept) c.stays.1 ∙ r.away id v c.was c.unspent) (λ j u _ at. r.away j u at);
-    beyond = λ n l. c.calls n (λ e. let b = (r.fits id v c.was c.unspent).below in absurd (omega (arith, b, e))) ∙ r.beyond n l;
+    beyond = λ n l. c.events n (λ e. let b = (r.fits id v c.was c.unspent).below in absurd (omega (arith, b, e))) ∙ r.beyond n l;
     fronts = begin_more r.kept r.log log c.grows r.fronts;
     unmade = r.unmade;
   }
@@ -165,7 +165,7 @@ module _ (p : Problem) (id : ℕ) (v : View) (unspent : v.spent ≡ false) where
         wide = length-set s.words 0 1 ∙ r.wide;
         told = get_or-set_other s.words 0 1 1 0 (λ e. absurd (omega arith)) ∙ r.told;
         grows = prefix_self l;
-        calls = λ n _. refl;
+        events = λ n _. refl;
         alone = λ _ j u _ at'. r.idle z j u at';
         quiet = λ j u _ _ _. refl;
         longest = longest_of p s r id v w at unspent refl;
@@ -203,7 +203,7 @@ module _ (p : Problem) (id : ℕ) (v : View) (turn : v.turn ≡ true) (unspent :
       let words : List ℕ = set s.words 1 new in
       let turn_word : get_or words 0 0 ≡ get_or s.words 0 0 = get_or-set_other s.words 1 0 new 0 (λ e. absurd (omega arith)) in
       let few : 1 < length s.words = omega (arith, r.wide) in
-      let mine : calls_by v.number j ≡ v.calls ++ drop (length v.known) j = ap (calls_by v.number) longer ∙ (calls_own v.number r.log e own ∙ (ap (λ (l : List Event). l ++ e ∷ []) f.made ∙ ap (λ (l : List Event). v.calls ++ l) (sym last))) in
+      let mine : events_by v.number j ≡ v.events ++ drop (length v.known) j = ap (events_by v.number) longer ∙ (events_own v.number r.log e own ∙ (ap (λ (l : List Event). l ++ e ∷ []) f.made ∙ ap (λ (l : List Event). v.events ++ l) (sym last))) in
       let change : Change p s r id v w words s.homes j = record {
         was = at;
         unspent = unspent;
@@ -212,7 +212,7 @@ module _ (p : Problem) (id : ℕ) (v : View) (turn : v.turn ≡ true) (unspent :
         wide = length-set s.words 1 new ∙ r.wide;
         told = get_or-set_same s.words 1 new 0 few ∙ (count ∙ ap length (sym is));
         grows = (e ∷ [], sym longer);
-        calls = λ n ne. ap (calls_by n) longer ∙ (calls_other n r.log e (λ q. ne (sym q ∙ own)) ∙ append-nil (calls_by n r.log));
+        events = λ n ne. ap (events_by n) longer ∙ (events_other n r.log e (λ q. ne (sym q ∙ own)) ∙ append-nil (events_by n r.log));
         alone = λ _ k u ne at'. none_else s r at k u ne at';
         quiet = λ k u ne at' t. absurd (ne (r.one k id u v at' at t turn));
         longest = (id, w, set_here s.views id w (at_below s.views id v at), unspent, refl);
@@ -243,7 +243,7 @@ module _ (p : Problem) (id : ℕ) (v : View) (turn : v.turn ≡ true) (unspent :
         wide = length-set s.words 0 0 ∙ r.wide;
         told = get_or-set_other s.words 0 1 0 0 (λ e. absurd (omega arith)) ∙ r.told;
         grows = prefix_self r.log;
-        calls = λ n _. refl;
+        events = λ n _. refl;
         alone = λ _ k u ne at'. none_else s r at k u ne at';
         quiet = λ k u _ _ _. refl;
         longest = longest_of p s r id v w at unspent refl;

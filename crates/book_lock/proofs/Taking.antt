@@ -21,12 +21,12 @@ use Rattle.book_core.specs.Runs.{Ledger, state_of, with_event, Answers, IsNear}
 use Rattle.cover_tree.specs.declared.node.Node.TheVariants.{Free, Held}
 use Rattle.cover_tree.proofs.Sets.{get_set_same}
 use Rattle.book_lock.specs.declared.cube.Cube.{Cube}
-use Rattle.book_lock.specs.declared.cube.Taken.{Taken}
-use Rattle.book_lock.specs.declared.cube.Taken.TheVariants.{Done as TakingDone, Idle as TakingIdle, Cube as TakingHeld}
-use Rattle.book_lock.specs.Calls.{IsDue, held_after, is_idle, calls_by, HasNews, HasNewsFor}
-use Rattle.book_lock.specs.Seats.{IsHeldBy, IsCubeNear, id_of, TakenAs}
-use Rattle.book_lock.specs.Looks.{taken_of, cube_of, waits_of, Looked}
-use Rattle.book_lock.proofs.Journals.{replayed_more, calls_append}
+use Rattle.book_lock.specs.declared.cube.Dealt.{Dealt}
+use Rattle.book_lock.specs.declared.cube.Dealt.TheVariants.{Done as TakingDone, Idle as TakingIdle, Cube as TakingHeld}
+use Rattle.book_lock.specs.SeatEvents.{IsDue, held_after, is_idle, events_by, HasNews, HasNewsFor}
+use Rattle.book_lock.specs.Seats.{IsCubeOfSeat, IsCubeNear, id_of, DealtAs}
+use Rattle.book_lock.specs.Looks.{dealt_of, cube_of, waits_of, Looked}
+use Rattle.book_lock.proofs.Journals.{replayed_more, events_append}
 use Rattle.book_lock.proofs.Fronts.{prefix_length}
 
 pub taken_more : {A B : Type 0} (value : A → B) (xs new shared : List A) (k : ℕ) (x y : A) → map value xs ≡ take k (map value shared) → k < length shared → x ≡ get_or shared k x → value y ≡ value x → new ≡ xs ++ y ∷ [] → map value new ≡ take (k + 1) (map value shared)
@@ -59,7 +59,7 @@ justified_now problem s id lemmas cube batch outcome p is h =
 looked_lemmas : (old new : Ledger) (e : Event) → new ≡ with_event old e → (after (state_of old) e).lemmas ≡ (state_of old).lemmas → (state_of new).lemmas ≡ (state_of old).lemmas
 looked_lemmas old new e longer same = ap (λ (b : Ledger). (state_of b).lemmas) longer ∙ (ap (λ (s : State). s.lemmas) (replayed_more opening old.journal (e ∷ [])) ∙ same)
 
-pub looked_from : (old new : Ledger) (n : ℕ) (answer : Answer) → Answers old n answer new → Looked old n (taken_of answer) (cube_of answer) new
+pub looked_from : (old new : Ledger) (n : ℕ) (answer : Answer) → Answers old n answer new → Looked old n (dealt_of answer) (cube_of answer) new
 looked_from old new n AnswerDone h = record { event = Take n Done; allowed = h.0; longer = h.1; own = refl; taken = (refl, refl); lemmas = looked_lemmas old new (Take n Done) h.1 refl }
 looked_from old new n AnswerIdle h = record { event = Take n Idle; allowed = h.0; longer = h.1; own = refl; taken = (refl, refl); lemmas = looked_lemmas old new (Take n Idle) h.1 refl }
 looked_from old new n (AnswerCube id cube) h = record {
@@ -72,13 +72,13 @@ looked_from old new n (AnswerCube id cube) h = record {
 }
 
 -- what a take leaves the seat with, by its answer
-pub record Left (n : ℕ) (s : State) (answer : Taken) (e : Event) (cube : Option Cube) : Type 0 where
+pub record Left (n : ℕ) (s : State) (answer : Dealt) (e : Event) (cube : Option Cube) : Type 0 where
   pub due : IsDue None e
   pub after_ : held_after e ≡ id_of cube
   pub idle : is_idle e ≡ waits_of answer
-  pub holds : IfSome cube (IsHeldBy (after s e).cover n)
+  pub holds : IfSome cube (IsCubeOfSeat (after s e).cover n)
 
-pub left_by : (p : Problem) (n : ℕ) (s : State) (answer : Taken) (e : Event) (cube : Option Cube) → IsAllowed p s e → TakenAs n s answer e cube → Left n s answer e cube
+pub left_by : (p : Problem) (n : ℕ) (s : State) (answer : Dealt) (e : Event) (cube : Option Cube) → IsAllowed p s e → DealtAs n s answer e cube → Left n s answer e cube
 left_by p n s TakingDone e cube a h = subst (λ (t : Event × Option Cube). Left n s TakingDone t.0 t.1) (λ i. (sym h.0 i, sym h.1 i)) (record { due = refl; after_ = refl; idle = refl; holds = tt })
 left_by p n s TakingIdle e cube a h = subst (λ (t : Event × Option Cube). Left n s TakingIdle t.0 t.1) (λ i. (sym h.0 i, sym h.1 i)) (record { due = refl; after_ = refl; idle = refl; holds = tt })
 left_by p n s TakingHeld e cube a h =
@@ -86,28 +86,28 @@ left_by p n s TakingHeld e cube a h =
     subst (λ (t : Event × Option Cube). Left n s TakingHeld t.0 t.1) (λ i. (sym h.1 i, sym h.2 i))
     (record { due = refl; after_ = refl; idle = refl; holds = (get_set_same s.cover.nodes h.0 Free (Held n) free.1, refl) })
 
-calls_behind : (n j : ℕ) (xs : List Event) → length (calls_by n (drop j xs)) ≤ length (calls_by n xs)
-calls_behind n j xs = omega (arith, ap length (ap (calls_by n) (sym (take-append-drop j xs)) ∙ calls_append n (take j xs) (drop j xs)), length-append (calls_by n (take j xs)) (calls_by n (drop j xs)))
+events_behind : (n j : ℕ) (xs : List Event) → length (events_by n (drop j xs)) ≤ length (events_by n xs)
+events_behind n j xs = omega (arith, ap length (ap (events_by n) (sym (take-append-drop j xs)) ∙ events_append n (take j xs) (drop j xs)), length-append (events_by n (take j xs)) (events_by n (drop j xs)))
 
--- there are no more calls behind a later place
-calls_later : (n j k : ℕ) (xs : List Event) → j ≤ k → length (calls_by n (drop k xs)) ≤ length (calls_by n (drop j xs))
-calls_later n zero k xs le = calls_behind n k xs
-calls_later n (suc j) zero xs le = absurd (omega (arith, le))
-calls_later n (suc j) (suc k) [] le = omega arith
-calls_later n (suc j) (suc k) (x ∷ xs) le = calls_later n j k xs (omega (arith, le))
+-- there are no more events behind a later place
+events_later : (n j k : ℕ) (xs : List Event) → j ≤ k → length (events_by n (drop k xs)) ≤ length (events_by n (drop j xs))
+events_later n zero k xs le = events_behind n k xs
+events_later n (suc j) zero xs le = absurd (omega (arith, le))
+events_later n (suc j) (suc k) [] le = omega arith
+events_later n (suc j) (suc k) (x ∷ xs) le = events_later n j k xs (omega (arith, le))
 
--- news behind so many events, which have all the calls of the seat
-module _ (n place : ℕ) (front log calls : List Event) (pre : IsPrefix front log) (within : place ≤ length front) (before : calls_by n (take place front) ≡ calls) (made : calls_by n log ≡ calls) where
-  parts : calls_by n log ≡ calls ++ calls_by n (drop place log)
+-- news behind so many events, which have all the events of the seat
+module _ (n place : ℕ) (front log events : List Event) (pre : IsPrefix front log) (within : place ≤ length front) (before : events_by n (take place front) ≡ events) (made : events_by n log ≡ events) where
+  parts : events_by n log ≡ events ++ events_by n (drop place log)
   parts =
       let same : take place log ≡ take place front = ap (λ (es : List Event). take place es) (sym pre.1) ∙ take-append-le place front pre.0 within in
-      ap (calls_by n) (sym (take-append-drop place log)) ∙ (calls_append n (take place log) (drop place log) ∙ ap (λ (es : List Event). es ++ calls_by n (drop place log)) (ap (calls_by n) same ∙ before))
+      ap (events_by n) (sym (take-append-drop place log)) ∙ (events_append n (take place log) (drop place log) ∙ ap (λ (es : List Event). es ++ events_by n (drop place log)) (ap (events_by n) same ∙ before))
 
-  none_behind : length (calls_by n (drop place log)) ≡ 0
-  none_behind = omega (arith, ap length (sym made ∙ parts), length-append calls (calls_by n (drop place log)))
+  none_behind : length (events_by n (drop place log)) ≡ 0
+  none_behind = omega (arith, ap length (sym made ∙ parts), length-append events (events_by n (drop place log)))
 
   pub news_for : HasNews place log → HasNewsFor n log
-  news_for (k, e, le, get, busy) = (k, e, get, busy, nil_from_length (calls_by n (drop k log)) (omega (arith, none_behind, calls_later n place k log le)))
+  news_for (k, e, le, get, busy) = (k, e, get, busy, nil_from_length (events_by n (drop k log)) (omega (arith, none_behind, events_later n place k log le)))
 
 -- the cube that is answered near a leaf is the seat's
 pub near_taken : (c : Cubes) (near : Option ℕ) (answer : Answer) → IfSome near (λ id. IsNear c id answer) → IfSome near (IsCubeNear c (cube_of answer))

@@ -19,16 +19,16 @@ use Rattle.book_core.proofs.Runs.{halves_push}
 use Rattle.book_core.specs.Runs.{IsRun, replayed, state_of, Ledger, ledger, with_event}
 use Rattle.book_lock.specs.declared.view.View.{View}
 use Rattle.book_lock.specs.declared.cube.Cube.{Cube}
-use Rattle.book_lock.specs.Calls.{seat_of, held_after, held_from, IsDue, IsOrderlyFrom, is_idle, ended_idle, calls_by, HasNews, HasNewsFor}
+use Rattle.book_lock.specs.SeatEvents.{seat_of, held_after, held_from, IsDue, IsOrderlyFrom, is_idle, ended_idle, events_by, HasNews, HasNewsFor}
 use Rattle.book_lock.specs.Rules.{Mine, entered, Entered, Seen, telling, resting}
-use Rattle.book_lock.specs.declared.cube.Taken.{Taken}
+use Rattle.book_lock.specs.declared.cube.Dealt.{Dealt}
 use Rattle.book_lock.specs.Looks.{waits_of, Looked}
-use Rattle.book_lock.specs.Seats.{counted, newcomer, merged, longer, TakesNear, IsCubeNear, TakenAs, Sight, sight, IsHeldBy, WasTaken, IsSeated, Called, Ends, id_of}
+use Rattle.book_lock.specs.Seats.{counted, newcomer, merged, longer, TakesNear, IsCubeNear, DealtAs, Sight, sight, IsCubeOfSeat, WasTaken, IsSeated, Called, Ends, id_of}
 use Rattle.book_lock.proofs.Holding.{still_held, lemmas_prefix}
 use Rattle.book_lock.proofs.Fronts.{prefix_self, prefix_trans}
 use Rattle.book_lock.proofs.Journals.{replayed_more, run_first}
 use Rattle.book_lock.proofs.Taking.{justified_now, Left, left_by, news_for}
-use Rattle.book_lock.proofs.Calling.{held_snoc, idle_snoc, orderly_snoc, told_of, calls_after, called, whole, run_after, seated_without}
+use Rattle.book_lock.proofs.Calling.{held_snoc, idle_snoc, orderly_snoc, told_of, events_after, called, whole, run_after, seated_without}
 
 -- what a seat's parts keep
 abbrev pub Kept : ℕ → ℕ → Mine → List Lemma → Option Cube → ℕ → Bool → Type 0
@@ -40,10 +40,10 @@ some_also None P Q f h = tt
 some_also (Some x) P Q f h = f x h
 
 -- by its front the seat holds a cube, and so in the book
-pub held_now : (number made : ℕ) (m : Mine) (lemmas : List Lemma) (holding : Option Cube) (place : ℕ) (waits : Bool) (b : Ledger) (cube : Cube) → Kept number made m lemmas holding place waits → Entered m.0 b.journal → holding ≡ Some cube → IsHeldBy (replayed b.journal).cover m.0.number cube
+pub held_now : (number made : ℕ) (m : Mine) (lemmas : List Lemma) (holding : Option Cube) (place : ℕ) (waits : Bool) (b : Ledger) (cube : Cube) → Kept number made m lemmas holding place waits → Entered m.0 b.journal → holding ≡ Some cube → IsCubeOfSeat (replayed b.journal).cover m.0.number cube
 held_now number made m lemmas holding place waits b cube k en is =
     let h : WasTaken m.0 cube = subst (λ (o : Option Cube). IfSome o (WasTaken m.0)) is k.6.holds in
-    still_held m.0.problem h.0 b.journal m.0.calls m.0.number cube en.0 (prefix_trans h.0 m.0.front b.journal h.1 en.1) en.2 h.2 h.3
+    still_held m.0.problem h.0 b.journal m.0.events m.0.number cube en.0 (prefix_trans h.0 m.0.front b.journal h.1 en.1) en.2 h.2 h.3
 
 pub held_by_number : (number made : ℕ) (m : Mine) (lemmas : List Lemma) (holding : Option Cube) (place : ℕ) (waits : Bool) (b : Ledger) (cube : Cube) → Kept number made m lemmas holding place waits → Entered m.0 b.journal → holding ≡ Some cube → node_at (replayed b.journal).cover cube.id ≡ Some (Held number)
 held_by_number number made m lemmas holding place waits b cube k en is = (held_now number made m lemmas holding place waits b cube k en is).0 ∙ ap (λ (n : ℕ). Some (Held n)) (sym k.0)
@@ -75,14 +75,14 @@ module _ (v : View) (b b' : Ledger) (m : Mine) (e : Event) (rests : v.turn ≡ f
         kept_after number made lemmas after_ now_ false n s sp (subst (λ (o : Option Cube). IsSeated (told_of v b.journal e) lemmas o now_ false) (sym gone)
         (seated_without v b.journal e rests blank en own a lemmas holding place now_ waits false h due none busy (len ∙ ap (λ (k : Ledger). length k.journal) now)))
 
-    pub ended_now : (desk desk' : TableId) (lemmas : List Lemma) (cube : Cube) (after_ : Option Cube) (halves now_halves : Option (ℕ × ℕ)) → desk' ≡ desk → after_ ≡ None → now_halves ≡ halves_after (replayed b.journal) e halves → IsHeldBy (replayed b.journal).cover v.number cube
+    pub ended_now : (desk desk' : TableId) (lemmas : List Lemma) (cube : Cube) (after_ : Option Cube) (halves now_halves : Option (ℕ × ℕ)) → desk' ≡ desk → after_ ≡ None → now_halves ≡ halves_after (replayed b.journal) e halves → IsCubeOfSeat (replayed b.journal).cover v.number cube
         → Ends (sight desk v lemmas (Some cube) halves) (sight desk' me.0 lemmas after_ now_halves) e
     ended_now desk desk' lemmas cube after_ halves now_halves same gone made h = record {
       between = en.1.0;
       called = called_now;
       same = let there : now_halves ≡ halves_after (replayed (v.front ++ en.1.0)) e halves = made ∙ ap (λ (es : List Event). halves_after (replayed es) e halves) (sym (whole v b.journal e rests blank en own a)) in
           λ i. sight (same i) me.0 lemmas (gone i) (there i);
-      held = subst (λ (es : List Event). IsHeldBy (replayed es).cover v.number cube) (sym (whole v b.journal e rests blank en own a)) h;
+      held = subst (λ (es : List Event). IsCubeOfSeat (replayed es).cover v.number cube) (sym (whole v b.journal e rests blank en own a)) h;
     }
 
 -- a call that ends the seat's cube
@@ -94,7 +94,7 @@ module _ (m0 : Mine) (b b' : Ledger) (m me : Mine) (number made : ℕ) (lemmas :
   owned : seat_of (event number cube.id) ≡ m0.0.number
   owned = own ∙ kept.0
 
-  held_there : IsHeldBy (replayed b.journal).cover m0.0.number cube
+  held_there : IsCubeOfSeat (replayed b.journal).cover m0.0.number cube
   held_there = held_now number made m0 lemmas holding place waits b cube kept en has
 
   pub ending_ready : (x : Event) × (b' ≡ ledger m.0.problem (m.0.known ++ x ∷ [])) × (seat_of x ≡ m.0.number) × IsRun m.0.problem b'.journal
@@ -115,7 +115,7 @@ pub seen_now : (number made : ℕ) (m : Mine) (lemmas : List Lemma) (holding : O
 seen_now number made m lemmas holding place waits b k en = prefix_trans lemmas (replayed m.0.front).lemmas (state_of b).lemmas k.6.seen (lemmas_prefix m.0.front b.journal en.1)
 
 -- a take
-module _ (m0 : Mine) (b b' : Ledger) (m me : Mine) (number made : ℕ) (lemmas lemmas' : List Lemma) (holding cube : Option Cube) (place now_ : ℕ) (waits waits' : Bool) (desk desk' : TableId) (answer : Taken)
+module _ (m0 : Mine) (b b' : Ledger) (m me : Mine) (number made : ℕ) (lemmas lemmas' : List Lemma) (holding cube : Option Cube) (place now_ : ℕ) (waits waits' : Bool) (desk desk' : TableId) (answer : Dealt)
     (book : b ≡ ledger m0.0.problem b.journal) (view : m ≡ (entered m0.0 b.journal, (0, None) ∷ [])) (en : Entered m0.0 b.journal)
     (kept : Kept number made m0 lemmas holding place waits) (has : holding ≡ None) (looked : Looked b number answer cube b') where
   own_take : seat_of looked.event ≡ m0.0.number
@@ -132,24 +132,24 @@ module _ (m0 : Mine) (b b' : Ledger) (m me : Mine) (number made : ℕ) (lemmas l
 
   seated : lemmas' ≡ (state_of b').lemmas → now_ ≡ length b'.journal → waits' ≡ waits_of answer → IsSeated (told_of m0.0 b.journal looked.event) lemmas' cube now_ waits'
   seated all len idle =
-      let none : held_from None m0.0.calls ≡ None = kept.6.held ∙ ap id_of has in
+      let none : held_from None m0.0.events ≡ None = kept.6.held ∙ ap id_of has in
       let last : drop (length b.journal) (b.journal ++ looked.event ∷ []) ≡ looked.event ∷ [] = drop-append_seam b.journal (looked.event ∷ []) in
       let grown : b'.journal ≡ b.journal ++ looked.event ∷ [] = ap (λ (k : Ledger). k.journal) looked.longer in
       record {
         run = run_after m0.0 b.journal looked.event kept.3 kept.5 en own_take may_take;
         seen = subst (λ (ls : List Lemma). IsPrefix lemmas' ls) (all ∙ ap (λ (es : List Event). (replayed es).lemmas) grown) (prefix_self lemmas');
-        holds = some_also cube (IsHeldBy (after (state_of b) looked.event).cover number) (WasTaken (told_of m0.0 b.journal looked.event))
+        holds = some_also cube (IsCubeOfSeat (after (state_of b) looked.event).cover number) (WasTaken (told_of m0.0 b.journal looked.event))
             (λ k h. (
               b.journal ++ looked.event ∷ [],
               prefix_self (b.journal ++ looked.event ∷ []),
-              calls_after m0.0 b.journal looked.event kept.3 kept.5 en own_take may_take ∙ ap (λ (es : List Event). m0.0.calls ++ es) (sym last),
-              subst (λ (t : State × ℕ). IsHeldBy t.0.cover t.1 k) (λ i. (sym (replayed_more opening b.journal (looked.event ∷ [])) i, kept.0 i)) h,
+              events_after m0.0 b.journal looked.event kept.3 kept.5 en own_take may_take ∙ ap (λ (es : List Event). m0.0.events ++ es) (sym last),
+              subst (λ (t : State × ℕ). IsCubeOfSeat t.0.cover t.1 k) (λ i. (sym (replayed_more opening b.journal (looked.event ∷ [])) i, kept.0 i)) h,
             )) left.holds;
-        orderly = subst (λ (es : List Event). IsOrderlyFrom None (m0.0.calls ++ es)) (sym last) (orderly_snoc None m0.0.calls looked.event kept.6.orderly (subst (λ (h : Option ℕ). IsDue h looked.event) (sym none) left.due));
-        held = ap (λ (es : List Event). held_from None (m0.0.calls ++ es)) last ∙ (held_snoc None m0.0.calls looked.event ∙ left.after_);
+        orderly = subst (λ (es : List Event). IsOrderlyFrom None (m0.0.events ++ es)) (sym last) (orderly_snoc None m0.0.events looked.event kept.6.orderly (subst (λ (h : Option ℕ). IsDue h looked.event) (sym none) left.due));
+        held = ap (λ (es : List Event). held_from None (m0.0.events ++ es)) last ∙ (held_snoc None m0.0.events looked.event ∙ left.after_);
         within = omega (arith, len ∙ ap length grown);
-        before = ap (calls_by m0.0.number) (take_all now_ (b.journal ++ looked.event ∷ []) (omega (arith, len ∙ ap length grown))) ∙ (calls_after m0.0 b.journal looked.event kept.3 kept.5 en own_take may_take ∙ ap (λ (es : List Event). m0.0.calls ++ es) (sym last));
-        idle = idle ∙ (sym left.idle ∙ (sym (idle_snoc false m0.0.calls looked.event) ∙ ap (λ (es : List Event). ended_idle (m0.0.calls ++ es)) (sym last)));
+        before = ap (events_by m0.0.number) (take_all now_ (b.journal ++ looked.event ∷ []) (omega (arith, len ∙ ap length grown))) ∙ (events_after m0.0 b.journal looked.event kept.3 kept.5 en own_take may_take ∙ ap (λ (es : List Event). m0.0.events ++ es) (sym last));
+        idle = idle ∙ (sym left.idle ∙ (sym (idle_snoc false m0.0.events looked.event) ∙ ap (λ (es : List Event). ended_idle (m0.0.events ++ es)) (sym last)));
         kept = kept.6.kept;
       }
 
@@ -166,11 +166,11 @@ module _ (m0 : Mine) (b b' : Ledger) (m me : Mine) (number made : ℕ) (lemmas l
           between = en.1.0;
           event = looked.event;
           called = called_now m0.0 b b' m looked.event kept.3 kept.5 book view en own_take may_take looked.longer me told;
-          answered = subst (λ (t : ℕ × List Event). TakenAs t.0 (replayed t.1) answer looked.event cube) (λ i. (kept.0 i, sym full i)) looked.taken;
+          answered = subst (λ (t : ℕ × List Event). DealtAs t.0 (replayed t.1) answer looked.event cube) (λ i. (kept.0 i, sym full i)) looked.taken;
           desk = same;
           lemmas = all ∙ (ap (λ (k : Ledger). (state_of k).lemmas) looked.longer ∙ ap (λ (k : Mine). (replayed k.0.front).lemmas) (sym is));
           halves = refl;
-          waited = λ idle. subst (λ (es : List Event). HasNewsFor m0.0.number es) (sym full) (news_for m0.0.number place m0.0.front b.journal m0.0.calls en.1 kept.6.within kept.6.before en.2 (news (kept.6.idle ∙ idle)));
+          waited = λ idle. subst (λ (es : List Event). HasNewsFor m0.0.number es) (sym full) (news_for m0.0.number place m0.0.front b.journal m0.0.events en.1 kept.6.within kept.6.before en.2 (news (kept.6.idle ∙ idle)));
         },
         subst (λ (es : List Event). IfSome near (IsCubeNear (replayed es).cover cube)) (sym full) by,
       )
@@ -227,7 +227,7 @@ merged_kept number made other_number other_made m w m' lemmas lemmas_w holding h
         orderly = s.orderly;
         held = s.held;
         within = omega (arith, s.within, length-append m.0.front (drop (length m.0.front) w.0.front));
-        before = ap (calls_by m.0.number) (take-append-le place m.0.front (drop (length m.0.front) w.0.front) s.within) ∙ s.before;
+        before = ap (events_by m.0.number) (take-append-le place m.0.front (drop (length m.0.front) w.0.front) s.within) ∙ s.before;
         idle = s.idle;
         kept = ((o.6.orderly, o.6.held ∙ ap id_of none), s.kept);
       },

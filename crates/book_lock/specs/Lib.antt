@@ -1,4 +1,4 @@
-pub mod Calls
+pub mod SeatEvents
 pub mod Rules
 pub mod Seats
 pub mod Looks

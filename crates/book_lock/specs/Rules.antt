@@ -13,7 +13,7 @@ use Rattle.book_core.specs.declared.event.Event.{Event}
 use Rattle.book_lock.specs.declared.view.View.{View}
 use Rattle.book_lock.specs.declared.view.Kept.{Kept}
 use Rattle.book_core.specs.Runs.{Ledger, ledger, IsRun}
-use Rattle.book_lock.specs.Calls.{seat_of, calls_by}
+use Rattle.book_lock.specs.SeatEvents.{seat_of, events_by}
 
 abbrev pub St : Type 0
 St = State (Option Ledger) View
@@ -29,10 +29,10 @@ At views i v = get_elem? views i ≡ some v
 abbrev pub Active : ℕ → List View → Type 0
 Active n views = (i : ℕ) × (v : View) × At views i v × (v.spent ≡ false) × (v.number ≡ n)
 
--- the calls that are kept for a joined seat
+-- the events that are kept for a joined seat
 abbrev pub kept_of : ℕ → List Kept → Option (List Event)
 kept_of n [] = None
-kept_of n (k ∷ ks) = cond (k.number == n) (Some k.calls) (kept_of n ks)
+kept_of n (k ∷ ks) = cond (k.number == n) (Some k.events) (kept_of n ks)
 
 -- the journal begins with what each joined seat had seen
 abbrev pub AllBegin : List Kept → List Event → Type 0
@@ -42,8 +42,8 @@ AllBegin (k ∷ ks) log = IsPrefix k.front log × AllBegin ks log
 -- what holds of each view that isn't spent, n being the number of seats that were made
 pub record Fits (p : Problem) (log : List Event) (n : ℕ) (v : View) : Type 0 where
   pub front : IsPrefix v.front log
-  pub made : calls_by v.number log ≡ v.calls
-  pub seen : calls_by v.number v.front ≡ v.calls
+  pub made : events_by v.number log ≡ v.events
+  pub seen : events_by v.number v.front ≡ v.events
   pub problem : v.problem ≡ p
   pub known : v.turn ≡ true → v.known ≡ log
   pub below : v.number < n
@@ -67,9 +67,9 @@ pub record Holds (p : Problem) (s : St) : Type 0 where
   pub fits : (i : ℕ) (v : View) → At s.views i v → v.spent ≡ false → Fits p log seats v
   pub apart : (i j : ℕ) (u v : View) → At s.views i u → At s.views j v → u.spent ≡ false → v.spent ≡ false
       → u.number ≡ v.number → i ≡ j
-  pub joined : (n : ℕ) → n < seats → Active n s.views ⊎ (kept_of n kept ≡ Some (calls_by n log))
+  pub joined : (n : ℕ) → n < seats → Active n s.views ⊎ (kept_of n kept ≡ Some (events_by n log))
   pub away : (i : ℕ) (v : View) → At s.views i v → v.spent ≡ false → kept_of v.number kept ≡ None
-  pub beyond : (n : ℕ) → seats ≤ n → calls_by n log ≡ []
+  pub beyond : (n : ℕ) → seats ≤ n → events_by n log ≡ []
   pub fronts : AllBegin kept log
   pub unmade : (n : ℕ) → seats ≤ n → kept_of n kept ≡ None
 
@@ -83,7 +83,7 @@ opener p = record {
   problem = p;
   front = [];
   known = [];
-  calls = [];
+  events = [];
   kept = [];
 }
 
@@ -111,8 +111,8 @@ entered v log = record v { turn = true; known = log }
 
 abbrev pub Entered : View → List Event → Type 0
 Entered v log =
-    IsRun v.problem log × IsPrefix v.front log × (calls_by v.number log ≡ v.calls)
-    × (calls_by v.number v.front ≡ v.calls)
+    IsRun v.problem log × IsPrefix v.front log × (events_by v.number log ≡ v.events)
+    × (events_by v.number v.front ≡ v.events)
 
 abbrev pub Enters : Step (Option Ledger) → Mine → ℕ → Mine → Type 0
 Enters st me n me' =
@@ -129,7 +129,7 @@ journal_of ((k, None) ∷ more) = []
 
 -- the event at the end of the journal is the seat's, and becomes known
 abbrev pub telling : View → List Event → View
-telling v es = record v { front = es; known = es; calls = v.calls ++ drop (length v.known) es }
+telling v es = record v { front = es; known = es; events = v.events ++ drop (length v.known) es }
 
 abbrev pub Tells : Step (Option Ledger) → Mine → ℕ → Mine → Type 0
 Tells st me n me' = me' ≡ (telling me.0 (journal_of me.1), me.1)

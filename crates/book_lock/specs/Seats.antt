@@ -14,11 +14,11 @@ use Rattle.book_core.specs.Books.{State, IsAllowed}
 use Rattle.book_core.specs.Halves.{halves_after}
 use Rattle.book_core.specs.Runs.{IsRun, replayed}
 use Rattle.book_lock.specs.declared.cube.Cube.{Cube}
-use Rattle.book_lock.specs.declared.cube.Taken.{Taken}
-use Rattle.book_lock.specs.declared.cube.Taken.TheVariants.{Done, Idle, Cube as TakenCube}
+use Rattle.book_lock.specs.declared.cube.Dealt.{Dealt}
+use Rattle.book_lock.specs.declared.cube.Dealt.TheVariants.{Done, Idle, Cube as DealtCube}
 use Rattle.book_lock.specs.declared.view.View.{View}
 use Rattle.book_lock.specs.declared.view.Kept.{Kept}
-use Rattle.book_lock.specs.Calls.{calls_by, held_from, IsOrderlyFrom, ended_idle, HasNewsFor}
+use Rattle.book_lock.specs.SeatEvents.{events_by, held_from, IsOrderlyFrom, ended_idle, HasNewsFor}
 use Rattle.book_lock.specs.Rules.{kept_of}
 
 pub record Place : Type 0 where
@@ -38,8 +38,8 @@ abbrev pub sight : TableId → View → List Lemma → Option Cube → Option (�
 sight t v lemmas cube halves = record { desk = t; view = v; lemmas = lemmas; cube = cube; halves = halves }
 
 -- the cube is held by the seat, and has these literals
-abbrev pub IsHeldBy : Cubes → ℕ → Cube → Type 0
-IsHeldBy c n cube = (node_at c cube.id ≡ Some (Held n)) × (cube.literals ≡ cube_at c cube.id)
+abbrev pub IsCubeOfSeat : Cubes → ℕ → Cube → Type 0
+IsCubeOfSeat c n cube = (node_at c cube.id ≡ Some (Held n)) × (cube.literals ≡ cube_at c cube.id)
 
 abbrev pub id_of : Option Cube → Option ℕ
 id_of None = None
@@ -47,17 +47,17 @@ id_of (Some cube) = Some cube.id
 
 -- at each time one cube at most, and none at the end
 abbrev pub AreEnded : List Event → Type 0
-AreEnded calls = IsOrderlyFrom None calls × (held_from None calls ≡ None)
+AreEnded events = IsOrderlyFrom None events × (held_from None events ≡ None)
 
 abbrev pub AllEnded : List Kept → Type 0
 AllEnded [] = Unit {0}
-AllEnded (k ∷ ks) = AreEnded k.calls × AllEnded ks
+AllEnded (k ∷ ks) = AreEnded k.events × AllEnded ks
 
 -- with the seat's last call it got the cube
 abbrev pub WasTaken : View → Cube → Type 0
 WasTaken v cube =
-    (past : List Event) × IsPrefix past v.front × (calls_by v.number past ≡ v.calls)
-    × IsHeldBy (replayed past).cover v.number cube
+    (past : List Event) × IsPrefix past v.front × (events_by v.number past ≡ v.events)
+    × IsCubeOfSeat (replayed past).cover v.number cube
 
 -- Of the code and not of the meaning: how a seat's parts hang together
 pub record IsSeated (v : View) (lemmas : List Lemma) (holding : Option Cube) (place : ℕ) (waits : Bool)
@@ -65,52 +65,52 @@ pub record IsSeated (v : View) (lemmas : List Lemma) (holding : Option Cube) (pl
   pub run : IsRun v.problem v.front
   pub seen : IsPrefix lemmas (replayed v.front).lemmas
   pub holds : IfSome holding (WasTaken v)
-  pub orderly : IsOrderlyFrom None v.calls
-  pub held : held_from None v.calls ≡ id_of holding
+  pub orderly : IsOrderlyFrom None v.events
+  pub held : held_from None v.events ≡ id_of holding
   pub within : place ≤ length v.front
-  -- so many events of the front have all the seat's calls
-  pub before : calls_by v.number (take place v.front) ≡ v.calls
-  pub idle : waits ≡ ended_idle v.calls
+  -- the first so many events of the front have among them all that are the seat's
+  pub before : events_by v.number (take place v.front) ≡ v.events
+  pub idle : waits ≡ ended_idle v.events
   pub kept : AllEnded v.kept
 
 -- the seat's view after a call, between being what others did since its last one
 abbrev pub calling : View → List Event → Event → View
-calling v between e = record v { front = (v.front ++ between) ++ e ∷ []; calls = v.calls ++ e ∷ [] }
+calling v between e = record v { front = (v.front ++ between) ++ e ∷ []; events = v.events ++ e ∷ [] }
 
 -- The new front is a run that begins with the old one and ends with this call, which may come there. The seat's
--- calls are its old ones and this one, and they are the front's with its number
+-- events are its old ones and this call's, and they are the front's with its number
 pub record Called (v w : View) (between : List Event) (e : Event) : Type 0 where
   pub view : w ≡ calling v between e
   pub allowed : IsAllowed v.problem (replayed (v.front ++ between)) e
   pub run : IsRun v.problem w.front
-  pub made : calls_by v.number w.front ≡ w.calls
+  pub made : events_by v.number w.front ≡ w.events
 
 -- the event of a take, and the cube after it, by the answer
-abbrev pub TakenAs : ℕ → State → Taken → Event → Option Cube → Type 0
-TakenAs n s Done e cube = (e ≡ Take n TakeDone) × (cube ≡ None)
-TakenAs n s Idle e cube = (e ≡ Take n TakeIdle) × (cube ≡ None)
-TakenAs n s TakenCube e cube =
+abbrev pub DealtAs : ℕ → State → Dealt → Event → Option Cube → Type 0
+DealtAs n s Done e cube = (e ≡ Take n TakeDone) × (cube ≡ None)
+DealtAs n s Idle e cube = (e ≡ Take n TakeIdle) × (cube ≡ None)
+DealtAs n s DealtCube e cube =
     (id : ℕ) × (e ≡ Take n (TakeCube id)) × (cube ≡ Some (record { id = id; literals = cube_at s.cover id }))
 
 -- What a `take` does. The answer is what the book's relation gives where all that was told before the call is
--- known; the seat has all lemmas then; after an Idle there is news behind the seat's calls, an event other than
+-- known; the seat has all lemmas then; after an Idle there is news behind the seat's events, an event other than
 -- such a take, which the seat may have come to see by taking in another seat
-pub record Takes (old new : Sight) (answer : Taken) : Type 0 where
+pub record Takes (old new : Sight) (answer : Dealt) : Type 0 where
   pub between : List Event
   pub event : Event
   pub called : Called old.view new.view between event
-  pub answered : TakenAs old.view.number (replayed (old.view.front ++ between)) answer event new.cube
+  pub answered : DealtAs old.view.number (replayed (old.view.front ++ between)) answer event new.cube
   pub desk : new.desk ≡ old.desk
   pub lemmas : new.lemmas ≡ (replayed new.view.front).lemmas
   pub halves : new.halves ≡ old.halves
-  pub waited : ended_idle old.view.calls ≡ true → HasNewsFor old.view.number (old.view.front ++ between)
+  pub waited : ended_idle old.view.events ≡ true → HasNewsFor old.view.number (old.view.front ++ between)
 
 -- where the leaf with this number is Free, the cube that is taken is that one
 abbrev pub IsCubeNear : Cubes → Option Cube → ℕ → Type 0
 IsCubeNear c cube id = node_at c id ≡ Some Free → IfSome cube (λ (k : Cube). k.id ≡ id)
 
 -- a `take` near a leaf
-abbrev pub TakesNear : Sight → Sight → Option ℕ → Taken → Type 0
+abbrev pub TakesNear : Sight → Sight → Option ℕ → Dealt → Type 0
 TakesNear old new near answer =
     (takes : Takes old new answer)
     × IfSome near (IsCubeNear (replayed (old.view.front ++ takes.between)).cover new.cube)
@@ -121,7 +121,7 @@ pub record Ends (old new : Sight) (event : Event) : Type 0 where
   pub called : Called old.view new.view between event
   pub same : new ≡ sight old.desk new.view old.lemmas None
       (halves_after (replayed (old.view.front ++ between)) event old.halves)
-  pub held : IfSome old.cube (IsHeldBy (replayed (old.view.front ++ between)).cover old.view.number)
+  pub held : IfSome old.cube (IsCubeOfSeat (replayed (old.view.front ++ between)).cover old.view.number)
 
 abbrev pub counted : View → View
 counted v = record v { seats = v.seats + 1 }
@@ -136,7 +136,7 @@ newcomer v = record {
   problem = v.problem;
   front = v.front;
   known = [];
-  calls = [];
+  events = [];
   kept = [];
 }
 
@@ -145,9 +145,9 @@ abbrev pub longer : List Event → List Event → List Event
 longer xs ys = xs ++ drop (length xs) ys
 
 abbrev pub kept_from : View → Kept
-kept_from w = record { number = w.number; front = w.front; calls = w.calls }
+kept_from w = record { number = w.number; front = w.front; events = w.events }
 
--- seat 0 with what another seat had seen, and that seat's calls
+-- seat 0 with what another seat had seen, and that seat's events
 abbrev pub merged : View → View → View
 merged v w = record v { front = longer v.front w.front; kept = kept_from w ∷ v.kept }
 
@@ -173,7 +173,7 @@ nobody = record {
   problem = no_problem;
   front = [];
   known = [];
-  calls = [];
+  events = [];
   kept = [];
 }
 
@@ -181,12 +181,12 @@ nobody = record {
 abbrev pub AllJoined : View → Type 0
 AllJoined v = (n : ℕ) → 0 < n → n < v.seats → IsSome (kept_of n v.kept)
 
--- the journal's events are the known calls of all seats
+-- the journal's events are the known events of all seats
 abbrev pub AllKnown : View → Type 0
 AllKnown v =
-    (calls_by 0 v.front ≡ v.calls)
-    × ((n : ℕ) → 0 < n → n < v.seats → kept_of n v.kept ≡ Some (calls_by n v.front))
-    × ((n : ℕ) → v.seats ≤ n → calls_by n v.front ≡ [])
+    (events_by 0 v.front ≡ v.events)
+    × ((n : ℕ) → 0 < n → n < v.seats → kept_of n v.kept ≡ Some (events_by n v.front))
+    × ((n : ℕ) → v.seats ≤ n → events_by n v.front ≡ [])
 
 -- some seat was answered Done
 abbrev pub WasDone : List Event → Type 0

@@ -10,7 +10,7 @@ pub struct Cube {
 
 /// What a `take` answers. The cube is in the seat.
 #[derive(Clone, Copy, Debug, PartialEq, Eq)]
-pub enum Taken {
+pub enum Dealt {
     Cube,
     Idle,
     Done,

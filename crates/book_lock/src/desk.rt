@@ -11,7 +11,7 @@ ghost use Rattle.book_lock.specs.declared.cube.Cube.{Cube as HeldCube};
 ghost use Rattle.book_lock.specs.Rules.{Holds, opener, AllBegin};
 ghost use Rattle.book_lock.specs.Seats.{sight, Takes, TakesNear, Ends, counted, newcomer, merged, OneBegins, AllJoined, AllKnown, WasDone, id_of};
 
-use crate::cube::{Cube, Taken};
+use crate::cube::{Cube, Dealt};
 use crate::looking::{all_of, look, put, waits_after};
 use crate::turns::{Joining, Splitting, Token, Turns, enter, leave, see, take_turn, tell};
 use crate::view::View;
@@ -154,7 +154,7 @@ impl Desk {
 
     /// A cube, if one is free; all lemmas of the book come into the seat. At `Err` nothing changed. After
     /// `Idle` it waits for an event other than a take answered `Idle`.
-    pub fn take<R: Wait>(&self, rt: &R, seat: &mut Seat) -> Result<Taken, AllocError>
+    pub fn take<R: Wait>(&self, rt: &R, seat: &mut Seat) -> Result<Dealt, AllocError>
         requires desk { seat.old.desk ≡ self.now.id }
         requires none { seat.old.cube ≡ None }
         ensures ok { IfOk result (λ answer. Takes seat.old seat.new answer) }
@@ -170,7 +170,7 @@ impl Desk {
         rt: &R,
         seat: &mut Seat,
         id: usize,
-    ) -> Result<Taken, AllocError>
+    ) -> Result<Dealt, AllocError>
         requires desk { seat.old.desk ≡ self.now.id }
         requires none { seat.old.cube ≡ None }
         ensures ok { IfOk result (λ answer. TakesNear seat.old seat.new (Some id) answer) }
@@ -184,7 +184,7 @@ impl Desk {
         rt: &R,
         seat: &mut Seat,
         near: Option<usize>,
-    ) -> Result<Taken, AllocError>
+    ) -> Result<Dealt, AllocError>
         requires desk { seat.old.desk ≡ self.now.id }
         requires none { seat.old.cube ≡ None }
         ensures ok { IfOk result (λ answer. TakesNear seat.old seat.new near answer) }
@@ -268,7 +268,7 @@ impl Desk {
         })
     }
 
-    /// Seat 0 sees what another seat has seen, and keeps that seat's calls. It takes no memory.
+    /// Seat 0 sees what another seat has seen, and keeps that seat's events. It takes no memory.
     pub fn join_seat(&self, seat: &mut Seat, other: Seat)
         requires desk { (seat.old.desk ≡ self.now.id) × (other.desk ≡ self.now.id) }
         requires first { seat.old.view.number ≡ 0 }

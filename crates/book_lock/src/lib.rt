@@ -12,6 +12,6 @@ mod looking;
 mod turns;
 mod view;
 
-pub use cube::{Cube, Taken};
+pub use cube::{Cube, Dealt};
 pub use desk::{Desk, Seat};
 pub use view::{Kept, View};

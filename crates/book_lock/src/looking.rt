@@ -3,11 +3,11 @@ ghost use Rattle.std.specs.Prelude.{◌≡◌, take, vec_len, IsTrue, IfOk, OnOk
 ghost use mathlib.Core.List.{IsPrefix};
 ghost use Rattle.book_core.specs.Shared.{lemmas_of};
 ghost use Rattle.book_core.specs.Runs.{state_of, Answers, IsNear};
-ghost use Rattle.book_lock.specs.Calls.{HasNews, is_idle};
-ghost use Rattle.book_lock.specs.Looks.{taken_of, cube_of, waits_of, Looked};
+ghost use Rattle.book_lock.specs.SeatEvents.{HasNews, is_idle};
+ghost use Rattle.book_lock.specs.Looks.{dealt_of, cube_of, waits_of, Looked};
 ghost use Rattle.book_lock.specs.Seats.{IsCubeNear};
 
-use crate::cube::{Cube, Taken};
+use crate::cube::{Cube, Dealt};
 use book_core::{Answer, Book, Event};
 use refute_tree::Lemma;
 use std::alloc::{AllocError, Global};
@@ -60,22 +60,22 @@ pub(crate) fn all_of(lemmas: &[Arc<Lemma>], alloc: Global) -> Result<Vec<Arc<Lem
     Ok(all)
 }
 
-fn taken_as(answer: Answer) -> (Taken, Option<Cube>)
-    ensures { result ≡ (taken_of answer, cube_of answer) }
+fn dealt_as(answer: Answer) -> (Dealt, Option<Cube>)
+    ensures { result ≡ (dealt_of answer, cube_of answer) }
 {
     match answer {
-        Answer::Cube(id, literals) => (Taken::Cube, Some(Cube { id, literals })),
-        Answer::Idle => (Taken::Idle, None),
-        Answer::Done => (Taken::Done, None),
+        Answer::Cube(id, literals) => (Dealt::Cube, Some(Cube { id, literals })),
+        Answer::Idle => (Dealt::Idle, None),
+        Answer::Done => (Dealt::Done, None),
     }
 }
 
 /// Whether the next take waits.
-pub(crate) fn waits_after(answer: Taken) -> bool
+pub(crate) fn waits_after(answer: Dealt) -> bool
     ensures { result ≡ waits_of answer }
 {
     match answer {
-        Taken::Idle => true,
+        Dealt::Idle => true,
         _ => false,
     }
 }
@@ -113,7 +113,7 @@ pub(crate) fn look(
     lemmas: &mut Vec<Arc<Lemma>>,
     seat: u32,
     near: Option<usize>,
-) -> Result<(Taken, Option<Cube>), AllocError>
+) -> Result<(Dealt, Option<Cube>), AllocError>
     requires { IsPrefix (lemmas_of lemmas.old.items) (state_of book.old).lemmas }
     ensures ok { IfOk result (λ r. Looked book.old seat r.0 r.1 book.new) }
     ensures near { IfOk result (λ r. IfSome near (IsCubeNear (state_of book.old).cover r.1)) }
@@ -122,7 +122,7 @@ pub(crate) fn look(
 {
     let before = lemmas.len();
     match look_up(book, lemmas, seat, near) {
-        Ok(answer) => Ok(taken_as(answer)),
+        Ok(answer) => Ok(dealt_as(answer)),
         Err(error) => {
             lemmas.truncate(before);
             Err(error)

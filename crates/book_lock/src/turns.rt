@@ -2,7 +2,7 @@
 ghost use Rattle.std.specs.Prelude.{◌≡◌, ◌<◌, [], ◌∷◌, List, length, true, false, None};
 ghost use Rattle.book_core.specs.declared.event.Event.{Event};
 ghost use Rattle.book_core.specs.Runs.{ledger};
-ghost use Rattle.book_lock.specs.Calls.{HasNews};
+ghost use Rattle.book_lock.specs.SeatEvents.{HasNews};
 ghost use Rattle.book_lock.specs.Rules.{Holds, IsOfDesk, Rests, HasTurn, HasOneMore, entered, Entered, Seen, telling, resting, opener};
 
 use crate::looking::has_news;

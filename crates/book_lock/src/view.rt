@@ -3,11 +3,11 @@ use book_core::Event;
 use std::collections::LinkedList;
 use stn_core::Problem;
 
-/// What a joined seat had seen, and the calls that it made.
+/// What a joined seat had seen, and its events.
 pub struct Kept {
     pub number: u32,
     pub front: LinkedList<Event>,
-    pub calls: LinkedList<Event>,
+    pub events: LinkedList<Event>,
 }
 
 /// What a seat knows. No value of it is made.
@@ -21,6 +21,6 @@ pub struct View {
     pub front: LinkedList<Event>,
     /// The journal, while the seat has the turn.
     pub known: LinkedList<Event>,
-    pub calls: LinkedList<Event>,
+    pub events: LinkedList<Event>,
     pub kept: LinkedList<Kept>,
 }

@@ -19,7 +19,7 @@ use Rattle.refute_tree.specs.declared.step.Step.{Step}
 use Rattle.refute_tree.specs.declared.step.Step.TheVariants.{Cycle}
 use Rattle.stn_core.specs.Literal.{IsOver, same_literal}
 use Rattle.refute_tree.specs.Trees.{Tree, leaf, cases, none, more}
-use Rattle.book_search.specs.Base.{Base, IsBase, with_unit, number_of, steps_of, unit_steps, leaf_steps}
+use Rattle.book_search.specs.Base.{Base, IsBase, with_unit, number_of, steps_of, unit_steps, cycle_steps}
 
 and_both : (a b : Bool) → (a && b) ≡ true → (a ≡ true) × (b ≡ true)
 and_both true true e = (refl, refl)
@@ -140,7 +140,7 @@ leaf_from clauses base b cycle n rest assumed (l ∷ coming) all =
         cases (number_right clauses base l number b is) (more (grown all_grown) none)
 
 -- a negative cycle of unit clauses' literals and assumed ones closes the case
-pub leaf_closes : (clauses : List (List Literal)) (base : Base) (assumed cycle : List Literal) (rest : List Step) → IsBase clauses base → IsCycleAmong (base.literals ++ assumed) cycle → Tree clauses [] assumed (leaf_steps base cycle ++ rest) rest
+pub leaf_closes : (clauses : List (List Literal)) (base : Base) (assumed cycle : List Literal) (rest : List Step) → IsBase clauses base → IsCycleAmong (base.literals ++ assumed) cycle → Tree clauses [] assumed (cycle_steps base cycle ++ rest) rest
 leaf_closes clauses base assumed cycle rest b h =
     let given : All (λ (m : Literal). Contains assumed m ⊎ (Contains base.literals m × Contains cycle m)) cycle = λ k d lt. elim (Contains-append_cases base.literals assumed (get_or cycle k d) (h.given k d lt)) [
       | inl a ↦ inr (a, Contains-get_or cycle k d lt)

@@ -17,7 +17,7 @@ use Rattle.book_core.specs.declared.verdict.Verdict.TheVariants.{Unsat}
 use Rattle.stn_core.specs.Solution.{IsSolution}
 use Rattle.book_core.specs.Verdicts.{IsRight, last_lemma}
 use Rattle.book_core.proofs.Concluding.{closed_refutation}
-use Rattle.book_search.specs.Base.{Base, IsBase, BaseIsOver, steps_of, unit_steps, leaf_steps}
+use Rattle.book_search.specs.Base.{Base, IsBase, BaseIsOver, steps_of, unit_steps, cycle_steps}
 use Rattle.book_search.proofs.Bases.{leaf_closes}
 
 pub units_over : (problem : Problem) (given : List (List Literal)) (base : Base) (shown : List Literal) → given ≡ problem.clauses → BaseIsOver given base → shown ≡ base.literals → All (IsOver problem.points) shown
@@ -41,25 +41,25 @@ units_named : (points : ℕ) (base : Base) (cycle : List Literal) → All (Names
 units_named points base [] = All-nil (NamesOver points)
 units_named points base (l ∷ cycle) = All-append (NamesOver points) (unit_steps base l) (flat_map (λ (m : Literal). unit_steps base m) cycle) (step_named points _) (units_named points base cycle)
 
-leaf_named : (points : ℕ) (base : Base) (cycle : List Literal) → All (NamesOver points) (leaf_steps base cycle)
+leaf_named : (points : ℕ) (base : Base) (cycle : List Literal) → All (NamesOver points) (cycle_steps base cycle)
 leaf_named points base cycle = All-append (NamesOver points) (flat_map (λ (l : Literal). unit_steps base l) cycle) (Cycle cycle ∷ []) (units_named points base cycle) (All-cons (NamesOver points) (Cycle cycle) [] (All-nil (IsOver points)) (All-nil (NamesOver points)))
 
-leaf_right : (problem : Problem) (base : Base) (cycle : List Literal) → IsBase problem.clauses base → IsCycleAmong base.literals cycle → IsRight problem (Unsat (last_lemma (leaf_steps base cycle) ∷ []))
+leaf_right : (problem : Problem) (base : Base) (cycle : List Literal) → IsBase problem.clauses base → IsCycleAmong base.literals cycle → IsRight problem (Unsat (last_lemma (cycle_steps base cycle) ∷ []))
 leaf_right problem base cycle b among =
     let wide : IsCycleAmong (base.literals ++ []) cycle = subst (λ (ls : List Literal). IsCycleAmong ls cycle) (sym (append-nil base.literals)) among in
-    let longer : Tree problem.clauses [] [] (leaf_steps base cycle ++ []) [] = leaf_closes problem.clauses base [] cycle [] b wide in
-    let tree : Tree problem.clauses [] [] (leaf_steps base cycle) [] = subst (λ (s : List Step). Tree problem.clauses [] [] s []) (append-nil (leaf_steps base cycle)) longer in
+    let longer : Tree problem.clauses [] [] (cycle_steps base cycle ++ []) [] = leaf_closes problem.clauses base [] cycle [] b wide in
+    let tree : Tree problem.clauses [] [] (cycle_steps base cycle) [] = subst (λ (s : List Step). Tree problem.clauses [] [] s []) (append-nil (cycle_steps base cycle)) longer in
     let named = leaf_named problem.points base cycle in
-    let over : LemmaIsOver problem.points (last_lemma (leaf_steps base cycle)) = record { clause = All-nil (IsOver problem.points); steps = named } in (
-      closed_refutation problem [] (leaf_steps base cycle) tt tree named,
-      All-cons (LemmaIsOver problem.points) (last_lemma (leaf_steps base cycle)) [] over (All-nil (LemmaIsOver problem.points)),
+    let over : LemmaIsOver problem.points (last_lemma (cycle_steps base cycle)) = record { clause = All-nil (IsOver problem.points); steps = named } in (
+      closed_refutation problem [] (cycle_steps base cycle) tt tree named,
+      All-cons (LemmaIsOver problem.points) (last_lemma (cycle_steps base cycle)) [] over (All-nil (LemmaIsOver problem.points)),
     )
 
-pub units_refuted : (problem : Problem) (given : List (List Literal)) (base : Base) (shown cycle items clause : List Literal) (answer : Greatest) (steps : List Step) (lemmas res : List Lemma) → given ≡ problem.clauses → IsBase given base → shown ≡ base.literals → IsAnswer problem.points shown answer → answer ≡ Negative cycle → items ≡ cycle → steps ≡ leaf_steps base items → clause ≡ [] → lemmas ≡ record { clause = clause; steps = steps } ∷ [] → res ≡ lemmas → IsRight problem (Unsat res)
+pub units_refuted : (problem : Problem) (given : List (List Literal)) (base : Base) (shown cycle items clause : List Literal) (answer : Greatest) (steps : List Step) (lemmas res : List Lemma) → given ≡ problem.clauses → IsBase given base → shown ≡ base.literals → IsAnswer problem.points shown answer → answer ≡ Negative cycle → items ≡ cycle → steps ≡ cycle_steps base items → clause ≡ [] → lemmas ≡ record { clause = clause; steps = steps } ∷ [] → res ≡ lemmas → IsRight problem (Unsat res)
 units_refuted problem given base shown cycle items clause answer steps lemmas res same b e a is ei es ec el er =
     let among : IsCycleAmong base.literals cycle = subst (λ (ls : List Literal). IsCycleAmong ls cycle) e (subst (IsAnswer problem.points shown) is a) in
     let base_right : IsBase problem.clauses base = subst (λ (cs : List (List Literal)). IsBase cs base) same b in
-    let steps_are : steps ≡ leaf_steps base cycle = es ∙ ap (leaf_steps base) ei in
-    let lemma_is : record { clause = clause; steps = steps } ≡ last_lemma (leaf_steps base cycle) = ap (λ (c : List Literal). record { clause = c; steps = steps }) ec ∙ ap last_lemma steps_are in
-    let all : res ≡ last_lemma (leaf_steps base cycle) ∷ [] = er ∙ (el ∙ ap (λ (l : Lemma). l ∷ []) lemma_is) in
+    let steps_are : steps ≡ cycle_steps base cycle = es ∙ ap (cycle_steps base) ei in
+    let lemma_is : record { clause = clause; steps = steps } ≡ last_lemma (cycle_steps base cycle) = ap (λ (c : List Literal). record { clause = c; steps = steps }) ec ∙ ap last_lemma steps_are in
+    let all : res ≡ last_lemma (cycle_steps base cycle) ∷ [] = er ∙ (el ∙ ap (λ (l : Lemma). l ∷ []) lemma_is) in
     subst (λ (ls : List Lemma). IsRight problem (Unsat ls)) (sym all) (leaf_right problem base cycle base_right among)

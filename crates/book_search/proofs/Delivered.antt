@@ -13,8 +13,7 @@ use Rattle.refute_tree.specs.Batches.{LemmaBatch, AreRefuted, LemmaIsOver}
 use Rattle.branch_search.specs.declared.answer.Slice.{Slice}
 use Rattle.branch_search.specs.declared.answer.Slice.TheVariants.{Model, Refuted, Split}
 use Rattle.conflict_analysis.specs.Proved.{IsClauseOver}
-use Rattle.branch_search.specs.Search.{question_of, Excludes}
-use Rattle.branch_search.specs.Divisions.{IsSlice, IsSplit, IsBatch}
+use Rattle.branch_search.specs.Slices.{question_of, Excludes, IsSlice, IsSplit, IsBatch}
 use Rattle.cover_tree.proofs.Sets.{get_behind}
 use Rattle.cover_tree.proofs.Tables.{get_map}
 use Rattle.book_core.specs.declared.event.Outcome.{Outcome}
@@ -86,13 +85,13 @@ Matches slice batch outcome = ⊥
 pub delivers : (exact : (values : List ℤ) (l : Literal) → Holds values l → Holds values (negation_of l) → ⊥) (slice : Slice) (batch : LemmaBatch) (outcome : Outcome) → Matches slice batch outcome → Delivers slice batch outcome
 delivers exact (Model values own) batch (Found schedule) m problem lemmas cube h =
     let same : IsBatch (question_of problem (map stated lemmas) cube) batch = subst (IsBatch (question_of problem (map stated lemmas) cube)) (sym m.0) h.1 in
-    justified problem lemmas cube batch same (Found schedule) (subst (IsSolution problem) (sym m.1) (record { count = h.0.count; range = h.0.range; holds = h.0.holds }))
+    justified problem lemmas cube batch same (Found schedule) (subst (IsSolution problem) (sym m.1) h.0)
 delivers exact (Model values own) batch (ShutBy j) m problem lemmas cube h = absurd m
 delivers exact (Model values own) batch (SplitBy l) m problem lemmas cube h = absurd m
 delivers exact (Refuted own j) batch (Found schedule) m problem lemmas cube h = absurd m
 delivers exact (Refuted own j) batch (ShutBy k) m problem lemmas cube h =
     let same : IsBatch (question_of problem (map stated lemmas) cube) batch = subst (IsBatch (question_of problem (map stated lemmas) cube)) (sym m.0) h.1 in
-    let excludes : Excludes cube batch.lemmas j = subst (λ (b : LemmaBatch). Excludes cube b.lemmas j) (sym m.0) h.0.1 in
+    let excludes : Excludes cube batch.lemmas j = subst (λ (b : LemmaBatch). Excludes cube b.lemmas j) (sym m.0) h.0 in
     let shut : IsShutBy (map stated (lemmas ++ batch.lemmas)) cube (batch.seen + j) = shut_behind lemmas batch.lemmas cube batch.seen j (same.seen ∙ length-map lemmas stated) excludes in
     justified problem lemmas cube batch same (ShutBy k) (subst (IsShutBy (map stated (lemmas ++ batch.lemmas)) cube) (sym m.1) shut)
 delivers exact (Refuted own j) batch (SplitBy l) m problem lemmas cube h = absurd m

@@ -30,8 +30,8 @@ abbrev pub unit_steps : Base → Literal → List Step
 unit_steps base l = steps_of (number_of base l)
 
 -- the literals of unit clauses are assumed one after the other, and then the cycle closes the case
-abbrev pub leaf_steps : Base → List Literal → List Step
-leaf_steps base cycle = flat_map (λ (l : Literal). unit_steps base l) cycle ++ Cycle cycle ∷ []
+abbrev pub cycle_steps : Base → List Literal → List Step
+cycle_steps base cycle = flat_map (λ (l : Literal). unit_steps base l) cycle ++ Cycle cycle ∷ []
 
 -- the literal stands at the end with the number, unless it was there before
 abbrev pub with_unit : Base → Literal → ℕ → Base

@@ -6,8 +6,7 @@ use Rattle.refute_tree.specs.declared.lemma.Lemma.{Lemma}
 use Rattle.refute_tree.specs.Trees.{stated}
 use Rattle.refute_tree.specs.Batches.{LemmaBatch}
 use Rattle.branch_search.specs.declared.answer.Slice.{Slice}
-use Rattle.branch_search.specs.Search.{question_of}
-use Rattle.branch_search.specs.Divisions.{IsSlice}
+use Rattle.branch_search.specs.Slices.{question_of, IsSlice}
 use Rattle.cover_tree.specs.Covers.{NoneHeld}
 use Rattle.book_core.specs.declared.event.Outcome.{Outcome}
 use Rattle.book_core.specs.declared.event.Event.TheVariants.{Deliver}

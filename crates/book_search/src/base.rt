@@ -1,7 +1,7 @@
 //! What the clauses of one literal decide by themselves.
 ghost use Rattle.std.specs.Prelude.{◌≡◌, ◌++◌, IfOk, IfSome, OnOk};
 ghost use Rattle.book_core.specs.Verdicts.{IsRight};
-ghost use Rattle.book_search.specs.Base.{steps_of, leaf_steps};
+ghost use Rattle.book_search.specs.Base.{steps_of, cycle_steps};
 
 use crate::clauses::all_hold;
 use crate::units::Units;
@@ -37,7 +37,7 @@ pub fn decide_units(alloc: Global, problem: &Problem) -> Result<Option<Verdict>,
 
 /// An `Input` step for each literal of the cycle, and then the cycle.
 fn closing_steps(alloc: Global, units: &Units, cycle: &[Literal]) -> Result<Steps, AllocError>
-    ensures { IfOk result (λ steps. steps ≡ leaf_steps units.now cycle.now) }
+    ensures { IfOk result (λ steps. steps ≡ cycle_steps units.now cycle.now) }
 {
     let mut steps = Steps::new(alloc);
     for literal in cycle {

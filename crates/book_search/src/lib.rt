@@ -3,12 +3,14 @@
 
 mod base;
 mod clauses;
-mod delivery;
+mod finding;
+mod pacing;
 mod solve;
 mod tools;
 mod units;
 
 pub use base::decide_units;
-pub use delivery::Delivery;
+pub use finding::Finding;
+pub use pacing::Pacing;
 pub use solve::{finish, solve_one};
 pub use tools::Tools;

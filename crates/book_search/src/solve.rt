@@ -8,17 +8,11 @@ ghost use Rattle.book_core.specs.Verdicts.{IsRight};
 ghost use Rattle.book_search.specs.Deliveries.{IsDelivered, IsWaiting, Advances};
 
 use crate::base::decide_units;
+use crate::pacing::Pacing;
 use crate::tools::Tools;
 use book_core::{Answer, Book, Verdict};
 use std::alloc::{AllocError, Global};
 use stn_core::{Literal, Problem};
-
-/// The greatest budget of a slice, where none was given that is greater.
-const BUDGET_LIMIT: u64 = 1_000_000;
-
-/// How many times the last budget the next one is, once there was a conflict. Nobody waits for a part of the work, and
-/// each division costs: with 2 in place of 32 random problems and mutual exclusion took 1.3 times as many conflicts.
-const GROWTH: u64 = 32;
 
 /// One slice of search under the cube, and the delivery of what it found: whether the cube is divided now.
 fn work(
@@ -74,14 +68,6 @@ fn turn(
     }
 }
 
-/// The budget of the slice after one that was divided. Without a conflict slices are steps of one descent to a
-/// schedule, and so the next one is no more than twice as long.
-fn grown(budget: u64, met_conflict: bool) -> u64 {
-    let limit = BUDGET_LIMIT.max(budget);
-    let growth = if met_conflict { GROWTH } else { 2 };
-    budget.saturating_mul(growth).min(limit)
-}
-
 /// What is left to do of a book of the problem in which no leaf is held. It takes every leaf that is free, so
 /// that the answer rests on nothing that was done before.
 pub fn finish(
@@ -95,10 +81,12 @@ pub fn finish(
 {
     let mut book = book;
     let mut tools = Tools::alone(alloc, problem)?;
-    let mut budget = budget;
-    'turns: while let Some(divided) = turn(alloc, problem, &mut tools, &mut book, budget)? {
+    let mut pacing = Pacing::alone(budget);
+    'turns: while let Some(divided) =
+        turn(alloc, problem, &mut tools, &mut book, pacing.budget())?
+    {
         if divided {
-            budget = grown(budget, tools.met_conflict());
+            pacing.grow(tools.met_conflict());
         }
     }
     match book.into_verdict()? {
@@ -108,7 +96,7 @@ pub fn finish(
 }
 
 /// Decides the problem by slices of search, one after the other: a cube that isn't decided within the slice's
-/// budget of adds is divided, and the next slice gets a multiple of the last budget, up to 1,000,000. It returns on
+/// budget of adds is divided, and the next slice has a greater budget, by `Pacing::alone`. It returns on
 /// every problem, since each split decides one more atom of its cube (`book_core::ends_law`). The one error
 /// is want of memory.
 pub fn solve_one(alloc: Global, problem: &Problem, budget: u64) -> Result<Verdict, AllocError>

@@ -6,7 +6,7 @@ ghost use Rattle.stn_core.specs.Literal.{IsOver};
 ghost use Rattle.book_core.specs.Shared.{lemmas_of};
 ghost use Rattle.book_core.specs.Books.{IsJustified};
 
-use crate::delivery::{Delivery, delivery_of};
+use crate::finding::{Finding, finding_of};
 use branch_search::Searcher;
 use inc_paths::Network;
 use refute_tree::Lemma;
@@ -68,7 +68,7 @@ impl Tools {
         lemmas: &[Arc<Lemma>],
         cube: &[Literal],
         budget: u64,
-    ) -> Result<Delivery, AllocError>
+    ) -> Result<Finding, AllocError>
         requires points { self.old ≡ problem.now.points }
         requires lemmas { All (LemmaIsOver problem.now.points) (lemmas_of lemmas.now) }
         requires cube { All (IsOver problem.now.points) cube.now }
@@ -79,7 +79,7 @@ impl Tools {
         let found = self
             .searcher
             .slice(alloc, problem, &lemmas, cube, budget, &mut self.net)?;
-        let delivery = delivery_of(found)?;
+        let delivery = finding_of(found)?;
         Ok(delivery)
     }
 }

@@ -1,6 +1,5 @@
 -- A slice's answer, over plain lists.
 use Rattle.std.proofs.Common.{arith, ◌≡◌, ℕ, ◌<◌, ◌≤◌, ◌+◌, min, Bool, true, false, List, length, All, Contains, Option, Some, get_or, ℤ, subst, sym, ap, ◌∙◌}
-use Rattle.std.proofs.lemmas.Option.{slice_get_within}
 use Rattle.stn_core.specs.declared.literal.Literal.{Literal}
 use Rattle.stn_core.specs.Literal.{negation_of}
 use Rattle.refute_tree.specs.declared.lemma.Lemma.{Lemma}
@@ -13,9 +12,10 @@ use Rattle.branch_search.specs.declared.search.Found.{Found}
 use Rattle.branch_search.specs.declared.search.Found.TheVariants.{Model as FoundModel, Excluded as FoundExcluded, Spent}
 use Rattle.branch_search.specs.declared.answer.Slice.{Slice}
 use Rattle.branch_search.specs.declared.answer.Slice.TheVariants.{Model as AsModel, Refuted as AsRefuted, Split as AsSplit}
-use Rattle.branch_search.specs.Search.{Question, AreProved, AreExcluding, adds_limit}
-use Rattle.branch_search.specs.Slices.{AreFound}
-use Rattle.branch_search.specs.Divisions.{IsDivision, IsBatch, IsSlice, HasSpent, excluding}
+use Rattle.branch_search.specs.Slices.{Question, AreProved, Excludes, IsBatch, IsSlice, HasSpent}
+use Rattle.stn_core.specs.Limits.{adds_limit}
+use Rattle.branch_search.specs.Turns.{AreFound}
+use Rattle.branch_search.specs.Divisions.{IsDivision, excluding}
 use Rattle.branch_search.specs.Deliveries.{IsLeft, IsOfKind}
 
 pub found_model : (q : Question) (own : List Lemma) (found : Found) (schedule : List ℤ) → found ≡ FoundModel schedule → AreFound q own found → IsDivision q own (Model schedule)
@@ -45,7 +45,7 @@ left_by seen given own found batch wanted left same at lemmas t refuted over sta
 
 module _ (q : Question) (own : List Lemma) (seen : ℕ) (found : Option ℕ) (left : TrimmedBatch) (l : IsLeft seen own found left) (count : seen ≡ length q.handed) where
   left_proved : AreProved q own → AreProved q left.batch.lemmas
-  left_proved p = (l.refuted q.points q.inputs q.handed (sym count) p.0, l.over q.points p.1)
+  left_proved p = (l.refuted q.problem.points q.problem.clauses q.handed (sym count) p.0, l.over q.problem.points p.1)
 
   left_batch : AreProved q own → IsBatch q left.batch
   left_batch p = record { seen = l.seen_same ∙ count; proved = left_proved p }
@@ -60,11 +60,10 @@ module _ (q : Question) (own : List Lemma) (seen : ℕ) (found : Option ℕ) (le
       let there : IsDivision q own (Excluded j) = subst (IsDivision q own) e h in
       let lemma = there.1 in
       let other = l.stated j lemma.0 lemma.1 (l.found_too j there.0 (is ∙ ap excluding e)) in
-      let proved = left_proved there.2 in
       let Denies : List Literal → Type 0 = λ c. All (λ (m : Literal). (n : Literal) × Contains q.cube n × (m ≡ negation_of n)) c in
-      let here : AreExcluding q left.batch.lemmas (place left.needed.items j) =
-      (slice_get_within left.batch.lemmas (place left.needed.items j) other.0 other.1, (other.0, other.1, subst Denies (sym other.2) lemma.2), proved) in
-      (subst (λ (n : ℕ). AreExcluding q left.batch.lemmas n) (sym at) here, left_batch there.2)
+      let here : Excludes q.cube left.batch.lemmas (place left.needed.items j) =
+      (other.0, other.1, subst Denies (sym other.2) lemma.2) in
+      (subst (λ (n : ℕ). Excludes q.cube left.batch.lemmas n) (sym at) here, left_batch there.2)
 
   pub answered_split : (division : Division) (m : Literal) → division ≡ Split m → IsDivision q own division → IsSlice q (AsSplit m left.batch)
   answered_split division m e h =

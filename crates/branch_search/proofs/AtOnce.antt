@@ -3,14 +3,15 @@ use Rattle.std.proofs.Common.{arith, ◌≡◌, ℕ, ◌<◌, ◌≤◌, List, [
 use Rattle.std.proofs.lemmas.List.{length-take, take-take}
 use Rattle.std.proofs.lemmas.List.Elements.{All-append, All-push}
 use Rattle.stn_core.specs.declared.literal.Literal.{Literal}
-use Rattle.stn_core.specs.Literal.{IsOver}
+use Rattle.stn_core.specs.Literal.{IsOver, literal_at}
 use Rattle.refute_tree.specs.declared.lemma.Lemma.{Lemma}
 use Rattle.net_batch.specs.Batches.{IsLonger, IsBatchAdded}
 use Rattle.conflict_analysis.specs.declared.entry.Entry.{Entry}
 use Rattle.conflict_analysis.specs.declared.entry.Level.{Level}
 use Rattle.conflict_analysis.specs.declared.entry.Conflict.TheVariants.{Cycle as OfCycle}
-use Rattle.conflict_analysis.specs.Trails.{no_literal, literal_at, on_trail, AreOver, Stands}
-use Rattle.branch_search.specs.Search.{Question, start_of, in_net_of, AllStand, IsSearch, IsStuckSearch}
+use Rattle.conflict_analysis.specs.Trails.{no_literal, on_trail, AreOver, Stands}
+use Rattle.branch_search.specs.Search.{start_of, in_net_of, AllStand, IsSearch, IsStuckSearch}
+use Rattle.branch_search.specs.Slices.{Question}
 use Rattle.branch_search.proofs.Proposals.{stands_at}
 
 -- one more of the trail's

@@ -11,7 +11,8 @@ use Rattle.conflict_analysis.specs.declared.entry.Entry.{Entry}
 use Rattle.conflict_analysis.specs.declared.entry.Level.{Level}
 use Rattle.conflict_analysis.specs.Trails.{no_literal, on_trail, IsByCycle, Stands}
 use Rattle.branch_search.specs.Hits.{IsOnPath}
-use Rattle.branch_search.specs.Search.{Question, IsSearch}
+use Rattle.branch_search.specs.Search.{IsSearch}
+use Rattle.branch_search.specs.Slices.{Question}
 use Rattle.branch_search.proofs.States.{state_pushed}
 
 -- one more of the path's literals
@@ -29,7 +30,7 @@ cycle_by es l denied path is all negative =
     let on_path : All (IsOnPath es (negation_of l)) path = subst (λ (m : Literal). All (IsOnPath es m) path) is all in
     record { negative = negative; others = λ p lt. on_path p no_literal lt }
 
-pub hit_pushed : (q : Question) (own : List Lemma) (es seen now : List Entry) (levels : List Level) (literals : List Literal) (l : Literal) (number : ℕ) (found : Option (List Literal)) (cycle : List Literal) → IsSearch q own es levels literals → seen ≡ es → IsOver q.points l → found ≡ Some cycle → IfSome found (IsByCycle (Stands es (length es)) l) → now ≡ seen ++ record { literal = l; number = number; reason = ByCycle cycle } ∷ [] → IsSearch q own now levels literals
+pub hit_pushed : (q : Question) (own : List Lemma) (es seen now : List Entry) (levels : List Level) (literals : List Literal) (l : Literal) (number : ℕ) (found : Option (List Literal)) (cycle : List Literal) → IsSearch q own es levels literals → seen ≡ es → IsOver q.problem.points l → found ≡ Some cycle → IfSome found (IsByCycle (Stands es (length es)) l) → now ≡ seen ++ record { literal = l; number = number; reason = ByCycle cycle } ∷ [] → IsSearch q own now levels literals
 hit_pushed q own es seen now levels literals l number found cycle s same over is h grown =
     let e : Entry = record { literal = l; number = number; reason = ByCycle cycle } in
     let grew : now ≡ es ++ e ∷ [] = subst (λ (fs : List Entry). now ≡ fs ++ e ∷ []) same grown in

@@ -8,11 +8,12 @@ use Rattle.conflict_analysis.specs.declared.entry.Reason.TheVariants.{Given, Dec
 use Rattle.conflict_analysis.specs.declared.entry.Entry.{Entry}
 use Rattle.conflict_analysis.specs.declared.entry.Level.{Level}
 use Rattle.conflict_analysis.specs.declared.entry.Conflict.{Conflict}
-use Rattle.branch_search.specs.declared.propagate.Taken.{Taken}
-use Rattle.branch_search.specs.declared.propagate.Taken.TheVariants.{Pushed, Nothing, Stuck}
+use Rattle.branch_search.specs.declared.propagate.Tried.{Tried}
+use Rattle.branch_search.specs.declared.propagate.Tried.TheVariants.{Pushed, Nothing, Stuck}
 use Rattle.conflict_analysis.specs.Trails.{IsReason, IsTrail, IsFirst, IsDenial, entry_at, on_trail}
 use Rattle.conflict_analysis.specs.Proved.{IsClauseOver, IsProved}
-use Rattle.branch_search.specs.Search.{Question, all_lemmas, start_of, in_net_of, IsSearch, IsStuckSearch, IsSearchLearned, AreExcluding, IsSearchTaken, IsSearchAfter}
+use Rattle.branch_search.specs.Search.{all_lemmas, start_of, in_net_of, IsSearch, IsStuckSearch, IsSearchLearned, AreExcluding, IsSearchTried, IsSearchAfter}
+use Rattle.branch_search.specs.Slices.{Question}
 use Rattle.branch_search.proofs.States.{lemma_last, state_learned, state_cut}
 
 -- a literal without a reason before it is one of the cube's, where nothing was decided
@@ -23,16 +24,16 @@ first_given inputs lemmas cube es k l (ByClause source place) not first h = absu
 first_given inputs lemmas cube es k l (ByPair tighter) not first h = absurd first
 first_given inputs lemmas cube es k l (ByCycle cycle) not first h = absurd first
 
-pub trail_seen : (q : Question) (own lent : List Lemma) (es seen : List Entry) → lent ≡ own → seen ≡ es → IsTrail q.inputs (all_lemmas q.handed own) q.cube es → IsTrail q.inputs (all_lemmas q.handed lent) q.cube seen
+pub trail_seen : (q : Question) (own lent : List Lemma) (es seen : List Entry) → lent ≡ own → seen ≡ es → IsTrail q.problem.clauses (all_lemmas q.handed own) q.cube es → IsTrail q.problem.clauses (all_lemmas q.handed lent) q.cube seen
 trail_seen q own lent es seen a b h =
-    subst (λ (ls : List Lemma). IsTrail q.inputs (all_lemmas q.handed ls) q.cube seen) (sym a) (subst (IsTrail q.inputs (all_lemmas q.handed own) q.cube) (sym b) h)
+    subst (λ (ls : List Lemma). IsTrail q.problem.clauses (all_lemmas q.handed ls) q.cube seen) (sym a) (subst (IsTrail q.problem.clauses (all_lemmas q.handed own) q.cube) (sym b) h)
 
-pub lemmas_seen : (q : Question) (own lent : List Lemma) → lent ≡ own → All (IsClauseOver q.points) (all_lemmas q.handed own) → All (IsClauseOver q.points) (all_lemmas q.handed lent)
-lemmas_seen q own lent a h = subst (λ (ls : List Lemma). All (IsClauseOver q.points) (all_lemmas q.handed ls)) (sym a) h
+pub lemmas_seen : (q : Question) (own lent : List Lemma) → lent ≡ own → All (IsClauseOver q.problem.points) (all_lemmas q.handed own) → All (IsClauseOver q.problem.points) (all_lemmas q.handed lent)
+lemmas_seen q own lent a h = subst (λ (ls : List Lemma). All (IsClauseOver q.problem.points) (all_lemmas q.handed ls)) (sym a) h
 
-pub learned_search : (q : Question) (own new lent : List Lemma) (lemma : Lemma) (es seen : List Entry) (levels : List Level) (literals : List Literal) (whole : Bool) → IsSearch q own es levels literals → lent ≡ own → IsProved q.points q.inputs (all_lemmas q.handed lent) lemma → seen ≡ es → All (IsDenial seen whole) lemma.clause → (length levels ≡ 0 → whole ≡ true) → new ≡ own ++ lemma ∷ [] → IsSearchLearned q new es levels (length own) literals
+pub learned_search : (q : Question) (own new lent : List Lemma) (lemma : Lemma) (es seen : List Entry) (levels : List Level) (literals : List Literal) (whole : Bool) → IsSearch q own es levels literals → lent ≡ own → IsProved q.problem.points q.problem.clauses (all_lemmas q.handed lent) lemma → seen ≡ es → All (IsDenial seen whole) lemma.clause → (length levels ≡ 0 → whole ≡ true) → new ≡ own ++ lemma ∷ [] → IsSearchLearned q new es levels (length own) literals
 learned_search q own new lent lemma es seen levels literals whole s is r same denials root grown =
-    let proved = subst (λ (ls : List Lemma). IsProved q.points q.inputs (all_lemmas q.handed ls) lemma) is r in
+    let proved = subst (λ (ls : List Lemma). IsProved q.problem.points q.problem.clauses (all_lemmas q.handed ls) lemma) is r in
     let denied : All (IsDenial es whole) lemma.clause = subst (λ (fs : List Entry). All (IsDenial fs whole) lemma.clause) same denials in
     subst (λ (ls : List Lemma). IsSearchLearned q ls es levels (length own) literals) (sym grown) (record {
       state = state_learned q own lemma es levels literals s proved;
@@ -41,7 +42,7 @@ learned_search q own new lent lemma es seen levels literals whole s is r same de
         lemma,
         lemma_last own lemma,
         λ k d lt. (let h = denied k d lt in
-            (on_trail es h.0, first_given q.inputs (all_lemmas q.handed own) q.cube es h.0 (on_trail es h.0) (entry_at es h.0).reason (λ chosen. let some = (s.rooted h.0 chosen).0 in absurd (omega arith)) (h.3 (root none)) (s.trail h.0 h.1), h.2)),
+            (on_trail es h.0, first_given q.problem.clauses (all_lemmas q.handed own) q.cube es h.0 (on_trail es h.0) (entry_at es h.0).reason (λ chosen. let some = (s.rooted h.0 chosen).0 in absurd (omega arith)) (h.3 (root none)) (s.trail h.0 h.1), h.2)),
       );
     })
 
@@ -69,13 +70,13 @@ fewer_levels levels fewer level lt is =
     omega arith
 
 -- whatever became of a proposal, the search stands
-pub taken_search : (q : Question) (own : List Lemma) (es : List Entry) (levels : List Level) (literals : List Literal) (taken : Taken) → IsSearchTaken q own es levels literals taken → IsSearch q own es levels literals
+pub taken_search : (q : Question) (own : List Lemma) (es : List Entry) (levels : List Level) (literals : List Literal) (taken : Tried) → IsSearchTried q own es levels literals taken → IsSearch q own es levels literals
 taken_search q own es levels literals Pushed h = h
 taken_search q own es levels literals Nothing h = h
 taken_search q own es levels literals (Stuck conflict) h = h.state
 
-pub taken_stuck : (q : Question) (own : List Lemma) (es : List Entry) (levels : List Level) (literals : List Literal) (taken : Taken) (conflict : Conflict) → taken ≡ Stuck conflict → IsSearchTaken q own es levels literals taken → IsStuckSearch q own es levels literals conflict
-taken_stuck q own es levels literals taken conflict e h = subst (IsSearchTaken q own es levels literals) e h
+pub taken_stuck : (q : Question) (own : List Lemma) (es : List Entry) (levels : List Level) (literals : List Literal) (taken : Tried) (conflict : Conflict) → taken ≡ Stuck conflict → IsSearchTried q own es levels literals taken → IsStuckSearch q own es levels literals conflict
+taken_stuck q own es levels literals taken conflict e h = subst (IsSearchTried q own es levels literals) e h
 
 pub after_search : (q : Question) (own : List Lemma) (es : List Entry) (levels : List Level) (literals : List Literal) (found : Option Conflict) → IsSearchAfter q own es levels literals found → IsSearch q own es levels literals
 after_search q own es levels literals None h = h
@@ -85,7 +86,7 @@ pub after_stuck : (q : Question) (own : List Lemma) (es : List Entry) (levels : 
 after_stuck q own es levels literals found conflict e h = subst (IsSearchAfter q own es levels literals) e h
 
 -- after the jump there are fewer levels
-pub settled : (q : Question) (own : List Lemma) (es : List Entry) (levels these fewer last : List Level) (literals : List Literal) (level : ℕ) (taken : Taken) → level < length these → these ≡ levels → fewer ≡ take level these → last ≡ fewer → IsSearchTaken q own es last literals taken → (length last < length levels) × IsSearch q own es last literals
+pub settled : (q : Question) (own : List Lemma) (es : List Entry) (levels these fewer last : List Level) (literals : List Literal) (level : ℕ) (taken : Tried) → level < length these → these ≡ levels → fewer ≡ take level these → last ≡ fewer → IsSearchTried q own es last literals taken → (length last < length levels) × IsSearch q own es last literals
 settled q own es levels these fewer last literals level taken lt same is again h =
     let short : length fewer < length these = fewer_levels these fewer level lt is in
     let a : length last ≡ length fewer = ap (length {A = Level}) again in

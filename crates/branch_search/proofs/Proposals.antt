@@ -3,7 +3,7 @@ use Rattle.std.proofs.Common.{arith, ◌≡◌, ℕ, zero, suc, ◌<◌, ◌≤�
 use Rattle.std.proofs.lemmas.Int.{ints}
 use Rattle.std.proofs.lemmas.List.{length_push, take_more}
 use Rattle.stn_core.specs.declared.literal.Literal.{Literal}
-use Rattle.stn_core.specs.Literal.{negation_of, IsOver}
+use Rattle.stn_core.specs.Literal.{negation_of, IsOver, literal_at}
 use Rattle.stn_core.specs.Cycle.{IsNegativeCycle}
 use Rattle.refute_tree.specs.declared.lemma.Lemma.{Lemma}
 use Rattle.conflict_analysis.specs.declared.entry.Source.{Source}
@@ -11,21 +11,22 @@ use Rattle.conflict_analysis.specs.declared.entry.Reason.TheVariants.{Given, Dec
 use Rattle.conflict_analysis.specs.declared.entry.Entry.{Entry}
 use Rattle.conflict_analysis.specs.declared.entry.Level.{Level}
 use Rattle.conflict_analysis.specs.declared.entry.Conflict.TheVariants.{Clause as OfClause, Cycle as OfCycle}
-use Rattle.conflict_analysis.specs.Trails.{literal_at, on_trail, pair_cycle, IsByClause, IsConflict, Stands}
-use Rattle.branch_search.specs.Search.{Question, all_lemmas, IsSearch, IsStuckSearch, IsWeaker}
+use Rattle.conflict_analysis.specs.Trails.{on_trail, pair_cycle, IsByClause, IsConflict, Stands}
+use Rattle.branch_search.specs.Search.{all_lemmas, IsSearch, IsStuckSearch, IsWeaker}
+use Rattle.branch_search.specs.Slices.{Question}
 use Rattle.branch_search.proofs.States.{state_pushed, state_begun, entry_last}
 
 -- a clause's last literal
-pub unit_pushed : (q : Question) (own lent : List Lemma) (es seen now : List Entry) (levels : List Level) (literals : List Literal) (l : Literal) (number : ℕ) (source : Source) (place : ℕ) → IsSearch q own es levels literals → lent ≡ own → seen ≡ es → IsOver q.points l → IsByClause q.inputs (all_lemmas q.handed lent) (Stands seen (length seen)) l source place → now ≡ es ++ record { literal = l; number = number; reason = ByClause source place } ∷ [] → IsSearch q own now levels literals
+pub unit_pushed : (q : Question) (own lent : List Lemma) (es seen now : List Entry) (levels : List Level) (literals : List Literal) (l : Literal) (number : ℕ) (source : Source) (place : ℕ) → IsSearch q own es levels literals → lent ≡ own → seen ≡ es → IsOver q.problem.points l → IsByClause q.problem.clauses (all_lemmas q.handed lent) (Stands seen (length seen)) l source place → now ≡ es ++ record { literal = l; number = number; reason = ByClause source place } ∷ [] → IsSearch q own now levels literals
 unit_pushed q own lent es seen now levels literals l number source place s a b over h grown =
-    let P : List Lemma → Type 0 = λ ls. IsByClause q.inputs (all_lemmas q.handed ls) (Stands es (length es)) l source place in
-    let Q : List Entry → Type 0 = λ fs. IsByClause q.inputs (all_lemmas q.handed lent) (Stands fs (length fs)) l source place in
+    let P : List Lemma → Type 0 = λ ls. IsByClause q.problem.clauses (all_lemmas q.handed ls) (Stands es (length es)) l source place in
+    let Q : List Entry → Type 0 = λ fs. IsByClause q.problem.clauses (all_lemmas q.handed lent) (Stands fs (length fs)) l source place in
     state_pushed q own es now levels literals (record { literal = l; number = number; reason = ByClause source place }) grown s over (subst P a (subst Q b h)) (λ chosen. absurd cc)
 
-pub clause_stuck : (q : Question) (own lent : List Lemma) (es seen : List Entry) (levels : List Level) (literals : List Literal) (source : Source) → IsSearch q own es levels literals → lent ≡ own → seen ≡ es → IsConflict q.inputs (all_lemmas q.handed lent) (Stands seen (length seen)) (OfClause source) → IsStuckSearch q own es levels literals (OfClause source)
+pub clause_stuck : (q : Question) (own lent : List Lemma) (es seen : List Entry) (levels : List Level) (literals : List Literal) (source : Source) → IsSearch q own es levels literals → lent ≡ own → seen ≡ es → IsConflict q.problem.clauses (all_lemmas q.handed lent) (Stands seen (length seen)) (OfClause source) → IsStuckSearch q own es levels literals (OfClause source)
 clause_stuck q own lent es seen levels literals source s a b h =
-    let P : List Lemma → Type 0 = λ ls. IsConflict q.inputs (all_lemmas q.handed ls) (Stands es (length es)) (OfClause source) in
-    let Q : List Entry → Type 0 = λ fs. IsConflict q.inputs (all_lemmas q.handed lent) (Stands fs (length fs)) (OfClause source) in
+    let P : List Lemma → Type 0 = λ ls. IsConflict q.problem.clauses (all_lemmas q.handed ls) (Stands es (length es)) (OfClause source) in
+    let Q : List Entry → Type 0 = λ fs. IsConflict q.problem.clauses (all_lemmas q.handed lent) (Stands fs (length fs)) (OfClause source) in
     record { state = s; clash = subst P a (subst Q b h) }
 
 -- a tighter bound, and the negation of a weaker one
@@ -34,7 +35,7 @@ pair_negative tighter weaker w =
     let low = w.c in
     record { some = omega arith; closed = (tighter.x, (refl, (sym w.y, sym w.x))); negative = omega (arith, ints) }
 
-pub pair_pushed : (q : Question) (own : List Lemma) (es now : List Entry) (levels : List Level) (literals : List Literal) (tighter weaker : Literal) (number : ℕ) → IsSearch q own es levels literals → Stands es (length es) tighter → IsOver q.points weaker → IsWeaker tighter weaker → now ≡ es ++ record { literal = weaker; number = number; reason = ByPair tighter } ∷ [] → IsSearch q own now levels literals
+pub pair_pushed : (q : Question) (own : List Lemma) (es now : List Entry) (levels : List Level) (literals : List Literal) (tighter weaker : Literal) (number : ℕ) → IsSearch q own es levels literals → Stands es (length es) tighter → IsOver q.problem.points weaker → IsWeaker tighter weaker → now ≡ es ++ record { literal = weaker; number = number; reason = ByPair tighter } ∷ [] → IsSearch q own now levels literals
 pair_pushed q own es now levels literals tighter weaker number s there over w grown =
     let Good : Literal → Type 0 = Stands es (length es) in
     let each : (p : ℕ) → p < 2 → (literal_at (pair_cycle tighter weaker) p ≡ negation_of weaker) ⊎ Good (literal_at (pair_cycle tighter weaker) p) = by in
@@ -58,11 +59,11 @@ pub stands_at : (es seen : List Entry) (k : ℕ) (l : Literal) → seen ≡ es �
 stands_at es seen k l same lt is = (k, lt, sym (is ∙ ap (λ (fs : List Entry). on_trail fs k) same))
 
 -- one of the cube's
-pub given_pushed : (q : Question) (own : List Lemma) (es now : List Entry) (levels : List Level) (literals : List Literal) (l : Literal) (number : ℕ) → IsSearch q own es levels literals → Contains q.cube l → IsOver q.points l → now ≡ es ++ record { literal = l; number = number; reason = Given } ∷ [] → IsSearch q own now levels literals
+pub given_pushed : (q : Question) (own : List Lemma) (es now : List Entry) (levels : List Level) (literals : List Literal) (l : Literal) (number : ℕ) → IsSearch q own es levels literals → Contains q.cube l → IsOver q.problem.points l → now ≡ es ++ record { literal = l; number = number; reason = Given } ∷ [] → IsSearch q own now levels literals
 given_pushed q own es now levels literals l number s there over grown =
     state_pushed q own es now levels literals (record { literal = l; number = number; reason = Given }) grown s over there (λ chosen. absurd cc)
 
-pub decision_pushed : (q : Question) (own these : List Lemma) (es there now : List Entry) (levels more last : List Level) (literals : List Literal) (l : Literal) (number : ℕ) → IsSearch q own es levels literals → these ≡ own → there ≡ es → more ≡ levels ++ record { start = length es; in_net = length literals } ∷ [] → last ≡ more → IsOver q.points l → now ≡ there ++ record { literal = l; number = number; reason = Decision } ∷ [] → (length last ≤ length levels + 1) × IsSearch q these now last literals
+pub decision_pushed : (q : Question) (own these : List Lemma) (es there now : List Entry) (levels more last : List Level) (literals : List Literal) (l : Literal) (number : ℕ) → IsSearch q own es levels literals → these ≡ own → there ≡ es → more ≡ levels ++ record { start = length es; in_net = length literals } ∷ [] → last ≡ more → IsOver q.problem.points l → now ≡ there ++ record { literal = l; number = number; reason = Decision } ∷ [] → (length last ≤ length levels + 1) × IsSearch q these now last literals
 decision_pushed q own these es there now levels more last literals l number s a same is again over grown =
     let begun = state_begun q own es levels more literals s is in
     let grew : now ≡ es ++ record { literal = l; number = number; reason = Decision } ∷ [] = subst (λ (fs : List Entry). now ≡ fs ++ record { literal = l; number = number; reason = Decision } ∷ []) same grown in

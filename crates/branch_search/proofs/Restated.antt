@@ -3,7 +3,7 @@ use Rattle.std.proofs.Common.{arith, ◌≡◌, ◌≢◌, ℕ, zero, suc, ◌<�
 use Rattle.std.proofs.lemmas.Bool.{cases_lt, cases_eq}
 use Rattle.std.proofs.lemmas.List.{get_or-take, get_or-set_same, get_or-set_other, length-set, length-take-le, ext_get_or}
 use Rattle.stn_core.specs.declared.literal.Literal.{Literal}
-use Rattle.stn_core.specs.Literal.{negation_of, IsOver}
+use Rattle.stn_core.specs.Literal.{negation_of, IsOver, literal_at}
 use Rattle.stn_core.proofs.Consequences.{IsOver-negation_of}
 use Rattle.refute_tree.specs.declared.lemma.Lemma.{Lemma}
 use Rattle.conflict_analysis.specs.declared.entry.Source.{Source}
@@ -13,10 +13,11 @@ use Rattle.conflict_analysis.specs.declared.entry.Entry.{Entry}
 use Rattle.conflict_analysis.specs.declared.entry.Level.{Level}
 use Rattle.conflict_analysis.specs.declared.entry.Conflict.{Conflict}
 use Rattle.conflict_analysis.specs.declared.entry.Conflict.TheVariants.{Clause as OfClause, Cycle as OfCycle}
-use Rattle.conflict_analysis.specs.Trails.{no_literal, literal_at, source_clause, IsByClause, IsByCycle, pair_cycle, entry_at, on_trail, Stands, IsReason, IsTrail, AreOver, IsConflict}
+use Rattle.conflict_analysis.specs.Trails.{no_literal, source_clause, IsByClause, IsByCycle, pair_cycle, entry_at, on_trail, Stands, IsReason, IsTrail, AreOver, IsConflict}
 use Rattle.conflict_analysis.specs.Proved.{IsProved}
 use Rattle.branch_search.specs.Roots.{denial_of}
-use Rattle.branch_search.specs.Search.{Question, all_lemmas, AllStand, in_net_of, start_of, IsSearch}
+use Rattle.branch_search.specs.Search.{all_lemmas, AllStand, in_net_of, start_of, IsSearch}
+use Rattle.branch_search.specs.Slices.{Question}
 use Rattle.branch_search.proofs.States.{length_part, reason_moved, state_learned}
 
 -- the first places, of which the last has the literal's negation
@@ -125,9 +126,9 @@ put_back es k d e f within is =
     any_default (z ∷ xs) zero x y lt = refl
     any_default (z ∷ xs) (suc i) x y lt = any_default xs i x y (omega arith)
 
-pub derived : (q : Question) (own lent new : List Lemma) (lemma : Lemma) (es now : List Entry) (levels : List Level) (literals : List Literal) → IsSearch q own es levels literals → now ≡ es → lent ≡ own → IsProved q.points q.inputs (all_lemmas q.handed lent) lemma → new ≡ own ++ lemma ∷ [] → IsSearch q new now levels literals
+pub derived : (q : Question) (own lent new : List Lemma) (lemma : Lemma) (es now : List Entry) (levels : List Level) (literals : List Literal) → IsSearch q own es levels literals → now ≡ es → lent ≡ own → IsProved q.problem.points q.problem.clauses (all_lemmas q.handed lent) lemma → new ≡ own ++ lemma ∷ [] → IsSearch q new now levels literals
 derived q own lent new lemma es now levels literals s same is r grown =
-    let proved = subst (λ (ls : List Lemma). IsProved q.points q.inputs (all_lemmas q.handed ls) lemma) is r in
+    let proved = subst (λ (ls : List Lemma). IsProved q.problem.points q.problem.clauses (all_lemmas q.handed ls) lemma) is r in
     subst (λ (fs : List Entry). IsSearch q new fs levels literals) (sym same) (subst (λ (ls : List Lemma). IsSearch q ls es levels literals) (sym grown) (state_learned q own lemma es levels literals s proved))
 
 -- another reason for the literal at a place
@@ -159,17 +160,17 @@ module _ (q : Question) (own : List Lemma) (es now : List Entry) (k n : ℕ) (r 
   all_still : (j : ℕ) (ls : List Literal) → AllStand es j ls → AllStand now j ls
   all_still j ls all i d lt = still j (get_or ls i d) (all i d lt)
 
-  pub rested : (levels : List Level) (literals : List Literal) → (r ≡ Decision → ⊥) → IsReason q.inputs (all_lemmas q.handed own) q.cube es k (on_trail es k) r → IsSearch q own es levels literals → IsSearch q own now levels literals
+  pub rested : (levels : List Level) (literals : List Literal) → (r ≡ Decision → ⊥) → IsReason q.problem.clauses (all_lemmas q.handed own) q.cube es k (on_trail es k) r → IsSearch q own es levels literals → IsSearch q own now levels literals
   rested levels literals not reason s =
       let count_ = same_count in
       record {
-        trail = λ j lt. (let P : Entry → Type 0 = λ f. IsReason q.inputs (all_lemmas q.handed own) q.cube now j f.literal f.reason in
+        trail = λ j lt. (let P : Entry → Type 0 = λ f. IsReason q.problem.clauses (all_lemmas q.handed own) q.cube now j f.literal f.reason in
             elim (cases_eq j k) [
-              | inl here ↦ subst (λ (i : ℕ). IsReason q.inputs (all_lemmas q.handed own) q.cube now i (on_trail now i) (entry_at now i).reason) (sym here)
-                  (subst (λ (f : Entry). IsReason q.inputs (all_lemmas q.handed own) q.cube now k f.literal f.reason) (sym new_entry) (reason_moved q.inputs (all_lemmas q.handed own) q.cube es now k (on_trail es k) r (λ m t. still k m t) reason))
-              | inr other ↦ subst P (sym (same_entry j other)) (reason_moved q.inputs (all_lemmas q.handed own) q.cube es now j (on_trail es j) (entry_at es j).reason (λ m t. still j m t) (s.trail j (omega arith)))
+              | inl here ↦ subst (λ (i : ℕ). IsReason q.problem.clauses (all_lemmas q.handed own) q.cube now i (on_trail now i) (entry_at now i).reason) (sym here)
+                  (subst (λ (f : Entry). IsReason q.problem.clauses (all_lemmas q.handed own) q.cube now k f.literal f.reason) (sym new_entry) (reason_moved q.problem.clauses (all_lemmas q.handed own) q.cube es now k (on_trail es k) r (λ m t. still k m t) reason))
+              | inr other ↦ subst P (sym (same_entry j other)) (reason_moved q.problem.clauses (all_lemmas q.handed own) q.cube es now j (on_trail es j) (entry_at es j).reason (λ m t. still j m t) (s.trail j (omega arith)))
             ]);
-        over = λ j lt. subst (IsOver q.points) (sym (same_literal j)) (s.over j (omega arith));
+        over = λ j lt. subst (IsOver q.problem.points) (sym (same_literal j)) (s.over j (omega arith));
         lemmas = s.lemmas;
         net = subst (λ (i : ℕ). AllStand now i literals) (sym count_) (all_still (length es) literals s.net);
         each = λ i lt. (let v = s.each i lt in
@@ -192,12 +193,12 @@ part_stands es fs k m is s =
     let none : Entry = record { literal = no_literal; number = 0; reason = Given } in
     (t.0, part.0, sym (ap (λ (f : Entry). f.literal) (get_or-take k es t.0 none part.0)) ∙ t.2)
 
-pub part_clause : (q : Question) (own lent : List Lemma) (es fs : List Entry) (k : ℕ) (l : Literal) (source : Source) (place : ℕ) → lent ≡ own → fs ≡ take k es → IsByClause q.inputs (all_lemmas q.handed lent) (Stands fs (length fs)) l source place → IsByClause q.inputs (all_lemmas q.handed own) (Stands es k) l source place
+pub part_clause : (q : Question) (own lent : List Lemma) (es fs : List Entry) (k : ℕ) (l : Literal) (source : Source) (place : ℕ) → lent ≡ own → fs ≡ take k es → IsByClause q.problem.clauses (all_lemmas q.handed lent) (Stands fs (length fs)) l source place → IsByClause q.problem.clauses (all_lemmas q.handed own) (Stands es k) l source place
 part_clause q own lent es fs k l source place same is h =
-    let moved : IsByClause q.inputs (all_lemmas q.handed lent) (Stands es k) l source place = record {
+    let moved : IsByClause q.problem.clauses (all_lemmas q.handed lent) (Stands es k) l source place = record {
       known = h.known;
       within = h.within;
       at = h.at;
       others = λ p lt ne. part_stands es fs k _ is (h.others p lt ne);
     } in
-    subst (λ (ls : List Lemma). IsByClause q.inputs (all_lemmas q.handed ls) (Stands es k) l source place) same moved
+    subst (λ (ls : List Lemma). IsByClause q.problem.clauses (all_lemmas q.handed ls) (Stands es k) l source place) same moved

@@ -4,9 +4,10 @@ use Rattle.std.specs.Prelude.{MatchOption, IfSome}
 use Rattle.std.proofs.lemmas.Bool.{cases_eq}
 use Rattle.std.proofs.lemmas.List.Elements.{All-push, All-append, All-map, Contains-get_or, Contains-push_cases}
 use Rattle.stn_core.specs.declared.literal.Literal.{Literal}
+use Rattle.stn_core.specs.declared.problem.Problem.{Problem}
 use Rattle.stn_core.specs.declared.net.Added.{Added}
 use Rattle.stn_core.specs.declared.net.Added.TheVariants.{Cycle as Refused}
-use Rattle.stn_core.specs.Literal.{Holds, negation_of, IsOver}
+use Rattle.stn_core.specs.Literal.{Holds, negation_of, IsOver, literal_at}
 use Rattle.stn_core.specs.Answer.{IsBest, IsCycleAmong}
 use Rattle.stn_core.specs.Net.{IsConsistent, IsAdded}
 use Rattle.stn_core.specs.Problem.{ProblemHolds}
@@ -21,29 +22,30 @@ use Rattle.conflict_analysis.specs.declared.entry.Source.TheVariants.{Input as O
 use Rattle.conflict_analysis.specs.declared.entry.Conflict.TheVariants.{Clause as OfClause}
 use Rattle.branch_search.specs.declared.divide.Live.{Live}
 use Rattle.branch_search.specs.declared.divide.Live.TheVariants.{At}
-use Rattle.conflict_analysis.specs.Trails.{no_literal, literal_at, IsByCycle, Stands}
+use Rattle.conflict_analysis.specs.Trails.{no_literal, IsByCycle, Stands}
 use Rattle.conflict_analysis.specs.Denials.{AreDenied}
 use Rattle.branch_search.specs.Clauses.{IsFalseAt}
 use Rattle.conflict_analysis.specs.Proved.{IsClauseOver}
-use Rattle.branch_search.specs.Search.{Question, all_lemmas, AreProved, IsSearch, IsStuckSearch, IsSearchSettled}
-use Rattle.branch_search.specs.Slices.{IsModel}
-use Rattle.branch_search.specs.Divisions.{IsLive, IsLiveAt, IsSearchLiveness, HasLive, AreSearchLive, IsSplit, Divides}
+use Rattle.branch_search.specs.Search.{all_lemmas, IsSearch, IsStuckSearch, IsSearchSettled}
+use Rattle.branch_search.specs.Slices.{Question, AreProved, IsSplit}
+use Rattle.stn_core.specs.Solution.{IsSolution}
+use Rattle.branch_search.specs.Divisions.{IsLive, IsLiveAt, IsSearchLiveness, HasLive, AreSearchLive, Divides}
 use Rattle.conflict_analysis.proofs.Shut.{negation_twice}
 use Rattle.branch_search.proofs.States.{state_pushed, stands_grown, stands_last}
 use Rattle.conflict_analysis.proofs.Denied.{denied_all}
 
 -- the net's schedule, where no clause fails on it
-pub modelled : (points others : ℕ) (inputs given : List (List Literal)) (literals : List Literal) (values schedule : List ℤ) (found : Option ℕ) → others ≡ points → given ≡ inputs → schedule ≡ values → IsBest others literals values → MatchOption found (ProblemHolds values given) (IsFalseAt values given) → found ≡ None → IsModel points inputs schedule
-modelled points others inputs given literals values schedule found on same is best h none =
+pub modelled : (problem : Problem) (others : ℕ) (given : List (List Literal)) (literals : List Literal) (values schedule : List ℤ) (found : Option ℕ) → others ≡ problem.points → given ≡ problem.clauses → schedule ≡ values → IsBest others literals values → MatchOption found (ProblemHolds values given) (IsFalseAt values given) → found ≡ None → IsSolution problem schedule
+modelled problem others given literals values schedule found on same is best h none =
     let holds : MatchOption None (ProblemHolds values given) (IsFalseAt values given) = subst (λ (o : Option ℕ). MatchOption o (ProblemHolds values given) (IsFalseAt values given)) none h in
-    subst (IsModel points inputs) (sym is) (record { count = best.greatest.schedule.count ∙ on; range = best.range; holds = subst (ProblemHolds values) same holds })
+    subst (IsSolution problem) (sym is) (record { count = best.greatest.schedule.count ∙ on; range = best.range; holds = subst (ProblemHolds values) same holds })
 
 pub is_none : {A : Type 0} (found : Option A) → ((x : A) → found ≡ Some x → ⊥) → found ≡ None
 is_none (Some x) none = absurd (none x refl)
 is_none None none = refl
 
 -- a literal that closes a cycle with the net's is denied on the trail
-pub denied_state : (q : Question) (own : List Lemma) (es now : List Entry) (levels : List Level) (literals : List Literal) (l : Literal) (cycle : List Literal) → IsSearch q own es levels literals → IsOver q.points l → IsCycleAmong (literals ++ l ∷ []) cycle → now ≡ es ++ record { literal = negation_of l; number = 0; reason = ByCycle cycle } ∷ [] → IsSearch q own now levels literals × Stands now (length now) (negation_of l)
+pub denied_state : (q : Question) (own : List Lemma) (es now : List Entry) (levels : List Level) (literals : List Literal) (l : Literal) (cycle : List Literal) → IsSearch q own es levels literals → IsOver q.problem.points l → IsCycleAmong (literals ++ l ∷ []) cycle → now ≡ es ++ record { literal = negation_of l; number = 0; reason = ByCycle cycle } ∷ [] → IsSearch q own now levels literals × Stands now (length now) (negation_of l)
 denied_state q own es now levels literals l cycle s over among grown =
     let e : Entry = record { literal = negation_of l; number = 0; reason = ByCycle cycle } in
     let reason : IsByCycle (Stands es (length es)) (negation_of l) cycle = record {
@@ -53,7 +55,7 @@ denied_state q own es now levels literals l cycle s over among grown =
         | inr same ↦ inl (sym same ∙ sym (negation_twice l))
       ];
     } in
-    (state_pushed q own es now levels literals e grown s (IsOver-negation_of q.points l over) reason (λ chosen. absurd cc), subst (λ (fs : List Entry). Stands fs (length fs) (negation_of l)) (sym grown) (stands_last es e))
+    (state_pushed q own es now levels literals e grown s (IsOver-negation_of q.problem.points l over) reason (λ chosen. absurd cc), subst (λ (fs : List Entry). Stands fs (length fs) (negation_of l)) (sym grown) (stands_last es e))
 
 -- what stood on the trail stands on a longer one
 stands_longer : (es now : List Entry) (e : Entry) (m : Literal) → now ≡ es ++ e ∷ [] → Stands es (length es) m → Stands now (length now) m
@@ -65,7 +67,7 @@ DeniedTo es clause p = (i : ℕ) → i < p → Stands es (length es) (negation_o
 pub same_literals : (others : ℕ) (literals new : List Literal) (l : Literal) (added : Added) (cycle : List Literal) → IsAdded others literals l new added → added ≡ Refused cycle → (new ≡ literals) × IsCycleAmong (literals ++ l ∷ []) cycle
 same_literals others literals new l added cycle adds is = subst (IsAdded others literals l new) is adds
 
-pub live_turn : (q : Question) (others : ℕ) (own these : List Lemma) (es now : List Entry) (levels more : List Level) (literals new : List Literal) (l : Literal) (added : Added) (cycle clause : List Literal) (p : ℕ) → IsSearch q own es levels literals → IsAdded others literals l new added → added ≡ Refused cycle → IsOver q.points l → now ≡ es ++ record { literal = negation_of l; number = 0; reason = ByCycle cycle } ∷ [] → these ≡ own → more ≡ levels → l ≡ literal_at clause p → DeniedTo es clause p → IsSearch q these now more new × DeniedTo now clause (p + 1)
+pub live_turn : (q : Question) (others : ℕ) (own these : List Lemma) (es now : List Entry) (levels more : List Level) (literals new : List Literal) (l : Literal) (added : Added) (cycle clause : List Literal) (p : ℕ) → IsSearch q own es levels literals → IsAdded others literals l new added → added ≡ Refused cycle → IsOver q.problem.points l → now ≡ es ++ record { literal = negation_of l; number = 0; reason = ByCycle cycle } ∷ [] → these ≡ own → more ≡ levels → l ≡ literal_at clause p → DeniedTo es clause p → IsSearch q these now more new × DeniedTo now clause (p + 1)
 live_turn q others own these es now levels more literals new l added cycle clause p s adds is over grown a b at before =
     let no = same_literals others literals new l added cycle adds is in
     let both = denied_state q own es now levels literals l cycle s over no.1 grown in
@@ -77,17 +79,17 @@ live_turn q others own these es now levels more literals new l added cycle claus
     ] in
     (state, denied_now)
 
-pub nowhere_stuck : (q : Question) (others : ℕ) (own : List Lemma) (es : List Entry) (levels : List Level) (literals before : List Literal) (i : ℕ) (clause : List Literal) (found : Option ℕ) → IsSearch q own es levels literals → i < length q.inputs → clause ≡ get_or q.inputs i [] → found ≡ None → IsLiveAt others before es clause found → IsStuckSearch q own es levels literals (OfClause (OfInput i))
+pub nowhere_stuck : (q : Question) (others : ℕ) (own : List Lemma) (es : List Entry) (levels : List Level) (literals before : List Literal) (i : ℕ) (clause : List Literal) (found : Option ℕ) → IsSearch q own es levels literals → i < length q.problem.clauses → clause ≡ get_or q.problem.clauses i [] → found ≡ None → IsLiveAt others before es clause found → IsStuckSearch q own es levels literals (OfClause (OfInput i))
 nowhere_stuck q others own es levels literals before i clause found s within at e live =
     let denied : AreDenied es clause (length clause) = subst (IsLiveAt others before es clause) e live in
-    record { state = s; clash = (within, denied_all es clause (get_or q.inputs i []) denied at) }
+    record { state = s; clash = (within, denied_all es clause (get_or q.problem.clauses i []) denied at) }
 
-pub live_more : (q : Question) (own : List Lemma) (es : List Entry) (levels : List Level) (literals first : List Literal) (i : ℕ) (live : Live) (place : ℕ) → IsSearchLiveness q own es levels literals i live → live ≡ At place → literals ≡ first → ((k : ℕ) → k < i → HasLive q.points first (get_or q.inputs k [])) → IsSearch q own es levels literals × ((k : ℕ) → k < i + 1 → HasLive q.points first (get_or q.inputs k []))
+pub live_more : (q : Question) (own : List Lemma) (es : List Entry) (levels : List Level) (literals first : List Literal) (i : ℕ) (live : Live) (place : ℕ) → IsSearchLiveness q own es levels literals i live → live ≡ At place → literals ≡ first → ((k : ℕ) → k < i → HasLive q.problem.points first (get_or q.problem.clauses k [])) → IsSearch q own es levels literals × ((k : ℕ) → k < i + 1 → HasLive q.problem.points first (get_or q.problem.clauses k []))
 live_more q own es levels literals first i live place h e same before =
     let there : IsSearchLiveness q own es levels literals i (At place) = subst (IsSearchLiveness q own es levels literals i) e h in (
       there.0,
       λ k lt. elim (cases_eq k i) [
-        | inl here ↦ subst (λ (n : ℕ). HasLive q.points first (get_or q.inputs n [])) (sym here) (place, subst (λ (ls : List Literal). IsLive q.points ls (get_or q.inputs i []) place) same there.1)
+        | inl here ↦ subst (λ (n : ℕ). HasLive q.problem.points first (get_or q.problem.clauses n [])) (sym here) (place, subst (λ (ls : List Literal). IsLive q.problem.points ls (get_or q.problem.clauses i []) place) same there.1)
         | inr other ↦ before k (omega arith)
       ],
     )
@@ -101,46 +103,46 @@ get_or_is (d ∷ cs) zero c lt e = e
 get_or_is (d ∷ cs) (suc k) c lt e = get_or_is cs k c (omega arith) e
 
 -- each clause has a literal that is consistent with the cube
-live_clauses : (q : Question) (literals : List Literal) → literals ≡ q.cube → ((k : ℕ) → k < length q.inputs → HasLive q.points literals (get_or q.inputs k [])) → (c : List Literal) → Contains q.inputs c → (l : Literal) × Contains c l × IsConsistent q.points (q.cube ++ l ∷ [])
+live_clauses : (q : Question) (literals : List Literal) → literals ≡ q.cube → ((k : ℕ) → k < length q.problem.clauses → HasLive q.problem.points literals (get_or q.problem.clauses k [])) → (c : List Literal) → Contains q.problem.clauses c → (l : Literal) × Contains c l × IsConsistent q.problem.points (q.cube ++ l ∷ [])
 live_clauses q literals is all c c_in =
     let k = c_in.0 in
-    let k_in : k < length q.inputs = c_in.1 in
-    let same_c : get_or q.inputs k [] ≡ c = get_or_is q.inputs k c k_in c_in.2 in
-    let h : HasLive q.points q.cube (get_or q.inputs k []) = subst (λ (ls : List Literal). HasLive q.points ls (get_or q.inputs k [])) is (all k k_in) in
-    live_literal q.points q.cube c (subst (HasLive q.points q.cube) same_c h)
+    let k_in : k < length q.problem.clauses = c_in.1 in
+    let same_c : get_or q.problem.clauses k [] ≡ c = get_or_is q.problem.clauses k c k_in c_in.2 in
+    let h : HasLive q.problem.points q.cube (get_or q.problem.clauses k []) = subst (λ (ls : List Literal). HasLive q.problem.points ls (get_or q.problem.clauses k [])) is (all k k_in) in
+    live_literal q.problem.points q.cube c (subst (HasLive q.problem.points q.cube) same_c h)
 
-pub split_by : (q : Question) (others : ℕ) (literals : List Literal) (found : Option Literal) (l : Literal) → others ≡ q.points → literals ≡ q.cube → IfSome found (Divides others q.inputs literals) → found ≡ Some l → ((k : ℕ) → k < length q.inputs → HasLive q.points literals (get_or q.inputs k [])) → IsSplit q l
+pub split_by : (q : Question) (others : ℕ) (literals : List Literal) (found : Option Literal) (l : Literal) → others ≡ q.problem.points → literals ≡ q.cube → IfSome found (Divides others q.problem literals) → found ≡ Some l → ((k : ℕ) → k < length q.problem.clauses → HasLive q.problem.points literals (get_or q.problem.clauses k [])) → IsSplit q l
 split_by q others literals found l on is h e all =
-    let there : Divides others q.inputs literals l = subst (λ (o : Option Literal). IfSome o (Divides others q.inputs literals)) e h in
-    let d : Divides q.points q.inputs q.cube l = subst (λ (ls : List Literal). Divides q.points q.inputs ls l) is (subst (λ (n : ℕ). Divides n q.inputs literals l) on there) in
+    let there : Divides others q.problem literals l = subst (λ (o : Option Literal). IfSome o (Divides others q.problem literals)) e h in
+    let d : Divides q.problem.points q.problem q.cube l = subst (λ (ls : List Literal). Divides q.problem.points q.problem ls l) is (subst (λ (n : ℕ). Divides n q.problem literals l) on there) in
     record { stated = d.stated; with_it = d.with_it; against = d.against; live = live_clauses q literals is all }
 
-pub split_of : (q : Question) (others : ℕ) (given : List (List Literal)) (literals after : List Literal) (values : List ℤ) (i place : ℕ) (l : Literal) → others ≡ q.points → given ≡ q.inputs → literals ≡ q.cube → after ≡ literals → IsBest others literals values → IsFalseAt values given i → IsLive q.points after (get_or q.inputs i []) place → ((k : ℕ) → k < length q.inputs → HasLive q.points literals (get_or q.inputs k [])) → l ≡ literal_at (get_or q.inputs i []) place → IsSplit q l
+pub split_of : (q : Question) (others : ℕ) (given : List (List Literal)) (literals after : List Literal) (values : List ℤ) (i place : ℕ) (l : Literal) → others ≡ q.problem.points → given ≡ q.problem.clauses → literals ≡ q.cube → after ≡ literals → IsBest others literals values → IsFalseAt values given i → IsLive q.problem.points after (get_or q.problem.clauses i []) place → ((k : ℕ) → k < length q.problem.clauses → HasLive q.problem.points literals (get_or q.problem.clauses k [])) → l ≡ literal_at (get_or q.problem.clauses i []) place → IsSplit q l
 split_of q others given literals after values i place l on same is kept best fails live all at =
-    let clause = get_or q.inputs i [] in
+    let clause = get_or q.problem.clauses i [] in
     let m = literal_at clause place in
-    let f : IsFalseAt values q.inputs i = subst (λ (cs : List (List Literal)). IsFalseAt values cs i) same fails in
+    let f : IsFalseAt values q.problem.clauses i = subst (λ (cs : List (List Literal)). IsFalseAt values cs i) same fails in
     let false_there : Holds values m → ⊥ = f.fails place no_literal live.within in
-    let b : IsBest q.points q.cube values = subst (λ (ls : List Literal). IsBest q.points ls values) is (subst (λ (n : ℕ). IsBest n literals values) on best) in
+    let b : IsBest q.problem.points q.cube values = subst (λ (ls : List Literal). IsBest q.problem.points ls values) is (subst (λ (n : ℕ). IsBest n literals values) on best) in
     let s = b.greatest.schedule in
-    let here : IsLive q.points q.cube clause place = subst (λ (ls : List Literal). IsLive q.points ls clause place) (kept ∙ is) live in
+    let here : IsLive q.problem.points q.cube clause place = subst (λ (ls : List Literal). IsLive q.problem.points ls clause place) (kept ∙ is) live in
     let split : IsSplit q m = record {
-      stated = (clause, Contains-get_or q.inputs i [] f.within, Contains-get_or clause place no_literal live.within);
+      stated = (clause, Contains-get_or q.problem.clauses i [] f.within, Contains-get_or clause place no_literal live.within);
       with_it = here.consistent;
       against = (values, record { count = s.count; at_most_0 = s.at_most_0; holds = All-push (Holds values) q.cube (negation_of m) s.holds (denied values m false_there) });
       live = live_clauses q literals is all;
     } in
     subst (IsSplit q) (sym at) split
 
-pub are_live : (q : Question) (own : List Lemma) (es : List Entry) (levels : List Level) (literals : List Literal) (found : Option ℕ) → AreSearchLive q own es levels literals found → ((j : ℕ) → found ≡ Some j → ⊥) → IsSearch q own es levels literals × ((i : ℕ) → i < length q.inputs → HasLive q.points literals (get_or q.inputs i []))
+pub are_live : (q : Question) (own : List Lemma) (es : List Entry) (levels : List Level) (literals : List Literal) (found : Option ℕ) → AreSearchLive q own es levels literals found → ((j : ℕ) → found ≡ Some j → ⊥) → IsSearch q own es levels literals × ((i : ℕ) → i < length q.problem.clauses → HasLive q.problem.points literals (get_or q.problem.clauses i []))
 are_live q own es levels literals (Some j) h none = absurd (none j refl)
 are_live q own es levels literals None h none = h
 
-pub live_at : (q : Question) (own : List Lemma) (es : List Entry) (levels : List Level) (literals : List Literal) (i : ℕ) (live : Live) (place : ℕ) → IsSearchLiveness q own es levels literals i live → live ≡ At place → IsSearch q own es levels literals × IsLive q.points literals (get_or q.inputs i []) place
+pub live_at : (q : Question) (own : List Lemma) (es : List Entry) (levels : List Level) (literals : List Literal) (i : ℕ) (live : Live) (place : ℕ) → IsSearchLiveness q own es levels literals i live → live ≡ At place → IsSearch q own es levels literals × IsLive q.problem.points literals (get_or q.problem.clauses i []) place
 live_at q own es levels literals i live place h e = subst (IsSearchLiveness q own es levels literals i) e h
 
 -- a search that hasn't begun
-pub empty_search : (q : Question) (own : List Lemma) (es : List Entry) (levels : List Level) (literals : List Literal) → es ≡ [] → levels ≡ [] → literals ≡ [] → All (IsClauseOver q.points) (all_lemmas q.handed own) → AreProved q own → IsSearch q own es levels literals
+pub empty_search : (q : Question) (own : List Lemma) (es : List Entry) (levels : List Level) (literals : List Literal) → es ≡ [] → levels ≡ [] → literals ≡ [] → All (IsClauseOver q.problem.points) (all_lemmas q.handed own) → AreProved q own → IsSearch q own es levels literals
 empty_search q own es levels literals a b c lemmas proved =
     let search : IsSearch q own [] [] [] = record {
       trail = λ k lt. absurd (omega arith);

@@ -5,7 +5,7 @@ use Rattle.std.proofs.lemmas.Bool.{cases_lt, cases_eq}
 use Rattle.std.proofs.lemmas.List.{get_or_append_left, get_or_push, get_or-take, length_push, length-append, length-take-le, map-append, take_all, take-take, take-append-le}
 use Rattle.std.proofs.lemmas.List.Elements.{All-push}
 use Rattle.stn_core.specs.declared.literal.Literal.{Literal}
-use Rattle.stn_core.specs.Literal.{negation_of, IsOver}
+use Rattle.stn_core.specs.Literal.{negation_of, IsOver, literal_at}
 use Rattle.stn_core.specs.Answer.{IsCycleAmong}
 use Rattle.stn_core.specs.Net.{IsAdded}
 use Rattle.stn_core.specs.declared.net.Added.{Added}
@@ -21,9 +21,10 @@ use Rattle.conflict_analysis.specs.declared.entry.Reason.TheVariants.{Given, Dec
 use Rattle.conflict_analysis.specs.declared.entry.Entry.{Entry}
 use Rattle.conflict_analysis.specs.declared.entry.Level.{Level}
 use Rattle.conflict_analysis.specs.declared.entry.Conflict.TheVariants.{Cycle as OfCycle}
-use Rattle.conflict_analysis.specs.Trails.{no_literal, literal_at, source_clause, IsKnown, IsByCycle, pair_cycle, entry_at, on_trail, Stands, IsReason, IsTrail, AreOver}
+use Rattle.conflict_analysis.specs.Trails.{no_literal, source_clause, IsKnown, IsByCycle, pair_cycle, entry_at, on_trail, Stands, IsReason, IsTrail, AreOver}
 use Rattle.conflict_analysis.specs.Proved.{IsClauseOver, IsProved}
-use Rattle.branch_search.specs.Search.{Question, all_lemmas, AreProved, level_at, start_of, in_net_of, AllStand, IsLevel, IsSearch, IsStuckSearch}
+use Rattle.branch_search.specs.Search.{all_lemmas, level_at, start_of, in_net_of, AllStand, IsLevel, IsSearch, IsStuckSearch}
+use Rattle.branch_search.specs.Slices.{Question, AreProved}
 
 -- a list and its part agree on the entries of the part
 pub length_part : (n : ℕ) (es : List Entry) (k : ℕ) → k < length (take n es) → (k < n) × (k < length es)
@@ -171,12 +172,12 @@ level_taken levels n i lt = get_or-take n levels i (record { start = 0; in_net =
 
 module _ (q : Question) (own : List Lemma) where
   -- a literal more on the trail
-  pub state_pushed : (es now : List Entry) (levels : List Level) (literals : List Literal) (e : Entry) → now ≡ es ++ e ∷ [] → IsSearch q own es levels literals → IsOver q.points e.literal → IsReason q.inputs (all_lemmas q.handed own) q.cube es (length es) e.literal e.reason → (e.reason ≡ Decision → (0 < length levels) × (start_of levels 0 ≤ length es)) → IsSearch q own now levels literals
+  pub state_pushed : (es now : List Entry) (levels : List Level) (literals : List Literal) (e : Entry) → now ≡ es ++ e ∷ [] → IsSearch q own es levels literals → IsOver q.problem.points e.literal → IsReason q.problem.clauses (all_lemmas q.handed own) q.cube es (length es) e.literal e.reason → (e.reason ≡ Decision → (0 < length levels) × (start_of levels 0 ≤ length es)) → IsSearch q own now levels literals
   state_pushed es now levels literals e grown s over reason choice =
       let count = length_push es e in
       subst (λ (fs : List Entry). IsSearch q own fs levels literals) (sym grown) (record {
-        trail = trail_push q.inputs (all_lemmas q.handed own) q.cube es e s.trail reason;
-        over = over_push q.points es e s.over over;
+        trail = trail_push q.problem.clauses (all_lemmas q.handed own) q.cube es e s.trail reason;
+        over = over_push q.problem.points es e s.over over;
         lemmas = s.lemmas;
         net = all_grown es e literals s.net;
         each = λ i lt. (let v = s.each i lt in
@@ -257,8 +258,8 @@ module _ (q : Question) (own : List Lemma) where
       let count_levels : length (take level levels) ≡ level = length-take-le level levels (omega arith) in
       let P : ℕ → Type 0 = λ k. AllStand (take n es) k (take m literals) in
       let search : IsSearch q own (take n es) (take level levels) (take m literals) = record {
-        trail = trail_take q.inputs (all_lemmas q.handed own) q.cube es n s.trail;
-        over = over_take q.points es n s.over;
+        trail = trail_take q.problem.clauses (all_lemmas q.handed own) q.cube es n s.trail;
+        over = over_take q.problem.points es n s.over;
         lemmas = s.lemmas;
         net = subst P (sym count_es) (all_take es n n (take m literals) (omega arith) here.stand);
         each = λ i less. (let below : i < level = omega arith in
@@ -349,17 +350,17 @@ pub lemma_last : (own : List Lemma) (lemma : Lemma) → slice_get (own ++ lemma 
 lemma_last [] lemma = refl
 lemma_last (l ∷ own) lemma = lemma_last own lemma
 
-proved_push : (q : Question) (own : List Lemma) (lemma : Lemma) → AreProved q own → IsProved q.points q.inputs (all_lemmas q.handed own) lemma → AreProved q (own ++ lemma ∷ [])
+proved_push : (q : Question) (own : List Lemma) (lemma : Lemma) → AreProved q own → IsProved q.problem.points q.problem.clauses (all_lemmas q.handed own) lemma → AreProved q (own ++ lemma ∷ [])
 proved_push q own lemma before new =
-    (joined q.points q.inputs q.handed own (lemma ∷ []) before.0 (new.refuted, tt), All-push (LemmaIsOver q.points) own lemma before.1 new.over)
+    (joined q.problem.points q.problem.clauses q.handed own (lemma ∷ []) before.0 (new.refuted, tt), All-push (LemmaIsOver q.problem.points) own lemma before.1 new.over)
 
-pub state_learned : (q : Question) (own : List Lemma) (lemma : Lemma) (es : List Entry) (levels : List Level) (literals : List Literal) → IsSearch q own es levels literals → IsProved q.points q.inputs (all_lemmas q.handed own) lemma → IsSearch q (own ++ lemma ∷ []) es levels literals
+pub state_learned : (q : Question) (own : List Lemma) (lemma : Lemma) (es : List Entry) (levels : List Level) (literals : List Literal) → IsSearch q own es levels literals → IsProved q.problem.points q.problem.clauses (all_lemmas q.handed own) lemma → IsSearch q (own ++ lemma ∷ []) es levels literals
 state_learned q own lemma es levels literals s r =
     let more = sym (all_more q.handed own lemma) in
     record {
-      trail = subst (λ (ls : List (List Literal)). IsTrail q.inputs ls q.cube es) more (trail_later q.inputs (all_lemmas q.handed own) (lemma.clause ∷ []) q.cube es s.trail);
+      trail = subst (λ (ls : List (List Literal)). IsTrail q.problem.clauses ls q.cube es) more (trail_later q.problem.clauses (all_lemmas q.handed own) (lemma.clause ∷ []) q.cube es s.trail);
       over = s.over;
-      lemmas = subst (All (IsClauseOver q.points)) more (All-push (IsClauseOver q.points) (all_lemmas q.handed own) lemma.clause s.lemmas r.over.clause);
+      lemmas = subst (All (IsClauseOver q.problem.points)) more (All-push (IsClauseOver q.problem.points) (all_lemmas q.handed own) lemma.clause s.lemmas r.over.clause);
       net = s.net;
       each = s.each;
       starts = s.starts;

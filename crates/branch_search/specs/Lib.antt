@@ -1,6 +1,7 @@
+pub mod Slices
 pub mod Search
 pub mod Hits
-pub mod Slices
+pub mod Turns
 pub mod Divisions
 pub mod Deliveries
 pub mod Clauses
@@ -9,6 +10,8 @@ pub use Rattle.stn_core.specs.Limits
 pub use Rattle.stn_core.specs.Literal
 pub use Rattle.stn_core.specs.Problem
 pub use Rattle.stn_core.specs.Schedule
+pub use Rattle.stn_core.specs.Solution
+pub use Rattle.stn_core.specs.Net
 pub use Rattle.refute_tree.specs.Trees
 pub use Rattle.conflict_analysis.specs.Trails
 pub use Rattle.conflict_analysis.specs.Proved

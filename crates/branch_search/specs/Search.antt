@@ -1,40 +1,23 @@
--- A search in the middle of a slice, and what its end says.
+-- Of the code and not of the meaning: trail and levels of a search in the middle of a slice, and what its end says.
 use Rattle.std.specs.Prelude.{◌≡◌, ℕ, ◌<◌, ◌≤◌, ◌+◌, List, [], ◌∷◌, ◌++◌, length, map, take, All, Contains}
 use Rattle.std.specs.Prelude.{Option, Some, None, slice_get, slice_index_or, ◌≤ℤ◌}
 use Rattle.stn_core.specs.declared.literal.Literal.{Literal}
-use Rattle.stn_core.specs.declared.problem.Problem.{Problem}
-use Rattle.stn_core.specs.Literal.{negation_of}
 use Rattle.refute_tree.specs.declared.lemma.Lemma.{Lemma}
 use Rattle.refute_tree.specs.Trees.{stated}
-use Rattle.refute_tree.specs.Batches.{AreRefuted, LemmaIsOver}
 use Rattle.conflict_analysis.specs.declared.entry.Reason.TheVariants.{Decision}
 use Rattle.conflict_analysis.specs.declared.entry.Entry.{Entry}
 use Rattle.conflict_analysis.specs.declared.entry.Level.{Level}
 use Rattle.conflict_analysis.specs.declared.entry.Conflict.{Conflict}
 use Rattle.branch_search.specs.declared.state.State.{State}
-use Rattle.branch_search.specs.declared.propagate.Taken.{Taken}
-use Rattle.branch_search.specs.declared.propagate.Taken.TheVariants.{Pushed, Nothing, Stuck}
+use Rattle.branch_search.specs.declared.propagate.Tried.{Tried}
+use Rattle.branch_search.specs.declared.propagate.Tried.TheVariants.{Pushed, Nothing, Stuck}
 use Rattle.conflict_analysis.specs.Trails.{IsTrail, AreOver, entry_at, Stands, IsConflict}
 use Rattle.conflict_analysis.specs.Proved.{IsClauseOver}
-
--- what a slice is asked: a problem, the clauses of the lemmas that it is handed, and the cube
-pub record Question : Type 0 where
-  pub points : ℕ
-  pub inputs : List (List Literal)
-  pub handed : List (List Literal)
-  pub cube : List Literal
-
-abbrev pub question_of : Problem → List (List Literal) → List Literal → Question
-question_of problem handed cube =
-    record { points = problem.points; inputs = problem.clauses; handed = handed; cube = cube }
+use Rattle.branch_search.specs.Slices.{Question, AreProved, Excludes}
 
 -- the clauses of the handed lemmas, and of the slice's own
 abbrev pub all_lemmas : List (List Literal) → List Lemma → List (List Literal)
 all_lemmas handed own = handed ++ map stated own
-
--- the lemmas are refuted over the problem, the handed lemmas and those before each, within the limits
-abbrev pub AreProved : Question → List Lemma → Type 0
-AreProved q own = AreRefuted q.points q.inputs q.handed own × All (LemmaIsOver q.points) own
 
 abbrev pub level_at : List Level → ℕ → Level
 level_at levels i = slice_index_or levels i (record { start = 0; in_net = 0 })
@@ -59,9 +42,9 @@ pub record IsLevel (entries : List Entry) (literals : List Literal) (level : Lev
 -- the trail is a good one, the net's literals stand on it, and the levels begin one after the other
 pub record IsSearch (q : Question) (own : List Lemma) (entries : List Entry) (levels : List Level)
     (literals : List Literal) : Type 0 where
-  pub trail : IsTrail q.inputs (all_lemmas q.handed own) q.cube entries
-  pub over : AreOver q.points entries
-  pub lemmas : All (IsClauseOver q.points) (all_lemmas q.handed own)
+  pub trail : IsTrail q.problem.clauses (all_lemmas q.handed own) q.cube entries
+  pub over : AreOver q.problem.points entries
+  pub lemmas : All (IsClauseOver q.problem.points) (all_lemmas q.handed own)
   pub net : AllStand entries (length entries) literals
   pub each : (i : ℕ) → i < length levels → IsLevel entries literals (level_at levels i)
   pub starts : (i j : ℕ) → i ≤ j → j < length levels → start_of levels i ≤ start_of levels j
@@ -77,7 +60,7 @@ IsState q s literals = IsSearch q s.own.items s.entries.items s.levels.items lit
 pub record IsStuckSearch (q : Question) (own : List Lemma) (entries : List Entry) (levels : List Level)
     (literals : List Literal) (conflict : Conflict) : Type 0 where
   pub state : IsSearch q own entries levels literals
-  pub clash : IsConflict q.inputs (all_lemmas q.handed own) (Stands entries (length entries)) conflict
+  pub clash : IsConflict q.problem.clauses (all_lemmas q.handed own) (Stands entries (length entries)) conflict
 
 abbrev pub IsStuck : Question → State → List Literal → Conflict → Type 0
 IsStuck q s literals conflict = IsStuckSearch q s.own.items s.entries.items s.levels.items literals conflict
@@ -92,14 +75,14 @@ abbrev pub IsAfter : Question → State → List Literal → Option Conflict →
 IsAfter q s literals found = IsSearchAfter q s.own.items s.entries.items s.levels.items literals found
 
 -- what became of a proposal
-abbrev pub IsSearchTaken : Question → List Lemma → List Entry → List Level → List Literal → Taken → Type 0
-IsSearchTaken q own entries levels literals Pushed = IsSearch q own entries levels literals
-IsSearchTaken q own entries levels literals Nothing = IsSearch q own entries levels literals
-IsSearchTaken q own entries levels literals (Stuck conflict) =
+abbrev pub IsSearchTried : Question → List Lemma → List Entry → List Level → List Literal → Tried → Type 0
+IsSearchTried q own entries levels literals Pushed = IsSearch q own entries levels literals
+IsSearchTried q own entries levels literals Nothing = IsSearch q own entries levels literals
+IsSearchTried q own entries levels literals (Stuck conflict) =
     IsStuckSearch q own entries levels literals conflict
 
-abbrev pub IsTaken : Question → State → List Literal → Taken → Type 0
-IsTaken q s literals taken = IsSearchTaken q s.own.items s.entries.items s.levels.items literals taken
+abbrev pub IsTried : Question → State → List Literal → Tried → Type 0
+IsTried q s literals taken = IsSearchTried q s.own.items s.entries.items s.levels.items literals taken
 
 -- both bound the same two points, the first at least as tightly
 pub record IsWeaker (tighter weaker : Literal) : Type 0 where
@@ -112,13 +95,7 @@ abbrev pub IsNetAfter : List Literal → Literal → List Literal → Option Con
 IsNetAfter old l new None = new ≡ old ++ l ∷ []
 IsNetAfter old l new (Some conflict) = new ≡ old
 
--- the lemma with this number states that some literal of the cube fails
-abbrev pub Excludes : List Literal → List Lemma → ℕ → Type 0
-Excludes cube own j =
-    (lemma : Lemma) × (slice_get own j ≡ Some lemma)
-    × All (λ (m : Literal). (l : Literal) × Contains cube l × (m ≡ negation_of l)) lemma.clause
-
--- and all are proved
+-- the lemma with this number excludes the cube, and all are proved
 abbrev pub AreExcluding : Question → List Lemma → ℕ → Type 0
 AreExcluding q own j = (j < length own) × Excludes q.cube own j × AreProved q own
 
@@ -146,10 +123,6 @@ IsSearchSettled q count own entries levels literals (Some j) = AreExcluding q ow
 abbrev pub IsSettled : Question → ℕ → State → List Literal → Option ℕ → Type 0
 IsSettled q count s literals found =
     IsSearchSettled q count s.own.items s.entries.items s.levels.items literals found
-
--- where a net's count of adds stands still
-abbrev pub adds_limit : ℕ
-adds_limit = 18446744073709551615
 
 -- the net has the cube's literals alone, or a lemma excludes the cube
 abbrev pub IsSearchEntered : Question → List Lemma → List Entry → List Level → List Literal → Option ℕ

@@ -1,46 +1,61 @@
--- The turns of a slice, and its answers.
-use Rattle.std.specs.Prelude.{◌≡◌, ℕ, ◌<◌, ◌≤◌, ◌+◌, ◌*◌, List, length, All, ℤ}
+-- What a slice of search answers, and what is owed of it. This page is all that the contract of `slice` cites, beside
+-- the words of problems, lemmas and consistent literals.
+--
+-- That a slice leaves a solution, a lemma that excludes its cube, or a division of it is this project's own.
+use Rattle.std.specs.Prelude.{◌≡◌, ℕ, ◌≤◌, ◌+◌, min, List, [], ◌∷◌, ◌++◌, length, All, Contains, Some, slice_get}
 use Rattle.stn_core.specs.declared.literal.Literal.{Literal}
-use Rattle.stn_core.specs.Problem.{ProblemHolds}
-use Rattle.stn_core.specs.Schedule.{IsInRange}
+use Rattle.stn_core.specs.declared.problem.Problem.{Problem}
+use Rattle.stn_core.specs.Limits.{adds_limit}
+use Rattle.stn_core.specs.Literal.{negation_of}
+use Rattle.stn_core.specs.Net.{IsConsistent}
+use Rattle.stn_core.specs.Solution.{IsSolution, IsAtom}
 use Rattle.refute_tree.specs.declared.lemma.Lemma.{Lemma}
-use Rattle.conflict_analysis.specs.declared.entry.Entry.{Entry}
-use Rattle.conflict_analysis.specs.declared.entry.Level.{Level}
-use Rattle.branch_search.specs.declared.state.State.{State}
-use Rattle.branch_search.specs.declared.search.Found.{Found}
-use Rattle.branch_search.specs.declared.search.Found.TheVariants.{Model, Excluded, Spent}
-use Rattle.branch_search.specs.declared.search.Turn.{Turn}
-use Rattle.branch_search.specs.declared.search.Turn.TheVariants.{Decided, Jumped, Ended}
-use Rattle.branch_search.specs.Search.{Question, IsSearch, AreProved, AreExcluding}
+use Rattle.refute_tree.specs.Batches.{LemmaBatch, AreRefuted, LemmaIsOver}
+use Rattle.branch_search.specs.declared.answer.Slice.{Slice}
+use Rattle.branch_search.specs.declared.answer.Slice.TheVariants.{Model, Refuted, Split}
 
--- one value for each time point, in range, on which every clause holds
-pub record IsModel (points : ℕ) (clauses : List (List Literal)) (values : List ℤ) : Type 0 where
-  pub count : length values ≡ points
-  pub range : All IsInRange values
-  pub holds : ProblemHolds values clauses
+-- what a slice is asked: a problem, the clauses of the lemmas that it is handed, and the cube
+pub record Question : Type 0 where
+  pub problem : Problem
+  pub handed : List (List Literal)
+  pub cube : List Literal
 
-abbrev pub AreFound : Question → List Lemma → Found → Type 0
-AreFound q own (Model schedule) = IsModel q.points q.inputs schedule × AreProved q own
-AreFound q own (Excluded j) = AreExcluding q own j
-AreFound q own Spent = AreProved q own
+abbrev pub question_of : Problem → List (List Literal) → List Literal → Question
+question_of problem handed cube = record { problem = problem; handed = handed; cube = cube }
 
-abbrev pub IsFound : Question → State → Found → Type 0
-IsFound q s found = AreFound q s.own.items found
+-- each lemma is refuted over the problem, the handed lemmas and those before it, and is within the limits
+abbrev pub AreProved : Question → List Lemma → Type 0
+AreProved q own =
+    AreRefuted q.problem.points q.problem.clauses q.handed own × All (LemmaIsOver q.problem.points) own
 
--- a turn, where so many decisions were left and there were so many levels
-abbrev pub IsSearchTurn : Question → ℕ → ℕ → List Lemma → List Entry → List Level → List Literal → Turn
-    → Type 0
-IsSearchTurn q left count own entries levels literals Decided =
-    (0 < left) × (length levels ≤ count + 1) × IsSearch q own entries levels literals
-IsSearchTurn q left count own entries levels literals Jumped =
-    (length levels < count) × IsSearch q own entries levels literals
-IsSearchTurn q left count own entries levels literals (Ended found) = AreFound q own found
+-- they refer to those that were handed by the numbers below `seen`
+pub record IsBatch (q : Question) (batch : LemmaBatch) : Type 0 where
+  pub seen : batch.seen ≡ length q.handed
+  pub proved : AreProved q batch.lemmas
 
-abbrev pub IsTurn : Question → ℕ → ℕ → State → List Literal → Turn → Type 0
-IsTurn q left count s literals turn =
-    IsSearchTurn q left count s.own.items s.entries.items s.levels.items literals turn
+-- the lemma with this number states that some literal of the cube fails
+abbrev pub Excludes : List Literal → List Lemma → ℕ → Type 0
+Excludes cube own j =
+    (lemma : Lemma) × (slice_get own j ≡ Some lemma)
+    × All (λ (m : Literal). (l : Literal) × Contains cube l × (m ≡ negation_of l)) lemma.clause
 
--- a turn makes this less: it takes a decision, for which there may be one level more, or goes back over a
--- level
-abbrev pub weight : ℕ → ℕ → ℕ
-weight left count = 2 * left + count
+-- the literal is the problem's, both halves of the cube are consistent, and each clause of the problem has a literal
+-- that is consistent with the cube
+pub record IsSplit (q : Question) (l : Literal) : Type 0 where
+  pub stated : IsAtom q.problem l
+  pub with_it : IsConsistent q.problem.points (q.cube ++ l ∷ [])
+  pub against : IsConsistent q.problem.points (q.cube ++ negation_of l ∷ [])
+  pub live : (clause : List Literal) → Contains q.problem.clauses clause
+      → (m : Literal) × Contains clause m × IsConsistent q.problem.points (q.cube ++ m ∷ [])
+
+-- the answer, with its lemmas: a solution, a lemma that excludes the cube, or a literal to divide the cube by
+abbrev pub IsSlice : Question → Slice → Type 0
+IsSlice q (Model schedule batch) = IsSolution q.problem schedule × IsBatch q batch
+IsSlice q (Refuted batch j) = Excludes q.cube batch.lemmas j × IsBatch q batch
+IsSlice q (Split l batch) = IsSplit q l × IsBatch q batch
+
+-- a split comes only where the net's count of adds has risen by the budget
+abbrev pub HasSpent : ℕ → ℕ → ℕ → Slice → Type 0
+HasSpent before budget after (Model schedule batch) = Unit {0}
+HasSpent before budget after (Refuted batch j) = Unit {0}
+HasSpent before budget after (Split l batch) = min (before + budget) adds_limit ≤ after

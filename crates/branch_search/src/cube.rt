@@ -1,9 +1,11 @@
 //! How a slice begins: the cube, and the clauses of one literal.
 ghost use Rattle.std.specs.Prelude.{◌≡◌, ◌<◌, ◌≤◌, ◌+◌, ◌^◌, [], All, length, min, IfOk, OnOk};
 ghost use Rattle.stn_core.specs.Literal.{IsOver};
-ghost use Rattle.branch_search.specs.Search.{question_of, IsState, IsAfter, IsTaken, IsEntered, adds_limit};
+ghost use Rattle.branch_search.specs.Search.{IsState, IsAfter, IsTried, IsEntered};
+ghost use Rattle.branch_search.specs.Slices.{question_of};
+ghost use Rattle.stn_core.specs.Limits.{adds_limit};
 
-use crate::propagate::Taken;
+use crate::propagate::Tried;
 use crate::state::State;
 use conflict_analysis::{Conflict, Reason, Source};
 use refute_tree::Earlier;
@@ -54,19 +56,19 @@ impl State {
         net: &N,
         source: Source,
         count: usize,
-    ) -> Result<Taken, AllocError>
+    ) -> Result<Tried, AllocError>
         requires few { length (E.clauses handed.now) < 2 ^ 63 }
         requires state { IsState (question_of problem.now (E.clauses handed.now) cube.now) self.old
             (N.literals_of net.now) }
         ensures levels { self.new.levels.items ≡ self.old.levels.items }
-        ensures taken { IfOk result (IsTaken (question_of problem.now (E.clauses handed.now) cube.now)
+        ensures taken { IfOk result (IsTried (question_of problem.now (E.clauses handed.now) cube.now)
             self.new (N.literals_of net.now)) }
     {
         if count > 1 {
-            return Ok(Taken::Nothing);
+            return Ok(Tried::Nothing);
         }
         match self.take_conflict(problem, handed, cube, net, source) {
-            Taken::Stuck(conflict) => Ok(Taken::Stuck(conflict)),
+            Tried::Stuck(conflict) => Ok(Tried::Stuck(conflict)),
             _ => self.take_unit(problem, handed, cube, net, source, 0),
         }
     }
@@ -90,7 +92,7 @@ impl State {
         'clauses: for i in 0..clauses.len() {
             let count = clauses[i].as_slice().len();
             let taken = self.take_short(problem, handed, cube, net, Source::Input(i), count)?;
-            if let Taken::Stuck(conflict) = taken {
+            if let Tried::Stuck(conflict) = taken {
                 return Ok(Some(conflict));
             }
         }
@@ -123,7 +125,7 @@ impl State {
                 Source::Lemma(j),
                 clause.len(),
             )?;
-            if let Taken::Stuck(conflict) = taken {
+            if let Tried::Stuck(conflict) = taken {
                 return Ok(Some(conflict));
             }
         }

@@ -1,7 +1,7 @@
 //! What a slice delivers: of its lemmas those that the search hasn't forgotten, and those that these cite.
 ghost use Rattle.std.specs.Prelude.{◌≡◌, ◌<◌, ◌+◌, ◌^◌, ℕ, length, Some, true, false, slice_index_or, IfOk};
-ghost use Rattle.branch_search.specs.Search.{question_of};
-ghost use Rattle.branch_search.specs.Divisions.{IsDivision, IsSlice, excluding};
+ghost use Rattle.branch_search.specs.Slices.{question_of, IsSlice};
+ghost use Rattle.branch_search.specs.Divisions.{IsDivision, excluding};
 ghost use Rattle.branch_search.specs.Deliveries.{IsLeft, IsOfKind};
 
 use crate::answer::Slice;

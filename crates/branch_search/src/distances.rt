@@ -3,7 +3,8 @@
 ghost use Rattle.std.specs.Prelude.{◌≡◌, ◌<◌, ◌≤◌, All, length, IfOk, IfSome, OnOk};
 ghost use Rattle.conflict_analysis.specs.Trails.{Stands, IsByCycle};
 ghost use Rattle.branch_search.specs.Hits.{IsOnPath};
-ghost use Rattle.branch_search.specs.Search.{question_of, IsState};
+ghost use Rattle.branch_search.specs.Search.{IsState};
+ghost use Rattle.branch_search.specs.Slices.{question_of};
 ghost use Rattle.stn_core.specs.Literal.{negation_of};
 
 use crate::state::State;

@@ -5,8 +5,11 @@ ghost use Rattle.std.specs.Prelude.{IfSome};
 ghost use Rattle.stn_core.specs.Literal.{IsOver, negation_of};
 ghost use Rattle.stn_core.specs.Net.{IsConsistent};
 ghost use Rattle.conflict_analysis.specs.declared.entry.Reason.TheVariants.{Cycle as ByCycle};
-ghost use Rattle.branch_search.specs.Search.{question_of, IsState, adds_limit};
-ghost use Rattle.branch_search.specs.Divisions.{IsLiveAt, IsLiveness, AreLive, IsDivision, IsStated, Divides};
+ghost use Rattle.branch_search.specs.Search.{IsState};
+ghost use Rattle.branch_search.specs.Slices.{question_of};
+ghost use Rattle.stn_core.specs.Limits.{adds_limit};
+ghost use Rattle.branch_search.specs.Divisions.{IsLiveAt, IsLiveness, AreLive, IsDivision, Divides};
+ghost use Rattle.stn_core.specs.Solution.{IsAtom};
 
 use crate::clauses::false_clause;
 use crate::state::State;
@@ -55,7 +58,7 @@ fn is_consistent<N: Net>(net: &mut N, literal: Literal) -> Result<bool, AllocErr
 
 // The literal at a place of a clause of the problem, if there is one.
 fn literal_of(problem: &Problem, place: Option<(usize, usize)>) -> Option<Literal>
-    ensures { IfSome result (IsStated problem.now.clauses) }
+    ensures { IfSome result (IsAtom problem.now) }
 {
     let (clause, place) = place?;
     let clauses = problem.clauses.as_slice();
@@ -75,7 +78,7 @@ fn divides_at<N: Net>(
     ensures points { N.points_of net.new ≡ N.points_of net.old }
     ensures literals { OnOk result (N.literals_of net.new ≡ N.literals_of net.old) }
     ensures divides { IfOk result (λ found. IfSome found
-        (Divides (N.points_of net.old) problem.now.clauses (N.literals_of net.old))) }
+        (Divides (N.points_of net.old) problem.now (N.literals_of net.old))) }
     ensures counts { OnOk result (min (N.adds_of net.old) adds_limit ≤ N.adds_of net.new) }
 {
     let Some(literal) = literal_of(problem, place) else {

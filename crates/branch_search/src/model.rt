@@ -1,7 +1,7 @@
 //! The early end by a model.
 ghost use Rattle.std.specs.Prelude.{◌≡◌, ◌≤◌, length, take, min, IfOk, IfSome, OnOk};
-ghost use Rattle.branch_search.specs.Search.{adds_limit};
-ghost use Rattle.branch_search.specs.Slices.{IsModel};
+ghost use Rattle.stn_core.specs.Limits.{adds_limit};
+ghost use Rattle.stn_core.specs.Solution.{IsSolution};
 
 use crate::clauses::false_clause;
 use conflict_analysis::is_over;
@@ -16,7 +16,7 @@ pub fn model_of<N: Net>(
     net: &N,
 ) -> Result<Option<Schedule>, AllocError>
     requires points { N.points_of net.now ≡ problem.now.points }
-    ensures model { IfOk result (λ found. IfSome found (IsModel problem.now.points problem.now.clauses)) }
+    ensures model { IfOk result (λ found. IfSome found (IsSolution problem.now)) }
 {
     let values = net.schedule();
     match false_clause(problem.clauses.as_slice(), values, 0) {
@@ -67,7 +67,7 @@ pub fn try_model<N: Net>(
     requires points { N.points_of net.old ≡ problem.now.points }
     ensures points { N.points_of net.new ≡ N.points_of net.old }
     ensures literals { OnOk result (N.literals_of net.new ≡ N.literals_of net.old) }
-    ensures model { IfOk result (λ found. IfSome found (IsModel problem.now.points problem.now.clauses)) }
+    ensures model { IfOk result (λ found. IfSome found (IsSolution problem.now)) }
     ensures counts { OnOk result (min (N.adds_of net.old) adds_limit ≤ N.adds_of net.new) }
 {
     let mark = net.mark();

@@ -1,6 +1,8 @@
 //! What follows from the trail's literals, by ladders, clauses, the net and distances.
 ghost use Rattle.std.specs.Prelude.{◌≡◌, ◌<◌, ◌≤◌, ◌+◌, ◌^◌, length, true, min, IfOk, OnOk};
-ghost use Rattle.branch_search.specs.Search.{question_of, IsState, IsAfter, IsTaken, IsWeaker, adds_limit};
+ghost use Rattle.branch_search.specs.Search.{IsState, IsAfter, IsTried, IsWeaker};
+ghost use Rattle.branch_search.specs.Slices.{question_of};
+ghost use Rattle.stn_core.specs.Limits.{adds_limit};
 
 use crate::both::Both;
 use crate::state::State;
@@ -14,7 +16,7 @@ use stn_core::{Literal, Literals, Net, Problem, negate};
 
 /// What became of a proposal.
 #[derive(Drop)]
-pub enum Taken {
+pub enum Tried {
     /// The literal stands on the trail.
     Pushed,
     /// There was none, or it failed its test.
@@ -40,12 +42,12 @@ impl State {
         net: &N,
         source: Source,
         place: usize,
-    ) -> Result<Taken, AllocError>
+    ) -> Result<Tried, AllocError>
         requires few { length (E.clauses handed.now) < 2 ^ 63 }
         requires state { IsState (question_of problem.now (E.clauses handed.now) cube.now) self.old
             (N.literals_of net.now) }
         ensures levels { self.new.levels.items ≡ self.old.levels.items }
-        ensures taken { IfOk result (IsTaken (question_of problem.now (E.clauses handed.now) cube.now)
+        ensures taken { IfOk result (IsTried (question_of problem.now (E.clauses handed.now) cube.now)
             self.new (N.literals_of net.now)) }
         ensures longer { OnOk result (length self.old.entries.items ≤ length self.new.entries.items) }
     {
@@ -55,11 +57,11 @@ impl State {
         };
         let Some(literal) = unit_of(problem, &both, &self.guide, &self.entries, source, place)
         else {
-            return Ok(Taken::Nothing);
+            return Ok(Tried::Nothing);
         };
         let number = number_of(&self.guide, source, place);
         self.push(literal, number, Reason::Clause(source, place))?;
-        Ok(Taken::Pushed)
+        Ok(Tried::Pushed)
     }
 
     // A clause whose literals are all denied.
@@ -70,12 +72,12 @@ impl State {
         cube: &[Literal],
         net: &N,
         source: Source,
-    ) -> Taken
+    ) -> Tried
         requires few { length (E.clauses handed.now) < 2 ^ 63 }
         requires state { IsState (question_of problem.now (E.clauses handed.now) cube.now) self.old
             (N.literals_of net.now) }
         ensures levels { self.new.levels.items ≡ self.old.levels.items }
-        ensures taken { IsTaken (question_of problem.now (E.clauses handed.now) cube.now) self.new
+        ensures taken { IsTried (question_of problem.now (E.clauses handed.now) cube.now) self.new
             (N.literals_of net.now) result }
         ensures longer { length self.old.entries.items ≤ length self.new.entries.items }
     {
@@ -84,9 +86,9 @@ impl State {
             own: self.own.as_slice(),
         };
         if is_conflict(problem, &both, &self.guide, &self.entries, source) {
-            return Taken::Stuck(Conflict::Clause(source));
+            return Tried::Stuck(Conflict::Clause(source));
         }
-        Taken::Nothing
+        Tried::Nothing
     }
 
     // A literal on the same two points as the one at the place of the trail, which is at most as tight.
@@ -99,28 +101,28 @@ impl State {
         net: &N,
         k: usize,
         number: LiteralNumber,
-    ) -> Result<Taken, AllocError>
+    ) -> Result<Tried, AllocError>
         requires within { k < length self.old.entries.items }
         requires state { IsState (question_of problem.now (E.clauses handed.now) cube.now) self.old
             (N.literals_of net.now) }
         ensures levels { self.new.levels.items ≡ self.old.levels.items }
-        ensures taken { IfOk result (IsTaken (question_of problem.now (E.clauses handed.now) cube.now)
+        ensures taken { IfOk result (IsTried (question_of problem.now (E.clauses handed.now) cube.now)
             self.new (N.literals_of net.now)) }
         ensures longer { OnOk result (length self.old.entries.items ≤ length self.new.entries.items) }
     {
         let tighter = literal_on(&self.entries, k);
         let Some(weaker) = self.guide.literal(number) else {
-            return Ok(Taken::Nothing);
+            return Ok(Tried::Nothing);
         };
         if !is_over(weaker, problem.points) || !is_weaker(tighter, weaker) {
-            return Ok(Taken::Nothing);
+            return Ok(Tried::Nothing);
         }
         if self.is_on_trail(Guide::negated(number), negate(weaker)) {
             let cycle = vec![in alloc; tighter, negate(weaker)]?;
-            return Ok(Taken::Stuck(Conflict::Cycle(Literals::new(cycle))));
+            return Ok(Tried::Stuck(Conflict::Cycle(Literals::new(cycle))));
         }
         self.push(weaker, number, Reason::Pair(tighter))?;
-        Ok(Taken::Pushed)
+        Ok(Tried::Pushed)
     }
 
     // What the guide proposes next, of what follows from the literal at the place of the trail.
@@ -132,18 +134,18 @@ impl State {
         cube: &[Literal],
         net: &N,
         k: usize,
-    ) -> Result<Taken, AllocError>
+    ) -> Result<Tried, AllocError>
         requires few { length (E.clauses handed.now) < 2 ^ 63 }
         requires within { k < length self.old.entries.items }
         requires state { IsState (question_of problem.now (E.clauses handed.now) cube.now) self.old
             (N.literals_of net.now) }
         ensures levels { self.new.levels.items ≡ self.old.levels.items }
-        ensures taken { IfOk result (IsTaken (question_of problem.now (E.clauses handed.now) cube.now)
+        ensures taken { IfOk result (IsTried (question_of problem.now (E.clauses handed.now) cube.now)
             self.new (N.literals_of net.now)) }
         ensures longer { OnOk result (length self.old.entries.items ≤ length self.new.entries.items) }
     {
         match self.guide.next()? {
-            Proposal::Nothing => Ok(Taken::Nothing),
+            Proposal::Nothing => Ok(Tried::Nothing),
             Proposal::Weaker(number) => {
                 self.take_weaker(alloc, problem, handed, cube, net, k, number)
             }
@@ -178,9 +180,9 @@ impl State {
         self.guide.begin(self.entries[k].number);
         'proposals: for _turn in 0..limit {
             match self.take_next(alloc, problem, handed, cube, net, k)? {
-                Taken::Pushed => {}
-                Taken::Nothing => return Ok(None),
-                Taken::Stuck(conflict) => return Ok(Some(conflict)),
+                Tried::Pushed => {}
+                Tried::Nothing => return Ok(None),
+                Tried::Stuck(conflict) => return Ok(Some(conflict)),
             }
         }
         Ok(None)

@@ -2,7 +2,8 @@
 //! made once, when a conflict first rests on the literal, and is then the literal's reason.
 ghost use Rattle.std.specs.Prelude.{◌≡◌, ◌<◌, ◌^◌, length, IfOk, OnOk};
 ghost use Rattle.branch_search.specs.Roots.{denial_of};
-ghost use Rattle.branch_search.specs.Search.{question_of, IsState};
+ghost use Rattle.branch_search.specs.Search.{IsState};
+ghost use Rattle.branch_search.specs.Slices.{question_of};
 
 use crate::both::Both;
 use crate::state::State;

@@ -1,7 +1,10 @@
 //! The turns of a search.
 ghost use Rattle.std.specs.Prelude.{◌≡◌, ◌<◌, ◌≤◌, ◌+◌, ◌^◌, [], length, min, IfOk, IfSome, OnOk};
-ghost use Rattle.branch_search.specs.Search.{question_of, IsState, IsStuck, IsSettled, adds_limit};
-ghost use Rattle.branch_search.specs.Slices.{IsModel, IsTurn, IsFound};
+ghost use Rattle.branch_search.specs.Search.{IsState, IsStuck, IsSettled};
+ghost use Rattle.branch_search.specs.Slices.{question_of};
+ghost use Rattle.stn_core.specs.Limits.{adds_limit};
+ghost use Rattle.branch_search.specs.Turns.{IsTurn, IsFound};
+ghost use Rattle.stn_core.specs.Solution.{IsSolution};
 
 use crate::model::try_model;
 use crate::state::State;
@@ -177,7 +180,7 @@ impl State {
         ensures entries { self.new.entries.items ≡ self.old.entries.items }
         ensures levels { self.new.levels.items ≡ self.old.levels.items }
         ensures own { self.new.own.items ≡ self.old.own.items }
-        ensures model { IfOk result (λ found. IfSome found (IsModel problem.now.points problem.now.clauses)) }
+        ensures model { IfOk result (λ found. IfSome found (IsSolution problem.now)) }
         ensures counts { OnOk result (min (N.adds_of net.old) adds_limit ≤ N.adds_of net.new) }
     {
         if !is_decided && !self.guide.seems_model(net.schedule()) {

@@ -2,9 +2,10 @@
 ghost use Rattle.std.specs.Prelude.{◌≡◌, ◌<◌, ◌≤◌, ◌+◌, ◌++◌, ◌∷◌, [], List, length, take, min, true, OnOk};
 ghost use Rattle.std.specs.Prelude.{IfOk};
 ghost use Rattle.conflict_analysis.specs.Trails.{on_trail, Stands};
-ghost use Rattle.branch_search.specs.Search.{question_of, level_at, start_of, in_net_of, IsState, IsAfter};
+ghost use Rattle.branch_search.specs.Search.{level_at, start_of, in_net_of, IsState, IsAfter};
+ghost use Rattle.branch_search.specs.Slices.{question_of};
 ghost use Rattle.branch_search.specs.Search.{IsNetAfter};
-ghost use Rattle.branch_search.specs.Search.{adds_limit};
+ghost use Rattle.stn_core.specs.Limits.{adds_limit};
 
 use crate::hearing::Hearing;
 use conflict_analysis::{Conflict, Entry, Level, Reason, Tables, is_standing, literal_on};

@@ -2,10 +2,10 @@
 use Rattle.std.proofs.Common.{arith, ◌≡◌, ◌≢◌, ℕ, ◌<◌, ◌+◌, inl, inr, List, length, subst, sym, ap, ◌∙◌}
 use Rattle.std.proofs.lemmas.Bool.{cases_eq}
 use Rattle.stn_core.specs.declared.literal.Literal.{Literal}
-use Rattle.stn_core.specs.Literal.{negation_of}
+use Rattle.stn_core.specs.Literal.{negation_of, literal_at}
 use Rattle.conflict_analysis.specs.declared.entry.Source.{Source}
 use Rattle.conflict_analysis.specs.declared.entry.Entry.{Entry}
-use Rattle.conflict_analysis.specs.Trails.{literal_at, source_clause, IsKnown, IsByClause, Stands}
+use Rattle.conflict_analysis.specs.Trails.{source_clause, IsKnown, IsByClause, Stands}
 use Rattle.conflict_analysis.specs.Denials.{AreDenied}
 
 -- a clause all of whose literals are denied

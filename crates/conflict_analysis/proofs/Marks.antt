@@ -4,7 +4,7 @@ use Rattle.std.proofs.lemmas.Bool.{cases_eq}
 use Rattle.std.proofs.lemmas.List.{length-set, get_or-set_same, get_or-set_other}
 use Rattle.std.proofs.lemmas.List.Elements.{All-push, Contains-push, Contains-append_left}
 use Rattle.stn_core.specs.declared.literal.Literal.{Literal}
-use Rattle.stn_core.specs.Literal.{negation_of}
+use Rattle.stn_core.specs.Literal.{negation_of, literal_at}
 use Rattle.conflict_analysis.specs.declared.entry.Source.{Source}
 use Rattle.conflict_analysis.specs.declared.entry.Reason.{Reason}
 use Rattle.conflict_analysis.specs.declared.entry.Reason.TheVariants.{Given, Decision, Clause as ByClause, Pair as ByPair, Cycle as ByCycle}
@@ -13,7 +13,7 @@ use Rattle.conflict_analysis.specs.declared.entry.Conflict.{Conflict}
 use Rattle.conflict_analysis.specs.declared.entry.Conflict.TheVariants.{Clause as OfClause, Cycle as OfCycle}
 use Rattle.conflict_analysis.specs.declared.entry.Role.{Role}
 use Rattle.conflict_analysis.specs.declared.entry.Role.TheVariants.{Unused, Kept, Resolved}
-use Rattle.conflict_analysis.specs.Trails.{literal_at, source_clause, pair_cycle, entry_at, on_trail, role_at, IsByClause, IsByCycle, Follows, Stands, IsReason, IsTrail, IsConflict, IsUsed, StandsUsed, IsClosed, IsMarkedMore, IsFirst, IsTurned, IsMarked, KeepsAll, DeniesKept, IsDenial}
+use Rattle.conflict_analysis.specs.Trails.{source_clause, pair_cycle, entry_at, on_trail, role_at, IsByClause, IsByCycle, Follows, Stands, IsReason, IsTrail, IsConflict, IsUsed, StandsUsed, IsClosed, IsMarkedMore, IsFirst, IsTurned, IsMarked, KeepsAll, DeniesKept, IsDenial}
 use Rattle.conflict_analysis.specs.Places.{ArePassed}
 use Rattle.conflict_analysis.proofs.Passing.{kept_used}
 use Rattle.std.specs.Prelude.{slice_index}

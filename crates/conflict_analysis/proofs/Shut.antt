@@ -8,7 +8,7 @@ use Rattle.std.proofs.lemmas.List.{drop_more}
 use Rattle.std.proofs.lemmas.Option.{slice_get-get_or}
 use Rattle.std.proofs.lemmas.List.Elements.{All-nil, All-cons, All-append, All-map, All-from_get_or, Contains-append_left, Contains-push}
 use Rattle.stn_core.specs.declared.literal.Literal.{Literal}
-use Rattle.stn_core.specs.Literal.{negation_of}
+use Rattle.stn_core.specs.Literal.{negation_of, literal_at}
 use Rattle.stn_core.specs.Cycle.{IsNegativeCycle}
 use Rattle.refute_tree.specs.declared.step.Step.{Step}
 use Rattle.refute_tree.specs.declared.step.Step.TheVariants.{Cycle, Clash}
@@ -21,7 +21,7 @@ use Rattle.conflict_analysis.specs.declared.entry.Entry.{Entry}
 use Rattle.conflict_analysis.specs.declared.entry.Conflict.{Conflict}
 use Rattle.conflict_analysis.specs.declared.entry.Conflict.TheVariants.{Clause as OfClause, Cycle as OfCycle}
 use Rattle.conflict_analysis.specs.declared.entry.Role.{Role}
-use Rattle.conflict_analysis.specs.Trails.{no_literal, literal_at, source_clause, entry_at, on_trail, IsKnown, IsByClause, Follows, IsConflict, StandsUsed}
+use Rattle.conflict_analysis.specs.Trails.{no_literal, source_clause, entry_at, on_trail, IsKnown, IsByClause, Follows, IsConflict, StandsUsed}
 use Rattle.conflict_analysis.specs.Leaves.{at_leaves, StandsAssumed, IsLeafReason, AreLeaves, IsAssumedConflict}
 use Rattle.conflict_analysis.specs.Spines.{step_of, Grows, NamesNone, Assumes, AreMore, IsShut, AreShut, Closes}
 

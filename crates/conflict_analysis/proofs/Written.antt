@@ -6,7 +6,7 @@ use Rattle.std.proofs.Math.Seq.{drop-length}
 use Rattle.std.proofs.lemmas.List.{drop_more}
 use Rattle.std.proofs.lemmas.List.Elements.{All-nil, All-cons, All-append, All-from_get_or, Contains-append_left, Contains-push}
 use Rattle.stn_core.specs.declared.literal.Literal.{Literal}
-use Rattle.stn_core.specs.Literal.{negation_of}
+use Rattle.stn_core.specs.Literal.{negation_of, literal_at}
 use Rattle.stn_core.specs.Answer.{IsCycleAmong}
 use Rattle.refute_tree.specs.declared.step.Step.{Step}
 use Rattle.refute_tree.specs.declared.step.Step.TheVariants.{Cycle, Either}
@@ -17,7 +17,7 @@ use Rattle.conflict_analysis.specs.declared.entry.Reason.TheVariants.{Given, Dec
 use Rattle.conflict_analysis.specs.declared.entry.Entry.{Entry}
 use Rattle.conflict_analysis.specs.declared.entry.Role.{Role}
 use Rattle.conflict_analysis.specs.declared.entry.Role.TheVariants.{Unused, Kept, Resolved}
-use Rattle.conflict_analysis.specs.Trails.{no_literal, literal_at, source_clause, entry_at, on_trail, pair_cycle, role_at, IsUsed, IsByClause, IsByCycle, Follows, StandsUsed, IsClosed}
+use Rattle.conflict_analysis.specs.Trails.{no_literal, source_clause, entry_at, on_trail, pair_cycle, role_at, IsUsed, IsByClause, IsByCycle, Follows, StandsUsed, IsClosed}
 use Rattle.conflict_analysis.specs.Places.{ArePassed}
 use Rattle.conflict_analysis.specs.Leaves.{at_leaves, StandsAssumed, IsAssuming, HasPassed, IsChosen}
 use Rattle.conflict_analysis.specs.Spines.{step_of, NamesNone, NamesTrail, Assumes, AreMore, AreShut, IsOpening, IsClosing, Closes, IsOpen, IsOpeningAt, IsClosingAt, AreOpened, Refutes}

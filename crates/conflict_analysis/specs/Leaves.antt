@@ -10,7 +10,8 @@ use Rattle.conflict_analysis.specs.declared.entry.Conflict.{Conflict}
 use Rattle.conflict_analysis.specs.declared.entry.Conflict.TheVariants.{Clause as OfClause, Cycle as OfCycle}
 use Rattle.conflict_analysis.specs.declared.entry.Role.{Role}
 use Rattle.conflict_analysis.specs.declared.entry.Role.TheVariants.{Resolved}
-use Rattle.conflict_analysis.specs.Trails.{literal_at, entry_at, on_trail, pair_cycle, role_at, IsUsed, IsByClause, IsByCycle}
+use Rattle.conflict_analysis.specs.Trails.{entry_at, on_trail, pair_cycle, role_at, IsUsed, IsByClause, IsByCycle}
+use Rattle.stn_core.specs.Literal.{literal_at}
 
 -- whether the literal at a place stands at leaves alone
 abbrev pub at_leaves : List Bool → ℕ → Bool

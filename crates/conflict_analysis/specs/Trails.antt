@@ -3,7 +3,7 @@
 use Rattle.std.specs.Prelude.{◌≡◌, ◌≢◌, ◌⊎◌, ℕ, ◌<◌, ◌≤◌, List, [], ◌∷◌, length, Contains, pos}
 use Rattle.std.specs.Prelude.{slice_index_or, Bool, true}
 use Rattle.stn_core.specs.declared.literal.Literal.{Literal}
-use Rattle.stn_core.specs.Literal.{negation_of, IsOver}
+use Rattle.stn_core.specs.Literal.{negation_of, IsOver, literal_at}
 use Rattle.stn_core.specs.Cycle.{IsNegativeCycle}
 use Rattle.conflict_analysis.specs.declared.entry.Source.{Source}
 use Rattle.conflict_analysis.specs.declared.entry.Source.TheVariants.{Input as OfInput, Lemma as OfLemma}
@@ -18,9 +18,6 @@ use Rattle.conflict_analysis.specs.declared.entry.Role.TheVariants.{Unused, Kept
 
 abbrev pub no_literal : Literal
 no_literal = record { x = 0; y = 0; c = pos 0 }
-
-abbrev pub literal_at : List Literal → ℕ → Literal
-literal_at clause k = slice_index_or clause k no_literal
 
 abbrev pub entry_at : List Entry → ℕ → Entry
 entry_at trail k = slice_index_or trail k (record { literal = no_literal; number = 0; reason = Given })

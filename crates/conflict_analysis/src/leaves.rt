@@ -1,9 +1,9 @@
 //! Which resolved literals need no steps of their own: where the negation of one is assumed, the clause of the
 //! problem that it follows from is denied, which is a leaf.
 ghost use Rattle.std.specs.Prelude.{◌≡◌, ◌≢◌, ◌<◌, ◌≤◌, ◌+◌, ◌⊎◌, ℕ, length, slice_index, true, false};
-ghost use Rattle.stn_core.specs.Literal.{negation_of};
+ghost use Rattle.stn_core.specs.Literal.{negation_of, literal_at};
 ghost use Rattle.conflict_analysis.specs.declared.entry.Role.TheVariants.{Resolved};
-ghost use Rattle.conflict_analysis.specs.Trails.{literal_at, on_trail, role_at, IsUsed, StandsUsed, IsClosed};
+ghost use Rattle.conflict_analysis.specs.Trails.{on_trail, role_at, IsUsed, StandsUsed, IsClosed};
 ghost use Rattle.conflict_analysis.specs.Trails.{entry_at, Follows, IsConflict};
 ghost use Rattle.conflict_analysis.specs.Places.{ArePassed};
 ghost use Rattle.conflict_analysis.specs.Leaves.{at_leaves, IsFewer, StandsAssumed, IsChosen, IsAssumedConflict};

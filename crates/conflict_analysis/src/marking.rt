@@ -1,8 +1,8 @@
 //! Which literals of the trail a conflict rests on.
 ghost use Rattle.std.specs.Prelude.{◌≡◌, ◌≢◌, ◌<◌, ◌≤◌, ◌⊎◌, ℕ, List, length, OnOk};
 ghost use Rattle.stn_core.specs.declared.literal.Literal.{Literal as Bound};
-ghost use Rattle.stn_core.specs.Literal.{negation_of};
-ghost use Rattle.conflict_analysis.specs.Trails.{literal_at, Stands, StandsUsed, IsMarkedMore, IsTrail, IsClosed};
+ghost use Rattle.stn_core.specs.Literal.{negation_of, literal_at};
+ghost use Rattle.conflict_analysis.specs.Trails.{Stands, StandsUsed, IsMarkedMore, IsTrail, IsClosed};
 ghost use Rattle.conflict_analysis.specs.Trails.{role_at, IsUsed, IsConflict, IsTurned, IsMarked};
 ghost use Rattle.conflict_analysis.specs.Places.{AreWaiting, KeepsWaiting, ArePassed};
 

@@ -1,7 +1,7 @@
 //! The steps that a conflict gives, front to back.
 ghost use Rattle.std.specs.Prelude.{◌≡◌, ◌<◌, ◌≤◌, ◌+◌, ◌∷◌, ◌++◌, [], ℕ, length, false, true, OnOk, IfOk};
-ghost use Rattle.stn_core.specs.Literal.{negation_of};
-ghost use Rattle.conflict_analysis.specs.Trails.{literal_at, source_clause, entry_at, on_trail, IsKnown};
+ghost use Rattle.stn_core.specs.Literal.{negation_of, literal_at};
+ghost use Rattle.conflict_analysis.specs.Trails.{source_clause, entry_at, on_trail, IsKnown};
 ghost use Rattle.conflict_analysis.specs.Trails.{Follows, IsConflict, IsClosed, StandsUsed};
 ghost use Rattle.conflict_analysis.specs.Places.{ArePassed};
 ghost use Rattle.conflict_analysis.specs.Leaves.{at_leaves, AreLeaves, StandsAssumed, IsAssumedConflict, IsChosen};

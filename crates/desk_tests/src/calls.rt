@@ -4,7 +4,7 @@ ghost use Rattle.book_lock.specs.Seats.{IsSameSeat};
 
 use book_core::Outcome;
 use book_judge::{Fault, judge};
-use book_lock::{Desk, Seat, Taken};
+use book_lock::{Dealt, Desk, Seat};
 use refute_tree::Batch;
 use std::alloc::{AllocError, Global};
 use std::sync::Wait;
@@ -15,7 +15,7 @@ pub(crate) fn ask<R: Wait>(
     rt: &R,
     desk: &Desk,
     seat: &mut Seat,
-) -> Result<Option<Taken>, AllocError>
+) -> Result<Option<Dealt>, AllocError>
     requires desk { seat.old.desk ≡ desk.now.id }
     ensures same { IsSameSeat seat.old seat.new }
 {
@@ -34,7 +34,7 @@ pub(crate) fn ask_near<R: Wait>(
     desk: &Desk,
     seat: &mut Seat,
     id: usize,
-) -> Result<Option<Taken>, AllocError>
+) -> Result<Option<Dealt>, AllocError>
     requires desk { seat.old.desk ≡ desk.now.id }
     ensures same { IsSameSeat seat.old seat.new }
 {

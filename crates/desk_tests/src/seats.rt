@@ -6,7 +6,7 @@ use crate::calls::{ask, ask_near, deliver_justified, give_back};
 use crate::endings::{Call, asked_behind_join, closed, conclusion, first_calls, last_halves};
 use crate::table::{X_BEFORE_Y, refuting, two_orders};
 use book_core::Outcome;
-use book_lock::{Desk, Seat, Taken};
+use book_lock::{Dealt, Desk, Seat};
 use refute_tree::Batch;
 use std::alloc::{AllocError, Global};
 use std::sync::Wait;
@@ -21,7 +21,7 @@ fn refuted<R: Wait>(
     problem: &Problem,
     seat: &mut Seat,
     other: &mut Seat,
-) -> Result<(Option<Taken>, bool, Option<Taken>, [usize; 2]), AllocError>
+) -> Result<(Option<Dealt>, bool, Option<Dealt>, [usize; 2]), AllocError>
     requires desk { (seat.old.desk ≡ desk.now.id) × (other.old.desk ≡ desk.now.id) }
     requires problem { seat.old.view.problem ≡ problem.now }
     ensures same { IsSameSeat seat.old seat.new × IsSameSeat other.old other.new }
@@ -41,7 +41,7 @@ fn a_seat_sees_what_another_delivered(rt: HostRuntime) -> Result<(), Fail> {
     let (desk, mut seat) = Desk::start(alloc, problem.copy()?)?;
     let mut other = desk.split_seat(&mut seat)?;
     let told = refuted(&rt, alloc, &desk, &problem, &mut seat, &mut other)?;
-    let expected = (Some(Taken::Cube), true, Some(Taken::Done), [0, 2]);
+    let expected = (Some(Dealt::Cube), true, Some(Dealt::Done), [0, 2]);
     assert_eq!(rt; told, expected);
     let book = closed(desk, seat, other);
     assert_eq!(rt; conclusion(&book)?, Some((3, true)));
@@ -97,7 +97,7 @@ fn divided<R: Wait>(
     problem: &Problem,
     seat: &mut Seat,
     other: &mut Seat,
-) -> Result<(Option<(usize, usize)>, Option<Taken>, Option<usize>), AllocError>
+) -> Result<(Option<(usize, usize)>, Option<Dealt>, Option<usize>), AllocError>
     requires desk { (seat.old.desk ≡ desk.now.id) × (other.old.desk ≡ desk.now.id) }
     requires problem { seat.old.view.problem ≡ problem.now }
     ensures same { IsSameSeat seat.old seat.new × IsSameSeat other.old other.new }
@@ -118,7 +118,7 @@ fn halves_are_told_and_taken(rt: HostRuntime) -> Result<(), Fail> {
     let (desk, mut seat) = Desk::start(alloc, problem.copy()?)?;
     let mut other = desk.split_seat(&mut seat)?;
     let told = divided(&rt, alloc, &desk, &problem, &mut seat, &mut other)?;
-    assert_eq!(rt; told, (Some((1, 2)), Some(Taken::Cube), Some(1)));
+    assert_eq!(rt; told, (Some((1, 2)), Some(Dealt::Cube), Some(1)));
     let book = closed(desk, seat, other);
     assert_eq!(rt; last_halves(&book), Some((1, 2)));
     Ok(())

@@ -18,8 +18,8 @@ use Rattle.book_core.specs.Books.{IsDecidable, IsJustified}
 use Rattle.stn_core.specs.Solution.{IsAtom}
 use Rattle.book_core.proofs.Sound.{negation_twice}
 use Rattle.book_lock.specs.declared.cube.Cube.{Cube}
-use Rattle.book_lock.specs.declared.cube.Taken.{Taken}
-use Rattle.book_lock.specs.declared.cube.Taken.TheVariants.{Cube as TakenCube, Idle, Done}
+use Rattle.book_lock.specs.declared.cube.Dealt.{Dealt}
+use Rattle.book_lock.specs.declared.cube.Dealt.TheVariants.{Cube as DealtCube, Idle, Done}
 use Rattle.book_lock.specs.declared.view.View.{View}
 use Rattle.book_lock.specs.Seats.{Sight, IsSameSeat, Takes, TakesNear, Ends, Called}
 use Rattle.cube_pool.specs.Hands.{Doings, with_pushed, with_fetched}
@@ -38,7 +38,7 @@ pub same_self : (s : Sight) → IsSameSeat s s
 same_self s = (refl, refl, refl, refl, refl)
 
 pub goes_self : (s : Sight) → GoesOn s s
-goes_self s = record { same = same_self s; front = prefix_self s.view.front; calls = prefix_self s.view.calls }
+goes_self s = record { same = same_self s; front = prefix_self s.view.front; events = prefix_self s.view.events }
 
 pub goes_same : (s t : Sight) → t ≡ s → GoesOn s t
 goes_same s t e = subst (GoesOn s) (sym e) (goes_self s)
@@ -47,29 +47,29 @@ pub goes_on : (s t u : Sight) → GoesOn s t → GoesOn t u → GoesOn s u
 goes_on s t u a b = record {
   same = (b.same.0 ∙ a.same.0, b.same.1 ∙ a.same.1, b.same.2 ∙ a.same.2, b.same.3 ∙ a.same.3, b.same.4 ∙ a.same.4);
   front = prefix_trans s.view.front t.view.front u.view.front a.front b.front;
-  calls = prefix_trans s.view.calls t.view.calls u.view.calls a.calls b.calls;
+  events = prefix_trans s.view.events t.view.events u.view.events a.events b.events;
 }
 
 called_on : (old new : Sight) (between : List Event) (e : Event) → new.desk ≡ old.desk → Called old.view new.view between e → GoesOn old new
 called_on old new between e desk c = record {
   same = (desk, ap (λ (v : View). v.number) c.view, ap (λ (v : View). v.seats) c.view, ap (λ (v : View). v.kept) c.view, ap (λ (v : View). v.problem) c.view);
   front = prefix_trans old.view.front (old.view.front ++ between) new.view.front (between, refl) (e ∷ [], sym (ap (λ (v : View). v.front) c.view));
-  calls = (e ∷ [], sym (ap (λ (v : View). v.calls) c.view));
+  events = (e ∷ [], sym (ap (λ (v : View). v.events) c.view));
 }
 
-pub takes_on : (old new : Sight) (answer : Taken) → Takes old new answer → GoesOn old new
+pub takes_on : (old new : Sight) (answer : Dealt) → Takes old new answer → GoesOn old new
 takes_on old new answer t = called_on old new t.between t.event t.desk t.called
 
 pub some_is : {A : Type 0} (o : Option A) (x : A) → o ≡ Some x → IsSome o
 some_is o x e = ap is_some e
 
-pub takes_answered : (old new : Sight) (answer : Taken) → Takes old new answer → IsAnswered new answer
-takes_answered old new TakenCube t = some_is new.cube _ t.answered.2
+pub takes_answered : (old new : Sight) (answer : Dealt) → Takes old new answer → IsAnswered new answer
+takes_answered old new DealtCube t = some_is new.cube _ t.answered.2
 takes_answered old new Idle t = t.answered.1
 takes_answered old new Done t =
     let number : old.view.number ≡ new.view.number = sym (ap (λ (v : View). v.number) t.called.view) in
     let event : t.event ≡ Take new.view.number TakeDone = t.answered.0 ∙ ap (λ (n : ℕ). Take n TakeDone) number in
-    (t.answered.1, (old.view.calls, ap (λ (v : View). v.calls) t.called.view ∙ ap (λ (e : Event). old.view.calls ++ e ∷ []) event))
+    (t.answered.1, (old.view.events, ap (λ (v : View). v.events) t.called.view ∙ ap (λ (e : Event). old.view.events ++ e ∷ []) event))
 
 ends_on : (old new : Sight) (e : Event) → Ends old new e → GoesOn old new × (new.cube ≡ None)
 ends_on old new e h = (called_on old new h.between e (ap (λ (s : Sight). s.desk) h.same) h.called, ap (λ (s : Sight). s.cube) h.same)
@@ -145,23 +145,23 @@ justified_there problem seat cube lemmas literals batch outcome e a b h =
     (cube, e, subst (λ (k : List Literal). IsJustified problem seat.lemmas k batch outcome) b (subst (λ (ls : List Lemma). IsJustified problem ls literals batch outcome) a h))
 
 -- a `take`, near a leaf or not, that was refused for memory or not
-pub near_on : {E : Type 0} (old new : Sight) (near : Option ℕ) (r : Result Taken E) → IfOk r (λ answer. TakesNear old new near answer) → OnErr r (new ≡ old) → GoesOn old new
+pub near_on : {E : Type 0} (old new : Sight) (near : Option ℕ) (r : Result Dealt E) → IfOk r (λ answer. TakesNear old new near answer) → OnErr r (new ≡ old) → GoesOn old new
 near_on old new near (Ok answer) h same = takes_on old new answer h.0
 near_on old new near (Err e) h same = goes_same old new same
 
-pub near_answered : {E : Type 0} (old new : Sight) (near : Option ℕ) (r : Result Taken E) → IfOk r (λ answer. TakesNear old new near answer) → IfOk r (IsAnswered new)
+pub near_answered : {E : Type 0} (old new : Sight) (near : Option ℕ) (r : Result Dealt E) → IfOk r (λ answer. TakesNear old new near answer) → IfOk r (IsAnswered new)
 near_answered old new near (Ok answer) h = takes_answered old new answer h.0
 near_answered old new near (Err e) h = tt
 
-pub take_on : {E : Type 0} (old new : Sight) (r : Result Taken E) → IfOk r (λ answer. Takes old new answer) → OnErr r (new ≡ old) → GoesOn old new
+pub take_on : {E : Type 0} (old new : Sight) (r : Result Dealt E) → IfOk r (λ answer. Takes old new answer) → OnErr r (new ≡ old) → GoesOn old new
 take_on old new (Ok answer) h same = takes_on old new answer h
 take_on old new (Err e) h same = goes_same old new same
 
-pub take_answered : {E : Type 0} (old new : Sight) (r : Result Taken E) → IfOk r (λ answer. Takes old new answer) → IfOk r (IsAnswered new)
+pub take_answered : {E : Type 0} (old new : Sight) (r : Result Dealt E) → IfOk r (λ answer. Takes old new answer) → IfOk r (IsAnswered new)
 take_answered old new (Ok answer) h = takes_answered old new answer h
 take_answered old new (Err e) h = tt
 
-pub answered_none : (seat : Sight) (answer : Taken) → answer ≡ Idle → IsAnswered seat answer → seat.cube ≡ None
+pub answered_none : (seat : Sight) (answer : Dealt) → answer ≡ Idle → IsAnswered seat answer → seat.cube ≡ None
 answered_none seat answer e h = subst (IsAnswered seat) e h
 
 -- a cube that was refused is given back

@@ -33,7 +33,7 @@ module _ (desk : Place) (problem : Problem) (n : ℕ) (s t : List Worker) (w : W
     none = ap (λ (x : Sight). x.cube) is ∙ first.none;
   }
 
-  kept_there : (m : ℕ) (k : Kept) (ks : List Kept) (b : Bool) → (k.number == m) ≡ b → (k.number ≢ m → IsSome (kept_of m ks)) → IsSome (cond b (Some k.calls) (kept_of m ks))
+  kept_there : (m : ℕ) (k : Kept) (ks : List Kept) (b : Bool) → (k.number == m) ≡ b → (k.number ≢ m → IsSome (kept_of m ks)) → IsSome (cond b (Some k.events) (kept_of m ks))
   kept_there m k ks true test h = refl
   kept_there m k ks false test h = h (λ same. (let yes : (k.number == m) ≡ true = grind (arith, nat_tests) in absurd (cc (yes, test))))
 
@@ -42,7 +42,7 @@ module _ (desk : Place) (problem : Problem) (n : ℕ) (s t : List Worker) (w : W
       let seat = last_of IsSeat s t w e seats in
       let popped = length_pushed s t w e in
       let count : new.view.seats ≡ old.view.seats = ap (λ (x : Sight). x.view.seats) is in
-      let mine : Kept = record { number = w.seat.view.number; front = w.seat.view.front; calls = w.seat.view.calls } in
+      let mine : Kept = record { number = w.seat.view.number; front = w.seat.view.front; events = w.seat.view.events } in
       let kept : new.view.kept ≡ mine ∷ old.view.kept = ap (λ (x : Sight). x.view.kept) is in
       subst (λ (ks : List Kept). IsSome (kept_of m ks)) (sym kept)
       (kept_there m mine old.view.kept (mine.number == m) refl (λ ne. was m (omega (arith, popped, low, ne, seat.1)) (omega (arith, high, count))))

@@ -9,16 +9,16 @@ use Rattle.book_core.specs.declared.event.Taken.TheVariants.{Done as TakeDone}
 use Rattle.book_core.specs.declared.event.Outcome.{Outcome}
 use Rattle.book_core.specs.Books.{IsJustified}
 use Rattle.book_lock.specs.declared.cube.Cube.{Cube}
-use Rattle.book_lock.specs.declared.cube.Taken.{Taken}
-use Rattle.book_lock.specs.declared.cube.Taken.TheVariants.{Cube as TakenCube, Idle, Done}
+use Rattle.book_lock.specs.declared.cube.Dealt.{Dealt}
+use Rattle.book_lock.specs.declared.cube.Dealt.TheVariants.{Cube as DealtCube, Idle, Done}
 use Rattle.book_lock.specs.Seats.{Sight, IsSameSeat}
 use Rattle.cube_pool.specs.Hands.{Doings}
 
--- the seat of the same desk, with its number; its front and its calls begin with those of before
+-- the seat of the same desk, with its number; its front and its events begin with those of before
 pub record GoesOn (old new : Sight) : Type 0 where
   pub same : IsSameSeat old new
   pub front : IsPrefix old.view.front new.view.front
-  pub calls : IsPrefix old.view.calls new.view.calls
+  pub events : IsPrefix old.view.events new.view.events
 
 -- the hand of the same pool, with its number; what it pushed and what it fetched begins with that of before
 pub record HandGoesOn (old new : Doings) : Type 0 where
@@ -29,11 +29,11 @@ pub record HandGoesOn (old new : Doings) : Type 0 where
 
 -- the seat's last call was answered Done
 abbrev pub HasEnded : Sight → Type 0
-HasEnded seat = (before : List Event) × (seat.view.calls ≡ before ++ Take seat.view.number TakeDone ∷ [])
+HasEnded seat = (before : List Event) × (seat.view.events ≡ before ++ Take seat.view.number TakeDone ∷ [])
 
 -- of the code: the seat after a `take` with this answer
-abbrev pub IsAnswered : Sight → Taken → Type 0
-IsAnswered seat TakenCube = IsSome seat.cube
+abbrev pub IsAnswered : Sight → Dealt → Type 0
+IsAnswered seat DealtCube = IsSome seat.cube
 IsAnswered seat Idle = seat.cube ≡ None
 IsAnswered seat Done = (seat.cube ≡ None) × HasEnded seat
 

@@ -3,28 +3,19 @@ ghost use Rattle.std.specs.Prelude.{◌≡◌, IfOk, None};
 ghost use Rattle.steal_search.specs.Workers.{GoesOn, IsJustifiedThere, IsSearching};
 
 use book_lock::{Desk, Seat};
-use book_search::{Delivery, Tools};
+use book_search::{Finding, Pacing, Tools};
 use std::alloc::{AllocError, Global};
 use std::sync::{Arc, Wait};
 use stn_core::Problem;
 use worker_calls::Calls;
 use worker_gates::Gate;
 
-/// The greatest budget of a slice, where none was given that is greater.
-const BUDGET_LIMIT: u64 = 1_000_000;
-
-/// And once there was a conflict: the others wait for the slice's end, for its lemmas and for half of its cube.
-const SHORT_LIMIT: u64 = 32_000;
-
-/// How many times the last budget the next one is then.
-const GROWTH: u64 = 8;
-
-/// What a worker keeps from slice to slice: its tools, the budget of its next slice, how many it has made, and what it
+/// What a worker keeps from slice to slice: its tools, how long its next slice is, how many it has made, and what it
 /// tells the others.
 #[derive(Drop)]
 pub struct Pace {
     pub(crate) tools: Tools,
-    pub(crate) budget: u64,
+    pub(crate) pacing: Pacing,
     pub(crate) slices: u64,
     pub(crate) calls: Arc<Calls>,
 }
@@ -40,22 +31,10 @@ impl Pace {
     {
         Ok(Pace {
             tools: Tools::beside(alloc, problem, Arc::try_clone(calls)?)?,
-            budget,
+            pacing: Pacing::beside(budget),
             slices: 0,
             calls: Arc::try_clone(calls)?,
         })
-    }
-
-    // The budget of the slice after one that was divided.
-    fn next_budget(&self) -> u64 {
-        let (growth, limit) = if self.tools.met_conflict() {
-            (GROWTH, SHORT_LIMIT)
-        } else {
-            (2, BUDGET_LIMIT)
-        };
-        self.budget
-            .saturating_mul(growth)
-            .min(limit.max(self.budget))
     }
 }
 
@@ -65,7 +44,7 @@ fn search(
     problem: &Problem,
     seat: &Seat,
     pace: &mut Pace,
-) -> Result<Delivery, AllocError>
+) -> Result<Finding, AllocError>
     requires tools { pace.old.tools ≡ problem.now.points }
     requires searching { IsSearching problem.now seat.now }
     ensures tools { pace.new.tools ≡ pace.old.tools }
@@ -78,7 +57,7 @@ fn search(
         problem,
         seat.lemmas(),
         cube.literals.as_slice(),
-        pace.budget,
+        pace.pacing.budget(),
     )
 }
 
@@ -87,7 +66,7 @@ fn deliver<R: Wait>(
     rt: &R,
     desk: &Desk,
     seat: &mut Seat,
-    delivery: Delivery,
+    delivery: Finding,
 ) -> Result<bool, AllocError>
     requires desk { seat.old.desk ≡ desk.now.id }
     requires justified { IsJustifiedThere seat.old.view.problem seat.old delivery.batch delivery.outcome }
@@ -127,7 +106,8 @@ pub(crate) fn deal<R: Wait, G: Gate>(
             gate.pass(worker, pace.slices);
             pace.slices = pace.slices.saturating_add(1);
             if delivery.divides {
-                pace.budget = pace.next_budget();
+                let met_conflict = pace.tools.met_conflict();
+                pace.pacing.grow(met_conflict);
             }
             deliver(rt, desk, seat, delivery)
         }

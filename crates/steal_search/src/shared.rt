@@ -8,8 +8,8 @@ ghost use Rattle.steal_search.specs.Staff.{AllMayWork, AreOfPool, AreSeated, IsF
 use crate::dealing::{Pace, deal};
 use crate::worker::go_on;
 use book_core::{Book, Verdict};
-use book_lock::{Desk, Seat, Taken};
-use book_search::{decide_units, finish};
+use book_lock::{Dealt, Desk, Seat};
+use book_search::{Pacing, decide_units, finish};
 use cube_pool::{Hand, Pool};
 use std::alloc::{AllocError, Global};
 use std::sync::{Arc, Wait};
@@ -21,10 +21,6 @@ use worker_gates::Gate;
 
 /// The most slices that the caller makes alone.
 const FIRST_SLICES: u32 = 4;
-
-/// How many times the first budget such a slice has once there was a conflict: on a large problem a slice of the first
-/// budget can end before it comes to another one.
-const FIRST_GROWTH: u64 = 4;
 
 /// What a worker's thread has.
 #[derive(Drop)]
@@ -219,17 +215,13 @@ fn slice_alone<R: Wait, G: Gate>(
     ensures seat { IsFirst desk.now problem.now 1 seat.new }
     ensures tools { pace.new.tools ≡ pace.old.tools }
 {
-    pace.budget = if pace.tools.met_conflict() {
-        budget.saturating_mul(FIRST_GROWTH)
-    } else {
-        budget
-    };
+    pace.pacing = Pacing::at_first(budget, pace.tools.met_conflict());
     match desk.take(rt, seat)? {
-        Taken::Cube => {
+        Dealt::Cube => {
             let divided = deal(rt, alloc, problem, desk, seat, pace, 0, gate)?;
             Ok(Some(divided))
         }
-        Taken::Idle | Taken::Done => Ok(None),
+        Dealt::Idle | Dealt::Done => Ok(None),
     }
 }
 

@@ -3,7 +3,7 @@ ghost use Rattle.std.specs.Prelude.{◌≡◌, None, IfOk, OnOk, OnErr, IfSome};
 ghost use Rattle.steal_search.specs.Workers.{GoesOn, HandGoesOn, HasEnded, IsAnswered};
 
 use crate::dealing::{Pace, deal};
-use book_lock::{Desk, Seat, Taken};
+use book_lock::{Dealt, Desk, Seat};
 use cube_pool::{Hand, Pool};
 use std::alloc::{AllocError, Global};
 use std::sync::{Arc, Wait};
@@ -19,7 +19,7 @@ fn fetched<R: Wait>(
     pool: &Pool,
     hand: &mut Hand,
     calls: &Calls,
-) -> Result<Taken, AllocError>
+) -> Result<Dealt, AllocError>
     requires desk { seat.old.desk ≡ desk.now.id }
     requires none { seat.old.cube ≡ None }
     requires hand { hand.old.pool ≡ pool.now }
@@ -46,7 +46,7 @@ fn next<R: Wait>(
     hand: &mut Hand,
     near: Option<usize>,
     calls: &Calls,
-) -> Result<Taken, AllocError>
+) -> Result<Dealt, AllocError>
     requires desk { seat.old.desk ≡ desk.now.id }
     requires none { seat.old.cube ≡ None }
     requires hand { hand.old.pool ≡ pool.now }
@@ -112,13 +112,13 @@ pub(crate) fn go_on<R: Wait, G: Gate>(
     let mut near = None;
     for _ in rt.forever() {
         match next(rt, desk, seat, pool, hand, near.take(), &pace.calls)? {
-            Taken::Cube => {
+            Dealt::Cube => {
                 if deal(rt, alloc, problem, desk, seat, pace, worker, gate)? {
                     near = share(pool, hand, seat);
                 }
             }
-            Taken::Idle => {}
-            Taken::Done => {
+            Dealt::Idle => {}
+            Dealt::Done => {
                 pace.calls.end();
                 return Ok(());
             }
@@ -129,8 +129,7 @@ pub(crate) fn go_on<R: Wait, G: Gate>(
 
 /// One worker, on a thread of the caller's: it takes cubes, the fetched ones first, searches each for a slice,
 /// passes the gate, and delivers what it found. Where a cube was divided, it goes on with one half and pushes the
-/// other. The slice after one that divided its cube has twice its budget, up to 1,000,000, or once there was a conflict
-/// eight times its budget, up to 32,000.
+/// other. The first slice has this budget, and later ones greater ones, by `book_search::Pacing`.
 ///
 /// All workers of the desk share the calls: by them one that waits, or was told that nothing is left to do, ends the slices
 /// of the others sooner.

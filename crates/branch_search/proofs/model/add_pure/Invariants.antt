@@ -1,5 +1,5 @@
 use Rattle.std.proofs.Common.{◌≡◌, ◌≤◌, min, length, take}
-use Rattle.branch_search.specs.Search.{adds_limit}
+use Rattle.stn_core.specs.Limits.{adds_limit}
 use Rattle.branch_search.proofs.model.add_pure.Given as goal
 
 abbrev pub invariant-numbers : goal.invariant-numbers

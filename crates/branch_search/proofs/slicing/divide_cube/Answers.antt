@@ -1,5 +1,5 @@
 use Rattle.std.proofs.Common.{refl, ◌∙◌, subst, sym}
-use Rattle.branch_search.specs.Search.{question_of, AreProved}
+use Rattle.branch_search.specs.Slices.{question_of, AreProved}
 use Rattle.branch_search.proofs.Splits.{empty_search, lemmas_over}
 use Rattle.branch_search.proofs.slicing.divide_cube.Goals as goal
 

@@ -1,5 +1,5 @@
 use Rattle.std.proofs.Common.{ℕ, ◌<◌}
-use Rattle.conflict_analysis.specs.Trails.{literal_at}
+use Rattle.stn_core.specs.Literal.{literal_at}
 use Rattle.conflict_analysis.specs.Leaves.{IsFewer, StandsAssumed}
 use Rattle.conflict_analysis.proofs.leaves.assume_all.Given as goal
 

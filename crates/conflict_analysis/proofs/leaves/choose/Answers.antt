@@ -1,10 +1,10 @@
 use Rattle.std.proofs.Common.{◌≢◌, ◌<◌, ℕ, List, Bool, length, refl, ◌∙◌, ap, subst, [], ◌∷◌}
 use Rattle.std.specs.Prelude.{slice_index}
 use Rattle.stn_core.specs.declared.literal.Literal.{Literal}
-use Rattle.stn_core.specs.Literal.{negation_of}
+use Rattle.stn_core.specs.Literal.{negation_of, literal_at}
 use Rattle.conflict_analysis.specs.declared.entry.Source.{Source}
 use Rattle.conflict_analysis.specs.declared.entry.Reason.TheVariants.{Clause as ByClause}
-use Rattle.conflict_analysis.specs.Trails.{source_clause, literal_at}
+use Rattle.conflict_analysis.specs.Trails.{source_clause}
 use Rattle.conflict_analysis.specs.Leaves.{StandsAssumed}
 use Rattle.conflict_analysis.proofs.Marks.{reason_is, literal_is}
 use Rattle.conflict_analysis.proofs.Chosen.{chosen_clause, chosen_pair, chosen_cycle}

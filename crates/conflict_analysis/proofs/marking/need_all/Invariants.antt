@@ -1,5 +1,6 @@
 use Rattle.std.proofs.Common.{◌≡◌, ℕ, ◌<◌}
-use Rattle.conflict_analysis.specs.Trails.{literal_at, StandsUsed, IsMarkedMore}
+use Rattle.conflict_analysis.specs.Trails.{StandsUsed, IsMarkedMore}
+use Rattle.stn_core.specs.Literal.{literal_at}
 use Rattle.conflict_analysis.specs.Places.{KeepsWaiting}
 use Rattle.conflict_analysis.proofs.marking.need_all.Given as goal
 

@@ -1,6 +1,5 @@
 use Rattle.std.proofs.Common.{ℕ, ◌<◌, length}
-use Rattle.stn_core.specs.Literal.{negation_of}
-use Rattle.conflict_analysis.specs.Trails.{literal_at}
+use Rattle.stn_core.specs.Literal.{negation_of, literal_at}
 use Rattle.conflict_analysis.specs.Leaves.{StandsAssumed}
 use Rattle.conflict_analysis.proofs.spine.is_clash.Given as goal
 

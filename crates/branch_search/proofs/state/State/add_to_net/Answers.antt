@@ -1,4 +1,4 @@
-use Rattle.branch_search.specs.Search.{question_of}
+use Rattle.branch_search.specs.Slices.{question_of}
 use Rattle.branch_search.proofs.States.{added_by, refused_by}
 use Rattle.branch_search.proofs.Proposals.{stands_at}
 use Rattle.branch_search.proofs.state.State.add_to_net.Goals as goal

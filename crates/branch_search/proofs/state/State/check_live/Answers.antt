@@ -1,4 +1,4 @@
-use Rattle.branch_search.specs.Search.{question_of}
+use Rattle.branch_search.specs.Slices.{question_of}
 use Rattle.branch_search.proofs.Splits.{nowhere_stuck}
 use Rattle.branch_search.proofs.state.State.check_live.Goals as goal
 

@@ -1,5 +1,5 @@
 use Rattle.std.proofs.Common.{arith, ◌∙◌}
-use Rattle.branch_search.specs.Search.{question_of}
+use Rattle.branch_search.specs.Slices.{question_of}
 use Rattle.branch_search.proofs.Proposals.{decision_pushed}
 use Rattle.branch_search.proofs.state.State.decide.Goals as goal
 

@@ -1,4 +1,4 @@
-use Rattle.branch_search.specs.Search.{question_of}
+use Rattle.branch_search.specs.Slices.{question_of}
 use Rattle.branch_search.proofs.Answered.{answered_model, answered_refuted, answered_split}
 use Rattle.branch_search.proofs.state.State.deliver.Goals as goal
 

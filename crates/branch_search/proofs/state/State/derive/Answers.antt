@@ -3,7 +3,8 @@ use Rattle.stn_core.specs.declared.literal.Literal.{Literal}
 use Rattle.conflict_analysis.specs.declared.entry.Entry.{Entry}
 use Rattle.conflict_analysis.specs.declared.entry.Reason.TheVariants.{Decision}
 use Rattle.conflict_analysis.specs.Trails.{on_trail}
-use Rattle.branch_search.specs.Search.{question_of, all_lemmas}
+use Rattle.branch_search.specs.Search.{all_lemmas}
+use Rattle.branch_search.specs.Slices.{question_of}
 use Rattle.conflict_analysis.proofs.Marks.{entry_is}
 use Rattle.branch_search.proofs.Learned.{trail_seen}
 use Rattle.branch_search.proofs.Restated.{prefix_trail, prefix_over, prefix_conflict, put_back, derived}
@@ -17,7 +18,7 @@ analyze-requires-clause-trail g c =
     let made = c.replace-entry.ensures.after ∙ ap (λ (m : Literal). record { literal = m; number = c.negated.result; reason = Decision }) c.negate.ensures in
     let is = ap (take (k + 1)) (c.deref-2.ensures.value ∙ ap (λ (d : Entry). set es k d) made) in (
       c.args.cube.now,
-      prefix_trail es _ k c.negated.result c.literal_on.result c.requires.within is q.inputs (all_lemmas q.handed c.as_slice.result.now) q.cube
+      prefix_trail es _ k c.negated.result c.literal_on.result c.requires.within is q.problem.clauses (all_lemmas q.handed c.as_slice.result.now) q.cube
           (trail_seen q c.args.self.now.own.items c.as_slice.result.now es es c.as_slice.ensures.value refl c.requires.state.trail),
     )
 
@@ -38,7 +39,7 @@ analyze-requires-clause-conflict g c =
     let made = c.replace-entry.ensures.after ∙ ap (λ (m : Literal). record { literal = m; number = c.negated.result; reason = Decision }) c.negate.ensures in
     let is = ap (take (k + 1)) (c.deref-2.ensures.value ∙ ap (λ (d : Entry). set es k d) made) in
     let at = c.index.ensures ∙ entry_is es k c.index.result.now c.requires.within in
-    prefix_conflict es _ k c.negated.result c.literal_on.result c.requires.within is q.inputs
+    prefix_conflict es _ k c.negated.result c.literal_on.result c.requires.within is q.problem.clauses
     (all_lemmas q.handed c.as_slice.result.now) q.cube c.index.result.now c.in_ok-conflict.field-0 c.in-Some.conflict
     (trail_seen q c.args.self.now.own.items c.as_slice.result.now es es c.as_slice.ensures.value refl c.requires.state.trail)
     at

@@ -1,7 +1,7 @@
 use Rattle.std.proofs.Common.{◌∙◌, ap, List}
 use Rattle.stn_core.specs.declared.literal.Literal.{Literal}
-use Rattle.conflict_analysis.specs.Trails.{literal_at}
-use Rattle.branch_search.specs.Search.{question_of}
+use Rattle.stn_core.specs.Literal.{literal_at}
+use Rattle.branch_search.specs.Slices.{question_of}
 use Rattle.branch_search.proofs.Splits.{modelled, is_none, are_live, live_at, split_by, split_of}
 use Rattle.branch_search.proofs.state.State.divide.Goals as goal
 
@@ -12,7 +12,7 @@ returns-in_default-false_clause-clause-division g c =
     let all = are_live q c.check_all.new.self.own.items c.check_all.new.self.entries.items
     c.check_all.new.self.levels.items (net.literals_of c.check_all.new.net) c.in_ok-j.field-0 c.in_ok-j.ensures.live
     c.in_default.not-Some in (
-      modelled c.args.problem.now.points (net.points_of c.check_all.new.net) c.args.problem.now.clauses _
+      modelled c.args.problem.now (net.points_of c.check_all.new.net) _
           (net.literals_of c.check_all.new.net) _ _ c.false_clause.result (c.in_ok-j.ensures.points ∙ c.requires.points)
           c.as_slice.ensures (c.new-schedule.ensures ∙ c.in_ok-from_slice.ensures.items) c.schedule-values.ensures
           c.false_clause.ensures.found (is_none c.false_clause.result c.in_default-false_clause.not-Some),

@@ -1,7 +1,7 @@
 use Rattle.std.proofs.Common.{arith}
 use Rattle.std.proofs.lemmas.List.Elements.{Contains-get_or}
 use Rattle.conflict_analysis.specs.Trails.{no_literal}
-use Rattle.branch_search.specs.Search.{question_of}
+use Rattle.branch_search.specs.Slices.{question_of}
 use Rattle.branch_search.proofs.Proposals.{given_pushed, same_parts}
 use Rattle.branch_search.proofs.state.State.enter.Goals as goal
 

@@ -1,13 +1,13 @@
 use Rattle.std.proofs.Common.{subst, sym, Option, List, ℤ}
 use Rattle.std.specs.Prelude.{IfSome}
-use Rattle.branch_search.specs.Search.{question_of, AreProved}
-use Rattle.branch_search.specs.Slices.{IsModel}
+use Rattle.branch_search.specs.Slices.{question_of, AreProved}
+use Rattle.stn_core.specs.Solution.{IsSolution}
 use Rattle.branch_search.proofs.state.State.go_on.Goals as goal
 
 pub returns-in-Some-clause-turn : goal.returns-in-Some-clause-turn
 returns-in-Some-clause-turn g c =
     let q = question_of c.args.problem.now (g.E.Earlier.clauses c.args.handed.now) c.args.cube.now in (
-      subst (λ (o : Option (List ℤ)). IfSome o (IsModel c.args.problem.now.points c.args.problem.now.clauses)) c.in-Some.is
+      subst (λ (o : Option (List ℤ)). IfSome o (IsSolution c.args.problem.now)) c.in-Some.is
           c.in_ok-schedule.ensures.model,
       subst (AreProved q) (sym c.in_ok-schedule.ensures.own) c.requires.state.proved,
     )

@@ -1,6 +1,6 @@
 use Rattle.std.proofs.Common.{ap, ◌∙◌, length}
 use Rattle.conflict_analysis.specs.declared.entry.Level.{Level}
-use Rattle.branch_search.specs.Search.{question_of}
+use Rattle.branch_search.specs.Slices.{question_of}
 use Rattle.branch_search.proofs.Learned.{trail_seen, learned_search}
 use Rattle.branch_search.proofs.state.State.learn.Goals as goal
 

@@ -1,7 +1,7 @@
 use Rattle.std.proofs.Common.{arith, refl, ◌∙◌, subst, ℕ}
-use Rattle.stn_core.specs.Literal.{IsOver}
-use Rattle.conflict_analysis.specs.Trails.{no_literal, literal_at}
-use Rattle.branch_search.specs.Search.{question_of}
+use Rattle.stn_core.specs.Literal.{IsOver, literal_at}
+use Rattle.conflict_analysis.specs.Trails.{no_literal}
+use Rattle.branch_search.specs.Slices.{question_of}
 use Rattle.branch_search.proofs.Splits.{live_turn, same_literals}
 use Rattle.branch_search.proofs.state.State.live_place.Goals as goal
 

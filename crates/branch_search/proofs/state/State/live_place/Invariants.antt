@@ -1,7 +1,9 @@
 use Rattle.std.proofs.Common.{◌≡◌, ◌≤◌, ◌<◌, ℕ, min, length}
-use Rattle.stn_core.specs.Literal.{negation_of}
-use Rattle.conflict_analysis.specs.Trails.{literal_at, Stands}
-use Rattle.branch_search.specs.Search.{question_of, IsSearch, adds_limit}
+use Rattle.stn_core.specs.Literal.{negation_of, literal_at}
+use Rattle.conflict_analysis.specs.Trails.{Stands}
+use Rattle.branch_search.specs.Search.{IsSearch}
+use Rattle.branch_search.specs.Slices.{question_of}
+use Rattle.stn_core.specs.Limits.{adds_limit}
 use Rattle.branch_search.proofs.state.State.live_place.Given as goal
 
 abbrev pub invariant-loop-q : goal.invariant-loop-q

@@ -1,4 +1,4 @@
-use Rattle.branch_search.specs.Search.{question_of}
+use Rattle.branch_search.specs.Slices.{question_of}
 use Rattle.branch_search.proofs.AtOnce.{waiting_over, batch_added, batch_refused}
 use Rattle.branch_search.proofs.state.State.net_waiting.Goals as goal
 

@@ -1,6 +1,6 @@
 use Rattle.std.proofs.Common.{◌∙◌, sym, subst, ◌<◌, length, List}
 use Rattle.conflict_analysis.specs.declared.entry.Level.{Level}
-use Rattle.branch_search.specs.Search.{question_of}
+use Rattle.branch_search.specs.Slices.{question_of}
 use Rattle.branch_search.proofs.Learned.{cut_back, cut_within, settled}
 use Rattle.branch_search.proofs.state.State.react.Goals as goal
 

@@ -1,5 +1,5 @@
 use Rattle.std.proofs.Common.{◌∙◌}
-use Rattle.branch_search.specs.Search.{question_of}
+use Rattle.branch_search.specs.Slices.{question_of}
 use Rattle.branch_search.proofs.Hits.{hit_pushed}
 use Rattle.branch_search.proofs.Proposals.{same_parts}
 use Rattle.branch_search.proofs.state.State.take_hit.Goals as goal

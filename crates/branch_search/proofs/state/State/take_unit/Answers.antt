@@ -1,4 +1,4 @@
-use Rattle.branch_search.specs.Search.{question_of}
+use Rattle.branch_search.specs.Slices.{question_of}
 use Rattle.branch_search.proofs.Proposals.{unit_pushed, same_parts}
 use Rattle.branch_search.proofs.state.State.take_unit.Goals as goal
 

@@ -9,7 +9,7 @@ use std::alloc::AllocError;
 
 /// What is to be delivered of a cube.
 #[derive(Drop)]
-pub struct Delivery {
+pub struct Finding {
     pub batch: Batch,
     pub outcome: Outcome,
     /// Whether the outcome divides the cube.
@@ -17,12 +17,12 @@ pub struct Delivery {
 }
 
 /// The lemma of a refuted cube gets the number behind those that the slice was handed.
-pub fn delivery_of(slice: Slice) -> Result<Delivery, AllocError>
+pub fn finding_of(slice: Slice) -> Result<Finding, AllocError>
     ensures { IfOk result (λ d. Delivers slice d.batch d.outcome) }
 {
     stn_core::negation_law();
     match slice {
-        Slice::Model(schedule, batch) => Ok(Delivery {
+        Slice::Model(schedule, batch) => Ok(Finding {
             batch,
             outcome: Outcome::Found(schedule),
             divides: false,
@@ -31,13 +31,13 @@ pub fn delivery_of(slice: Slice) -> Result<Delivery, AllocError>
             let Some(number) = batch.seen().checked_add(j) else {
                 return Err(AllocError);
             };
-            Ok(Delivery {
+            Ok(Finding {
                 batch,
                 outcome: Outcome::Shut(number),
                 divides: false,
             })
         }
-        Slice::Split(literal, batch) => Ok(Delivery {
+        Slice::Split(literal, batch) => Ok(Finding {
             batch,
             outcome: Outcome::Split(literal),
             divides: true,

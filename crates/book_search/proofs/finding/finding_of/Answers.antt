@@ -2,7 +2,7 @@ use Rattle.std.proofs.Common.{rules, refl, ◌≡◌, ◌+◌}
 use Rattle.branch_search.specs.declared.answer.Slice.TheVariants.{Refuted, Split}
 use Rattle.book_core.specs.declared.event.Outcome.TheVariants.{Shut as ShutBy, Split as SplitBy}
 use Rattle.book_search.proofs.Delivered.{delivers_as}
-use Rattle.book_search.proofs.delivery.delivery_of.Goals as goal
+use Rattle.book_search.proofs.finding.finding_of.Goals as goal
 
 pub returns-in-Some : goal.returns-in-Some
 returns-in-Some c =

@@ -1,4 +1,4 @@
--- The calls of one seat, and what they leave it with.
+-- The events of one seat, which are its calls, and what they leave it with.
 use Rattle.std.specs.Prelude.{◌≡◌, ℕ, ◌≤◌, ◌==◌, Bool, true, false, List, [], ◌∷◌, drop, filter, Option, Some, None, slice_get}
 use Rattle.book_core.specs.declared.event.Event.{Event}
 use Rattle.book_core.specs.declared.event.Event.TheVariants.{Take, Deliver, Release}
@@ -10,9 +10,9 @@ seat_of (Take seat answer) = seat
 seat_of (Deliver seat id batch outcome) = seat
 seat_of (Release seat id) = seat
 
--- the calls of one seat, in order
-abbrev pub calls_by : ℕ → List Event → List Event
-calls_by n es = filter (λ e. seat_of e == n) es
+-- the events of one seat, in order
+abbrev pub events_by : ℕ → List Event → List Event
+events_by n es = filter (λ e. seat_of e == n) es
 
 -- the cube that the seat has after the call
 abbrev pub held_after : Event → Option ℕ
@@ -50,13 +50,13 @@ idle_from idle (e ∷ es) = idle_from (is_idle e) es
 
 -- the last call was a take answered Idle
 abbrev pub ended_idle : List Event → Bool
-ended_idle calls = idle_from false calls
+ended_idle events = idle_from false events
 
 -- from this place on there is an event other than a take answered Idle
 abbrev pub HasNews : ℕ → List Event → Type 0
 HasNews place es = (k : ℕ) × (e : Event) × (place ≤ k) × (slice_get es k ≡ Some e) × (is_idle e ≡ false)
 
--- behind all calls of the seat there is an event other than a take answered Idle
+-- behind all events of the seat there is an event other than a take answered Idle
 abbrev pub HasNewsFor : ℕ → List Event → Type 0
 HasNewsFor n es =
-    (k : ℕ) × (e : Event) × (slice_get es k ≡ Some e) × (is_idle e ≡ false) × (calls_by n (drop k es) ≡ [])
+    (k : ℕ) × (e : Event) × (slice_get es k ≡ Some e) × (is_idle e ≡ false) × (events_by n (drop k es) ≡ [])
