@@ -1,5 +1,5 @@
 -- A script with the certificate that was written of it is accepted.
-use Rattle.std.proofs.Common.{refl, sym, ap, subst, arith, ◌∙◌, ◌≡◌, ◌≢◌, ◌≤◌, ◌+◌, ℕ, List, [], ◌∷◌, ◌++◌, length, take, drop, Bool, true, false, Option, Some, None, Result, Ok, Err}
+use Rattle.std.proofs.Common.{refl, sym, ap, subst, arith, ◌∙◌, ◌≡◌, ◌≢◌, ◌≤◌, ◌+◌, ℕ, List, [], ◌∷◌, ◌++◌, length, take, map, drop, Bool, true, false, Option, Some, None, Result, Ok, Err}
 use Rattle.std.specs.Prelude.{if◌then◌else◌, option_map, All}
 use Rattle.std.specs.List.{AllByRecursion}
 use Rattle.std.proofs.lemmas.List.Elements.{All-nil, All-cons}
@@ -25,29 +25,34 @@ use Rattle.idl_term.specs.Scopes.{sorts_of}
 use Rattle.idl_term.specs.Values.{Named, truth, value}
 use Rattle.smt_script.specs.declared.error.Refusal.{Refusal}
 use Rattle.smt_script.specs.declared.state.Effect.{Effect}
-use Rattle.smt_script.specs.declared.state.Effect.TheVariants.{CheckSat, Exit, Tell}
+use Rattle.smt_script.specs.declared.state.Effect.TheVariants.{Ask, Exit, Tell}
+use Rattle.smt_script.specs.declared.state.Question.{Question}
+use Rattle.smt_script.specs.declared.state.Notice.{Notice}
 use Rattle.smt_script.specs.Commands.{naming_command, changing_command, asking_command, is_unsupported, left_out_of, command_of, is_exit}
 use Rattle.smt_sexpr.specs.Laws.{OneOutcome, ListReadsOn, ListIsWithin}
 use Rattle.cert_read.specs.Laws.{CertificateReadsBack}
 use Rattle.cert_check.specs.Laws.{FlawLaw}
 use Rattle.smt_script.specs.Laws.{OnlyExitEnds}
 use Rattle.smt_script.specs.States.{State, start_state, Step, after, settled}
-use Rattle.smt_answer.specs.Kinds.{kind_of}
+use Rattle.smt_answer.specs.declared.kind.Kind.{Kind}
+use Rattle.script_walk.specs.Questions.{refusal_of}
+use Rattle.script_walk.specs.Course.{Place, start_with, Turn, turn, tells, answers, ends, behind_told, behind_answer, asked, taken, by_effect, by_command, last_turn, course, status_of, answers_of}
+use Rattle.script_walk.proofs.Turns.{told_turn, answered_turn, exit_turn}
 use Rattle.dtp_entry.specs.declared.report.Report.TheVariants.{Certificate}
 use Rattle.smt_script.specs.declared.state.Satisfiability.{Satisfiability}
 use Rattle.dtp_entry.specs.Entries.{verdict_of, IsRight, IsEntryOf}
-use Rattle.dtp_entry.specs.Transcripts.{Held, Answered, Reply, answered, last as finally, error, checked, Answers, RepliesBy, Output, behind, GoesOn, Follows, IsReport}
+use Rattle.dtp_entry.specs.Transcripts.{opening, pieces, IsLegal, IsReport}
 use Rattle.dtp_entry.proofs.Verdicts.{sorts_count}
 use Rattle.dtp_check.specs.declared.judgement.EntryFlaw.{EntryFlaw}
 use Rattle.dtp_check.specs.declared.judgement.EntryFlaw.TheVariants.{Flawed}
 use Rattle.dtp_check.specs.declared.judgement.Judgement.TheVariants.{Accepted}
 use Rattle.dtp_check.specs.declared.script_part.PartEnd.{PartEnd}
 use Rattle.dtp_check.specs.declared.script_part.PartEnd.TheVariants as part
-use Rattle.dtp_check.specs.Judged.{EndsPart, ExitEnds, FollowsExit, ScriptPart, IsApart, is_true, first_false, entry_flaw, placed, told_by, judged_entry, judged, IsJudged}
+use Rattle.dtp_check.specs.Judged.{EndsPart, ExitEnds, FollowsExit, ScriptPart, IsApart, is_true, first_false, entry_flaw, placed, told_by, judged_entry, judged_turns, IsJudged}
 use Rattle.dtp_check.specs.Laws.{CertifiedIsAccepted}
 use Rattle.dtp_check.specs.Whole.{IsWholeFrom, IsWhole}
 use Rattle.dtp_check.proofs.Reading.{same_sexpr, not_finished}
-use Rattle.dtp_check.proofs.Judging.{none_of_wrong_sort, of_sorts_count, values_flaw_is, judged_ok, judged_none, not_exit, told_apart, check_apart, step_of}
+use Rattle.dtp_check.proofs.Judging.{none_of_wrong_sort, of_sorts_count, values_flaw_is, course_none, question_taken, not_exit, told_apart, ask_apart, step_of}
 
 -- ---- a right entry has no flaw
 
@@ -102,191 +107,201 @@ closed_ends script place le closed =
 
 -- ---- what was written of the commands
 
-abbrev FollowsBy : Version → Held → ℕ → Sexpr → List Sexpr → Ending → Output → Result Step Refusal → Type 0
-FollowsBy version held k x xs ending out r = (reply : Reply) × RepliesBy (Certificate version) held x r reply × GoesOn k reply xs ending out (λ kept next rest. Follows (Certificate version) kept next (k + 1) xs ending rest)
-
-follows_is : (version : Version) (held : Held) (s : State) (k : ℕ) (x : Sexpr) (xs : List Sexpr) (ending : Ending) (out : Output) → Follows (Certificate version) held s k (x ∷ xs) ending out → FollowsBy version held k x xs ending out (after s x)
-unfolding Follows
-follows_is version held s k x xs ending out h = h
-
 -- how the commands of a script end in a longer source
 abbrev EndsIn : Bool → List ℕ → ℕ → PartEnd → ℕ → Type 0
 EndsIn exits bytes last end behind = FollowsExit exits ((end ≡ part.Exit) × (last ≡ behind)) (EndsPart bytes last end behind)
 
--- what was written of commands from the place on is the entries and the end, and they are accepted
-record IsSplit (version : Version) (script : List ℕ) (place : ℕ) (s : State) (k : ℕ) (xs : List Sexpr) (out : List ℕ) : Type 0 where
-  entries : List FileEntry
-  text : out ≡ entries_text entries ++ line_of end_sexpr
-  fits : All (FileEntryFits version) entries
-  accepted : (n : ℕ) (before : List Placed) → judged s k n before xs entries ≡ Accepted
+-- the entries as they stand in a file
+abbrev shown_of : List (Turn Entry) → List FileEntry
+shown_of turns = map file_entry_of (answers_of turns)
+
+abbrev judged_at : State → List FileEntry → List Sexpr → Type 0
+judged_at s entries xs = (k : ℕ) (held : Option FileEntry) (before : List Placed) → judged_turns before (course told_by (record { number = k; state = s; held = held; left = entries }) xs ended) ≡ Accepted
+
+-- what was written of commands from the place on, by these turns, is the entries and the end, and they are accepted
+record IsSplit (version : Version) (script : List ℕ) (place : ℕ) (s : State) (xs : List Sexpr) (turns : List (Turn Entry)) : Type 0 where
+  text : pieces (Certificate version) turns ≡ entries_text (shown_of turns) ++ line_of end_sexpr
+  fits : All (FileEntryFits version) (shown_of turns)
+  accepted : judged_at s (shown_of turns) xs
   last : ℕ
   exits : Bool
   within : last ≤ length script
   closed : IsClosedGap (drop last script)
   reads : (added : List ℕ) (end : PartEnd) (behind : ℕ) → EndsIn exits (script ++ added) last end behind → ScriptPart (script ++ added) place xs end behind
 
+no_status : ◌≡◌ {A = Option ℕ} None (Some 0) → ⊥
+no_status e = absurd cc
+
+failed_status : ◌≡◌ {A = Option ℕ} (Some 1) (Some 0) → ⊥
+failed_status e = absurd cc
+
+abbrev Make : Type 0
+Make = Place Entry → List (Turn Entry)
+
 module _ (one : OneOutcome) (on : ListReadsOn) (within : ListIsWithin) (flaw : FlawLaw) (own : OwnFlawLaw) (text_is : OwnText) (fits_are : OwnFits) (only : OnlyExitEnds) (version : Version) where
+  abbrev AreLegal : List (Turn Entry) → Type 0
+  AreLegal turns = AllByRecursion (IsLegal (Certificate version)) turns
+
   -- no command follows: the end of the text is the end of the script
-  split_end : (ys : List Sexpr) (script : List ℕ) (place here k : ℕ) (held : Held) (s : State) (ending : Ending) (out : Output) → out.status ≡ 0 → place ≤ length script → place ≡ here → EndsAs script here ending → Follows (Certificate version) held s k [] ending out
-      → IsWholeFrom script place ys → IsSplit version script place s k [] out.text
-  unfolding Follows ScriptPart
-  split_end ys script place here k held s stopped out status le e ends follows is = absurd follows
-  split_end ys script place here k held s (unread why) out status le e ends follows is = absurd (let z : out.status ≡ 1 = ap (λ (o : Output). o.status) follows in omega (arith, z, status))
-  split_end [] script place here k held s ended out status le e ends follows is = record {
-    entries = [];
-    text = ap (λ (o : Output). o.text) follows;
+  split_end : (ys : List Sexpr) (script : List ℕ) (place here : ℕ) (p : Place Entry) (ending : Ending) → status_of (last_turn p ending) ≡ Some 0 → place ≤ length script → place ≡ here → EndsAs script here ending
+      → IsWholeFrom script place ys → IsSplit version script place p.state [] (last_turn p ending)
+  unfolding ScriptPart
+  split_end ys script place here p stopped over le e closes is = absurd (no_status over)
+  split_end ys script place here p (unread why) over le e closes is = absurd (failed_status over)
+  split_end [] script place here p ended over le e closes is = record {
+    text = append-nil (line_of end_sexpr);
     fits = All-nil (FileEntryFits version);
-    accepted = λ n before. judged_none s k n before [];
+    accepted = λ k held before. ap (judged_turns before) (course_none (record { number = k; state = p.state; held = held; left = [] }));
     last = place;
     exits = false;
     within = le;
     closed = is;
     reads = λ added end behind h. h;
   }
-  split_end (y ∷ ys) script place here k held s ended out status le e (n, finishes) follows (mid, spells, is) = absurd (not_finished one script place y mid n spells (subst (λ (p : ℕ). Outcomes script p finished n) (sym e) finishes))
+  split_end (y ∷ ys) script place here p ended over le e (n, finishes) (mid, spells, is) = absurd (not_finished one script place y mid n spells (subst (λ (p : ℕ). Outcomes script p finished n) (sym e) finishes))
 
-  module _ (script : List ℕ) (place mid k : ℕ) (s : State) (x : Sexpr) (spells : Spells script place x mid) where
-    on_command : (step : Step) → after s x ≡ Ok step → (added : List ℕ) → Spells (script ++ added) place x mid
+  module _ (script : List ℕ) (place mid : ℕ) (p : Place Entry) (x : Sexpr) (spells : Spells script place x mid) where
+    on_command : (step : Step) → after p.state x ≡ Ok step → (added : List ℕ) → Spells (script ++ added) place x mid
     on_command step e added =
-        let l = carried_list s x step e in
+        let l = carried_list p.state x step e in
         let there : Spells script place (list l.0) mid = subst (λ (z : Sexpr). Spells script place z mid) l.1 spells in
         subst (λ (z : Sexpr). Spells (script ++ added) place z mid) (sym l.1) (on script added place mid l.0 there)
 
-    command_within : (step : Step) → after s x ≡ Ok step → mid ≤ length script
+    command_within : (step : Step) → after p.state x ≡ Ok step → mid ≤ length script
     command_within step e =
-        let l = carried_list s x step e in
+        let l = carried_list p.state x step e in
         within script place mid l.0 (subst (λ (z : Sexpr). Spells script place z mid) l.1 spells)
 
     -- a command that goes on, in the state behind its answer
-    reads_more : (step : Step) → after s x ≡ Ok step → step.effect ≢ Exit → (next : State) (xs : List Sexpr) (rest : List ℕ) (h : IsSplit version script mid next (k + 1) xs rest)
+    reads_more : (step : Step) → after p.state x ≡ Ok step → step.effect ≢ Exit → (next : State) (xs : List Sexpr) (turns : List (Turn Entry)) (h : IsSplit version script mid next xs turns)
         → (added : List ℕ) (end : PartEnd) (behind : ℕ) → EndsIn h.exits (script ++ added) h.last end behind → ScriptPart (script ++ added) place (x ∷ xs) end behind
     unfolding ScriptPart
-    reads_more step e apart next xs rest h added end behind ends = (
+    reads_more step e apart next xs turns h added end behind closes = (
       mid,
       on_command step e added,
-      carried_apart s x step e,
-      subst (λ (b : Bool). FollowsExit b (ExitEnds mid xs end behind) (ScriptPart (script ++ added) mid xs end behind)) (sym (not_exit only s x step e apart)) (h.reads added end behind ends),
+      carried_apart p.state x step e,
+      subst (λ (b : Bool). FollowsExit b (ExitEnds mid xs end behind) (ScriptPart (script ++ added) mid xs end behind)) (sym (not_exit only p.state x step e apart)) (h.reads added end behind closes),
     )
 
     -- a command of which nothing is written
-    split_silent : (effect : Effect) (next : State) (xs : List Sexpr) (out rest : List ℕ) (h : IsSplit version script mid next (k + 1) xs rest) → after s x ≡ Ok (step_of next effect) → effect ≢ Exit
-        → ((n : ℕ) (before : List Placed) → judged s k n before (x ∷ xs) h.entries ≡ judged next (k + 1) n before xs h.entries) → out ≡ rest → IsSplit version script place s k (x ∷ xs) out
-    split_silent effect next xs out rest h e apart goes same = record {
-      entries = h.entries;
-      text = same ∙ h.text;
+    split_told : (notice : Notice) (next : State) (xs : List Sexpr) (turns : List (Turn Entry)) → IsSplit version script mid next xs turns → after p.state x ≡ Ok (step_of next (Tell notice))
+        → IsSplit version script place p.state (x ∷ xs) (turn p next (tells x notice) ∷ turns)
+    split_told notice next xs turns h e = record {
+      text = h.text;
       fits = h.fits;
-      accepted = λ n before. goes n before ∙ h.accepted n before;
+      accepted = λ k held before.
+          ap (judged_turns before) (told_turn told_by (record { number = k; state = p.state; held = held; left = shown_of turns }) x next notice e xs ended) ∙ h.accepted (k + 1) held before;
       last = h.last;
       exits = h.exits;
       within = h.within;
       closed = h.closed;
-      reads = reads_more (step_of next effect) e apart next xs rest h;
+      reads = reads_more (step_of next (Tell notice)) e (told_apart notice) next xs turns h;
     }
 
-    split_check : (next : State) → after s x ≡ Ok (step_of next CheckSat) → (xs : List Sexpr) (out rest : List ℕ) (entry : Entry) → IsEntryOf version next.context entry → out ≡ line_of (entry_sexpr entry) ++ rest
-        → IsSplit version script mid (settled (verdict_of entry) next) (k + 1) xs rest → IsSplit version script place s k (x ∷ xs) out
-    split_check next e xs out rest entry right same h = record {
-      entries = file_entry_of entry ∷ h.entries;
-      text = same ∙ ap (λ (y : Sexpr). line_of y ++ rest) (sym (text_is entry)) ∙ ap (λ (t : List ℕ). line_of (file_entry_sexpr (file_entry_of entry)) ++ t) h.text
-          ∙ sym (append_assoc (line_of (file_entry_sexpr (file_entry_of entry))) (entries_text h.entries) (line_of end_sexpr));
-      fits = All-cons (FileEntryFits version) (file_entry_of entry) h.entries (fits_are version entry right.fits) h.fits;
-      accepted = λ n before.
+    split_check : (question : Question) (next : State) → after p.state x ≡ Ok (step_of next (Ask question)) → (xs : List Sexpr) (turns : List (Turn Entry)) (entry : Entry) → IsEntryOf version next.context entry
+        → IsSplit version script mid (settled (verdict_of entry) next) xs turns → IsSplit version script place p.state (x ∷ xs) (turn p next (answers question x entry) ∷ turns)
+    split_check question next e xs turns entry right h = record {
+      text = ap (λ (y : Sexpr). line_of y ++ pieces (Certificate version) turns) (sym (text_is entry)) ∙ ap (λ (t : List ℕ). line_of (file_entry_sexpr (file_entry_of entry)) ++ t) h.text
+          ∙ sym (append_assoc (line_of (file_entry_sexpr (file_entry_of entry))) (entries_text (shown_of turns)) (line_of end_sexpr));
+      fits = All-cons (FileEntryFits version) (file_entry_of entry) (shown_of turns) (fits_are version entry right.fits) h.fits;
+      accepted = λ k held before.
           let shown = file_entry_of entry in
           let sofar = before ++ placed next.context shown ∷ [] in
-          judged_ok s k n before x xs (shown ∷ h.entries) (step_of next CheckSat) e
-          ∙ ap (λ (f : Option EntryFlaw). judged_entry n f (judged (settled (told_by shown) next) (k + 1) (n + 1) sofar xs h.entries)) (entry_right flaw own before next.context entry right.right)
-          ∙ ap (λ (v : Satisfiability). judged (settled v next) (k + 1) (n + 1) sofar xs h.entries) (same_verdict entry)
-          ∙ h.accepted (n + 1) sofar;
+          let there : Place FileEntry = record { number = k; state = p.state; held = held; left = shown ∷ shown_of turns } in
+          let coming : State → List (Turn FileEntry) = λ s. course told_by (record { number = k + 1; state = s; held = Some shown; left = shown_of turns }) xs ended in
+          ap (judged_turns before) (answered_turn told_by there x next question shown (shown_of turns) e (question_taken question next x) refl xs ended)
+          ∙ ap (λ (f : Option EntryFlaw). judged_entry (length before + 1) f (judged_turns sofar (coming (settled (told_by shown) next)))) (entry_right flaw own before next.context entry right.right)
+          ∙ ap (λ (v : Satisfiability). judged_turns sofar (coming (settled v next))) (same_verdict entry)
+          ∙ h.accepted (k + 1) (Some shown) sofar;
       last = h.last;
       exits = h.exits;
       within = h.within;
       closed = h.closed;
-      reads = reads_more (step_of next CheckSat) e check_apart (settled (verdict_of entry) next) xs rest h;
+      reads = reads_more (step_of next (Ask question)) e (ask_apart question) (settled (verdict_of entry) next) xs turns h;
     }
 
-    split_exit : (next : State) → after s x ≡ Ok (step_of next Exit) → (xs : List Sexpr) (out : List ℕ) → xs ≡ [] → out ≡ line_of end_sexpr → IsClosedGap (drop mid script) → IsSplit version script place s k (x ∷ xs) out
+    split_exit : (next : State) → after p.state x ≡ Ok (step_of next Exit) → (xs : List Sexpr) → xs ≡ [] → IsClosedGap (drop mid script) → IsSplit version script place p.state (x ∷ xs) (turn p next ends ∷ [])
     unfolding ScriptPart
-    split_exit next e xs out over same is = record {
-      entries = [];
-      text = same;
+    split_exit next e xs over is = record {
+      text = append-nil (line_of end_sexpr);
       fits = All-nil (FileEntryFits version);
-      accepted = λ n before. judged_ok s k n before x xs [] (step_of next Exit) e;
+      accepted = λ k held before. ap (judged_turns before) (exit_turn told_by (record { number = k; state = p.state; held = held; left = [] }) x next e xs ended);
       last = mid;
       exits = true;
       within = command_within (step_of next Exit) e;
       closed = is;
-      reads = λ added end behind ends. (
+      reads = λ added end behind closes. (
         mid,
         on_command (step_of next Exit) e added,
-        carried_apart s x (step_of next Exit) e,
-        subst (λ (b : Bool). FollowsExit b (ExitEnds mid xs end behind) (ScriptPart (script ++ added) mid xs end behind)) (sym ((only s x (step_of next Exit) e).0 refl)) (over, ends.0, ends.1),
+        carried_apart p.state x (step_of next Exit) e,
+        subst (λ (b : Bool). FollowsExit b (ExitEnds mid xs end behind) (ScriptPart (script ++ added) mid xs end behind)) (sym ((only p.state x (step_of next Exit) e).0 refl)) (over, closes.0, closes.1),
       );
     }
 
-    abbrev Others : List Sexpr → List Sexpr → Ending → Type 0
-    Others xs ys ending = (held : Held) (next : State) (rest : Output) → rest.status ≡ 0 → mid ≤ length script → Follows (Certificate version) held next (k + 1) xs ending rest → IsWholeFrom script mid ys → IsSplit version script mid next (k + 1) xs rest.text
-
-    abbrev GoesOnAs : Reply → List Sexpr → Ending → Output → Type 0
-    GoesOnAs reply xs ending out = GoesOn k reply xs ending out (λ kept next rest. Follows (Certificate version) kept next (k + 1) xs ending rest)
+    -- behind a closed gap there is no command
+    none_behind : (here : ℕ) (xs : List Sexpr) → mid ≤ length script → IsClosedGap (drop mid script) → Commands script mid xs here → xs ≡ []
+    none_behind here [] le closed reads = refl
+    none_behind here (y ∷ ys) le closed (there, spells_y, reads) = absurd (not_finished one script mid y there (length script) spells_y (closed_ends script mid le closed))
 
     abbrev IsWholeBehind : List Sexpr → Bool → Type 0
     IsWholeBehind ys exits = FollowsExit exits ((ys ≡ []) × IsClosedGap (drop mid script)) (IsWholeFrom script mid ys)
 
-    goes_as : (reply other : Reply) (xs : List Sexpr) (ending : Ending) (out : Output) → reply ≡ other → GoesOnAs reply xs ending out → GoesOnAs other xs ending out
-    goes_as reply other xs ending out e h = subst (λ (r : Reply). GoesOnAs r xs ending out) e h
+    module _ (here : ℕ) (xs ys : List Sexpr) (reads : Commands script mid xs here) (is : IsWholeBehind ys (is_exit x)) (make : Make)
+        (rest : (q : Place Entry) → AreLegal (make q) → status_of (make q) ≡ Some 0 → mid ≤ length script → IsWholeFrom script mid ys → IsSplit version script mid q.state xs (make q)) where
+      whole_behind : (step : Step) → after p.state x ≡ Ok step → step.effect ≢ Exit → IsWholeFrom script mid ys
+      whole_behind step e apart = subst (IsWholeBehind ys) (not_exit only p.state x step e apart) is
 
-    status_behind : (out : Output) (text : List ℕ) (found : List Entry) (rest : Output) → out ≡ behind text found rest → out.status ≡ 0 → rest.status ≡ 0
-    status_behind out text found rest e status = sym (ap (λ (o : Output). o.status) e) ∙ status
+      split_asked : (question : Question) (next : State) → after p.state x ≡ Ok (step_of next (Ask question)) → (left : List Entry) → AreLegal (asked verdict_of p next question x left make) → status_of (asked verdict_of p next question x left make) ≡ Some 0
+          → IsSplit version script place p.state (x ∷ xs) (asked verdict_of p next question x left make)
+      split_asked question next e [] legal over = absurd (no_status over)
+      split_asked question next e (entry ∷ left) legal over =
+          let q = behind_answer verdict_of p next entry left in
+          let step = step_of next (Ask question) in
+          split_check question next e xs (make q) entry legal.0.right (rest q legal.1 over (command_within step e) (whole_behind step e (ask_apart question)))
 
-    split_effect : (effect : Effect) (held : Held) (next : State) → after s x ≡ Ok (step_of next effect) → (reply : Reply) → Answers (Certificate version) held next x effect reply → (xs ys : List Sexpr) (ending : Ending) (out : Output) → out.status ≡ 0 → GoesOnAs reply xs ending out
-        → IsWholeBehind ys (is_exit x) → Others xs ys ending → IsSplit version script place s k (x ∷ xs) out.text
-    split_effect (Tell notice) held next e reply answers xs ys ending out status goes is others =
-        let step = step_of next (Tell notice) in
-        let a : Answered = record { text = []; found = []; held = held; state = next } in
-        let w = goes_as reply (answered a) xs ending out answers goes in
-        let left : IsWholeFrom script mid ys = subst (IsWholeBehind ys) (not_exit only s x step e (told_apart notice)) is in
-        let h = others held next w.0 (status_behind out [] [] w.0 w.2 status) (command_within step e) w.1 left in
-        split_silent (Tell notice) next xs out.text w.0.text h e (told_apart notice) (λ n before. judged_ok s k n before x xs h.entries step e) (ap (λ (o : Output). o.text) w.2)
-    split_effect CheckSat held next e reply (entry, decides, is_reply) xs ys ending out status goes is others =
-        let step = step_of next CheckSat in
-        let w = goes_as reply (answered (checked (Certificate version) next entry)) xs ending out is_reply goes in
-        let left : IsWholeFrom script mid ys = subst (IsWholeBehind ys) (not_exit only s x step e check_apart) is in
-        let h = others (Some entry) (settled (verdict_of entry) next) w.0 (status_behind out (line_of (entry_sexpr entry)) (entry ∷ []) w.0 w.2 status) (command_within step e) w.1 left in
-        split_check next e xs out.text w.0.text entry decides.right (ap (λ (o : Output). o.text) w.2) h
-    split_effect Exit held next e reply answers xs ys ending out status goes is others =
-        let step = step_of next Exit in
-        let w = goes_as reply (finally (line_of end_sexpr)) xs ending out answers goes in
-        let left : (ys ≡ []) × IsClosedGap (drop mid script) = subst (IsWholeBehind ys) ((only s x step e).0 refl) is in
-        split_exit next e xs out.text w.0.0 (ap (λ (o : Output). o.text) w.1) left.1
+      split_taken : (question : Question) (next : State) → after p.state x ≡ Ok (step_of next (Ask question)) → (why : Option Kind) → AreLegal (taken verdict_of p next question x why make) → status_of (taken verdict_of p next question x why make) ≡ Some 0
+          → IsSplit version script place p.state (x ∷ xs) (taken verdict_of p next question x why make)
+      split_taken question next e (Some kind) legal over = absurd (failed_status over)
+      split_taken question next e None legal over = split_asked question next e p.left legal over
 
-    split_by : (r : Result Step Refusal) → after s x ≡ r → (held : Held) (xs ys : List Sexpr) (ending : Ending) (out : Output) → out.status ≡ 0 → FollowsBy version held k x xs ending out r → IsWholeBehind ys (is_exit x) → Others xs ys ending
-        → IsSplit version script place s k (x ∷ xs) out.text
-    split_by (Err why) e held xs ys ending out status (reply, is_error, goes) is others =
-        let w = goes_as reply (error (kind_of why)) xs ending out is_error goes in
-        absurd (let one : out.status ≡ 1 = ap (λ (o : Output). o.status) w.1 in omega (arith, one, status))
-    split_by (Ok step) e held xs ys ending out status (reply, answers, goes) is others = split_effect step.effect held step.state e reply answers xs ys ending out status goes is others
+      split_effect : (effect : Effect) (next : State) → after p.state x ≡ Ok (step_of next effect) → AreLegal (by_effect verdict_of p next x effect make) → status_of (by_effect verdict_of p next x effect make) ≡ Some 0
+          → IsSplit version script place p.state (x ∷ xs) (by_effect verdict_of p next x effect make)
+      split_effect (Tell notice) next e legal over =
+          let q = behind_told p next in
+          let step = step_of next (Tell notice) in
+          split_told notice next xs (make q) (rest q legal.1 over (command_within step e) (whole_behind step e (told_apart notice))) e
+      split_effect (Ask question) next e legal over = split_taken question next e (refusal_of question next x) legal over
+      split_effect Exit next e legal over =
+          let step = step_of next Exit in
+          let left : (ys ≡ []) × IsClosedGap (drop mid script) = subst (IsWholeBehind ys) ((only p.state x step e).0 refl) is in
+          split_exit next e xs (none_behind here xs (command_within step e) left.1 reads) left.1
 
-  split : (xs ys : List Sexpr) (script : List ℕ) (place here k : ℕ) (held : Held) (s : State) (ending : Ending) (out : Output) → out.status ≡ 0 → place ≤ length script → Commands script place xs here → EndsAs script here ending → Follows (Certificate version) held s k xs ending out
-      → IsWholeFrom script place ys → IsSplit version script place s k xs out.text
-  split [] ys script place here k held s ending out status le e ends follows is = split_end ys script place here k held s ending out status le e ends follows is
-  split (x ∷ xs) [] script place here k held s ending out status le (mid, spells, rest) ends follows is = absurd (not_finished one script place x mid (length script) spells (closed_ends script place le is))
-  split (x ∷ xs) (y ∷ ys) script place here k held s ending out status le (mid, spells, rest) ends follows (there, spells_y, is) =
+      split_by : (r : Result Step Refusal) → after p.state x ≡ r → AreLegal (by_command verdict_of p x r make) → status_of (by_command verdict_of p x r make) ≡ Some 0 → IsSplit version script place p.state (x ∷ xs) (by_command verdict_of p x r make)
+      split_by (Err why) e legal over = absurd (failed_status over)
+      split_by (Ok step) e legal over = split_effect step.effect step.state e legal over
+
+  split : (xs ys : List Sexpr) (script : List ℕ) (place here : ℕ) (p : Place Entry) (ending : Ending) → AreLegal (course verdict_of p xs ending) → status_of (course verdict_of p xs ending) ≡ Some 0 → place ≤ length script → Commands script place xs here → EndsAs script here ending
+      → IsWholeFrom script place ys → IsSplit version script place p.state xs (course verdict_of p xs ending)
+  unfolding course
+  split [] ys script place here p ending legal over le e closes is = split_end ys script place here p ending over le e closes is
+  split (x ∷ xs) [] script place here p ending legal over le (mid, spells, rest) closes is = absurd (not_finished one script place x mid (length script) spells (closed_ends script place le is))
+  split (x ∷ xs) (y ∷ ys) script place here p ending legal over le (mid, spells, rest) closes (there, spells_y, is) =
       let same = same_sexpr one script place y x there mid spells_y spells in
       let at_mid : FollowsExit (is_exit y) ((ys ≡ []) × IsClosedGap (drop mid script)) (IsWholeFrom script mid ys) = subst (λ (m : ℕ). FollowsExit (is_exit y) ((ys ≡ []) × IsClosedGap (drop m script)) (IsWholeFrom script m ys)) same.1 is in
       let of_x : FollowsExit (is_exit x) ((ys ≡ []) × IsClosedGap (drop mid script)) (IsWholeFrom script mid ys) = subst (λ (z : Sexpr). FollowsExit (is_exit z) ((ys ≡ []) × IsClosedGap (drop mid script)) (IsWholeFrom script mid ys)) same.0 at_mid in
-      split_by script place mid k s x spells (after s x) refl held xs ys ending out status (follows_is version held s k x xs ending out follows) of_x
-      (λ kept next left zero inside follows_on whole_on. split xs ys script mid here (k + 1) kept next ending left zero inside rest ends follows_on whole_on)
+      split_by script place mid p x spells here xs ys rest of_x (λ q. course verdict_of q xs ending)
+      (λ q legal_there over_there inside whole_on. split xs ys script mid here q ending legal_there over_there inside rest closes whole_on) (after p.state x) refl legal over
 
   -- ---- the whole
 
-  module _ (script out : List ℕ) (xs : List Sexpr) (rest : List ℕ) (h : IsSplit version script 0 start_state 1 xs rest) (reads_there : ReadsCertificate (script ++ out) h.last (certificate version h.entries)) where
+  module _ (script out : List ℕ) (xs : List Sexpr) (turns : List (Turn Entry)) (h : IsSplit version script 0 start_state xs turns) (reads_there : ReadsCertificate (script ++ out) h.last (certificate version (shown_of turns))) where
     judged_by : (b : Bool) → h.exits ≡ b → IsJudged (script ++ out) Accepted
     judged_by true e = record {
       commands = xs;
       end = part.Exit;
       behind = h.last;
       script = h.reads out part.Exit h.last (subst (λ (b : Bool). EndsIn b (script ++ out) h.last part.Exit h.last) (sym e) (refl, refl));
-      judged_part = (certificate version h.entries, reads_there, sym (h.accepted 1 []));
+      judged_part = (certificate version (shown_of turns), reads_there, sym (h.accepted 1 None []));
     }
     judged_by false e =
         let v = reads_there.0 in
@@ -296,20 +311,22 @@ module _ (one : OneOutcome) (on : ListReadsOn) (within : ListIsWithin) (flaw : F
           end = part.Header v;
           behind = mid;
           script = h.reads out (part.Header v) mid (subst (λ (b : Bool). EndsIn b (script ++ out) h.last (part.Header v) mid) (sym e) reads_there.2);
-          judged_part = (certificate version h.entries, reads_there.3, sym (h.accepted 1 []));
+          judged_part = (certificate version (shown_of turns), reads_there.3, sym (h.accepted 1 None []));
         }
 
   pub certified_as : CertificateReadsBack → (script out : List ℕ) → IsReport (Certificate version) script out 0 → IsWhole script → IsJudged (script ++ out) Accepted
   certified_as back script out (found, output) (ys, is) =
-      let rest = output.0 in
-      let report = output.1 in
-      let is_output = output.2 in
-      let text : out ≡ line_of (header_sexpr version) ++ rest.text = ap (λ (o : Output). o.text) is_output in
-      let status : rest.status ≡ 0 = sym (ap (λ (o : Output). o.status) is_output) in
-      let h = split report.commands ys script 0 report.here 1 None start_state report.ending rest status (omega arith) report.reads report.ends report.answers is in
-      let same : out ≡ certificate_text version h.entries = text ∙ ap (λ (t : List ℕ). line_of (header_sexpr version) ++ t) h.text in
-      let there : drop h.last (script ++ out) ≡ drop h.last script ++ certificate_text version h.entries = drop-append-le h.last script out h.within ∙ ap (λ (t : List ℕ). drop h.last script ++ t) same in
-      judged_by script out report.commands rest.text h (back version h.entries (script ++ out) (drop h.last script) h.last h.fits h.closed there) h.exits refl
+      let a = output.are in
+      let report = Certificate version in
+      let w = a.are in
+      let turns = course verdict_of (start_with found) w.commands w.ending in
+      let legal : AreLegal turns = subst AreLegal w.are a.legal in
+      let over : status_of turns ≡ Some 0 = ap (λ (ts : List (Turn Entry)). status_of ts) (sym w.are) ∙ output.over in
+      let h = split w.commands ys script 0 w.behind (start_with found) w.ending legal over (omega arith) w.reads w.ends is in
+      let same : out ≡ certificate_text version (shown_of turns) =
+      output.text ∙ ap (λ (ts : List (Turn Entry)). opening report ++ pieces report ts) w.are ∙ ap (λ (t : List ℕ). line_of (header_sexpr version) ++ t) h.text in
+      let there : drop h.last (script ++ out) ≡ drop h.last script ++ certificate_text version (shown_of turns) = drop-append-le h.last script out h.within ∙ ap (λ (t : List ℕ). drop h.last script ++ t) same in
+      judged_by script out w.commands turns h (back version (shown_of turns) (script ++ out) (drop h.last script) h.last h.fits h.closed there) h.exits refl
 
 pub certified : OneOutcome → ListReadsOn → ListIsWithin → FlawLaw → OwnFlawLaw → OwnText → OwnFits → OnlyExitEnds → CertificateReadsBack → CertifiedIsAccepted
 certified one on within flaw own text fits only back version script out report whole = certified_as one on within flaw own text fits only version back script out report whole

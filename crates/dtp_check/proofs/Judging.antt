@@ -1,10 +1,11 @@
 -- The judging of a script, command by command.
-use Rattle.std.proofs.Common.{refl, sym, ap, subst, arith, ◌∙◌, ◌≡◌, ◌≢◌, ◌<◌, ◌≤◌, ◌+◌, ◌==◌, ℕ, zero, suc, List, [], ◌∷◌, ◌++◌, length, drop, get_or, Bool, true, false, Option, Some, None, Result, Ok, Err}
+use Rattle.std.proofs.Common.{refl, sym, ap, subst, arith, ◌∙◌, ◌≡◌, ◌≢◌, ◌<◌, ◌≤◌, ◌+◌, ◌==◌, ℕ, zero, suc, List, [], ◌∷◌, ◌++◌, length, length-append, drop, get_or, Bool, true, false, Option, Some, None, Result, Ok, Err, inl, inr}
 use Rattle.std.specs.Prelude.{if◌then◌else◌, option_map, slice_index_or}
 use Rattle.std.specs.List.{AllByRecursion}
 use Rattle.std.proofs.lemmas.Bool.Decides.{nat_tests}
-use Rattle.std.proofs.lemmas.List.{drop_more}
+use Rattle.std.proofs.lemmas.List.{drop_more, drop_all}
 use Rattle.smt_sexpr.specs.Tree.{Sexpr}
+use Rattle.smt_sexpr.specs.Commands.{ended}
 use Rattle.stn_core.specs.declared.literal.Literal.{Literal}
 use Rattle.stn_core.specs.declared.named.NamedValue.{NamedValue}
 use Rattle.stn_core.specs.declared.named.NamedValue.TheVariants.{Int, Truth}
@@ -21,30 +22,37 @@ use Rattle.idl_term.specs.Laws.{ContextsHaveScopes, RootsAreNodes, RootsAreExact
 use Rattle.idl_term.specs.Meanings.{AreRoots}
 use Rattle.idl_term.specs.Scopes.{Declaration, Scope, sorts_of}
 use Rattle.idl_term.specs.Values.{value}
-use Rattle.smt_script.specs.declared.error.Refusal.{Refusal}
 use Rattle.smt_script.specs.declared.state.Effect.{Effect}
-use Rattle.smt_script.specs.declared.state.Effect.TheVariants.{CheckSat, Exit, Tell}
+use Rattle.smt_script.specs.declared.state.Effect.TheVariants.{Ask, Exit, Tell}
+use Rattle.smt_script.specs.declared.state.Question.{Question}
+use Rattle.smt_script.specs.declared.state.Question.TheVariants.{CheckSat}
 use Rattle.smt_script.specs.declared.state.Notice.{Notice}
 use Rattle.smt_script.specs.declared.state.Satisfiability.{Satisfiability}
 use Rattle.smt_script.specs.Commands.{is_exit}
-use Rattle.smt_script.specs.Kept.{Kept, StandsFor, Steps}
-use Rattle.smt_script.specs.States.{State, Step, IsMadeState, after, settled}
+use Rattle.smt_script.specs.Kept.{Kept}
+use Rattle.smt_script.specs.States.{State, Step, after, settled}
+use Rattle.smt_answer.specs.declared.kind.Kind.{Kind}
 use Rattle.smt_answer.specs.Kinds.{kind_of}
+use Rattle.script_walk.specs.Questions.{refusal_of}
+use Rattle.script_walk.specs.Course.{Place, Turn, turn, ends, behind_told, behind_answer, course}
+use Rattle.script_walk.specs.Events.{Leads as Walked, Refuses}
+use Rattle.script_walk.specs.declared.walk.Walk.{Walk}
+use Rattle.script_walk.proofs.Turns.{told_turn, answered_turn, unanswered_turn, exit_turn, refused_turn}
 use Rattle.kept_lemmas.specs.Entries.{Placed}
 use Rattle.script_walk.specs.Standing.{Stands}
-use Rattle.smt_script.specs.Laws.{StepMade, SettledMade, OnlyExitEnds}
-use Rattle.script_walk.proofs.Standing.{stands_after}
+use Rattle.smt_script.specs.Laws.{OnlyExitEnds}
 use Rattle.dtp_entry.proofs.Verdicts.{sorts_count, table_over}
-use Rattle.dtp_check.specs.declared.judge.Turn.{Turn}
-use Rattle.dtp_check.specs.declared.judge.Turn.TheVariants.{Going, Judged}
+use Rattle.dtp_check.specs.declared.judge.Progress.{Progress}
+use Rattle.dtp_check.specs.declared.judge.Progress.TheVariants.{Going, Judged}
 use Rattle.dtp_check.specs.declared.earlier.Earlier.{Earlier}
 use Rattle.dtp_check.specs.declared.earlier.Earlier.TheVariants.{Unkept, Shelved}
 use Rattle.dtp_check.specs.Earlier.{KeepsNone, Holds, Suffices}
-use Rattle.dtp_check.specs.Turns.{IsCheckTurn, IsJudgedTurn}
+use Rattle.dtp_check.specs.Turns.{Leads, ComesTo, StandsAt, GoesTo, IsCheckTurn, IsJudgedTurn}
 use Rattle.dtp_check.specs.declared.judgement.EntryFlaw.{EntryFlaw}
 use Rattle.dtp_check.specs.declared.judgement.EntryFlaw.TheVariants.{WrongCount, WrongSort, FalseAssertion}
-use Rattle.dtp_check.specs.declared.judgement.Judgement.TheVariants.{Script, Surplus}
-use Rattle.dtp_check.specs.Judged.{is_of_sort, first_of_wrong_sort, is_true, first_false, first_of_two, values_flaw, entry_flaw, placed, told_by, surplus_of, judged_entry, judged_check, judged_effect, judged_after, judged}
+use Rattle.dtp_check.specs.declared.judgement.Judgement.{Judgement}
+use Rattle.dtp_check.specs.declared.judgement.Judgement.TheVariants.{Accepted, Script, Missing, Entry as BadEntry, Surplus}
+use Rattle.dtp_check.specs.Judged.{is_of_sort, first_of_wrong_sort, is_true, first_false, first_of_two, values_flaw, entry_flaw, placed, told_by, surplus_of, judged_entry, judged_turns}
 use Rattle.dtp_check.specs.Roots.{first_unmarked}
 
 -- ---- entries that are left
@@ -196,36 +204,35 @@ pub suffices_at : (earlier : Earlier) (used : ℕ) (entries : List FileEntry) (e
 suffices_at Unkept used entries entry h within there = (kept_at used entries entry h within there, tt)
 suffices_at (Shelved shelf) used entries entry h within there = tt
 
--- an entry without a flaw: the script goes on behind its verdict
-pub check_right : SettledMade → (s : State) (used : ℕ) (before : List Placed) (entries : List FileEntry) (entry : FileEntry) (kept : Kept) (later : Earlier) (verdict : Satisfiability) (flaw : Option EntryFlaw) → IsMadeState s → StandsFor kept (settled verdict s) → verdict ≡ told_by entry
-    → Holds later (before ++ placed s.context entry ∷ []) → used < length entries → entry ≡ get_or entries used entry → flaw ≡ entry_flaw before s.context entry → flaw ≡ None → IsCheckTurn s used before entries kept later (Going (used + 1))
-check_right law s used before entries entry kept later verdict flaw made stands e held within there f none = (
-  settled (told_by entry) s,
-  before ++ placed s.context entry ∷ [],
-  record { stands = subst (λ (v : Satisfiability). StandsFor kept (settled v s)) e stands; made = law s (told_by entry) made },
-  held,
-  omega arith,
-  λ others.
-      let left : drop used entries ≡ entry ∷ drop (used + 1) entries = drop_more entries used entry within ∙ ap (λ (first : FileEntry). first ∷ drop (used + 1) entries) (sym there) in
-      ap (λ (es : List FileEntry). judged_check s (used + 1) before es others) left
-      ∙ ap (λ (found : Option EntryFlaw). judged_entry (used + 1) found (others (settled (told_by entry) s) (before ++ placed s.context entry ∷ []) (drop (used + 1) entries))) (sym f ∙ none),
-  refl,
-)
+-- ---- an answer
+
+left_is : (used : ℕ) (entries : List FileEntry) (entry : FileEntry) → used < length entries → entry ≡ get_or entries used entry → drop used entries ≡ entry ∷ drop (used + 1) entries
+left_is used entries entry within there = drop_more entries used entry within ∙ ap (λ (first : FileEntry). first ∷ drop (used + 1) entries) (sym there)
+
+module _ {K : Type 0} (leads : Leads K) (first next : K) (s : State) (used : ℕ) (before : List Placed) (entries : List FileEntry) (kept : Kept) (later : Earlier) where
+  -- an entry without a flaw: the script goes on behind its verdict
+  pub check_right : (entry : FileEntry) (verdict : Satisfiability) (flaw : Option EntryFlaw) → Stands kept (settled verdict s) → verdict ≡ told_by entry
+      → Holds later (before ++ placed s.context entry ∷ []) → leads first next s.context entry → used < length entries → entry ≡ get_or entries used entry → flaw ≡ entry_flaw before s.context entry → flaw ≡ None
+      → IsCheckTurn leads first next s used before entries kept later (Going (used + 1))
+  check_right entry verdict flaw stands e held led within there f none = (
+    entry,
+    left_is used entries entry within there,
+    sym f ∙ none,
+    led,
+    subst (λ (v : Satisfiability). Stands kept (settled v s)) e stands,
+    held,
+    refl,
+    omega arith,
+  )
+
+  pub check_flawed : (entry : FileEntry) (found : Option EntryFlaw) (flaw : EntryFlaw) → used < length entries → entry ≡ get_or entries used entry → found ≡ entry_flaw before s.context entry → found ≡ Some flaw
+      → IsCheckTurn leads first next s used before entries kept later (Judged (BadEntry (used + 1) flaw))
+  check_flawed entry found flaw within there f is = inr (entry, flaw, drop (used + 1) entries, left_is used entries entry within there, sym f ∙ is, refl)
+
+  pub check_missing : length entries ≤ used → IsCheckTurn leads first next s used before entries kept later (Judged (Missing (used + 1)))
+  check_missing few = inl (drop_all used entries few, refl)
 
 -- ---- a command
-
-pub judged_ok : (s : State) (k n : ℕ) (before : List Placed) (x : Sexpr) (xs : List Sexpr) (es : List FileEntry) (step : Step) → after s x ≡ Ok step
-    → judged s k n before (x ∷ xs) es ≡ judged_effect step.effect step.state n before es (λ next m placed rest. judged next (k + 1) m placed xs rest)
-unfolding judged
-judged_ok s k n before x xs es step e = ap (λ (r : Result Step Refusal). judged_after k n before es r (λ next m placed rest. judged next (k + 1) m placed xs rest)) e
-
-pub judged_err : (s : State) (k n : ℕ) (before : List Placed) (x : Sexpr) (xs : List Sexpr) (es : List FileEntry) (why : Refusal) → after s x ≡ Err why → judged s k n before (x ∷ xs) es ≡ Script k (kind_of why)
-unfolding judged
-judged_err s k n before x xs es why e = ap (λ (r : Result Step Refusal). judged_after k n before es r (λ next m placed rest. judged next (k + 1) m placed xs rest)) e
-
-pub judged_none : (s : State) (k n : ℕ) (before : List Placed) (es : List FileEntry) → judged s k n before [] es ≡ surplus_of n es
-unfolding judged
-judged_none s k n before es = refl
 
 false_by_test : (b : Bool) → (b ≡ true → ⊥) → b ≡ false
 false_by_test true h = absurd (h refl)
@@ -238,40 +245,95 @@ not_exit law s x step e apart = false_by_test (is_exit x) (λ f. apart ((law s x
 pub told_apart : (notice : Notice) → Tell notice ≢ Exit
 told_apart notice e = absurd cc
 
-pub check_apart : CheckSat ≢ Exit
-check_apart e = absurd cc
+pub ask_apart : (question : Question) → Ask question ≢ Exit
+ask_apart question e = absurd cc
 
 abbrev pub step_of : State → Effect → Step
 step_of state effect = record { state = state; effect = effect }
 
-module _ (s : State) (k used : ℕ) (before : List Placed) (x : Sexpr) (entries : List FileEntry) (kept : Kept) where
-  pub notice_judged : StepMade → OnlyExitEnds → (notice : Notice) (later : Earlier) → Holds later before → used ≤ length entries → IsMadeState s → Steps s x (Tell notice) kept → IsJudgedTurn s k used before entries x kept later (Going used)
-  notice_judged law ends notice later held le made h = (
-    h.state,
-    before,
-    stands_after law s x (Tell notice) kept h made,
-    held,
-    not_exit ends s x (step_of h.state (Tell notice)) h.leads (told_apart notice),
-    le,
-    λ xs. judged_ok s k (used + 1) before x xs (drop used entries) (step_of h.state (Tell notice)) h.leads,
-  )
+script_refused : (k : ℕ) (kind : Kind) → ◌≡◌ {A = Judgement} (Script k kind) Accepted → ⊥
+script_refused k kind e = absurd cc
 
-  pub exit_judged : (xs : List Sexpr) → Steps s x Exit kept → judged s k (used + 1) before (x ∷ xs) (drop used entries) ≡ surplus_of (used + 1) (drop used entries)
-  exit_judged xs h = judged_ok s k (used + 1) before x xs (drop used entries) (step_of h.state Exit) h.leads
+missing_refused : (n : ℕ) → ◌≡◌ {A = Judgement} (Missing n) Accepted → ⊥
+missing_refused n e = absurd cc
 
-  -- what is kept behind the verdict is `settled`
-  pub check_judged : OnlyExitEnds → (settled : Kept) (later : Earlier) (turn : Turn) (h : Steps s x CheckSat kept) → IsCheckTurn h.state used before entries settled later turn → IsJudgedTurn s k used before entries x settled later turn
-  check_judged ends settled later (Going now) h (next, placed, stands, held, le, same, one) = (
-    next,
-    placed,
-    stands,
-    held,
-    not_exit ends s x (step_of h.state CheckSat) h.leads check_apart,
-    le,
-    λ xs.
-        judged_ok s k (used + 1) before x xs (drop used entries) (step_of h.state CheckSat) h.leads
-        ∙ same (λ next placed rest. judged next (k + 1) ((used + 1) + 1) placed xs rest)
-        ∙ ap (λ (n : ℕ). judged next (k + 1) (n + 1) placed xs (drop now entries)) (sym one),
-  )
-  check_judged ends settled later (Judged judgement) h check = λ xs.
-      judged_ok s k (used + 1) before x xs (drop used entries) (step_of h.state CheckSat) h.leads ∙ check (λ next placed rest. judged next (k + 1) ((used + 1) + 1) placed xs rest)
+entry_refused : (n : ℕ) (flaw : EntryFlaw) → ◌≡◌ {A = Judgement} (BadEntry n flaw) Accepted → ⊥
+entry_refused n flaw e = absurd cc
+
+-- no question of this profile is refused by itself
+pub question_taken : (question : Question) (s : State) (x : Sexpr) → refusal_of question s x ≡ None
+question_taken CheckSat s x = refl
+
+module _ {K : Type 0} (leads : Leads K) (before : List Placed) (first : K) where
+  -- the same turns come to the same
+  pub comes_as : (turns others : List (Turn FileEntry)) (judgement : Judgement) (last : K) → turns ≡ others → ComesTo leads before first others judgement last → ComesTo leads before first turns judgement last
+  comes_as turns others judgement last e h = subst (λ (ts : List (Turn FileEntry)). ComesTo leads before first ts judgement last) (sym e) h
+
+  module _ (entries : List FileEntry) (number used : ℕ) (old : Kept) (earlier : Earlier) (p : Place FileEntry) (at : StandsAt entries number used old earlier p before) where
+    -- behind the script
+    pub comes_over : (turns : List (Turn FileEntry)) (s : State) (judgement : Judgement) → turns ≡ turn p s ends ∷ [] → judgement ≡ surplus_of (used + 1) (drop used entries) → ComesTo leads before first turns judgement first
+    comes_over turns s judgement e is =
+        comes_as turns (turn p s ends ∷ []) judgement first e (record {
+          judged = ap (λ (n : ℕ). surplus_of (n + 1) p.left) at.count ∙ ap (surplus_of (used + 1)) at.left ∙ sym is;
+          kept = λ a. refl;
+        })
+
+    module _ (w : Walk) (x : Sexpr) where
+      pub notice_judged : OnlyExitEnds → (notice : Notice) → used ≤ length entries → Walked w p.state x (Tell notice) → w.number ≡ number + 1 → GoesTo leads first first p before entries x w.number w.state earlier used
+      notice_judged only notice le h counted = record {
+        behind = behind_told p h.next;
+        placed = before;
+        there = record { numbered = ap (λ (n : ℕ). n + 1) at.numbered ∙ sym counted; stands = h.stands; held = at.held; count = at.count; left = at.left };
+        counted = counted ∙ ap (λ (n : ℕ). n + 1) (sym at.numbered);
+        goes_on = not_exit only p.state x (step_of h.next (Tell notice)) h.leads (told_apart notice);
+        within = le;
+        gives = λ xs judgement last c. comes_as _ _ judgement last (told_turn told_by p x h.next notice h.leads xs ended) (record { judged = c.judged; kept = c.kept });
+      }
+
+      pub exit_judged : (judgement : Judgement) → Walked w p.state x Exit → judgement ≡ surplus_of (used + 1) (drop used entries) → (xs : List Sexpr) → ComesTo leads before first (course told_by p (x ∷ xs) ended) judgement first
+      exit_judged judgement h is xs = comes_over _ h.next judgement (exit_turn told_by p x h.next h.leads xs ended) is
+
+      pub refused_judged : (v : Walk) (kind : Kind) (last : K) → Refuses v w p.state x kind → w.number ≡ number → (xs : List Sexpr) → ComesTo leads before first (course told_by p (x ∷ xs) ended) (Script w.number kind) last
+      refused_judged v kind last h same xs =
+          comes_as _ _ (Script w.number kind) last (refused_turn told_by p x h.why h.refuses xs ended) (record {
+            judged = ap (λ (k : ℕ). Script k (kind_of h.why)) (at.numbered ∙ sym same) ∙ ap (Script w.number) (sym h.is);
+            kept = λ a. absurd (script_refused w.number kind a);
+          })
+
+      -- what is kept behind the answer is `settled`
+      pub check_judged : OnlyExitEnds → (question : Question) (settled : Kept) (later : Earlier) (next : K) (progress : Progress) (h : Walked w p.state x (Ask question)) → refusal_of question h.next x ≡ None → w.number ≡ number + 1
+          → IsCheckTurn leads first next h.next used before entries settled later progress → IsJudgedTurn leads first next p before entries x w.number settled later progress
+      check_judged only question settled later next (Going now) h taken counted (entry, left, none, led, stands, held, one, le) =
+          let s = h.next in
+          let q = behind_answer told_by p s entry (drop now entries) in
+          let sofar = before ++ placed s.context entry ∷ [] in
+          let more = length-append before (placed s.context entry ∷ []) in
+          let count = at.count in
+          record {
+            behind = q;
+            placed = sofar;
+            there = record { numbered = ap (λ (n : ℕ). n + 1) at.numbered ∙ sym counted; stands = stands; held = held; count = omega (arith, more, count, one); left = refl };
+            counted = counted ∙ ap (λ (n : ℕ). n + 1) (sym at.numbered);
+            goes_on = not_exit only p.state x (step_of s (Ask question)) h.leads (ask_apart question);
+            within = le;
+            gives = λ xs judgement last c.
+                comes_as _ _ judgement last (answered_turn told_by p x s question entry (drop now entries) h.leads taken (at.left ∙ left) xs ended) (record {
+                  judged = ap (λ (found : Option EntryFlaw). judged_entry (length before + 1) found (judged_turns sofar (course told_by q xs ended))) none ∙ c.judged;
+                  kept = λ a. (next, led, c.kept a);
+                });
+          }
+      check_judged only question settled later next (Judged judgement) h taken counted (inl (none, is)) = λ xs.
+          comes_as _ _ judgement next (unanswered_turn told_by p x h.next question h.leads taken (at.left ∙ none) xs ended)
+          (record { judged = ap (λ (n : ℕ). Missing (n + 1)) at.count ∙ sym is; kept = λ a. absurd (missing_refused (used + 1) (sym is ∙ a)) })
+      check_judged only question settled later next (Judged judgement) h taken counted (inr (entry, flaw, left, left_is, flawed, is)) = λ xs.
+          let s = h.next in
+          let q = behind_answer told_by p s entry left in
+          let sofar = before ++ placed s.context entry ∷ [] in
+          comes_as _ _ judgement next (answered_turn told_by p x s question entry left h.leads taken (at.left ∙ left_is) xs ended) (record {
+            judged = ap (λ (found : Option EntryFlaw). judged_entry (length before + 1) found (judged_turns sofar (course told_by q xs ended))) flawed ∙ ap (λ (n : ℕ). BadEntry (n + 1) flaw) at.count ∙ sym is;
+            kept = λ a. absurd (entry_refused (used + 1) flaw (sym is ∙ a));
+          })
+
+pub course_none : (p : Place FileEntry) → course told_by p [] ended ≡ turn p p.state ends ∷ []
+unfolding course
+course_none p = refl

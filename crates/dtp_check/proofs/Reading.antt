@@ -1,6 +1,7 @@
 -- What is read of the script's part is what stands there.
 use Rattle.std.proofs.Common.{refl, sym, ap, subst, ◌∙◌, ◌≡◌, ◌≢◌, ◌+◌, ◌≤◌, ℕ, List, [], ◌∷◌, length, drop, Bool, true, false}
 use Rattle.smt_sexpr.specs.Tree.{Sexpr}
+use Rattle.smt_sexpr.specs.Commands.{ended}
 use Rattle.smt_sexpr.specs.declared.error.SexprRefusal.{SexprRefusal}
 use Rattle.smt_sexpr.specs.Laws.{OneOutcome}
 use Rattle.smt_sexpr.specs.Reading.{Spells, expression, finished, refused, Outcomes}
@@ -12,24 +13,25 @@ use Rattle.cert_text.specs.Laws.{OneHeader}
 use Rattle.smt_answer.specs.declared.kind.Kind.{Kind}
 use Rattle.smt_answer.specs.Kinds.{kind_of_unreadable}
 use Rattle.smt_script.specs.Commands.{is_exit}
-use Rattle.smt_script.specs.declared.state.Mode.TheVariants as mode
 use Rattle.smt_script.specs.Kept.{Kept}
-use Rattle.smt_script.specs.States.{State, IsMadeState, start_state}
+use Rattle.script_walk.specs.Course.{Place, start_with, course}
+use Rattle.script_walk.specs.Events.{IsStart}
+use Rattle.script_walk.specs.declared.walk.Walk.{Walk}
 use Rattle.script_walk.specs.Standing.{Stands}
 use Rattle.dtp_check.specs.declared.script_part.PartEnd.{PartEnd}
 use Rattle.dtp_check.specs.declared.script_part.PartEnd.TheVariants as part
-use Rattle.dtp_check.specs.declared.judge.Turn.{Turn}
-use Rattle.dtp_check.specs.declared.judge.Turn.TheVariants.{Going, Judged}
+use Rattle.dtp_check.specs.declared.judge.Progress.{Progress}
+use Rattle.dtp_check.specs.declared.judge.Progress.TheVariants.{Going, Judged}
 use Rattle.dtp_check.specs.declared.judgement.Judgement.{Judgement}
 use Rattle.cert_read.specs.Certificates.{CertificateOutcome}
 use Rattle.cert_read.specs.Laws.{OneCertificate, OneRest}
-use Rattle.dtp_check.specs.Judged.{CertificateBehind, judged_with, JudgedPart, EndsPart, IsApart, ExitEnds, FollowsExit, ScriptPart, surplus_of, judged}
+use Rattle.dtp_check.specs.Judged.{CertificateBehind, judged_with, JudgedPart, EndsPart, IsApart, ExitEnds, FollowsExit, ScriptPart, told_by, surplus_of, turns_with}
 use Rattle.dtp_check.specs.Laws.{OneJudgement}
 use Rattle.dtp_check.specs.Parts.{IsReadable}
 use Rattle.dtp_check.specs.declared.earlier.Earlier.{Earlier}
 use Rattle.dtp_check.specs.Earlier.{Holds}
-use Rattle.dtp_check.specs.Turns.{IsJudgedTurn}
-use Rattle.dtp_check.proofs.Judging.{judged_none}
+use Rattle.dtp_check.specs.Turns.{Leads, ComesTo, StandsAt, GoesTo, IsJudgedTurn}
+use Rattle.dtp_check.proofs.Judging.{course_none, comes_over}
 
 -- the command that was read is the script's next
 pub record IsMore (bytes : List ℕ) (after : ℕ) (x : Sexpr) (rest : List Sexpr) (end : PartEnd) (behind : ℕ) : Type 0 where
@@ -39,35 +41,37 @@ pub record IsMore (bytes : List ℕ) (after : ℕ) (x : Sexpr) (rest : List Sexp
 
 -- ---- the loop
 
-module _ (bytes : List ℕ) (entries : List FileEntry) where
-  -- what is left of the script is judged as the whole
-  pub record IsLeft (s : State) (place k used : ℕ) (before : List Placed) (xs : List Sexpr) (end : PartEnd) (behind : ℕ) : Type 0 where
+module _ {K : Type 0} (leads : Leads K) (bytes : List ℕ) (entries : List FileEntry) (first : K) where
+  -- what is left of the script comes to what the whole does
+  pub record IsLeft (place : Place FileEntry) (at : ℕ) (before : List Placed) (now : K) (xs : List Sexpr) (end : PartEnd) (behind : ℕ) : Type 0 where
     pub rest : List Sexpr
-    pub stands_there : ScriptPart bytes place rest end behind
-    pub same : judged start_state 1 1 [] xs entries ≡ judged s k (used + 1) before rest (drop used entries)
+    pub stands_there : ScriptPart bytes at rest end behind
+    pub gives : (judgement : Judgement) (last : K) → ComesTo leads before now (course told_by place rest ended) judgement last → ComesTo leads [] first (turns_with entries xs) judgement last
 
-  pub record IsJudging (place k used : ℕ) (kept : Kept) (earlier : Earlier) : Type 0 where
-    pub s : State
+  pub record IsJudging (at number used : ℕ) (kept : Kept) (earlier : Earlier) (now : K) : Type 0 where
+    pub place : Place FileEntry
     pub before : List Placed
-    pub stands : Stands kept s
-    pub held : Holds earlier before
-    pub left : (xs : List Sexpr) (end : PartEnd) (behind : ℕ) → ScriptPart bytes 0 xs end behind → IsReadable end → IsLeft s place k used before xs end behind
+    pub there : StandsAt entries number used kept earlier place before
+    pub left : (xs : List Sexpr) (end : PartEnd) (behind : ℕ) → ScriptPart bytes 0 xs end behind → IsReadable end → IsLeft place at before now xs end behind
 
-  pub judging_starts : (kept : Kept) (earlier : Earlier) → Holds earlier [] → kept ≡ record { scope = record { declared = []; bound = [] }; nodes = []; roots = []; levels = []; mode = mode.Nothing; print_success = false } → IsMadeState start_state → IsJudging 0 1 0 kept earlier
-  judging_starts kept earlier held e made = record {
-    s = start_state;
-    before = [];
-    stands = rw e (record { stands = record { scope = refl; nodes = refl; roots = refl; levels = tt; ascend = tt; mode = refl; print_success = refl }; made = made });
-    held = held;
-    left = λ xs end behind h r. record { rest = xs; stands_there = h; same = refl };
-  }
+  pub judging_starts : (w : Walk) (earlier : Earlier) → Holds earlier [] → IsStart w → IsJudging w.lexer.place w.number 0 w.state earlier first
+  judging_starts w earlier held h =
+      subst (λ (at : ℕ). IsJudging at w.number 0 w.state earlier first) (sym h.place) (record {
+        place = start_with entries;
+        before = [];
+        there = record { numbered = sym h.number; stands = h.stands; held = held; count = refl; left = refl };
+        left = λ xs end behind part_of r. record { rest = xs; stands_there = part_of; gives = λ judgement last c. c };
+      })
 
--- ---- one reading
+-- reading leaves what the commands led to
+pub stands_as : (entries : List FileEntry) (used : ℕ) (earlier : Earlier) (place : Place FileEntry) (before : List Placed) (v w : Walk) → w.number ≡ v.number → w.state ≡ v.state
+    → StandsAt entries v.number used v.state earlier place before → StandsAt entries w.number used w.state earlier place before
+stands_as entries used earlier place before v w number state h = record { numbered = h.numbered ∙ sym number; stands = subst (λ (kept : Kept). Stands kept place.state) (sym state) h.stands; held = h.held; count = h.count; left = h.left }
 
-pub turn_used : (s : State) (k used : ℕ) (before : List Placed) (entries : List FileEntry) (x : Sexpr) (new : Kept) (later : Earlier) (turn : Turn) (now : ℕ) → turn ≡ Going now → IsJudgedTurn s k used before entries x new later turn → now ≤ length entries
-turn_used s k used before entries x new later turn now is j =
-    let w : IsJudgedTurn s k used before entries x new later (Going now) = subst (λ (t : Turn). IsJudgedTurn s k used before entries x new later t) is j in
-    w.5
+-- where the script goes on
+pub goes_to : {K : Type 0} (leads : Leads K) (first next : K) (place : Place FileEntry) (before : List Placed) (entries : List FileEntry) (x : Sexpr) (number : ℕ) (new : Kept) (later : Earlier) (progress : Progress) (now : ℕ) → progress ≡ Going now
+    → IsJudgedTurn leads first next place before entries x number new later progress → GoesTo leads first next place before entries x number new later now
+goes_to leads first next place before entries x number new later progress now is j = subst (λ (t : Progress). IsJudgedTurn leads first next place before entries x number new later t) is j
 
 module _ (one : OneOutcome) where
   pub same_sexpr : (bytes : List ℕ) (place : ℕ) (x y : Sexpr) (m n : ℕ) → Spells bytes place x m → Spells bytes place y n → (x ≡ y) × (m ≡ n)
@@ -184,43 +188,44 @@ module _ (one : OneOutcome) where
 
   -- ---- a turn of the loop
 
-  module _ (bytes : List ℕ) (entries : List FileEntry) where
-    module _ (place k used : ℕ) (kept : Kept) (earlier : Earlier) (h : IsJudging bytes entries place k used kept earlier) where
-      pub judging_goes_on : (after : ℕ) (x : Sexpr) (new : Kept) (later : Earlier) (turn : Turn) (now : ℕ) → Spells bytes place x after → IsApart x → turn ≡ Going now → IsJudgedTurn h.s k used h.before entries x new later turn → IsJudging bytes entries after (k + 1) now new later
-      judging_goes_on after x new later turn now spells apart is j =
-          let w : IsJudgedTurn h.s k used h.before entries x new later (Going now) = subst (λ (t : Turn). IsJudgedTurn h.s k used h.before entries x new later t) is j in
-          record {
-            s = w.0;
-            before = w.1;
-            stands = w.2;
-            held = w.3;
-            left = λ xs end behind part_of readable. (
-                let l = h.left xs end behind part_of readable in
-                let m = part_is_more bytes place after x l.rest end behind l.stands_there spells apart in
-                record {
-                  rest = m.others;
-                  stands_there = subst (λ (b : Bool). FollowsExit b (ExitEnds after m.others end behind) (ScriptPart bytes after m.others end behind)) w.4 m.follows;
-                  same = l.same ∙ ap (λ (ys : List Sexpr). judged h.s k (used + 1) h.before ys (drop used entries)) m.is ∙ w.6 m.others;
-                });
-          }
+  module _ {K : Type 0} (leads : Leads K) (bytes : List ℕ) (entries : List FileEntry) (first : K) where
+    module _ (place number used : ℕ) (kept : Kept) (earlier : Earlier) (now : K) (h : IsJudging leads bytes entries first place number used kept earlier now) where
+      -- what is left comes to
+      left_comes : (rest others : List Sexpr) (judgement : Judgement) (last : K) → rest ≡ others → ComesTo leads h.before now (course told_by h.place others ended) judgement last → ComesTo leads h.before now (course told_by h.place rest ended) judgement last
+      left_comes rest others judgement last e c = subst (λ (ys : List Sexpr). ComesTo leads h.before now (course told_by h.place ys ended) judgement last) (sym e) c
 
-      pub judged_here : (after : ℕ) (x : Sexpr) (new : Kept) (later : Earlier) (turn : Turn) (judgement : Judgement) → Spells bytes place x after → IsApart x → turn ≡ Judged judgement → IsJudgedTurn h.s k used h.before entries x new later turn
-          → (xs : List Sexpr) (end : PartEnd) (behind : ℕ) → ScriptPart bytes 0 xs end behind → IsReadable end → judgement ≡ judged start_state 1 1 [] xs entries
-      judged_here after x new later turn judgement spells apart is j xs end behind part_of readable =
-          let w : IsJudgedTurn h.s k used h.before entries x new later (Judged judgement) = subst (λ (t : Turn). IsJudgedTurn h.s k used h.before entries x new later t) is j in
+      pub judging_goes_on : (after : ℕ) (x : Sexpr) (more : ℕ) (new : Kept) (later : Earlier) (next : K) (count : ℕ) → Spells bytes place x after → IsApart x → GoesTo leads now next h.place h.before entries x more new later count → IsJudging leads bytes entries first after more count new later next
+      judging_goes_on after x more new later next count spells apart w = record {
+        place = w.behind;
+        before = w.placed;
+        there = w.there;
+        left = λ xs end behind part_of readable. (
+            let l = h.left xs end behind part_of readable in
+            let m = part_is_more bytes place after x l.rest end behind l.stands_there spells apart in
+            record {
+              rest = m.others;
+              stands_there = subst (λ (b : Bool). FollowsExit b (ExitEnds after m.others end behind) (ScriptPart bytes after m.others end behind)) w.goes_on m.follows;
+              gives = λ judgement last c. l.gives judgement last (left_comes l.rest (x ∷ m.others) judgement last m.is (w.gives m.others judgement last c));
+            });
+      }
+
+      pub judged_here : (after : ℕ) (x : Sexpr) (more : ℕ) (new : Kept) (later : Earlier) (next : K) (progress : Progress) (judgement : Judgement) → Spells bytes place x after → IsApart x → progress ≡ Judged judgement → IsJudgedTurn leads now next h.place h.before entries x more new later progress
+          → (xs : List Sexpr) (end : PartEnd) (behind : ℕ) → ScriptPart bytes 0 xs end behind → IsReadable end → ComesTo leads [] first (turns_with entries xs) judgement next
+      judged_here after x more new later next progress judgement spells apart is j xs end behind part_of readable =
+          let w : IsJudgedTurn leads now next h.place h.before entries x more new later (Judged judgement) = subst (λ (t : Progress). IsJudgedTurn leads now next h.place h.before entries x more new later t) is j in
           let l = h.left xs end behind part_of readable in
           let m = part_is_more bytes place after x l.rest end behind l.stands_there spells apart in
-          sym (l.same ∙ ap (λ (ys : List Sexpr). judged h.s k (used + 1) h.before ys (drop used entries)) m.is ∙ w m.others)
+          l.gives judgement next (left_comes l.rest (x ∷ m.others) judgement next m.is (w m.others))
 
       pub judged_over : (after : ℕ) (found : PartEnd) (judgement : Judgement) → EndsPart bytes place found after → judgement ≡ surplus_of (used + 1) (drop used entries)
-          → (xs : List Sexpr) (end : PartEnd) (behind : ℕ) → ScriptPart bytes 0 xs end behind → IsReadable end → judgement ≡ judged start_state 1 1 [] xs entries
+          → (xs : List Sexpr) (end : PartEnd) (behind : ℕ) → ScriptPart bytes 0 xs end behind → IsReadable end → ComesTo leads [] first (turns_with entries xs) judgement now
       judged_over after found judgement e is xs end behind part_of readable =
           let l = h.left xs end behind part_of readable in
           let over = part_is_over bytes place after l.rest end found behind l.stands_there e in
-          is ∙ sym (l.same ∙ ap (λ (ys : List Sexpr). judged h.s k (used + 1) h.before ys (drop used entries)) over ∙ judged_none h.s k (used + 1) h.before (drop used entries))
+          l.gives judgement now (left_comes l.rest [] judgement now over (comes_over leads h.before now entries number used kept earlier h.place h.there (course told_by h.place [] ended) h.place.state judgement (course_none h.place) is))
 
       pub judged_unread : (after : ℕ) (kind : Kind) (judgement : Judgement) → EndsPart bytes place (part.Unread kind) after
-          → (xs : List Sexpr) (end : PartEnd) (behind : ℕ) → ScriptPart bytes 0 xs end behind → IsReadable end → judgement ≡ judged start_state 1 1 [] xs entries
+          → (xs : List Sexpr) (end : PartEnd) (behind : ℕ) → ScriptPart bytes 0 xs end behind → IsReadable end → ComesTo leads [] first (turns_with entries xs) judgement now
       judged_unread after kind judgement e xs end behind part_of readable =
           let l = h.left xs end behind part_of readable in
           absurd (part_is_readable bytes place after l.rest end kind behind l.stands_there readable e)

@@ -8,7 +8,6 @@ use Rattle.cert_read.specs.declared.error.CertReadError.{CertReadError}
 use Rattle.cert_read.specs.declared.error.CertReadError.TheVariants.{Refused}
 use Rattle.cert_read.specs.declared.error.CertificateRefusal.{CertificateRefusal}
 use Rattle.smt_answer.specs.declared.kind.Kind.{Kind}
-use Rattle.smt_script.specs.States.{start_state}
 use Rattle.dtp_entry.specs.Written.{IsFront}
 use Rattle.dtp_entry.specs.Written.{Writes}
 use Rattle.dtp_entry.proofs.Written.{appends_nothing}
@@ -21,7 +20,7 @@ use Rattle.dtp_check.specs.declared.judgement.Judgement.TheVariants.{Script, Cer
 use Rattle.dtp_check.specs.declared.script_part.PartEnd.{PartEnd}
 use Rattle.dtp_check.specs.declared.script_part.PartEnd.TheVariants as part
 use Rattle.dtp_check.specs.Behind.{IsBehind}
-use Rattle.dtp_check.specs.Judged.{ScriptPart, CertificateBehind, judged, IsJudged}
+use Rattle.dtp_check.specs.Judged.{ScriptPart, CertificateBehind, judged_script, IsJudged}
 use Rattle.dtp_check.specs.Parts.{IsReadable}
 
 -- an error that is a refusal says so
@@ -31,7 +30,7 @@ refusal_told IsRefused error why e h = subst (λ (error : CertReadError). ErrorS
 -- ---- the whole
 
 module _ (bytes : List ℕ) (xs : List Sexpr) (behind : ℕ) where
-  pub judged_entries : (end : PartEnd) (version : Version) (entries : List Shown) (judgement : Judgement) → ScriptPart bytes 0 xs end behind → IsReadable end → CertificateBehind bytes end behind (certificate version entries) → judgement ≡ judged start_state 1 1 [] xs entries → IsJudged bytes judgement
+  pub judged_entries : (end : PartEnd) (version : Version) (entries : List Shown) (judgement : Judgement) → ScriptPart bytes 0 xs end behind → IsReadable end → CertificateBehind bytes end behind (certificate version entries) → judgement ≡ judged_script xs entries → IsJudged bytes judgement
   judged_entries part.Exit version entries judgement h r b e = record { commands = xs; end = part.Exit; behind = behind; script = h; judged_part = (certificate version entries, b, e) }
   judged_entries (part.Header v) version entries judgement h r b e = record { commands = xs; end = part.Header v; behind = behind; script = h; judged_part = (certificate version entries, b, e) }
   judged_entries part.End version entries judgement h r b e = record { commands = xs; end = part.End; behind = behind; script = h; judged_part = (certificate version entries, b, e) }

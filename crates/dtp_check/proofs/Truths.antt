@@ -4,6 +4,7 @@ use Rattle.std.specs.Prelude.{if◌then◌else◌, option_map}
 use Rattle.std.specs.List.{AllByRecursion}
 use Rattle.std.proofs.lemmas.Bool.{eqb-true}
 use Rattle.smt_sexpr.specs.Tree.{Sexpr}
+use Rattle.smt_sexpr.specs.Commands.{ended}
 use Rattle.stn_core.specs.declared.named.NamedValue.{NamedValue}
 use Rattle.cert_text.specs.declared.entry.FileEntry.{FileEntry}
 use Rattle.cert_text.specs.declared.entry.FileEntry.TheVariants.{Sat, Unsat}
@@ -20,8 +21,12 @@ use Rattle.idl_term.specs.Scopes.{sorts_of}
 use Rattle.idl_term.specs.Values.{Value, whole, truth, nothing, Named, value}
 use Rattle.smt_script.specs.declared.error.Refusal.{Refusal}
 use Rattle.smt_script.specs.declared.state.Effect.{Effect}
-use Rattle.smt_script.specs.declared.state.Effect.TheVariants.{CheckSat, Exit, Tell}
-use Rattle.smt_script.specs.States.{State, start_state, Step, IsMadeState, after, settled}
+use Rattle.smt_script.specs.declared.state.Effect.TheVariants.{Ask, Exit, Tell}
+use Rattle.smt_script.specs.declared.state.Question.{Question}
+use Rattle.smt_script.specs.States.{State, Step, IsMadeState, after}
+use Rattle.smt_answer.specs.declared.kind.Kind.{Kind}
+use Rattle.script_walk.specs.Questions.{refusal_of}
+use Rattle.script_walk.specs.Course.{Place, start_with, Turn, behind_told, behind_answer, asked, taken, by_effect, by_command, course, AreAnswered}
 use Rattle.dtp_entry.specs.Entries.{points_of, problem_of}
 use Rattle.smt_script.specs.Laws.{StartMade, StepMade, SettledMade}
 use Rattle.dtp_entry.proofs.Verdicts.{unsolvable_unsatisfiable, sorts_count}
@@ -32,9 +37,9 @@ use Rattle.dtp_check.specs.declared.judgement.Judgement.TheVariants.{Accepted}
 use Rattle.dtp_check.specs.declared.script_part.PartEnd.{PartEnd}
 use Rattle.dtp_check.specs.declared.script_part.PartEnd.TheVariants as part
 use Rattle.kept_lemmas.specs.declared.item.Item.{Item}
-use Rattle.dtp_check.specs.Judged.{Others, first_of_wrong_sort, is_true, first_false, first_of_two, entry_flaw, placed, told_by, surplus_of, judged_entry, judged_check, judged_effect, judged_after, judged, judged_with, ScriptPart, CertificateBehind, JudgedPart}
+use Rattle.dtp_check.specs.Judged.{first_of_wrong_sort, is_true, first_false, first_of_two, entry_flaw, placed, told_by, surplus_of, judged_entry, judged_turns, judged_with, ScriptPart, CertificateBehind, JudgedPart}
 use Rattle.dtp_check.specs.Laws.{NothingFalseIsAccepted}
-use Rattle.dtp_check.specs.Told.{Tells, IsToldAt, IsToldBy, IsToldAfter, IsTold, SaysNothingFalse}
+use Rattle.dtp_check.specs.Told.{Tells, TellsIn, SaysNothingFalse}
 use Rattle.dtp_check.proofs.Judging.{are_of_sorts}
 
 -- ---- an entry without a flaw
@@ -98,33 +103,43 @@ module _ (flaws : ItemsFlawLaw) (refutes : ItemsLaw) (goes_on : EntriesGoOn) (sc
   accepted_entry n None others e = (refl, e)
   accepted_entry n (Some flaw) others e = absurd cc
 
-  told_check : (s : State) (n : ℕ) (before : List Placed) (entries : List FileEntry) (others : State → List Placed → List FileEntry → Judgement) (Rest : State → List FileEntry → Type 0) → IsMadeState s → AreEntriesRight before → judged_check s n before entries others ≡ Accepted
-      → ((next : State) (sofar : List Placed) (rest : List FileEntry) → IsMadeState next → AreEntriesRight sofar → others next sofar rest ≡ Accepted → Rest next rest) → IsToldAt s entries Rest
-  told_check s n before [] others Rest made right e f = absurd cc
-  told_check s n before (entry ∷ entries) others Rest made right e f =
-      let next = settled (told_by entry) s in
-      let sofar = before ++ placed s.context entry ∷ [] in
-      let w = accepted_entry n (entry_flaw before s.context entry) (others next sofar entries) e in
-      (entry_right before s.context entry right made.context w.0, f next sofar entries (settled_made s (told_by entry) made) (right_behind before s.context entry right w.0) w.1)
+  abbrev Make : Type 0
+  Make = Place FileEntry → List (Turn FileEntry)
 
-  told_effect : (effect : Effect) (s : State) (n : ℕ) (before : List Placed) (entries : List FileEntry) (others : Others) (Rest : State → List FileEntry → Type 0) → IsMadeState s → AreEntriesRight before → judged_effect effect s n before entries others ≡ Accepted
-      → ((next : State) (m : ℕ) (sofar : List Placed) (rest : List FileEntry) → IsMadeState next → AreEntriesRight sofar → others next m sofar rest ≡ Accepted → Rest next rest) → IsToldBy effect s entries Rest
-  told_effect (Tell notice) s n before entries others Rest made right e f = f s n before entries made right e
-  told_effect CheckSat s n before entries others Rest made right e f =
-      told_check s n before entries (λ next sofar rest. others next (n + 1) sofar rest) Rest made right e (λ next sofar rest of all g. f next (n + 1) sofar rest of all g)
-  told_effect Exit s n before entries others Rest made right e f = none_left n entries e
+  -- what follows says what is so, from each place
+  abbrev FollowsSo : Make → Type 0
+  FollowsSo make = (q : Place FileEntry) (sofar : List Placed) → IsMadeState q.state → AreEntriesRight sofar → judged_turns sofar (make q) ≡ Accepted → AreAnswered TellsIn (make q) q.left
 
-  told_after : (s : State) (k n : ℕ) (before : List Placed) (x : Sexpr) (xs : List Sexpr) (entries : List FileEntry) (found : Result Step Refusal) → IsMadeState s → AreEntriesRight before → after s x ≡ found
-      → judged_after k n before entries found (λ next m sofar rest. judged next (k + 1) m sofar xs rest) ≡ Accepted
-      → ((t : State) (m : ℕ) (sofar : List Placed) (rest : List FileEntry) → IsMadeState t → AreEntriesRight sofar → judged t (k + 1) m sofar xs rest ≡ Accepted → IsTold t xs rest) → IsToldAfter found entries (λ next rest. IsTold next xs rest)
-  told_after s k n before x xs entries (Err why) made right is e rest = absurd cc
-  told_after s k n before x xs entries (Ok step) made right is e rest =
-      told_effect step.effect step.state n before entries (λ next m sofar es. judged next (k + 1) m sofar xs es) (λ next es. IsTold next xs es) (step_made s x step made is) right e rest
+  module _ (p : Place FileEntry) (x : Sexpr) (before : List Placed) (right : AreEntriesRight before) (make : Make) (rest : FollowsSo make) where
+    told_asked : (s : State) (question : Question) (left : List FileEntry) → IsMadeState s → judged_turns before (asked told_by p s question x left make) ≡ Accepted → AreAnswered TellsIn (asked told_by p s question x left make) left
+    told_asked s question [] made e = absurd cc
+    told_asked s question (entry ∷ left) made e =
+        let q = behind_answer told_by p s entry left in
+        let sofar = before ++ placed s.context entry ∷ [] in
+        let w = accepted_entry (length before + 1) (entry_flaw before s.context entry) (judged_turns sofar (make q)) e in
+        let told = rest q sofar (settled_made s (told_by entry) made) (right_behind before s.context entry right w.0) w.1 in
+        record { fit = (entry_right before s.context entry right made.context w.0, told.fit); over = told.over; used = ap (λ (es : List FileEntry). entry ∷ es) told.used }
 
-  told : (s : State) (k n : ℕ) (before : List Placed) (xs : List Sexpr) (entries : List FileEntry) → IsMadeState s → AreEntriesRight before → judged s k n before xs entries ≡ Accepted → IsTold s xs entries
-  unfolding judged IsTold
-  told s k n before [] entries made right e = none_left n entries e
-  told s k n before (x ∷ xs) entries made right e = told_after s k n before x xs entries (after s x) made right refl e (λ t m sofar rest of all g. told t (k + 1) m sofar xs rest of all g)
+    told_taken : (s : State) (question : Question) (why : Option Kind) → IsMadeState s → judged_turns before (taken told_by p s question x why make) ≡ Accepted → AreAnswered TellsIn (taken told_by p s question x why make) p.left
+    told_taken s question (Some kind) made e = absurd cc
+    told_taken s question None made e = told_asked s question p.left made e
+
+    told_effect : (effect : Effect) (s : State) → IsMadeState s → judged_turns before (by_effect told_by p s x effect make) ≡ Accepted → AreAnswered TellsIn (by_effect told_by p s x effect make) p.left
+    told_effect (Tell notice) s made e =
+        let told = rest (behind_told p s) before made right e in
+        record { fit = (tt, told.fit); over = told.over; used = told.used }
+    told_effect (Ask question) s made e = told_taken s question (refusal_of question s x) made e
+    told_effect Exit s made e = record { fit = (tt, tt); over = refl; used = sym (none_left (length before + 1) p.left e) }
+
+    told_after : (found : Result Step Refusal) → after p.state x ≡ found → IsMadeState p.state → judged_turns before (by_command told_by p x found make) ≡ Accepted → AreAnswered TellsIn (by_command told_by p x found make) p.left
+    told_after (Err why) is made e = absurd cc
+    told_after (Ok step) is made e = told_effect step.effect step.state (step_made p.state x step made is) e
+
+  told : (xs : List Sexpr) (p : Place FileEntry) (before : List Placed) → IsMadeState p.state → AreEntriesRight before → judged_turns before (course told_by p xs ended) ≡ Accepted → AreAnswered TellsIn (course told_by p xs ended) p.left
+  unfolding course
+  told [] p before made right e = record { fit = (tt, tt); over = refl; used = sym (none_left (length before + 1) p.left e) }
+  told (x ∷ xs) p before made right e =
+      told_after p x before right (λ next. course told_by next xs ended) (λ q sofar there of_all g. told xs q sofar there of_all g) (after p.state x) refl made e
 
   -- ---- the source
 
@@ -134,7 +149,7 @@ module _ (flaws : ItemsFlawLaw) (refutes : ItemsLaw) (goes_on : EntriesGoOn) (sc
   module _ (start_made : StartMade) where
     told_with : (bytes : List ℕ) (xs : List Sexpr) (end : PartEnd) (behind : ℕ) (outcome : CertificateOutcome) → ScriptPart bytes 0 xs end behind → CertificateBehind bytes end behind outcome → Accepted ≡ judged_with xs outcome → SaysNothingFalse bytes
     told_with bytes xs end behind (certificate version entries) p is e =
-        record { commands = xs; end = end; behind = behind; version = version; entries = entries; script = p; stands = is; told = told start_state 1 1 [] xs entries start_made none_before (sym e) }
+        record { commands = xs; end = end; behind = behind; version = version; entries = entries; script = p; stands = is; told = told xs (start_with entries) [] start_made none_before (sym e) }
     told_with bytes xs end behind (no_certificate why) p is e = absurd cc
 
     told_part : (bytes : List ℕ) (xs : List Sexpr) (end : PartEnd) (behind : ℕ) → ScriptPart bytes 0 xs end behind → JudgedPart bytes xs end behind Accepted → SaysNothingFalse bytes

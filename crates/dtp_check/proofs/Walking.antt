@@ -3,6 +3,10 @@ use Rattle.std.proofs.Common.{refl, sym, subst, arith, ◌∙◌, ◌≡◌, ◌
 use Rattle.smt_sexpr.specs.Tree.{Sexpr}
 use Rattle.smt_sexpr.specs.Table.{Table, Means}
 use Rattle.smt_sexpr.specs.Reading.{Spells}
+use Rattle.smt_answer.specs.declared.kind.Kind.{Kind}
+use Rattle.script_walk.specs.Events as events
+use Rattle.script_walk.specs.declared.reader.Next.{Next as Read}
+use Rattle.script_walk.specs.declared.reader.Next.TheVariants as read
 use Rattle.dtp_check.specs.declared.script_part.PartEnd.{PartEnd}
 use Rattle.dtp_check.specs.declared.script_part.PartEnd.TheVariants as part
 use Rattle.dtp_check.specs.declared.script_part.Next.{Next}
@@ -57,6 +61,12 @@ command_read bytes place t after next id e h =
 
 pub end_read : (bytes : List ℕ) (place : ℕ) (t : Table) (after : ℕ) (next : Next) (end : PartEnd) → next ≡ Ended end → IsNext bytes place t after next → EndsPart bytes place end after
 end_read bytes place t after next end e h = subst (λ (n : Next). IsNext bytes place t after n) e h
+
+-- what can't be read ends the script's part
+pub unread_ends : (bytes : List ℕ) (place : ℕ) (t : Table) (after : ℕ) (next : Read) (kind : Kind) → next ≡ read.Unread kind → events.IsNext bytes place t after next → EndsPart bytes place (part.Unread kind) after
+unread_ends bytes place t after next kind e h =
+    let w : events.IsNext bytes place t after (read.Unread kind) = subst (λ (n : Read). events.IsNext bytes place t after n) e h in
+    (w.0, w.1, sym w.2)
 
 -- the script's part, with the number of its commands
 pub record IsPart (bytes : List ℕ) (end : PartEnd) (behind commands : ℕ) : Type 0 where

@@ -1,7 +1,8 @@
 -- What a script with its certificate comes to: accepted, or the first reason against it. The order of the reasons is this
 -- project's own. Sources: SMT-LIB 2.6, section 4.1 (a script), section 4.2.5 (check-sat).
-use Rattle.std.specs.Prelude.{◌≡◌, ◌≢◌, ℕ, ◌+◌, List, [], ◌∷◌, ◌++◌, length, ◌==◌, Bool, true, false, if◌then◌else◌, Option, Some, None, option_map, Result, Ok, Err}
+use Rattle.std.specs.Prelude.{◌≡◌, ◌≢◌, ℕ, ◌+◌, List, [], ◌∷◌, ◌++◌, length, ◌==◌, Bool, true, false, if◌then◌else◌, Option, Some, None, option_map}
 use Rattle.smt_sexpr.specs.Tree.{Sexpr}
+use Rattle.smt_sexpr.specs.Commands.{ended}
 use Rattle.smt_sexpr.specs.declared.error.SexprRefusal.{SexprRefusal}
 use Rattle.smt_sexpr.specs.Reading.{Spells, Outcomes, finished, refused}
 use Rattle.stn_core.specs.declared.named.NamedValue.{NamedValue}
@@ -19,14 +20,11 @@ use Rattle.idl_node.specs.declared.sort.Sort.TheVariants as sorts
 use Rattle.idl_term.specs.Contexts.{Context, environment}
 use Rattle.idl_term.specs.Scopes.{sorts_of}
 use Rattle.idl_term.specs.Values.{Value, truth, Named, value}
-use Rattle.smt_script.specs.declared.state.Effect.{Effect}
-use Rattle.smt_script.specs.declared.state.Effect.TheVariants.{CheckSat, Exit, Tell}
 use Rattle.smt_script.specs.Commands.{is_exit}
-use Rattle.smt_script.specs.declared.error.Refusal.{Refusal}
-use Rattle.smt_script.specs.States.{State, start_state, Step, after, settled}
-use Rattle.smt_answer.specs.Kinds.{kind_of, kind_of_unreadable}
 use Rattle.smt_script.specs.declared.state.Satisfiability.{Satisfiability}
 use Rattle.smt_script.specs.declared.state.Satisfiability.TheVariants as verdict
+use Rattle.smt_answer.specs.Kinds.{kind_of_unreadable}
+use Rattle.script_walk.specs.Course.{start_with, Turn, Outcome, tells, answers, asks, ends, fails, course}
 use Rattle.dtp_entry.specs.Entries.{points_of, problem_of}
 use Rattle.dtp_check.specs.declared.judgement.EntryFlaw.{EntryFlaw}
 use Rattle.dtp_check.specs.declared.judgement.EntryFlaw.TheVariants.{WrongCount, WrongSort, FalseAssertion, Flawed}
@@ -134,35 +132,31 @@ abbrev pub judged_entry : ℕ → Option EntryFlaw → Judgement → Judgement
 judged_entry n None others = others
 judged_entry n (Some flaw) others = BadEntry n flaw
 
--- at a check-sat its entry, over those before it, and then what follows in the state behind the entry's verdict
-abbrev pub judged_check : State → ℕ → List Placed → List FileEntry → (State → List Placed → List FileEntry → Judgement) → Judgement
-judged_check s n before [] others = Missing n
-judged_check s n before (entry ∷ entries) others =
-    judged_entry n (entry_flaw before s.context entry) (others (settled (told_by entry) s) (before ++ placed s.context entry ∷ []) entries)
+-- The first reason against a turn, else what the turns behind it come to, over the entries before it. The entries are
+-- numbered from 1.
+abbrev pub judged_by : List Placed → Turn FileEntry → Outcome FileEntry → (List Placed → Judgement) → Judgement
+judged_by before t (tells x notice) rest = rest before
+judged_by before t (answers question x entry) rest =
+    judged_entry (length before + 1) (entry_flaw before t.state.context entry) (rest (before ++ placed t.state.context entry ∷ []))
+judged_by before t (asks question x) rest = Missing (length before + 1)
+judged_by before t ends rest = surplus_of (length before + 1) t.before.left
+judged_by before t (fails kind) rest = Script t.before.number kind
 
--- what judges the commands that follow, by the state, the number of the next entry, the entries before it, and those left
-abbrev pub Others : Type 0
-Others = State → ℕ → List Placed → List FileEntry → Judgement
+-- where the turns don't end the script, nothing is against them
+abbrev pub judged_turns : List Placed → List (Turn FileEntry) → Judgement
+judged_turns before [] = Accepted
+judged_turns before (t ∷ ts) = judged_by before t t.outcome (λ now. judged_turns now ts)
 
-abbrev pub judged_effect : Effect → State → ℕ → List Placed → List FileEntry → Others → Judgement
-judged_effect (Tell notice) s n before entries others = others s n before entries
-judged_effect CheckSat s n before entries others = judged_check s n before entries (λ next placed rest. others next (n + 1) placed rest)
-judged_effect Exit s n before entries others = surplus_of n entries
+-- the turns of a script's part, with the entries of the certificate
+abbrev pub turns_with : List FileEntry → List Sexpr → List (Turn FileEntry)
+turns_with entries xs = course told_by (start_with entries) xs ended
 
--- by what command k leads to
-abbrev pub judged_after : ℕ → ℕ → List Placed → List FileEntry → Result Step Refusal → Others → Judgement
-judged_after k n before entries (Ok step) others = judged_effect step.effect step.state n before entries others
-judged_after k n before entries (Err why) others = Script k (kind_of why)
-
--- command k and those behind it, in this state, with entry n and those behind it, over the entries before
-unfoldable pub judged : State → ℕ → ℕ → List Placed → List Sexpr → List FileEntry → Judgement
-judged s k n before [] entries = surplus_of n entries
-judged s k n before (x ∷ xs) entries =
-    judged_after k n before entries (after s x) (λ next m placed rest. judged next (k + 1) m placed xs rest)
+abbrev pub judged_script : List Sexpr → List FileEntry → Judgement
+judged_script xs entries = judged_turns [] (turns_with entries xs)
 
 -- the commands with what stands behind them
 abbrev pub judged_with : List Sexpr → CertificateOutcome → Judgement
-judged_with xs (certificate version entries) = judged start_state 1 1 [] xs entries
+judged_with xs (certificate version entries) = judged_script xs entries
 judged_with xs (no_certificate why) = Certificate why
 
 abbrev pub JudgedPart : List ℕ → List Sexpr → PartEnd → ℕ → Judgement → Type 0

@@ -1,38 +1,82 @@
--- One turn of the judging: a command is read and carried out, and a check-sat is compared with its entry.
+-- One turn of the judging: a command is read and carried out, and a question is compared with its entry. What is done with
+-- each right entry is left open: it leads from one value to another, by a relation that whoever keeps entries chooses.
 -- These are words of the code's inner contracts, and no part of the meaning.
-use Rattle.std.specs.Prelude.{◌≡◌, ◌≤◌, ℕ, ◌+◌, List, ◌∷◌, length, drop, false}
+use Rattle.std.specs.Prelude.{◌≡◌, ◌≤◌, ◌⊎◌, ℕ, ◌+◌, List, [], ◌∷◌, ◌++◌, length, drop, false, Some, None}
 use Rattle.smt_sexpr.specs.Tree.{Sexpr}
+use Rattle.smt_sexpr.specs.Commands.{ended}
 use Rattle.cert_text.specs.declared.entry.FileEntry.{FileEntry}
+use Rattle.idl_term.specs.Contexts.{Context}
 use Rattle.kept_lemmas.specs.Entries.{Placed}
 use Rattle.smt_script.specs.Commands.{is_exit}
 use Rattle.smt_script.specs.Kept.{Kept}
-use Rattle.smt_script.specs.States.{State}
+use Rattle.smt_script.specs.States.{State, settled}
+use Rattle.script_walk.specs.Course.{Place, Turn, Outcome, tells, answers, asks, ends, fails, course}
 use Rattle.script_walk.specs.Standing.{Stands}
-use Rattle.dtp_check.specs.declared.judge.Turn.{Turn}
-use Rattle.dtp_check.specs.declared.judge.Turn.TheVariants.{Going, Judged}
+use Rattle.dtp_check.specs.declared.judge.Progress.{Progress}
+use Rattle.dtp_check.specs.declared.judge.Progress.TheVariants.{Going, Judged}
+use Rattle.dtp_check.specs.declared.judgement.EntryFlaw.{EntryFlaw}
 use Rattle.dtp_check.specs.declared.judgement.Judgement.{Judgement}
+use Rattle.dtp_check.specs.declared.judgement.Judgement.TheVariants.{Accepted, Missing, Entry as BadEntry}
 use Rattle.dtp_check.specs.declared.earlier.Earlier.{Earlier}
 use Rattle.dtp_check.specs.Earlier.{Holds}
-use Rattle.dtp_check.specs.Judged.{judged_check, judged}
+use Rattle.dtp_check.specs.Judged.{entry_flaw, placed, told_by, judged_turns}
 
--- a check-sat in a state, where so many entries were used before, what is kept behind its verdict, and what is held of the
--- entries then
-abbrev pub IsCheckTurn : State → ℕ → List Placed → List FileEntry → Kept → Earlier → Turn → Type 0
-IsCheckTurn s used before entries kept later (Going now) =
-    (next : State) × (placed : List Placed) × Stands kept next × Holds later placed × (now ≤ length entries)
-    × ((others : State → List Placed → List FileEntry → Judgement)
-    → judged_check s (used + 1) before (drop used entries) others ≡ others next placed (drop now entries))
-    × (now ≡ used + 1)
-IsCheckTurn s used before entries kept later (Judged judgement) =
-    (others : State → List Placed → List FileEntry → Judgement)
-    → judged_check s (used + 1) before (drop used entries) others ≡ judgement
+-- how one value leads to another at an entry where these assertions are active
+abbrev pub Leads : Type 0 → Type 1
+Leads K = K → K → Context → FileEntry → Type 0
 
--- command k in a state, and what is kept and held behind it
-abbrev pub IsJudgedTurn : State → ℕ → ℕ → List Placed → List FileEntry → Sexpr → Kept → Earlier → Turn → Type 0
-IsJudgedTurn s k used before entries x kept later (Going now) =
-    (next : State) × (placed : List Placed) × Stands kept next × Holds later placed × (is_exit x ≡ false) × (now ≤ length entries)
-    × ((xs : List Sexpr)
-    → judged s k (used + 1) before (x ∷ xs) (drop used entries)
-    ≡ judged next (k + 1) (now + 1) placed xs (drop now entries))
-IsJudgedTurn s k used before entries x kept later (Judged judgement) =
-    (xs : List Sexpr) → judged s k (used + 1) before (x ∷ xs) (drop used entries) ≡ judgement
+-- what the entry of a turn leads to
+abbrev pub KeptBy : {K : Type 0} → Leads K → K → K → State → Outcome FileEntry → (K → Type 0) → Type 0
+KeptBy leads first last s (tells x notice) Rest = Rest first
+KeptBy {K = K} leads first last s (answers question x entry) Rest = (next : K) × leads first next s.context entry × Rest next
+KeptBy leads first last s (asks question x) Rest = ⊥
+KeptBy leads first last s ends Rest = first ≡ last
+KeptBy leads first last s (fails kind) Rest = ⊥
+
+-- what the entries of all turns lead to, one after the other, up to the end of the script
+abbrev pub AreKept : {K : Type 0} → Leads K → K → K → List (Turn FileEntry) → Type 0
+AreKept leads first last [] = ⊥
+AreKept leads first last (t ∷ ts) = KeptBy leads first last t.state t.outcome (λ next. AreKept leads next last ts)
+
+-- what the turns come to, over these entries before: the judgement, and where they are accepted what is kept of them
+pub record ComesTo {K : Type 0} (leads : Leads K) (before : List Placed) (first : K) (turns : List (Turn FileEntry)) (judgement : Judgement) (last : K) : Type 0 where
+  pub judged : judged_turns before turns ≡ judgement
+  pub kept : judgement ≡ Accepted → AreKept leads first last turns
+
+-- a question in a state, where so many entries were used before, and what is held and kept behind its answer
+abbrev pub IsCheckTurn : {K : Type 0} → Leads K → K → K → State → ℕ → List Placed → List FileEntry → Kept → Earlier → Progress → Type 0
+IsCheckTurn leads first next s used before entries kept later (Going now) =
+    (entry : FileEntry) × (drop used entries ≡ entry ∷ drop now entries) × (entry_flaw before s.context entry ≡ None)
+    × leads first next s.context entry × Stands kept (settled (told_by entry) s)
+    × Holds later (before ++ placed s.context entry ∷ []) × (now ≡ used + 1) × (now ≤ length entries)
+IsCheckTurn leads first next s used before entries kept later (Judged judgement) =
+    ((drop used entries ≡ []) × (judgement ≡ Missing (used + 1)))
+    ⊎ ((entry : FileEntry) × (flaw : EntryFlaw) × (left : List FileEntry) × (drop used entries ≡ entry ∷ left)
+    × (entry_flaw before s.context entry ≡ Some flaw) × (judgement ≡ BadEntry (used + 1) flaw))
+
+-- where the judge stands before a command: so many entries were used, those before it are these, and the others are left
+pub record StandsAt (entries : List FileEntry) (number used : ℕ) (kept : Kept) (earlier : Earlier) (place : Place FileEntry) (before : List Placed) : Type 0 where
+  pub numbered : place.number ≡ number
+  pub stands : Stands kept place.state
+  pub held : Holds earlier before
+  pub count : length before ≡ used
+  pub left : place.left ≡ drop used entries
+
+-- the turn of command x at a place: the script goes on from another one, and what the turns from there come to those from here
+-- do; or it is judged
+pub record GoesTo {K : Type 0} (leads : Leads K) (first next : K) (place : Place FileEntry) (before : List Placed) (entries : List FileEntry) (x : Sexpr) (number : ℕ) (kept : Kept) (later : Earlier) (now : ℕ) : Type 0 where
+  pub behind : Place FileEntry
+  pub placed : List Placed
+  pub there : StandsAt entries number now kept later behind placed
+  pub counted : number ≡ place.number + 1
+  pub goes_on : is_exit x ≡ false
+  pub within : now ≤ length entries
+  pub gives : (xs : List Sexpr) (judgement : Judgement) (last : K)
+      → ComesTo leads placed next (course told_by behind xs ended) judgement last
+      → ComesTo leads before first (course told_by place (x ∷ xs) ended) judgement last
+
+abbrev pub IsJudgedTurn : {K : Type 0} → Leads K → K → K → Place FileEntry → List Placed → List FileEntry → Sexpr → ℕ → Kept → Earlier → Progress → Type 0
+IsJudgedTurn leads first next place before entries x number kept later (Going now) =
+    GoesTo leads first next place before entries x number kept later now
+IsJudgedTurn leads first next place before entries x number kept later (Judged judgement) =
+    (xs : List Sexpr) → ComesTo leads before first (course told_by place (x ∷ xs) ended) judgement next

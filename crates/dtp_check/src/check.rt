@@ -9,6 +9,7 @@ ghost use Rattle.dtp_check.specs.Answered.{IsAnswer, IsAnswerPart};
 use crate::certificate_behind::{Behind, read_behind};
 use crate::judge::judge_script;
 use crate::judgement::Judgement;
+use crate::keeps::KeepsNothing;
 use crate::script_part::{PartEnd, read_part};
 use crate::text::judgement_line;
 use dtp_entry::{SessionError, write_text};
@@ -35,7 +36,7 @@ fn judgement_of(alloc: Global, bytes: &[u8]) -> Result<Judgement, AllocError>
     }
     match read_behind(alloc, &mut lexer, part.end)? {
         Behind::Read(certificate) => {
-            let judgement = judge_script(alloc, bytes, &certificate.entries)?;
+            let judgement = judge_script(alloc, bytes, &certificate.entries, &mut KeepsNothing)?;
             Ok(judgement)
         }
         Behind::Refused(why) => Ok(Judgement::Certificate(why)),

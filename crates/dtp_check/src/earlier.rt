@@ -1,5 +1,5 @@
 //! What is held of the entries that were found right, for those that come.
-ghost use Rattle.std.specs.Prelude.{◌≡◌, ◌↔◌, [], ◌∷◌, ◌++◌, map, All, IfOk, IfErr, IsOk, OnOk, List, IsTrue};
+ghost use Rattle.std.specs.Prelude.{◌≡◌, ◌↔◌, [], ◌∷◌, ◌++◌, map, All, IfOk, IfErr, IsOk, OnOk, List, IsTrue, None};
 ghost use Rattle.std.specs.List.{AllByRecursion};
 ghost use Rattle.kept_lemmas.specs.Entries.{Placed as Place, IsOwn, shelf_of, without_items};
 ghost use Rattle.cert_text.specs.declared.entry.FileEntry.{FileEntry as Shown};
@@ -122,6 +122,8 @@ impl Earlier {
         requires { Suffices self.old (Shown.Unsat items.now ∷ []) }
         ensures flaw { (before : List Place) → Holds self.old before → IfErr result
             (RefusesBy (items_flaw (shelf_of before) problem.now.points problem.now.clauses items.now)) }
+        ensures right { IsOk result → (before : List Place) → Holds self.old before
+            → items_flaw (shelf_of before) problem.now.points problem.now.clauses items.now ≡ None }
         ensures refutes { IfOk result (IsRefutation problem.now.points problem.now.clauses) }
         ensures held { IsOk result → (before : List Place) → Holds self.old before → Holds self.new
             (before ++ record { points = problem.now.points; clauses = problem.now.clauses; items = items.now } ∷ []) }

@@ -1,30 +1,31 @@
 //! The commands of a script, with the entries of its certificate.
-ghost use Rattle.std.specs.Prelude.{◌≡◌, ◌≢◌, ◌+◌, ◌<◌, ◌≤◌, [], ℕ, List, length, drop, IfOk, None};
+ghost use Rattle.std.specs.Prelude.{◌≡◌, ◌+◌, ◌-◌, ◌<◌, ◌≤◌, ◌^◌, [], ℕ, List, length, drop, IfOk, None};
 ghost use Rattle.smt_sexpr.specs.Tree.{Sexpr};
 ghost use Rattle.smt_sexpr.specs.Table.{Means, HasMeaning};
-ghost use Rattle.smt_script.specs.States.{State as Meaning, start_state};
-ghost use Rattle.kept_lemmas.specs.Entries.{Placed as Place};
+ghost use Rattle.cert_text.specs.declared.entry.FileEntry.{FileEntry as Shown};
+ghost use Rattle.smt_script.specs.States.{State as Meaning};
+ghost use Rattle.kept_lemmas.specs.Entries.{Placed};
+ghost use Rattle.script_walk.specs.Course.{Place};
 ghost use Rattle.script_walk.specs.Standing.{Stands};
 ghost use Rattle.dtp_check.specs.Earlier.{Holds, Suffices};
 ghost use Rattle.dtp_check.specs.declared.script_part.PartEnd.{PartEnd as End};
-ghost use Rattle.dtp_check.specs.Judged.{surplus_of, judged, told_by, ScriptPart};
-ghost use Rattle.dtp_check.specs.Parts.{IsReadable};
-ghost use Rattle.dtp_check.specs.Turns.{IsCheckTurn, IsJudgedTurn};
+ghost use Rattle.dtp_check.specs.Judged.{surplus_of, turns_with, told_by, ScriptPart};
+ghost use Rattle.dtp_check.specs.Parts.{IsNext, GoesOn, IsReadable};
+ghost use Rattle.dtp_check.specs.Turns.{ComesTo, StandsAt, IsCheckTurn, IsJudgedTurn};
 
 use crate::earlier::Earlier;
-use crate::entry_flaw::entry_flaw;
 use crate::judgement::Judgement;
+use crate::keeps::Keeps;
 use crate::script_part::{Next, PartEnd, next_command};
 use cert_text::FileEntry;
-use dtp_entry::kind_of;
-use smt_lex::Lexer;
-use smt_script::{Effect, Satisfiability, ScriptError, State};
-use smt_sexpr::{SexprId, Sexprs};
+use script_walk::{Event, Walk};
+use smt_script::Satisfiability;
+use smt_sexpr::SexprId;
 use std::alloc::{AllocError, Global};
 
 /// What a command leads to.
 #[derive(Clone, Copy)]
-pub enum Turn {
+pub enum Progress {
     /// The script goes on, and so many entries have been used.
     Going(usize),
     Judged(Judgement),
@@ -52,109 +53,115 @@ pub fn told_by(entry: &FileEntry) -> Satisfiability
     }
 }
 
-/// A check-sat, with its entry.
-fn judge_check(
+/// A question, with its entry.
+fn judge_check<K: Keeps>(
     alloc: Global,
-    state: &mut State,
+    walk: &mut Walk,
     earlier: &mut Earlier,
     entries: &[FileEntry],
     used: usize,
-) -> Result<Turn, AllocError>
-    requires stands { (s : Meaning) × Stands state.old s }
+    keeps: &mut K,
+) -> Result<Progress, AllocError>
+    requires stands { (s : Meaning) × Stands walk.old.state s }
     requires used { used ≤ length entries.now }
     requires suffices { Suffices earlier.old entries.now }
-    ensures turn { IfOk result (λ turn. (s : Meaning) (before : List Place) → Stands state.old s
-        → Holds earlier.old before → IsCheckTurn s used before entries.now state.new earlier.new turn) }
+    ensures turn { IfOk result (λ progress. (s : Meaning) (before : List Placed) → Stands walk.old.state s
+        → Holds earlier.old before
+        → IsCheckTurn K.leads keeps.old keeps.new s used before entries.now walk.new.state earlier.new progress) }
     ensures suffices { Suffices earlier.new entries.now }
+    ensures rest { walk.new ≡ record walk.old { state = walk.new.state } }
 {
-    smt_script::state_law();
     match entries.get(used) {
-        Some(entry) => match entry_flaw(alloc, state, earlier, entry)? {
-            Some(flaw) => Ok(Turn::Judged(Judgement::Entry(used + 1, flaw))),
+        Some(entry) => match keeps.keep(alloc, &walk.state, earlier, entry)? {
+            Some(flaw) => Ok(Progress::Judged(Judgement::Entry(used + 1, flaw))),
             None => {
-                state.settle(told_by(entry));
-                Ok(Turn::Going(used + 1))
+                walk.settle(told_by(entry));
+                Ok(Progress::Going(used + 1))
             }
         },
-        None => Ok(Turn::Judged(Judgement::Missing(used + 1))),
+        None => Ok(Progress::Judged(Judgement::Missing(used + 1))),
     }
 }
 
-/// A command, with the entry of its check-sat.
-fn judge_command<'a>(
+/// A command, with the entry of its question.
+fn judge_command<K: Keeps>(
     alloc: Global,
-    sexprs: &Sexprs<'a>,
+    walk: &mut Walk,
     id: SexprId,
-    state: &mut State<'a>,
     earlier: &mut Earlier,
-    command: u64,
     entries: &[FileEntry],
     used: usize,
-) -> Result<Turn, AllocError>
-    requires meaning { HasMeaning sexprs.now id }
-    requires stands { (s : Meaning) × Stands state.old s }
+    keeps: &mut K,
+) -> Result<Progress, AllocError>
+    requires meaning { HasMeaning walk.old.sexprs id }
+    requires stands { (place : Place Shown) × (before : List Placed)
+        × StandsAt entries.now walk.old.number used walk.old.state earlier.old place before }
+    requires few { walk.old.number < 2 ^ 64 - 1 }
     requires used { used ≤ length entries.now }
     requires suffices { Suffices earlier.old entries.now }
-    ensures turn { IfOk result (λ turn. (s : Meaning) (before : List Place) (x : Sexpr) → Stands state.old s
-        → Holds earlier.old before → Means sexprs.now id x
-        → IsJudgedTurn s command used before entries.now x state.new earlier.new turn) }
+    ensures turn { IfOk result (λ progress. (place : Place Shown) (before : List Placed) (x : Sexpr)
+        → StandsAt entries.now walk.old.number used walk.old.state earlier.old place before → Means walk.old.sexprs id x
+        → IsJudgedTurn K.leads keeps.old keeps.new place before entries.now x walk.new.number walk.new.state earlier.new progress) }
     ensures suffices { Suffices earlier.new entries.now }
+    ensures lexer { walk.new.lexer ≡ walk.old.lexer }
+    ensures sexprs { walk.new.sexprs ≡ walk.old.sexprs }
 {
-    smt_script::state_law();
     smt_script::exit_law();
-    match state.step(sexprs, id) {
-        Ok(Effect::Tell(_)) => Ok(Turn::Going(used)),
-        Ok(Effect::CheckSat) => {
-            let turn = judge_check(alloc, state, earlier, entries, used)?;
-            Ok(turn)
+    match walk.carry_out(id)? {
+        Event::Told(_, _) => Ok(Progress::Going(used)),
+        Event::Asked(_, _) => {
+            let progress = judge_check(alloc, walk, earlier, entries, used, keeps)?;
+            Ok(progress)
         }
-        Ok(Effect::Exit) => Ok(Turn::Judged(surplus(entries, used))),
-        Err(ScriptError::Refused(why)) => Ok(Turn::Judged(Judgement::Script(
-            command,
-            kind_of(why),
-        ))),
-        Err(ScriptError::OutOfMemory) => Err(AllocError),
+        Event::Ended => Ok(Progress::Judged(surplus(entries, used))),
+        Event::Failed(kind) => Ok(Progress::Judged(Judgement::Script(walk.number, kind))),
     }
 }
 
-/// What the script comes to with these entries. The script is read again, command by command.
-pub fn judge_script(
+/// Reads what stands next in the script's part.
+fn read_on(walk: &mut Walk) -> Result<Next, AllocError>
+    requires fresh { walk.old.lexer.failed ≡ None }
+    requires same { walk.old.lexer.bytes ≡ walk.old.sexprs.bytes }
+    ensures next { IfOk result (IsNext walk.old.lexer.bytes walk.old.lexer.place walk.new.sexprs walk.new.lexer.place) }
+    ensures fresh { IfOk result (λ next. GoesOn next → walk.new.lexer.failed ≡ None) }
+    ensures forward { IfOk result (λ next. GoesOn next → walk.old.lexer.place < walk.new.lexer.place) }
+    ensures within { IfOk result (λ next. GoesOn next → walk.new.lexer.place ≤ length walk.new.lexer.bytes) }
+    ensures lexer_bytes { walk.new.lexer.bytes ≡ walk.old.lexer.bytes }
+    ensures table_bytes { walk.new.sexprs.bytes ≡ walk.old.sexprs.bytes }
+    ensures state { walk.new.state ≡ walk.old.state }
+    ensures number { walk.new.number ≡ walk.old.number }
+{
+    let next = next_command(&mut walk.sexprs, &mut walk.lexer)?;
+    Ok(next)
+}
+
+/// What the script comes to with these entries, each of which is kept where it is right. The script is read again, command by
+/// command.
+pub fn judge_script<K: Keeps>(
     alloc: Global,
     bytes: &[u8],
     entries: &[FileEntry],
+    keeps: &mut K,
 ) -> Result<Judgement, AllocError>
     ensures { IfOk result (λ judgement. (xs : List Sexpr) (end : End) (behind : ℕ)
         → ScriptPart bytes.now 0 xs end behind → IsReadable end
-        → judgement ≡ judged start_state 1 1 [] xs entries.now) }
+        → ComesTo K.leads [] keeps.old (turns_with entries.now xs) judgement keeps.new) }
 {
     smt_sexpr::one_outcome();
-    smt_script::state_law();
-    let mut lexer = Lexer::new(bytes);
-    let mut sexprs = Sexprs::new(alloc, bytes);
-    let mut state = State::new(alloc);
+    let mut walk = Walk::new(alloc, bytes);
     let mut earlier = Earlier::new(alloc, entries);
-    let mut command = 1u64;
     let mut used = 0usize;
     'script: loop {
-        let id = match next_command(&mut sexprs, &mut lexer)? {
+        let id = match read_on(&mut walk)? {
             Next::Command(id) => id,
-            Next::Ended(PartEnd::Unread(kind)) => return Ok(Judgement::Script(command, kind)),
+            Next::Ended(PartEnd::Unread(kind)) => {
+                return Ok(Judgement::Script(walk.number, kind));
+            }
             Next::Ended(_) => return Ok(surplus(entries, used)),
         };
-        let turn = judge_command(
-            alloc,
-            &sexprs,
-            id,
-            &mut state,
-            &mut earlier,
-            command,
-            entries,
-            used,
-        )?;
-        match turn {
-            Turn::Going(now) => used = now,
-            Turn::Judged(judgement) => return Ok(judgement),
+        match judge_command(alloc, &mut walk, id, &mut earlier, entries, used, keeps)? {
+            Progress::Going(now) => used = now,
+            Progress::Judged(judgement) => return Ok(judgement),
         }
-        command += 1;
     }
 }

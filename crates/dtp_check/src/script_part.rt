@@ -6,10 +6,11 @@ ghost use Rattle.dtp_check.specs.Parts.{IsNext, GoesOn, IsBefore};
 
 use cert_read::header_version;
 use cert_text::Version;
-use smt_answer::{Kind, kind_of_unreadable};
+use script_walk::{Next as Read, read_next};
+use smt_answer::Kind;
 use smt_lex::Lexer;
 use smt_script::is_exit;
-use smt_sexpr::{SexprError, SexprId, Sexprs};
+use smt_sexpr::{SexprId, Sexprs};
 use std::alloc::{AllocError, Global};
 
 /// How the script's part of a source ends.
@@ -43,17 +44,13 @@ pub fn next_command(sexprs: &mut Sexprs, lexer: &mut Lexer) -> Result<Next, Allo
     ensures lexer_bytes { lexer.new.bytes ≡ lexer.old.bytes }
     ensures table_bytes { sexprs.new.bytes ≡ sexprs.old.bytes }
 {
-    sexprs.clear();
-    match sexprs.read_one(lexer) {
-        Ok(Some(id)) => {
-            match header_version(sexprs, id) {
-                Some(version) => Ok(Next::Ended(PartEnd::Header(version))),
-                None => Ok(Next::Command(id)),
-            }
-        }
-        Ok(None) => Ok(Next::Ended(PartEnd::End)),
-        Err(SexprError::Refused(why)) => Ok(Next::Ended(PartEnd::Unread(kind_of_unreadable(why)))),
-        Err(SexprError::OutOfMemory) => Err(AllocError),
+    match read_next(sexprs, lexer)? {
+        Read::Command(id) => match header_version(sexprs, id) {
+            Some(version) => Ok(Next::Ended(PartEnd::Header(version))),
+            None => Ok(Next::Command(id)),
+        },
+        Read::End => Ok(Next::Ended(PartEnd::End)),
+        Read::Unread(kind) => Ok(Next::Ended(PartEnd::Unread(kind))),
     }
 }
 

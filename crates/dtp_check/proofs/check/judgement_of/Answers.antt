@@ -1,7 +1,6 @@
-use Rattle.std.proofs.Common.{◌≡◌, ◌∙◌, subst, ap, refl, List, [], ℕ}
+use Rattle.std.proofs.Common.{◌≡◌, ◌∙◌, sym, subst, ap, refl, List, ℕ}
 use Rattle.cert_text.specs.declared.entry.FileEntry.{FileEntry as Shown}
-use Rattle.smt_script.specs.States.{start_state}
-use Rattle.dtp_check.specs.Judged.{ScriptPart, judged}
+use Rattle.dtp_check.specs.Judged.{ScriptPart, judged_script}
 use Rattle.dtp_check.specs.Parts.{IsReadable}
 use Rattle.dtp_check.proofs.Telling.{readable_by, stands, found_refusal, judged_entries}
 use Rattle.dtp_check.proofs.check.judgement_of.Goals as goal
@@ -14,7 +13,7 @@ returns-in_ok-judgement-in-Read c =
     let script = subst (λ (b : List ℕ). ScriptPart b 0 p.0 c.in_ok-part.part.end c.read_part.new.lexer.place) same p.1 in
     let behind = stands c.args.bytes.now c.new-lexer.result.bytes c.read_part.new.lexer.bytes c.read_part.new.lexer.place c.in_ok-part.part.end _ same c.in_ok-part.ensures.bytes readable (c.in_ok-certificate.ensures readable) _ c.in-Read.is in
     judged_entries c.args.bytes.now p.0 c.read_part.new.lexer.place c.in_ok-part.part.end c.in-Read.certificate.version c.in-Read.certificate.entries.items _ script readable behind
-    (c.in_ok-judgement-in-Read.ensures p.0 c.in_ok-part.part.end c.read_part.new.lexer.place script readable ∙ ap (λ (es : List Shown). judged start_state 1 1 [] p.0 es) c.deref.ensures.value)
+    (sym (c.in_ok-judgement-in-Read.ensures p.0 c.in_ok-part.part.end c.read_part.new.lexer.place script readable).judged ∙ ap (λ (es : List Shown). judged_script p.0 es) c.deref.ensures.value)
 
 pub returns-in-Refused : goal.returns-in-Refused
 returns-in-Refused c =

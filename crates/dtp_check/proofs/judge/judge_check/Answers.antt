@@ -1,14 +1,24 @@
-use Rattle.dtp_check.proofs.Judging.{check_right, suffices_at}
+use Rattle.dtp_check.proofs.Judging.{check_right, check_flawed, check_missing, suffices_at}
 use Rattle.dtp_check.proofs.judge.judge_check.Goals as goal
 
-pub entry_flaw-requires-clause-suffices : goal.entry_flaw-requires-clause-suffices
-entry_flaw-requires-clause-suffices c =
+pub keep-requires-clause-suffices : goal.keep-requires-clause-suffices
+keep-requires-clause-suffices g c =
     let there = c.in-Some.ensures.lookup.3 in
     suffices_at c.args.earlier.now c.args.used c.args.entries.now c.in-Some.entry.now c.requires.suffices there.0 (there.1 c.in-Some.entry.now)
 
-pub returns-in-None-2-clause-turn : goal.returns-in-None-2-clause-turn
-returns-in-None-2-clause-turn c = λ s before stands held.
+pub returns-in-Some-2-clause-turn : goal.returns-in-Some-2-clause-turn
+returns-in-Some-2-clause-turn g c = λ s before stands held.
     let there = c.in-Some.ensures.lookup.3 in
-    check_right c.state_law.ensures.settled s c.args.used before c.args.entries.now c.in-Some.entry.now c.settle.new.self c.entry_flaw.new.earlier c.told_by.result c.in_ok-flaw-in-Some.field-0 stands.made (c.settle.ensures s stands.stands) c.told_by.ensures
-    (c.in_ok-flaw-in-Some.ensures.held c.in-None-2.is s before stands held) there.0 (there.1 c.in-Some.entry.now)
+    check_flawed g.K.Keeps.leads c.args.keeps.now c.keep.new.self s c.args.used before c.args.entries.now c.args.walk.now.state c.keep.new.earlier c.in-Some.entry.now c.in_ok-flaw-in-Some.field-0 c.in-Some-2.flaw there.0 (there.1 c.in-Some.entry.now)
+    (c.in_ok-flaw-in-Some.ensures.flaw s before stands held) c.in-Some-2.is
+
+pub returns-in-None-2-clause-turn : goal.returns-in-None-2-clause-turn
+returns-in-None-2-clause-turn g c = λ s before stands held.
+    let there = c.in-Some.ensures.lookup.3 in
+    check_right g.K.Keeps.leads c.args.keeps.now c.keep.new.self s c.args.used before c.args.entries.now c.settle.new.self.state c.keep.new.earlier c.in-Some.entry.now c.told_by.result c.in_ok-flaw-in-Some.field-0 (c.settle.ensures.stands s stands) c.told_by.ensures
+    (c.in_ok-flaw-in-Some.ensures.held c.in-None-2.is s before stands held) (c.in_ok-flaw-in-Some.ensures.kept c.in-None-2.is s before stands held) there.0 (there.1 c.in-Some.entry.now)
     (c.in_ok-flaw-in-Some.ensures.flaw s before stands held) c.in-None-2.is
+
+pub returns-in-None-clause-turn : goal.returns-in-None-clause-turn
+returns-in-None-clause-turn g c = λ s before stands held.
+    check_missing g.K.Keeps.leads c.args.keeps.now c.args.keeps.now s c.args.used before c.args.entries.now c.args.walk.now.state c.args.earlier.now c.in-None.ensures.lookup.3

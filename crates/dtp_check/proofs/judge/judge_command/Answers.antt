@@ -1,43 +1,51 @@
-use Rattle.std.proofs.Common.{◌≡◌, ◌+◌, ◌∙◌, sym, ap, subst, drop, Err}
+use Rattle.std.proofs.Common.{◌≡◌, ◌+◌, sym, ap, subst, ℕ}
 use Rattle.smt_sexpr.specs.Tree.{Sexpr}
-use Rattle.smt_script.specs.declared.state.Effect.{Effect}
-use Rattle.smt_script.specs.declared.state.Effect.TheVariants.{CheckSat, Exit, Tell}
-use Rattle.smt_script.specs.Kept.{Kept, Steps}
 use Rattle.smt_script.specs.States.{State as Meaning}
-use Rattle.smt_answer.specs.Kinds.{kind_of}
-use Rattle.script_walk.proofs.Standing.{stands_after}
-use Rattle.dtp_check.specs.declared.judgement.Judgement.TheVariants.{Script}
-use Rattle.dtp_check.proofs.Judging.{notice_judged, check_judged, exit_judged, judged_err}
+use Rattle.script_walk.specs.Events.{Carries}
+use Rattle.script_walk.specs.declared.walk.Event.{Event}
+use Rattle.script_walk.specs.declared.walk.Event.TheVariants.{Told, Asked, Ended, Failed}
+use Rattle.script_walk.specs.declared.walk.Walk.{Walk}
+use Rattle.dtp_check.specs.Turns.{IsJudgedTurn}
+use Rattle.dtp_check.proofs.Judging.{notice_judged, check_judged, exit_judged, refused_judged}
 use Rattle.dtp_check.proofs.judge.judge_command.Goals as goal
 
-steps : (s : Meaning) (x : Sexpr) (effect is : Effect) (kept : Kept) → effect ≡ is → Steps s x effect kept → Steps s x is kept
-steps s x effect is kept e h = subst (λ (f : Effect). Steps s x f kept) e h
+carries : (v w : Walk) (s : Meaning) (x : Sexpr) (event is : Event) → event ≡ is → Carries v w s x event → Carries v w s x is
+carries v w s x event is e h = subst (λ (f : Event). Carries v w s x f) e h
 
 pub judge_check-requires-clause-stands : goal.judge_check-requires-clause-stands
-judge_check-requires-clause-stands c =
-    let s = c.requires.stands in
+judge_check-requires-clause-stands g c =
+    let at = c.requires.stands in
     let x = c.requires.meaning in
-    let h = c.in-Ok-CheckSat.ensures.ok s.0 x.0 s.1.stands x.1 in
-    (h.state, stands_after c.state_law.ensures.step s.0 x.0 _ c.step.new.self h s.1.made)
+    let h = carries c.args.walk.now c.carry_out.new.self at.0.state x.0 _ (Asked c.in-Asked.field-0 c.in-Asked.field-1) c.in-Asked.is (c.in_ok-carry_out.ensures.carries at.0.state x.0 at.2.stands x.1) in
+    (h.1.0.next, h.1.0.stands)
 
-pub returns-in-Ok-Tell-clause-turn : goal.returns-in-Ok-Tell-clause-turn
-returns-in-Ok-Tell-clause-turn c = λ s before x stands held means.
-    let notice = c.in-Ok-Tell.field-0-0 in
-    notice_judged s c.args.command c.args.used before x c.args.entries.now c.step.new.self c.state_law.ensures.step c.exit_law.ensures.alone notice c.args.earlier.now held c.requires.used stands.made
-    (steps s x _ (Tell notice) c.step.new.self c.in-Ok-Tell.field-0-is (c.in-Ok-Tell.ensures.ok s x stands.stands means))
+pub returns-in-Told-clause-turn : goal.returns-in-Told-clause-turn
+returns-in-Told-clause-turn g c = λ p before x at means.
+    let v = c.args.walk.now in
+    let h = carries v c.carry_out.new.self p.state x _ (Told c.in-Told.field-0 c.in-Told.field-1) c.in-Told.is (c.in_ok-carry_out.ensures.carries p.state x at.stands means) in
+    notice_judged g.K.Keeps.leads before c.args.keeps.now c.args.entries.now v.number c.args.used v.state c.args.earlier.now p at c.carry_out.new.self x c.exit_law.ensures.alone c.in-Told.field-1 c.requires.used h.1 h.2
 
-pub returns-in_ok-turn-in-Ok-CheckSat-clause-turn : goal.returns-in_ok-turn-in-Ok-CheckSat-clause-turn
-returns-in_ok-turn-in-Ok-CheckSat-clause-turn c = λ s before x stands held means.
-    let h = steps s x _ CheckSat c.step.new.self c.in-Ok-CheckSat.field-0-is (c.in-Ok-CheckSat.ensures.ok s x stands.stands means) in
-    let there = stands_after c.state_law.ensures.step s x CheckSat c.step.new.self h stands.made in
-    check_judged s c.args.command c.args.used before x c.args.entries.now c.step.new.self c.exit_law.ensures.alone c.judge_check.new.state c.judge_check.new.earlier c.in_ok-turn-in-Ok-CheckSat.turn h (c.in_ok-turn-in-Ok-CheckSat.ensures.turn h.state before there held)
+pub returns-in_ok-progress-in-Asked-clause-turn : goal.returns-in_ok-progress-in-Asked-clause-turn
+returns-in_ok-progress-in-Asked-clause-turn g c = λ p before x at means.
+    let leads = g.K.Keeps.leads in
+    let v = c.args.walk.now in
+    let w = c.carry_out.new.self in
+    let later = c.judge_check.new.walk in
+    let question = c.in-Asked.field-1 in
+    let h = carries v w p.state x _ (Asked c.in-Asked.field-0 question) c.in-Asked.is (c.in_ok-carry_out.ensures.carries p.state x at.stands means) in
+    let turn = check_judged leads before c.args.keeps.now c.args.entries.now v.number c.args.used v.state c.args.earlier.now p at w x c.exit_law.ensures.alone question later.state c.judge_check.new.earlier c.judge_check.new.keeps c.in_ok-progress-in-Asked.progress h.1.0 h.1.1 h.2
+    (c.in_ok-progress-in-Asked.ensures.turn h.1.0.next before h.1.0.stands at.held) in
+    let same : w.number ≡ later.number = ap (λ (k : Walk). k.number) (sym c.judge_check.ensures.rest) in
+    subst (λ (n : ℕ). IsJudgedTurn leads c.args.keeps.now c.judge_check.new.keeps p before c.args.entries.now x n later.state c.judge_check.new.earlier c.in_ok-progress-in-Asked.progress) same turn
 
-pub returns-in-Ok-Exit-clause-turn : goal.returns-in-Ok-Exit-clause-turn
-returns-in-Ok-Exit-clause-turn c = λ s before x stands held means xs.
-    exit_judged s c.args.command c.args.used before x c.args.entries.now c.step.new.self xs (steps s x _ Exit c.step.new.self c.in-Ok-Exit.field-0-is (c.in-Ok-Exit.ensures.ok s x stands.stands means)) ∙ sym c.surplus.ensures
+pub returns-in-Ended-clause-turn : goal.returns-in-Ended-clause-turn
+returns-in-Ended-clause-turn g c = λ p before x at means.
+    let v = c.args.walk.now in
+    let h = carries v c.carry_out.new.self p.state x _ Ended c.in-Ended.is (c.in_ok-carry_out.ensures.carries p.state x at.stands means) in
+    exit_judged g.K.Keeps.leads before c.args.keeps.now c.args.entries.now v.number c.args.used v.state c.args.earlier.now p at c.carry_out.new.self x c.surplus.result h.0 c.surplus.ensures
 
-pub returns-in-Err-Refused-clause-turn : goal.returns-in-Err-Refused-clause-turn
-returns-in-Err-Refused-clause-turn c = λ s before x stands held means xs.
-    judged_err s c.args.command (c.args.used + 1) before x xs (drop c.args.used c.args.entries.now) c.in-Err-Refused.why
-    (c.in-Err-Refused.ensures.refused c.in-Err-Refused.why (ap Err c.in-Err-Refused.field-0-is) s x stands.stands means)
-    ∙ ap (Script c.args.command) (sym (c.kind_of.ensures ∙ ap kind_of c.in-Err-Refused.why-is))
+pub returns-in-Failed-clause-turn : goal.returns-in-Failed-clause-turn
+returns-in-Failed-clause-turn g c = λ p before x at means.
+    let v = c.args.walk.now in
+    let h = carries v c.carry_out.new.self p.state x _ (Failed c.in-Failed.kind) c.in-Failed.is (c.in_ok-carry_out.ensures.carries p.state x at.stands means) in
+    refused_judged g.K.Keeps.leads before c.args.keeps.now c.args.entries.now v.number c.args.used v.state c.args.earlier.now p at c.carry_out.new.self x v c.in-Failed.kind c.args.keeps.now h.0 h.1

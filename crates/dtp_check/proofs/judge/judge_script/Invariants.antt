@@ -1,19 +1,20 @@
-use Rattle.std.proofs.Common.{◌≡◌, ◌≤◌, ◌-◌, ◌+◌, length, None}
+use Rattle.std.proofs.Common.{◌≡◌, ◌≤◌, ◌<◌, ◌-◌, ◌+◌, ◌^◌, length, None}
 use Rattle.dtp_check.specs.Earlier.{Suffices}
 use Rattle.dtp_check.proofs.Reading.{IsJudging}
 use Rattle.dtp_check.proofs.judge.judge_script.Given as goal
 
 abbrev pub invariant-script : goal.invariant-script
-invariant-script l = record {
-  fresh : l.lexer.failed ≡ None;
-  lexer_bytes : l.lexer.bytes ≡ l.bytes;
-  table_bytes : l.sexprs.bytes ≡ l.bytes;
-  within : l.lexer.place ≤ length l.bytes;
-  counted : l.command ≤ l.lexer.place + 1;
+invariant-script g l = record {
+  fresh : l.walk.lexer.failed ≡ None;
+  lexer_bytes : l.walk.lexer.bytes ≡ l.bytes;
+  table_bytes : l.walk.sexprs.bytes ≡ l.bytes;
+  within : l.walk.lexer.place ≤ length l.bytes;
+  counted : l.walk.number ≤ l.walk.lexer.place + 1;
+  few : length l.bytes < 2 ^ 63;
   used : l.used ≤ length l.entries;
   suffices : Suffices l.earlier l.entries;
-  judging : IsJudging l.bytes l.entries l.lexer.place l.command l.used l.state l.earlier;
+  judging : IsJudging g.K.Keeps.leads l.bytes l.entries l.fn.keeps l.walk.lexer.place l.walk.number l.used l.walk.state l.earlier l.keeps;
 }
 
 abbrev pub decreases-script : goal.decreases-script
-decreases-script l = length l.bytes - l.lexer.place
+decreases-script g l = length l.bytes - l.walk.lexer.place

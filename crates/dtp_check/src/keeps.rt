@@ -1,0 +1,59 @@
+//! What is done with the entries of a certificate that are found right, one after the other.
+ghost use Rattle.std.specs.Prelude.{◌≡◌, [], ◌∷◌, ◌++◌, List, IfOk, None};
+ghost use Rattle.cert_text.specs.declared.entry.FileEntry.{FileEntry as Shown};
+ghost use Rattle.idl_term.specs.Contexts.{Context};
+ghost use Rattle.kept_lemmas.specs.Entries.{Placed as Place};
+ghost use Rattle.smt_script.specs.States.{State as Meaning};
+ghost use Rattle.script_walk.specs.Standing.{Stands};
+ghost use Rattle.dtp_check.specs.Earlier.{Holds, Suffices};
+ghost use Rattle.dtp_check.specs.Judged.{entry_flaw, placed};
+
+use crate::earlier::Earlier;
+use crate::entry_flaw::entry_flaw;
+use crate::judgement::EntryFlaw;
+use cert_text::FileEntry;
+use smt_script::State;
+use std::alloc::{AllocError, Global};
+
+/// Takes each right entry.
+pub trait Keeps {
+    /// How what is kept before an entry leads to what is kept behind it, where these assertions are active.
+    ghost leads: { Self → Self → Context → Shown → Type 0 };
+
+    /// What is wrong with the entry of a check-sat in this state. Where nothing is, it is kept, and held for those that come.
+    fn keep(
+        &mut self,
+        alloc: Global,
+        state: &State,
+        earlier: &mut Earlier,
+        entry: &FileEntry,
+    ) -> Result<Option<EntryFlaw>, AllocError>
+        requires stands { (s : Meaning) × Stands state.now s }
+        requires suffices { Suffices earlier.old (entry.now ∷ []) }
+        ensures flaw { IfOk result (λ flaw. (s : Meaning) (before : List Place) → Stands state.now s
+            → Holds earlier.old before → flaw ≡ entry_flaw before s.context entry.now) }
+        ensures held { IfOk result (λ flaw. flaw ≡ None → (s : Meaning) (before : List Place) → Stands state.now s
+            → Holds earlier.old before → Holds earlier.new (before ++ placed s.context entry.now ∷ [])) }
+        ensures suffices { (entries : List Shown) → Suffices earlier.old entries → Suffices earlier.new entries }
+        ensures kept { IfOk result (λ flaw. flaw ≡ None → (s : Meaning) (before : List Place) → Stands state.now s
+            → Holds earlier.old before → leads self.old self.new s.context entry.now) };
+}
+
+/// Takes nothing of them.
+#[derive(Clone, Copy, Debug)]
+pub struct KeepsNothing;
+
+impl Keeps for KeepsNothing {
+    ghost leads = { λ _ _ _ _. Unit {0} };
+
+    fn keep(
+        &mut self,
+        alloc: Global,
+        state: &State,
+        earlier: &mut Earlier,
+        entry: &FileEntry,
+    ) -> Result<Option<EntryFlaw>, AllocError> {
+        let flaw = entry_flaw(alloc, state, earlier, entry)?;
+        Ok(flaw)
+    }
+}
