@@ -82,9 +82,13 @@ pub fn finish(
     let mut book = book;
     let mut tools = Tools::alone(alloc, problem)?;
     let mut pacing = Pacing::alone(budget);
-    'turns: while let Some(divided) =
-        turn(alloc, problem, &mut tools, &mut book, pacing.budget())?
-    {
+    'turns: while let Some(divided) = turn(
+        alloc,
+        problem,
+        &mut tools,
+        &mut book,
+        pacing.budget(),
+    )? {
         if divided {
             pacing.grow(tools.met_conflict());
         }

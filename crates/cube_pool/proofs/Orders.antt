@@ -55,7 +55,7 @@ numbers_from m (x ∷ xs) r once (suc k) d l =
     let is : x.number ≡ m = first_is m x xs r one in
     let rest : Rises (m + 1) xs = raised m xs (subst (λ (n : ℕ). Rises n xs) is r.1) (omega (arith, one, times_more m x xs, is_one m x is)) in
     let more : (n : ℕ) → m + 1 ≤ n → n < (m + 1) + length xs → times n xs ≡ 1 =
-        λ n low high. (let was = once n (omega (arith, low)) (omega (arith, high)) in omega (arith, was, times_more n x xs, is_none n x (λ e. absurd (omega (arith, e, is, low))))) in
+    λ n low high. (let was = once n (omega (arith, low)) (omega (arith, high)) in omega (arith, was, times_more n x xs, is_none n x (λ e. absurd (omega (arith, e, is, low))))) in
     omega (arith, numbers_from (m + 1) xs rest more k d (omega (arith, l)))
 
 -- all hands in any order are by their numbers once they are sorted
