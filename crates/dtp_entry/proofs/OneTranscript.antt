@@ -1,6 +1,6 @@
 -- Whatever is written of a script, its verdicts and its status are the same; and a script has one transcript for the entries that
 -- decided it, and one at most where it asks for none of what they hold.
-use Rattle.std.proofs.Common.{refl, sym, ap, subst, inl, inr, ◌∙◌, ◌≡◌, ◌+◌, ◌⊎◌, ℕ, List, [], ◌∷◌, ◌++◌, map, Bool, false, Option, None, Some, Result, Ok, Err}
+use Rattle.std.proofs.Common.{refl, sym, ap, subst, inl, inr, ◌∙◌, ◌≡◌, ◌+◌, ◌⊎◌, ℕ, List, [], ◌∷◌, ◌++◌, map, false, Option, None, Some, Result, Ok, Err}
 use Rattle.std.specs.List.{AllByRecursion}
 use Rattle.smt_sexpr.specs.Tree.{Sexpr}
 use Rattle.smt_sexpr.specs.declared.error.SexprRefusal.{SexprRefusal}
@@ -24,7 +24,7 @@ use Rattle.smt_script.specs.declared.state.Satisfiability.TheVariants as verdict
 use Rattle.smt_script.specs.Commands.{asks_verdict}
 use Rattle.smt_script.specs.Laws.{AskedIsTold}
 use Rattle.smt_script.specs.States.{State, Step, start_state, after, settled}
-use Rattle.script_walk.specs.Course.{Place, Turn, tells, answers, asks, ends, fails, turn, behind_told, behind_answer, asked, taken, by_effect, by_command, last_turn, course, status_of, answers_of}
+use Rattle.script_walk.specs.Course.{Place, Turn, tells, answers, ends, fails, turn, asked, taken, by_effect, by_command, last_turn, course, status_of, answers_of}
 use Rattle.script_walk.specs.Questions.{refusal_of}
 use Rattle.dtp_entry.specs.declared.report.Report.{Report}
 use Rattle.dtp_entry.specs.declared.report.Report.TheVariants.{Verdicts, Certificate}

@@ -7,7 +7,7 @@ use Rattle.refute_tree.specs.declared.lemma.Lemma.{Lemma}
 use Rattle.refute_tree.specs.Trees.{IsRefutation}
 use Rattle.refute_tree.specs.Lengths.{shortened}
 use Rattle.cert_text.specs.declared.entry.Version.{Version}
-use Rattle.cert_text.specs.declared.entry.Version.TheVariants.{One, Two}
+use Rattle.cert_text.specs.declared.entry.Version.TheVariants.{Two}
 use Rattle.cert_text.specs.declared.entry.Entry.{Entry}
 use Rattle.cert_text.specs.declared.entry.Entry.TheVariants.{Sat, Unsat}
 use Rattle.cert_text.specs.Limits.{EntryFits}

@@ -1,8 +1,7 @@
 -- The piece that answers a command.
-use Rattle.std.proofs.Common.{refl, sym, ap, subst, inl, inr, ◌∙◌, ◌≡◌, ◌⊎◌, List, ℕ, Bool, Option, Some}
+use Rattle.std.proofs.Common.{sym, ap, subst, inl, inr, ◌∙◌, ◌≡◌, ◌⊎◌, List, ℕ, Bool, Some}
 use Rattle.smt_sexpr.specs.Tree.{Sexpr}
-use Rattle.cert_text.specs.declared.entry.Entry.{Entry}
-use Rattle.cert_text.specs.declared.entry.Entry.TheVariants.{Sat, Unsat}
+use Rattle.cert_text.specs.declared.entry.Entry.TheVariants.{Unsat}
 use Rattle.cert_text.specs.Form.{entry_sexpr, line_of}
 use Rattle.idl_term.specs.Contexts.{Context}
 use Rattle.refute_tree.specs.declared.lemma.Lemma.{Lemma}
@@ -24,7 +23,7 @@ use Rattle.dtp_entry.specs.Transcripts.{Held, told, told_proof}
 use Rattle.dtp_session.specs.declared.piece.Piece.{Piece}
 use Rattle.dtp_session.specs.declared.piece.Piece.TheVariants.{Proof, Told}
 use Rattle.dtp_session.specs.declared.session.Session.{Session}
-use Rattle.dtp_session.specs.Sessions.{IsText, ShowsVerdict, Holds, MayTell, KeepsReading, KeepsVerdict, Tells}
+use Rattle.dtp_session.specs.Sessions.{ShowsVerdict, Holds, MayTell, KeepsReading, KeepsVerdict, Tells}
 
 -- ---- behind a command
 

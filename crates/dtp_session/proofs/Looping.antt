@@ -1,5 +1,5 @@
 -- The loop over the commands of a script.
-use Rattle.std.proofs.Common.{arith, refl, sym, ap, subst, inl, inr, ◌∙◌, ◌≡◌, ◌+◌, ◌≤◌, length, ℕ, List, [], ◌++◌, Option, None, Ok}
+use Rattle.std.proofs.Common.{arith, refl, sym, ap, subst, inl, inr, ◌∙◌, ◌≡◌, ℕ, List, [], ◌++◌, Option, None, Ok}
 use Rattle.std.specs.Io.KnownBytes.{Appends}
 use Rattle.std.proofs.KnownBytes.{Appends-trans}
 use Rattle.std.proofs.lemmas.List.{append_assoc}
@@ -11,7 +11,7 @@ use Rattle.script_walk.specs.Events.{IsReady as IsWalkReady}
 use Rattle.script_walk.proofs.Turns.{stopped_from}
 use Rattle.dtp_entry.specs.declared.report.Report.{Report}
 use Rattle.dtp_entry.specs.Entries.{verdict_of}
-use Rattle.dtp_entry.specs.Transcripts.{Held, opening, Output, pieces, IsOutput, IsReport, IsReportPart}
+use Rattle.dtp_entry.specs.Transcripts.{opening, Output, pieces, IsOutput, IsReport, IsReportPart}
 use Rattle.dtp_entry.specs.Written.{Writes, IsFront, IsPartOf, HasFault}
 use Rattle.dtp_entry.proofs.Written.{appends_nothing}
 use Rattle.dtp_session.specs.declared.piece.Piece.{Piece}

@@ -1,8 +1,8 @@
 -- What is told of a command, by what the session keeps.
-use Rattle.std.proofs.Common.{refl, sym, ap, subst, arith, ◌∙◌, ◌≡◌, ◌<◌, ◌≤◌, ◌+◌, List, ℕ, [], ◌∷◌, ◌++◌, length, drop, get_or, Bool, Option, Some, None, Result, Ok, Err}
+use Rattle.std.proofs.Common.{refl, sym, ap, subst, ◌∙◌, ◌≡◌, ◌<◌, ◌≤◌, ◌+◌, List, ℕ, [], ◌∷◌, ◌++◌, length, drop, get_or, Bool, Some, None, Result, Ok, Err}
 use Rattle.std.proofs.lemmas.List.{drop_all, append-nil}
 use Rattle.smt_sexpr.specs.Tree.{Sexpr, Items, none, more}
-use Rattle.smt_sexpr.specs.Table.{Table, Means, MeansEach, HasMeaning}
+use Rattle.smt_sexpr.specs.Table.{Table, Means, MeansEach}
 use Rattle.smt_sexpr.proofs.Shapes.{next_of, none_of}
 use Rattle.stn_core.specs.declared.named.NamedValue.{NamedValue}
 use Rattle.stn_core.specs.Named.{AreWithinLimit}
@@ -11,7 +11,7 @@ use Rattle.cert_text.specs.declared.entry.Entry.TheVariants.{Sat, Unsat}
 use Rattle.idl_node.specs.Nodes.{NodeValue}
 use Rattle.idl_node.specs.Truth.{point_values, AreTruths}
 use Rattle.idl_term.specs.Applied.{Made}
-use Rattle.idl_term.specs.Contexts.{Context, IsScheduleFor, environment, scope_of}
+use Rattle.idl_term.specs.Contexts.{Context, IsScheduleFor, environment}
 use Rattle.idl_term.specs.Lowered.{lowered}
 use Rattle.idl_term.specs.Scopes.{Scope, Declaration}
 use Rattle.idl_term.specs.Values.{Value, value}
@@ -19,10 +19,9 @@ use Rattle.idl_term.specs.declared.error.TermRefusal.{TermRefusal}
 use Rattle.idl_term.proofs.Evaluating.{values_count}
 use Rattle.smt_answer.specs.Answers.{AreAnswers}
 use Rattle.smt_answer.specs.Texts.{information_line, model_lines, values_line}
-use Rattle.smt_script.specs.Commands.{asked_terms}
 use Rattle.smt_script.specs.Kept.{Kept}
 use Rattle.smt_script.specs.States.{State, first_refusal, terms_refusal}
-use Rattle.smt_script.specs.TermValues.{value_shown, IsValue}
+use Rattle.smt_script.specs.TermValues.{value_shown}
 use Rattle.smt_script.specs.declared.information.Information.{Information}
 use Rattle.smt_script.specs.declared.state.Mode.{Mode}
 use Rattle.smt_script.specs.declared.state.Mode.TheVariants as mode

@@ -9,7 +9,7 @@ use Rattle.refute_tree.specs.declared.step.Step.{Step}
 use Rattle.refute_tree.specs.declared.step.Step.TheVariants.{Cycle, Input, Lemma as Earlier, Clash, Either}
 use Rattle.refute_tree.specs.declared.lemma.Lemma.{Lemma}
 use Rattle.refute_tree.specs.Batches.{NamesOver, LemmaIsOver}
-use Rattle.refute_tree.specs.Lengths.{is_pair_of, begin_with_pairs, closes, cases_count, shortened_behind, shortened, shortened_lemma}
+use Rattle.refute_tree.specs.Lengths.{is_pair_of, begin_with_pairs, closes, cases_count, shortened_behind, shortened_lemma}
 use Rattle.cert_text.specs.declared.entry.Version.TheVariants.{Two}
 use Rattle.dtp_entry.specs.Entries.{IsShort}
 use Rattle.dtp_session.proofs.Fitting.{MayStand, IsFormed}

@@ -1,5 +1,5 @@
 -- From the event of a walk to the piece that answers it.
-use Rattle.std.proofs.Common.{refl, sym, subst, ◌≡◌, ℕ, List, []}
+use Rattle.std.proofs.Common.{refl, sym, subst, ◌≡◌, ℕ, []}
 use Rattle.smt_answer.specs.declared.kind.Kind.{Kind}
 use Rattle.smt_sexpr.specs.Tree.{Sexpr}
 use Rattle.smt_sexpr.specs.Table.{Means}

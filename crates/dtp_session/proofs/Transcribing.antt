@@ -1,5 +1,5 @@
 -- From a turn to what is written of the script.
-use Rattle.std.proofs.Common.{refl, sym, ap, subst, ◌∙◌, ◌≡◌, ℕ, ◌+◌, List, [], ◌∷◌, ◌++◌, Option, None, Some}
+use Rattle.std.proofs.Common.{refl, sym, ap, subst, ◌∙◌, ◌≡◌, ℕ, ◌+◌, List, [], ◌∷◌, ◌++◌, Some}
 use Rattle.std.specs.List.{AllByRecursion}
 use Rattle.std.proofs.lemmas.List.{append_assoc, append-nil}
 use Rattle.cert_text.specs.declared.entry.Entry.{Entry}
@@ -11,18 +11,18 @@ use Rattle.smt_script.specs.declared.state.Question.{Question}
 use Rattle.smt_script.specs.States.{State, settled}
 use Rattle.script_walk.specs.Course.{Place, Turn, tells, answers, ends, fails, turn, IsCourseOf, status_of, answers_of}
 use Rattle.script_walk.specs.Events.{IsEvent}
-use Rattle.script_walk.specs.declared.walk.Event.TheVariants.{Told as ToldOf, Asked, Ended, Failed}
+use Rattle.script_walk.specs.declared.walk.Event.TheVariants.{Told as ToldOf, Asked}
 use Rattle.script_walk.specs.declared.walk.Walk.{Walk}
 use Rattle.script_walk.proofs.Turns.{IsLast, stopped_from, told_from, answered_from}
 use Rattle.dtp_entry.specs.declared.report.Report.{Report}
 use Rattle.dtp_entry.specs.Entries.{verdict_of}
 use Rattle.dtp_entry.specs.Reports.{version_of}
-use Rattle.dtp_entry.specs.Transcripts.{Held, closing, decision_line, told, Decides, Output, pieces, IsLegal}
+use Rattle.dtp_entry.specs.Transcripts.{Held, closing, decision_line, told, Decides, pieces, IsLegal}
 use Rattle.dtp_entry.specs.Written.{IsFront}
 use Rattle.dtp_session.specs.declared.piece.Piece.{Piece}
 use Rattle.dtp_session.specs.declared.piece.Piece.TheVariants.{Opening, Decision, Proof, Told, Closing, Error}
 use Rattle.dtp_session.specs.declared.session.Session.{Session}
-use Rattle.dtp_session.specs.Sessions.{IsText, Holds, place_of, From, PartFrom, behind, KeepsReading, Tells, IsChecked, IsGoing, Ends, GoesOn, Leads, IsNext}
+use Rattle.dtp_session.specs.Sessions.{IsText, Holds, place_of, PartFrom, KeepsReading, Tells, IsChecked, IsGoing, GoesOn, Leads, IsNext}
 
 -- ---- fronts
 

@@ -17,7 +17,6 @@ use Rattle.refute_tree.specs.Lengths.{lengthened_lemma, shortened_lemma}
 use Rattle.refute_tree.specs.Trees.{IsRefutation}
 use Rattle.cert_text.specs.declared.entry.Version.{Version}
 use Rattle.cert_text.specs.declared.entry.Version.TheVariants.{One, Two}
-use Rattle.cert_text.specs.declared.entry.Entry.{Entry}
 use Rattle.cert_text.specs.declared.entry.Entry.TheVariants.{Sat, Unsat}
 use Rattle.cert_text.specs.Limits.{limit, LemmaWithin}
 use Rattle.clause_form.specs.ClauseForm as clause_form

@@ -20,7 +20,6 @@ use Rattle.smt_answer.specs.Texts.{error_line}
 use Rattle.smt_script.specs.States.{State, start_state, terms_refusal, settled}
 use Rattle.script_walk.specs.Course.{Place, Turn, IsCourseOf, status_of, answers_of}
 use Rattle.script_walk.specs.Events.{IsStart as IsWalkStart, IsReady as IsWalkReady}
-use Rattle.dtp_entry.specs.declared.report.Report.{Report}
 use Rattle.dtp_entry.specs.Entries.{verdict_of}
 use Rattle.dtp_entry.specs.Reports.{version_of}
 use Rattle.script_walk.specs.Standing.{Stands}

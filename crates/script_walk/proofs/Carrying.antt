@@ -1,5 +1,5 @@
 -- What a walk's next command comes to.
-use Rattle.std.proofs.Common.{refl, sym, ap, subst, inl, inr, ◌⊎◌, ◌≡◌, ◌∙◌, ℕ, ◌+◌, Option, None, Ok, Err}
+use Rattle.std.proofs.Common.{refl, subst, inr, ◌⊎◌, ◌≡◌, ℕ, ◌+◌, None, Ok, Err}
 use Rattle.smt_sexpr.specs.Tree.{Sexpr}
 use Rattle.smt_sexpr.specs.Table.{Table, Means}
 use Rattle.smt_script.specs.declared.state.Effect.{Effect}

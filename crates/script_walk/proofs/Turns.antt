@@ -1,5 +1,5 @@
 -- The first turn of a course, and the course of a text from what stands next in it.
-use Rattle.std.proofs.Common.{refl, sym, ap, subst, inl, inr, ◌⊎◌, ◌≡◌, ◌∙◌, ℕ, ◌+◌, List, [], ◌∷◌, Option, Some, None, Result, Ok, Err}
+use Rattle.std.proofs.Common.{refl, sym, ap, subst, inl, inr, ◌≡◌, ◌∙◌, ℕ, List, [], ◌∷◌, Option, None, Result, Ok, Err}
 use Rattle.smt_sexpr.specs.Tree.{Sexpr}
 use Rattle.smt_sexpr.specs.Reading.{Spells, Outcomes, finished, refused}
 use Rattle.smt_sexpr.specs.Commands.{Ending, ended, stopped, unread}
@@ -16,9 +16,8 @@ use Rattle.smt_answer.specs.Kinds.{kind_of, kind_of_unreadable}
 use Rattle.script_walk.specs.Questions.{refusal_of}
 use Rattle.script_walk.specs.Course.{Place, Turn, Outcome, tells, answers, asks, ends, fails, turn, behind_told, behind_answer, asked, taken, by_command, course, IsCourseOf}
 use Rattle.script_walk.specs.Standing.{Stands}
-use Rattle.script_walk.specs.Events.{Leads, Refuses, Carries, IsCommand, IsEnd, IsUnread, IsEvent}
-use Rattle.script_walk.specs.declared.walk.Event.{Event}
-use Rattle.script_walk.specs.declared.walk.Event.TheVariants.{Told, Asked, Ended, Failed}
+use Rattle.script_walk.specs.Events.{IsEvent}
+use Rattle.script_walk.specs.declared.walk.Event.TheVariants.{Ended, Failed}
 use Rattle.script_walk.specs.declared.walk.Walk.{Walk}
 
 pub step_of : State → Effect → Step

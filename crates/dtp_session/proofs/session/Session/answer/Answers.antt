@@ -1,4 +1,4 @@
-use Rattle.std.proofs.Common.{refl, sym, subst, ◌∙◌, ◌≡◌}
+use Rattle.std.proofs.Common.{refl, ◌∙◌}
 use Rattle.dtp_entry.proofs.Written.{on_err}
 use Rattle.dtp_session.proofs.Looping.{so_far_starts, opening_cut, goes_on, next_going, is_going, cut, closes, stops, nothing_more, ok_quiet, start_ready}
 use Rattle.dtp_session.proofs.session.Session.answer.Goals as goal

@@ -1,7 +1,6 @@
 use Rattle.std.proofs.Common.{refl, sym, ap, ◌∙◌}
 use Rattle.dtp_entry.specs.declared.report.Report.{Report}
 use Rattle.dtp_entry.specs.Transcripts.{told}
-use Rattle.dtp_session.specs.Sessions.{Tells}
 use Rattle.dtp_session.proofs.Answering.{told_tells}
 use Rattle.dtp_session.proofs.session.Session.tell.Goals as goal
 
