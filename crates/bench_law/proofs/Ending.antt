@@ -1,5 +1,5 @@
--- What commands that are told of are answered, up to a check-sat and an exit.
-use Rattle.std.proofs.Common.{◌≡◌, ◌∙◌, refl, sym, ap, subst, ℕ, ◌+◌, List, [], ◌∷◌, ◌++◌, Result, Ok}
+-- The course of commands that are told of, up to a check-sat and an exit.
+use Rattle.std.proofs.Common.{◌≡◌, ◌∙◌, refl, sym, ap, subst, ℕ, ◌+◌, List, [], ◌∷◌, ◌++◌, Option, Some, None, Result, Ok, Err}
 use Rattle.smt_sexpr.specs.Tree.{Sexpr}
 use Rattle.smt_sexpr.specs.Reading.{Spells, Outcomes, expression, finished, refused}
 use Rattle.smt_sexpr.specs.Commands.{Commands, Ending, ended, stopped, unread, EndsAs}
@@ -7,13 +7,17 @@ use Rattle.smt_sexpr.specs.Laws.{OneOutcome}
 use Rattle.smt_sexpr.specs.declared.error.SexprRefusal.{SexprRefusal}
 use Rattle.smt_script.specs.Commands.{command_of, naming_command, changing_command, asking_command}
 use Rattle.smt_script.specs.declared.state.Effect.{Effect}
-use Rattle.smt_script.specs.declared.state.Effect.TheVariants.{CheckSat, Exit, Tell}
+use Rattle.smt_script.specs.declared.state.Effect.TheVariants.{Ask, Exit, Tell}
 use Rattle.smt_script.specs.declared.state.Notice.{Notice}
+use Rattle.smt_script.specs.declared.state.Question.{Question}
+use Rattle.smt_script.specs.declared.state.Question.TheVariants.{CheckSat}
+use Rattle.smt_script.specs.declared.state.Satisfiability.{Satisfiability}
 use Rattle.smt_script.specs.declared.error.Refusal.{Refusal}
 use Rattle.smt_script.specs.States.{State, Step, after}
-use Rattle.cert_text.specs.declared.entry.Entry.{Entry}
-use Rattle.dtp_entry.specs.declared.report.Report.{Report}
-use Rattle.dtp_entry.specs.Transcripts.{Held, Reply, Output, RepliesBy, GoesOn, Follows}
+use Rattle.smt_answer.specs.declared.kind.Kind.{Kind}
+use Rattle.script_walk.specs.Questions.{refusal_of}
+use Rattle.script_walk.specs.Course.{Place, Turn, turn, tells, answers, asks, ends, behind_told, behind_answer, asked, taken, by_effect, by_command, last_turn, course, IsCourseOf, last_of, status_at, status_of, answers_of}
+use Rattle.script_walk.proofs.Turns.{told_turn, answered_turn, unanswered_turn, exit_turn}
 use Rattle.bench_law.proofs.Commands.{check, exit}
 
 abbrev pub step_of : State → Effect → Step
@@ -31,7 +35,7 @@ tells_append (x ∷ xs) ys s t u (next, notice, e, h) k = (next, notice, e, tell
 pub tells_one : (x : Sexpr) (s t : State) (notice : Notice) → after s x ≡ Ok (step_of t (Tell notice)) → Tells s (x ∷ []) t
 tells_one x s t notice e = (t, notice, e, refl)
 
-pub after_check : (s : State) → after s check ≡ Ok (step_of s CheckSat)
+pub after_check : (s : State) → after s check ≡ Ok (step_of s (Ask CheckSat))
 unfolding after command_of naming_command changing_command asking_command
 after_check s = refl
 
@@ -55,111 +59,113 @@ module _ (one : OneOutcome) (bytes : List ℕ) (place : ℕ) (x : Sexpr) (mid : 
       let same : y ≡ x = cc in
       (same, sym w.1)
 
-module _ (report : Report) where
-  abbrev FollowsBy : Held → ℕ → Sexpr → List Sexpr → Ending → Output → Result Step Refusal → Type 0
-  FollowsBy held k x xs ending out r =
-      (reply : Reply) × RepliesBy report held x r reply × GoesOn k reply xs ending out (λ kept next rest. Follows report kept next (k + 1) xs ending rest)
+-- ---- one course
 
-  follows_is : (held : Held) (s : State) (k : ℕ) (x : Sexpr) (xs : List Sexpr) (ending : Ending) (out : Output) → Follows report held s k (x ∷ xs) ending out → FollowsBy held k x xs ending out (after s x)
-  unfolding Follows
-  follows_is held s k x xs ending out h = h
+module _ {A : Type 0} (says : A → Satisfiability) where
+  -- some turn ends the course
+  abbrev pub IsOver : List (Turn A) → Type 0
+  IsOver turns = (t : Turn A) × (last_of turns ≡ Some t)
 
-  -- the text isn't at its end
-  not_over : (one : OneOutcome) (bytes : List ℕ) (place : ℕ) (x : Sexpr) (mid here k : ℕ) (held : Held) (s : State) (ending : Ending) (out : Output)
-      → Spells bytes place x mid → place ≡ here → EndsAs bytes here ending → Follows report held s k [] ending out → ⊥
-  unfolding Follows
-  not_over one bytes place x mid here k held s ended out spells e (n, h) follows =
-      not_ended one bytes place x mid spells n (subst (λ (p : ℕ). Outcomes bytes p finished n) (sym e) h)
-  not_over one bytes place x mid here k held s (unread why) out spells e (n, h) follows =
-      not_unread one bytes place x mid spells why n (subst (λ (p : ℕ). Outcomes bytes p (refused why) n) (sym e) h)
-  not_over one bytes place x mid here k held s stopped out spells e ends follows = absurd follows
+  -- where both go on alike, they are the same
+  module _ (p : Place A) (x : Sexpr) (make other : Place A → List (Turn A)) (rest : (q : Place A) → IsOver (make q) → IsOver (other q) → make q ≡ other q) where
+    same_asked : (s : State) (question : Question) (left : List A) → IsOver (asked says p s question x left make) → IsOver (asked says p s question x left other) → asked says p s question x left make ≡ asked says p s question x left other
+    same_asked s question [] h k = refl
+    same_asked s question (a ∷ left) h k = ap (λ (ts : List (Turn A)). turn p s (answers question x a) ∷ ts) (rest (behind_answer says p s a left) h k)
 
-  -- what is left of a reading, in a state
-  record IsRest (bytes : List ℕ) (t : State) (ys : List Sexpr) (here : ℕ) (ending : Ending) (out : Output) : Type 0 where
-    place : ℕ
-    there : ℕ
-    held : Held
-    k : ℕ
-    xs : List Sexpr
-    rest : Output
-    reads : Commands bytes place ys there
-    theirs : Commands bytes place xs here
-    answers : Follows report held t k xs ending rest
-    status : out.status ≡ rest.status
-    found : out.found ≡ rest.found
+    same_taken : (s : State) (question : Question) (why : Option Kind) → IsOver (taken says p s question x why make) → IsOver (taken says p s question x why other) → taken says p s question x why make ≡ taken says p s question x why other
+    same_taken s question (Some kind) h k = refl
+    same_taken s question None h k = same_asked s question p.left h k
 
-  module _ (one : OneOutcome) (bytes : List ℕ) (here : ℕ) (ending : Ending) (ends : EndsAs bytes here ending) where
-    -- one more command in both readings
-    record IsNext (place : ℕ) (held : Held) (k : ℕ) (x : Sexpr) (mid : ℕ) (r : Result Step Refusal) (xs : List Sexpr) (out : Output) : Type 0 where
-      others : List Sexpr
-      reads : Commands bytes mid others here
-      answers : FollowsBy held k x others ending out r
+    same_effect : (effect : Effect) (s : State) → IsOver (by_effect says p s x effect make) → IsOver (by_effect says p s x effect other) → by_effect says p s x effect make ≡ by_effect says p s x effect other
+    same_effect (Tell notice) s h k = ap (λ (ts : List (Turn A)). turn p s (tells x notice) ∷ ts) (rest (behind_told p s) h k)
+    same_effect (Ask question) s h k = same_taken s question (refusal_of question s x) h k
+    same_effect Exit s h k = refl
 
-    next : (xs : List Sexpr) (place : ℕ) (held : Held) (k : ℕ) (s : State) (x : Sexpr) (mid : ℕ) (out : Output) → Spells bytes place x mid → Commands bytes place xs here → Follows report held s k xs ending out
-        → IsNext place held k x mid (after s x) xs out
-    next [] place held k s x mid out spells e follows = absurd (not_over one bytes place x mid here k held s ending out spells e ends follows)
-    next (y ∷ ys) place held k s x mid out spells (there, spells_y, rest) follows =
-        let same = same_sexpr one bytes place x mid spells y there spells_y in
-        record {
-          others = ys;
-          reads = subst (λ (m : ℕ). Commands bytes m ys here) same.1 rest;
-          answers = subst (λ (z : Sexpr). FollowsBy held k z ys ending out (after s z)) same.0 (follows_is held s k y ys ending out follows);
-        }
+    same_command : (r : Result Step Refusal) → IsOver (by_command says p x r make) → IsOver (by_command says p x r other) → by_command says p x r make ≡ by_command says p x r other
+    same_command (Ok step) h k = same_effect step.effect step.state h k
+    same_command (Err why) h k = refl
 
-    rests : (done ys : List Sexpr) (s t : State) → Tells s done t → (place there : ℕ) → Commands bytes place (done ++ ys) there → (held : Held) (k : ℕ) (xs : List Sexpr) (out : Output)
-        → Commands bytes place xs here → Follows report held s k xs ending out → IsRest bytes t ys here ending out
-    rests [] ys s t e place there reads held k xs out theirs follows = record {
-      place = place;
-      there = there;
-      held = held;
-      k = k;
-      xs = xs;
-      rest = out;
-      reads = reads;
-      theirs = theirs;
-      answers = subst (λ (v : State). Follows report held v k xs ending out) e follows;
-      status = refl;
-      found = refl;
-    }
-    rests (x ∷ done) ys s t (later, notice, e, tells) place there (mid, spells, reads) held k xs out theirs follows =
-        let n = next xs place held k s x mid out spells theirs follows in
-        let told : FollowsBy held k x n.others ending out (Ok (step_of later (Tell notice))) = subst (FollowsBy held k x n.others ending out) e n.answers in
-        let goes = subst (λ (reply : Reply). GoesOn k reply n.others ending out (λ kept next rest. Follows report kept next (k + 1) n.others ending rest)) told.1 told.2 in
-        let r = rests done ys later t tells mid there reads held (k + 1) n.others goes.0 n.reads goes.1 in
-        record {
-          place = r.place;
-          there = r.there;
-          held = r.held;
-          k = r.k;
-          xs = r.xs;
-          rest = r.rest;
-          reads = r.reads;
-          theirs = r.theirs;
-          answers = r.answers;
-          status = ap (λ (o : Output). o.status) goes.2 ∙ r.status;
-          found = ap (λ (o : Output). o.found) goes.2 ∙ r.found;
-        }
+  module _ (one : OneOutcome) (bytes : List ℕ) where
+    -- the text isn't at its end
+    not_over : (place : ℕ) (x : Sexpr) (mid here : ℕ) (p : Place A) (ending : Ending) → Spells bytes place x mid → place ≡ here → EndsAs bytes here ending → IsOver (last_turn p ending) → ⊥
+    not_over place x mid here p ended spells e (n, h) over = not_ended one bytes place x mid spells n (subst (λ (k : ℕ). Outcomes bytes k finished n) (sym e) h)
+    not_over place x mid here p (unread why) spells e (n, h) over = not_unread one bytes place x mid spells why n (subst (λ (k : ℕ). Outcomes bytes k (refused why) n) (sym e) h)
+    not_over place x mid here p stopped spells e h (t, over) = absurd cc
 
-    exit_end : (place held_k : ℕ) (held : Held) (s : State) (mid : ℕ) (xs : List Sexpr) (out : Output) → Spells bytes place exit mid → Commands bytes place xs here → Follows report held s held_k xs ending out → (out.status ≡ 0) × (out.found ≡ [])
-    exit_end place k held s mid xs out spells theirs follows =
-        let n = next xs place held k s exit mid out spells theirs follows in
-        let gone : FollowsBy held k exit n.others ending out (Ok (step_of s Exit)) = subst (FollowsBy held k exit n.others ending out) (after_exit s) n.answers in
-        let goes = subst (λ (reply : Reply). GoesOn k reply n.others ending out (λ kept next rest. Follows report kept next (k + 1) n.others ending rest)) gone.1 gone.2 in
-        (ap (λ (o : Output). o.status) goes.1, ap (λ (o : Output). o.found) goes.1)
+    -- of two readings whose courses end
+    one_course : (zs xs : List Sexpr) (place there here : ℕ) (ending : Ending) (p : Place A) → Commands bytes place zs there → Commands bytes place xs here → EndsAs bytes here ending
+        → IsOver (course says p xs ending) → IsOver (course says p zs stopped) → course says p xs ending ≡ course says p zs stopped
+    unfolding course
+    one_course [] xs place there here ending p reads theirs ends_as h (t, none) = absurd cc
+    one_course (z ∷ zs) [] place there here ending p (mid, spells, reads) theirs ends_as h k = absurd (not_over place z mid here p ending spells theirs ends_as h)
+    one_course (z ∷ zs) (x ∷ xs) place there here ending p (mid, spells, reads) (later, spells_x, theirs) ends_as h k =
+        let same = same_sexpr one bytes place z mid spells x later spells_x in
+        let left : Commands bytes mid xs here = subst (λ (m : ℕ). Commands bytes m xs here) same.1 theirs in
+        let make : Place A → List (Turn A) = λ next. course says next xs ending in
+        let as_z : by_command says p x (after p.state x) make ≡ by_command says p z (after p.state z) make = ap (λ (y : Sexpr). by_command says p y (after p.state y) make) same.0 in
+        as_z ∙ same_command p z make (λ next. course says next zs stopped) (λ q over there_over. one_course zs xs mid there here ending q reads left ends_as over there_over)
+        (after p.state z) (subst IsOver as_z h) k
 
-    check_end : (place k : ℕ) (held : Held) (s : State) (there : ℕ) (xs : List Sexpr) (out : Output) → Commands bytes place (check ∷ exit ∷ []) there → Commands bytes place xs here → Follows report held s k xs ending out
-        → (out.status ≡ 0) × ((entry : Entry) × (out.found ≡ entry ∷ []))
-    check_end place k held s there xs out (mid, spells, (later, exits, at)) theirs follows =
-        let n = next xs place held k s check mid out spells theirs follows in
-        let asked : FollowsBy held k check n.others ending out (Ok (step_of s CheckSat)) = subst (FollowsBy held k check n.others ending out) (after_check s) n.answers in
-        let answer = asked.1 in
-        let goes = subst (λ (reply : Reply). GoesOn k reply n.others ending out (λ kept next rest. Follows report kept next (k + 1) n.others ending rest)) answer.2 asked.2 in
-        let r = exit_end mid (k + 1) _ _ later n.others goes.0 exits n.reads goes.1 in
-        (ap (λ (o : Output). o.status) goes.2 ∙ r.0, (answer.0, ap (λ (o : Output). o.found) goes.2 ∙ ap (λ (f : List Entry). answer.0 ∷ f) r.1))
+  -- ---- the tells before a check-sat
 
-    pub ends_well : (done : List Sexpr) (s t : State) → Tells s done t → (place there : ℕ) → Commands bytes place (done ++ (check ∷ exit ∷ [])) there → (held : Held) (k : ℕ) (xs : List Sexpr) (out : Output)
-        → Commands bytes place xs here → Follows report held s k xs ending out → (out.status ≡ 0) × ((entry : Entry) × (out.found ≡ entry ∷ []))
-    ends_well done s t tells place there reads held k xs out theirs follows =
-        let r = rests done (check ∷ exit ∷ []) s t tells place there reads held k xs out theirs follows in
-        let e = check_end r.place r.k r.held t r.there r.xs r.rest r.reads r.theirs r.answers in
-        (r.status ∙ e.0, (e.1.0, r.found ∙ e.1.1))
+  -- behind the tells the course goes on in the state that they lead to
+  record IsTold (p : Place A) (done ys : List Sexpr) (ending : Ending) (t : State) : Type 0 where
+    q : Place A
+    state : q.state ≡ t
+    left : q.left ≡ p.left
+    last : last_of (course says p (done ++ ys) ending) ≡ last_of (course says q ys ending)
+    answered : answers_of (course says p (done ++ ys) ending) ≡ answers_of (course says q ys ending)
+
+  told_course : (done ys : List Sexpr) (ending : Ending) (p : Place A) (t : State) → Tells p.state done t → IsTold p done ys ending t
+  told_course [] ys ending p t e = record { q = p; state = e; left = refl; last = refl; answered = refl }
+  told_course (x ∷ done) ys ending p t (next, notice, e, leading) =
+      let w = told_course done ys ending (behind_told p next) t leading in
+      let first = told_turn says p x next notice e (done ++ ys) ending in
+      record {
+        q = w.q;
+        state = w.state;
+        left = w.left;
+        last = ap (λ (ts : List (Turn A)). last_of ts) first ∙ w.last;
+        answered = ap (λ (ts : List (Turn A)). answers_of ts) first ∙ w.answered;
+      }
+
+  -- a check-sat without an answer
+  check_asked : (q : Place A) → q.left ≡ [] → course says q (check ∷ exit ∷ []) stopped ≡ turn q q.state (asks CheckSat check) ∷ []
+  check_asked q e = unanswered_turn says q check q.state CheckSat (after_check q.state) refl e (exit ∷ []) stopped
+
+  -- and with one
+  check_answered : (q : Place A) (a : A) (left : List A) → q.left ≡ a ∷ left
+      → (now : Place A) × (last : State) × (course says q (check ∷ exit ∷ []) stopped ≡ turn q q.state (answers CheckSat check a) ∷ turn now last ends ∷ [])
+  check_answered q a left e =
+      let now = behind_answer says q q.state a left in (
+        now,
+        now.state,
+        answered_turn says q check q.state CheckSat a left (after_check q.state) refl e (exit ∷ []) stopped
+            ∙ ap (λ (ts : List (Turn A)). turn q q.state (answers CheckSat check a) ∷ ts) (exit_turn says now exit now.state (after_exit now.state) [] stopped),
+      )
+
+  -- the course of a text of tells, a check-sat and an exit
+  module _ (one : OneOutcome) (bytes : List ℕ) (done : List Sexpr) (t : State) (there : ℕ) (p : Place A) (leading : Tells p.state done t) (reads : Commands bytes 0 (done ++ (check ∷ exit ∷ [])) there) (turns : List (Turn A)) (are : IsCourseOf says bytes 0 p turns) (over : IsOver turns) where
+    is_mine : IsOver (course says p (done ++ (check ∷ exit ∷ [])) stopped) → turns ≡ course says p (done ++ (check ∷ exit ∷ [])) stopped
+    is_mine mine = are.are ∙ one_course one bytes (done ++ (check ∷ exit ∷ [])) are.commands 0 there are.behind are.ending p reads are.reads are.ends (subst IsOver are.are over) mine
+
+    -- without an answer it ends in the state that the tells lead to
+    pub ends_asked : p.left ≡ [] → (last : Turn A) × (last_of turns ≡ Some last) × (last.state ≡ t) × (status_of turns ≡ None)
+    ends_asked none =
+        let w = told_course done (check ∷ exit ∷ []) stopped p t leading in
+        let last = turn w.q w.q.state (asks CheckSat check) in
+        let mine : last_of (course says p (done ++ (check ∷ exit ∷ [])) stopped) ≡ Some last = w.last ∙ ap (λ (ts : List (Turn A)). last_of ts) (check_asked w.q (w.left ∙ none)) in
+        let same : last_of turns ≡ Some last = ap (λ (ts : List (Turn A)). last_of ts) (is_mine (last, mine)) ∙ mine in
+        (last, same, w.state, ap (λ (l : Option (Turn A)). status_at l) same)
+
+    -- with answers, the first is taken, and the script ends without an error
+    pub ends_answered : (a : A) (left : List A) → p.left ≡ a ∷ left → (status_of turns ≡ Some 0) × (answers_of turns ≡ a ∷ [])
+    ends_answered a left some =
+        let w = told_course done (check ∷ exit ∷ []) stopped p t leading in
+        let c = check_answered w.q a left (w.left ∙ some) in
+        let last = turn c.0 c.1 ends in
+        let mine : last_of (course says p (done ++ (check ∷ exit ∷ [])) stopped) ≡ Some last = w.last ∙ ap (λ (ts : List (Turn A)). last_of ts) c.2 in
+        let same = is_mine (last, mine) in (
+          ap (λ (ts : List (Turn A)). status_of ts) same ∙ ap (λ (l : Option (Turn A)). status_at l) mine,
+          ap (λ (ts : List (Turn A)). answers_of ts) same ∙ w.answered ∙ ap (λ (ts : List (Turn A)). answers_of ts) c.2,
+        )

@@ -1,16 +1,21 @@
 -- What a certificate that is read again says: the entries that decided the check-sats of its script.
-use Rattle.std.proofs.Common.{arith, ◌≡◌, ◌≤◌, ℕ, ◌+◌, List, [], ◌∷◌, ◌++◌, map, Some, None, Result, Ok, Err, refl, sym, ap, ◌∙◌, subst, append_assoc, ◌<◌, length, get_or}
+use Rattle.std.proofs.Common.{arith, ◌≡◌, ◌≤◌, ℕ, ◌+◌, List, [], ◌∷◌, ◌++◌, map, Option, Some, None, Result, Ok, Err, refl, sym, ap, ◌∙◌, subst, append_assoc, ◌<◌, length, get_or}
 use Rattle.std.specs.Prelude.{All}
-use Rattle.smt_lex.specs.Lexing.{Lexing}
-use Rattle.smt_script.specs.declared.state.Satisfiability.{Satisfiability}
+use Rattle.std.specs.List.{AllByRecursion}
+use Rattle.std.proofs.lemmas.List.{append-nil}
 use Rattle.std.proofs.lemmas.List.Elements.{All-nil, All-cons}
+use Rattle.smt_lex.specs.Lexing.{Lexing}
 use Rattle.smt_sexpr.specs.Tree.{Sexpr}
 use Rattle.smt_sexpr.specs.Commands.{Ending, ended, stopped, unread}
 use Rattle.smt_script.specs.declared.state.Effect.{Effect}
-use Rattle.smt_script.specs.declared.state.Effect.TheVariants.{CheckSat, Exit, Tell}
+use Rattle.smt_script.specs.declared.state.Effect.TheVariants.{Ask, Exit, Tell}
+use Rattle.smt_script.specs.declared.state.Question.{Question}
+use Rattle.smt_script.specs.declared.state.Satisfiability.{Satisfiability}
 use Rattle.smt_script.specs.declared.error.Refusal.{Refusal}
-use Rattle.smt_script.specs.States.{State, Step, after, settled}
-use Rattle.smt_answer.specs.Kinds.{kind_of}
+use Rattle.smt_script.specs.States.{State, Step, after}
+use Rattle.smt_answer.specs.declared.kind.Kind.{Kind}
+use Rattle.script_walk.specs.Questions.{refusal_of}
+use Rattle.script_walk.specs.Course.{Place, start_with, Turn, Outcome, turn, ends, behind_told, behind_answer, asked, taken, by_effect, by_command, last_turn, course, status_of, with_answer, answers_of}
 use Rattle.cert_text.specs.declared.entry.Version.{Version}
 use Rattle.cert_text.specs.declared.entry.Version.TheVariants.{One}
 use Rattle.cert_text.specs.declared.entry.FileEntry.{FileEntry}
@@ -18,13 +23,13 @@ use Rattle.cert_text.specs.declared.entry.Entry.{Entry}
 use Rattle.cert_text.specs.declared.entry.Entry.TheVariants.{Sat, Unsat}
 use Rattle.cert_text.specs.Laws.{OwnText, OwnFits}
 use Rattle.cert_text.specs.Form.{header_sexpr, entry_sexpr, file_entry_sexpr, file_entry_of, end_sexpr, line_of}
-use Rattle.cert_text.specs.Limits.{EntryFits, FileEntryFits}
+use Rattle.cert_text.specs.Limits.{FileEntryFits}
 use Rattle.cert_read.specs.Certificates.{certificate, ReadsCertificate}
 use Rattle.cert_read.specs.Laws.{OneCertificate, CertificateReadsBack}
 use Rattle.cert_read.specs.Written.{entries_text, certificate_text, IsClosedGap}
 use Rattle.dtp_entry.specs.declared.report.Report.TheVariants.{Certificate}
 use Rattle.dtp_entry.specs.Entries.{verdict_of}
-use Rattle.dtp_entry.specs.Transcripts.{Held, Reply, answered, last, error, Answers, RepliesBy, Output, behind, Closes, Follows, GoesOn, IsOutput, IsReport}
+use Rattle.dtp_entry.specs.Transcripts.{piece_by, pieces, IsLegal, IsOutput, IsReport}
 use Rattle.dtp_check.specs.Judged.{told_by}
 use Rattle.dtp_bench.specs.Outcomes.{HasVerdict}
 
@@ -32,73 +37,65 @@ use Rattle.dtp_bench.specs.Outcomes.{HasVerdict}
 abbrev shown : List Entry → List FileEntry
 shown entries = map file_entry_of entries
 
--- what was written, behind the header, is the entries' lines and the end
-pub record IsWritten (out : Output) : Type 0 where
-  pub text : out.text ≡ entries_text (shown out.found) ++ line_of end_sexpr
-  pub fits : All (FileEntryFits One) (shown out.found)
+-- what is written of the turns is the entries' lines and the end
+pub record IsWritten (turns : List (Turn Entry)) : Type 0 where
+  pub text : pieces (Certificate One) turns ≡ entries_text (shown (answers_of turns)) ++ line_of end_sexpr
+  pub fits : All (FileEntryFits One) (shown (answers_of turns))
 
-written_as : (out other : Output) → out ≡ other → IsWritten other → IsWritten out
-written_as out other e h = subst (λ (o : Output). IsWritten o) (sym e) h
+abbrev AreLegal : List (Turn Entry) → Type 0
+AreLegal turns = AllByRecursion (IsLegal (Certificate One)) turns
 
-written_end : IsWritten (record { text = line_of end_sexpr; found = []; status = 0 })
-written_end = record { text = refl; fits = All-nil (FileEntryFits One) }
+no_status : ◌≡◌ {A = Option ℕ} None (Some 0) → ⊥
+no_status e = absurd cc
 
-written_silent : (rest : Output) → IsWritten rest → IsWritten (behind [] [] rest)
-written_silent rest h = record { text = h.text; fits = h.fits }
+failed_status : ◌≡◌ {A = Option ℕ} (Some 1) (Some 0) → ⊥
+failed_status e = absurd cc
 
-refused_status : (out : Output) (text : List ℕ) (found : List Entry) → out ≡ record { text = text; found = found; status = 1 } → out.status ≡ 0 → IsWritten out
-refused_status out text found e zero = absurd (let one : out.status ≡ 1 = ap (λ (o : Output). o.status) e in omega (arith, one, zero))
-
-status_behind : (out : Output) (text : List ℕ) (found : List Entry) (rest : Output) → out ≡ behind text found rest → out.status ≡ 0 → rest.status ≡ 0
-status_behind out text found rest e status = sym (ap (λ (o : Output). o.status) e) ∙ status
-
-written_close : (k : ℕ) (ending : Ending) (out : Output) → Closes (Certificate One) k ending out → out.status ≡ 0 → IsWritten out
-written_close k ended out h zero = written_as out _ h written_end
-written_close k (unread why) out h zero = refused_status out _ _ h zero
-written_close k stopped out h zero = absurd h
-
-abbrev Others : ℕ → List Sexpr → Ending → Type 0
-Others k xs ending = (held : Held) (next : State) (rest : Output) → rest.status ≡ 0 → Follows (Certificate One) held next (k + 1) xs ending rest → IsWritten rest
-
-abbrev GoesOnAs : ℕ → Reply → List Sexpr → Ending → Output → Type 0
-GoesOnAs k reply xs ending out = GoesOn k reply xs ending out (λ kept next rest. Follows (Certificate One) kept next (k + 1) xs ending rest)
-
-goes_as : (k : ℕ) (reply other : Reply) (xs : List Sexpr) (ending : Ending) (out : Output) → reply ≡ other → GoesOnAs k reply xs ending out → GoesOnAs k other xs ending out
-goes_as k reply other xs ending out e h = subst (λ (r : Reply). GoesOnAs k r xs ending out) e h
+written_end : (t : Turn Entry) → t.outcome ≡ ends → IsWritten (t ∷ [])
+written_end t e = record {
+  text = ap (λ (o : Outcome Entry). piece_by (Certificate One) t o ++ []) e ∙ append-nil (line_of end_sexpr) ∙ ap (λ (o : Outcome Entry). entries_text (shown (with_answer o [])) ++ line_of end_sexpr) (sym e);
+  fits = subst (λ (o : Outcome Entry). All (FileEntryFits One) (shown (with_answer o []))) (sym e) (All-nil (FileEntryFits One));
+}
 
 module _ (text_is : OwnText) (fits_are : OwnFits) where
-  written_entry : (entry : Entry) (rest : Output) → EntryFits One entry → IsWritten rest → IsWritten (behind (line_of (entry_sexpr entry)) (entry ∷ []) rest)
-  written_entry entry rest fits h = record {
-    text = ap (λ (x : Sexpr). line_of x ++ rest.text) (sym (text_is entry)) ∙ ap (λ (t : List ℕ). line_of (file_entry_sexpr (file_entry_of entry)) ++ t) h.text
-        ∙ sym (append_assoc (line_of (file_entry_sexpr (file_entry_of entry))) (entries_text (shown rest.found)) (line_of end_sexpr));
-    fits = All-cons (FileEntryFits One) (file_entry_of entry) (shown rest.found) (fits_are One entry fits) h.fits;
-  }
+  module _ (p : Place Entry) (x : Sexpr) (make : Place Entry → List (Turn Entry)) (rest : (q : Place Entry) → AreLegal (make q) → status_of (make q) ≡ Some 0 → IsWritten (make q)) where
+    written_asked : (s : State) (question : Question) (left : List Entry) → AreLegal (asked verdict_of p s question x left make) → status_of (asked verdict_of p s question x left make) ≡ Some 0 → IsWritten (asked verdict_of p s question x left make)
+    written_asked s question [] legal over = absurd (no_status over)
+    written_asked s question (entry ∷ left) legal over =
+        let turns = make (behind_answer verdict_of p s entry left) in
+        let h = rest (behind_answer verdict_of p s entry left) legal.1 over in
+        record {
+          text = ap (λ (y : Sexpr). line_of y ++ pieces (Certificate One) turns) (sym (text_is entry)) ∙ ap (λ (t : List ℕ). line_of (file_entry_sexpr (file_entry_of entry)) ++ t) h.text
+              ∙ sym (append_assoc (line_of (file_entry_sexpr (file_entry_of entry))) (entries_text (shown (answers_of turns))) (line_of end_sexpr));
+          fits = All-cons (FileEntryFits One) (file_entry_of entry) (shown (answers_of turns)) (fits_are One entry legal.0.right.fits) h.fits;
+        }
 
-  written_effect : (k : ℕ) (x : Sexpr) (effect : Effect) (held : Held) (next : State) (reply : Reply) → Answers (Certificate One) held next x effect reply
-      → (xs : List Sexpr) (ending : Ending) (out : Output) → out.status ≡ 0 → GoesOnAs k reply xs ending out → Others k xs ending → IsWritten out
-  written_effect k x (Tell notice) held next reply is_reply xs ending out zero goes others =
-      let w = goes_as k reply (answered (record { text = []; found = []; held = held; state = next })) xs ending out is_reply goes in
-      written_as out _ w.2 (written_silent w.0 (others held next w.0 (status_behind out [] [] w.0 w.2 zero) w.1))
-  written_effect k x CheckSat held next reply (entry, decides, is_reply) xs ending out zero goes others =
-      let w = goes_as k reply (answered (record { text = line_of (entry_sexpr entry); found = entry ∷ []; held = Some entry; state = settled (verdict_of entry) next })) xs ending out is_reply goes in
-      written_as out _ w.2 (written_entry entry w.0 decides.right.fits (others (Some entry) (settled (verdict_of entry) next) w.0 (status_behind out (line_of (entry_sexpr entry)) (entry ∷ []) w.0 w.2 zero) w.1))
-  written_effect k x Exit held next reply is_reply xs ending out zero goes others =
-      let w = goes_as k reply (last (line_of end_sexpr)) xs ending out is_reply goes in
-      written_as out _ w.1 written_end
+    written_taken : (s : State) (question : Question) (why : Option Kind) → AreLegal (taken verdict_of p s question x why make) → status_of (taken verdict_of p s question x why make) ≡ Some 0 → IsWritten (taken verdict_of p s question x why make)
+    written_taken s question (Some kind) legal over = absurd (failed_status over)
+    written_taken s question None legal over = written_asked s question p.left legal over
 
-  written_by : (k : ℕ) (held : Held) (x : Sexpr) (r : Result Step Refusal) (reply : Reply) → RepliesBy (Certificate One) held x r reply
-      → (xs : List Sexpr) (ending : Ending) (out : Output) → out.status ≡ 0 → GoesOnAs k reply xs ending out → Others k xs ending → IsWritten out
-  written_by k held x (Ok step) reply replies xs ending out zero goes others = written_effect k x step.effect held step.state reply replies xs ending out zero goes others
-  written_by k held x (Err why) reply replies xs ending out zero goes others =
-      let w = goes_as k reply (error (kind_of why)) xs ending out replies goes in
-      refused_status out _ _ w.1 zero
+    written_effect : (effect : Effect) (s : State) → AreLegal (by_effect verdict_of p s x effect make) → status_of (by_effect verdict_of p s x effect make) ≡ Some 0 → IsWritten (by_effect verdict_of p s x effect make)
+    written_effect (Tell notice) s legal over =
+        let h = rest (behind_told p s) legal.1 over in
+        record { text = h.text; fits = h.fits }
+    written_effect (Ask question) s legal over = written_taken s question (refusal_of question s x) legal over
+    written_effect Exit s legal over = written_end (turn p s ends) refl
 
-  -- a certificate that was written to its end
-  pub follows_written : (xs : List Sexpr) (k : ℕ) (held : Held) (s : State) (ending : Ending) (out : Output) → out.status ≡ 0 → Follows (Certificate One) held s k xs ending out → IsWritten out
-  unfolding Follows
-  follows_written [] k held s ending out zero h = written_close k ending out h zero
-  follows_written (x ∷ xs) k held s ending out zero (reply, replies, goes) =
-      written_by k held x (after s x) reply replies xs ending out zero goes (λ kept next rest left on. follows_written xs (k + 1) kept next ending rest left on)
+    written_by : (r : Result Step Refusal) → AreLegal (by_command verdict_of p x r make) → status_of (by_command verdict_of p x r make) ≡ Some 0 → IsWritten (by_command verdict_of p x r make)
+    written_by (Ok step) legal over = written_effect step.effect step.state legal over
+    written_by (Err why) legal over = absurd (failed_status over)
+
+  written_close : (p : Place Entry) (ending : Ending) → status_of (last_turn p ending) ≡ Some 0 → IsWritten (last_turn p ending)
+  written_close p ended over = written_end (turn p p.state ends) refl
+  written_close p (unread why) over = absurd (failed_status over)
+  written_close p stopped over = absurd (no_status over)
+
+  -- of a certificate that was written to its end
+  pub course_written : (xs : List Sexpr) (p : Place Entry) (ending : Ending) → AreLegal (course verdict_of p xs ending) → status_of (course verdict_of p xs ending) ≡ Some 0 → IsWritten (course verdict_of p xs ending)
+  unfolding course
+  course_written [] p ending legal over = written_close p ending over
+  course_written (x ∷ xs) p ending legal over =
+      written_by p x (λ next. course verdict_of next xs ending) (λ q there left. course_written xs q ending there left) (after p.state x) legal over
 
 abbrev IsReportWith : List ℕ → List ℕ → List Entry → Type 0
 IsReportWith script text found = IsOutput (Certificate One) script (record { text = text; found = found; status = 0 })
@@ -122,16 +119,19 @@ same_verdict (Unsat lemmas) = refl
 -- what is read of it is what was written
 pub decided_by : OwnText → OwnFits → CertificateReadsBack → OneCertificate → (script text : List ℕ) → IsReport (Certificate One) script text 0 → (version : Version) (entry : FileEntry)
     → ReadsCertificate text 0 (certificate version (entry ∷ [])) → HasVerdict script text (told_by entry)
-decided_by text_is fits_are back one script text (found, (rest, transcribes, is)) version entry reads =
-    let zero : rest.status ≡ 0 = sym (ap (λ (o : Output). o.status) is) in
-    let w = follows_written text_is fits_are transcribes.commands 1 None _ transcribes.ending rest zero transcribes.answers in
-    let same : text ≡ line_of (header_sexpr One) ++ rest.text = ap (λ (o : Output). o.text) is in
-    let found_is : found ≡ rest.found = ap (λ (o : Output). o.found) is in
-    let whole : text ≡ certificate_text One (shown rest.found) = same ∙ ap (λ (t : List ℕ). line_of (header_sexpr One) ++ t) w.text in
-    let written = back One (shown rest.found) text [] 0 w.fits nothing_closed whole in
-    let entries : shown rest.found ≡ entry ∷ [] = one_entries One version (shown rest.found) (entry ∷ []) (one text 0 (certificate One (shown rest.found)) (certificate version (entry ∷ [])) written reads) in
-    let o = one_shown rest.found entry entries in
-    (o.0, subst (λ (es : List Entry). IsReportWith script text es) (found_is ∙ o.1) (rest, transcribes, is), ap told_by (sym o.2) ∙ same_verdict o.0)
+decided_by text_is fits_are back one script text (found, output) version entry reads =
+    let w = output.are.are in
+    let turns = output.turns in
+    let legal : AreLegal (course verdict_of (start_with found) w.commands w.ending) = subst AreLegal w.are output.are.legal in
+    let over : status_of (course verdict_of (start_with found) w.commands w.ending) ≡ Some 0 = ap (λ (ts : List (Turn Entry)). status_of ts) (sym w.are) ∙ output.over in
+    let h : IsWritten turns = subst IsWritten (sym w.are) (course_written text_is fits_are w.commands (start_with found) w.ending legal over) in
+    let fits : All (FileEntryFits One) (shown found) = subst (λ (es : List Entry). All (FileEntryFits One) (shown es)) output.used h.fits in
+    let whole : text ≡ certificate_text One (shown found) =
+    output.text ∙ ap (λ (t : List ℕ). line_of (header_sexpr One) ++ t) h.text ∙ ap (λ (es : List Entry). certificate_text One (shown es)) output.used in
+    let written = back One (shown found) text [] 0 fits nothing_closed whole in
+    let entries : shown found ≡ entry ∷ [] = one_entries One version (shown found) (entry ∷ []) (one text 0 (certificate One (shown found)) (certificate version (entry ∷ [])) written reads) in
+    let o = one_shown found entry entries in
+    (o.0, subst (λ (es : List Entry). IsReportWith script text es) o.1 output, ap told_by (sym o.2) ∙ same_verdict o.0)
 
 one_item : (items : List FileEntry) (e : FileEntry) → 1 ≤ length items → length items < 2 → e ≡ get_or items 0 e → items ≡ e ∷ []
 one_item [] e some few is = absurd (omega (arith, some))

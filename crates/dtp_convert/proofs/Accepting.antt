@@ -1,79 +1,35 @@
 -- A script with what it was converted to is accepted.
-use Rattle.std.proofs.Common.{refl, sym, ap, subst, arith, ◌∙◌, ◌≡◌, ◌+◌, ◌≤◌, ℕ, List, [], ◌∷◌, ◌++◌, length, drop, Bool, true, false, Some, None, Result, Ok, Err}
-use Rattle.std.specs.List.{AllByRecursion}
-use Rattle.smt_sexpr.specs.Tree.{Sexpr, Items, list}
+use Rattle.std.proofs.Common.{refl, sym, ap, subst, arith, ◌∙◌, ◌≡◌, ◌≢◌, ◌+◌, ◌≤◌, ℕ, List, [], ◌∷◌, ◌++◌, length, drop, Bool, true, false, Option, Some, None, Result, Ok, Err}
+use Rattle.smt_sexpr.specs.Tree.{Sexpr, list}
 use Rattle.smt_sexpr.specs.Laws.{ListIsWithin}
 use Rattle.smt_sexpr.specs.Reading.{Spells}
-use Rattle.smt_sexpr.specs.Commands.{Commands, Ending, ended, stopped, unread, EndsAs}
+use Rattle.smt_sexpr.specs.Commands.{Commands, ended}
 use Rattle.cert_read.specs.Written.{IsClosedGap}
 use Rattle.cert_text.specs.declared.entry.Version.TheVariants.{One}
 use Rattle.cert_text.specs.declared.entry.Entry.{Entry}
-use Rattle.cert_text.specs.Form.{header_sexpr, entry_sexpr, end_sexpr, line_of}
 use Rattle.smt_script.specs.declared.error.Refusal.{Refusal}
 use Rattle.smt_script.specs.declared.state.Effect.{Effect}
-use Rattle.smt_script.specs.declared.state.Effect.TheVariants.{CheckSat, Exit, Tell}
+use Rattle.smt_script.specs.declared.state.Effect.TheVariants.{Ask, Exit, Tell}
+use Rattle.smt_script.specs.declared.state.Question.{Question}
 use Rattle.smt_script.specs.Commands.{is_exit}
-use Rattle.smt_script.specs.States.{State, Step, start_state, after, settled}
-use Rattle.smt_answer.specs.Kinds.{kind_of}
+use Rattle.smt_script.specs.Laws.{OnlyExitEnds}
+use Rattle.smt_script.specs.States.{State, Step, after}
+use Rattle.smt_answer.specs.declared.kind.Kind.{Kind}
+use Rattle.script_walk.specs.Questions.{refusal_of}
+use Rattle.script_walk.specs.Course.{Place, start_with, Turn, behind_told, behind_answer, asked, taken, by_effect, by_command, course, status_of}
 use Rattle.dtp_entry.specs.declared.report.Report.TheVariants.{Certificate}
 use Rattle.dtp_entry.specs.Entries.{verdict_of}
-use Rattle.dtp_entry.specs.Transcripts.{Held, Answered, Reply, answered, last, error, checked, Answers, RepliesBy, Output, behind, GoesOn, Follows, IsReport}
-use Rattle.dtp_check.specs.declared.script_part.PartEnd.{PartEnd}
-use Rattle.dtp_check.specs.declared.script_part.PartEnd.TheVariants as part
+use Rattle.dtp_entry.specs.Transcripts.{IsReport}
 use Rattle.dtp_check.specs.Judged.{FollowsExit}
 use Rattle.dtp_check.specs.Laws.{CertifiedIsAccepted}
 use Rattle.dtp_check.specs.Whole.{IsWholeFrom}
 use Rattle.dtp_check.proofs.Accepting.{carried_list, closed_ends}
-use Rattle.dtp_convert.specs.Converted.{ending_of, IsConverted}
+use Rattle.dtp_check.proofs.Judging.{step_of}
+use Rattle.dtp_convert.specs.Converted.{IsConverted}
 use Rattle.dtp_convert.specs.Laws.{ConvertedIsAccepted}
+use Rattle.dtp_convert.specs.Turns.{turns_of}
 
--- ---- the commands are lists
-
-abbrev IsList : Sexpr → Type 0
-IsList x = (items : Items) × (x ≡ list items)
-
-abbrev Lists : List Sexpr → Type 0
-Lists xs = AllByRecursion IsList xs
-
-abbrev Others : ℕ → List Sexpr → Ending → Type 0
-Others k xs ending = (held : Held) (next : State) (rest : Output) → rest.status ≡ 0 → Follows (Certificate One) held next (k + 1) xs ending rest → Lists xs
-
-abbrev GoesOnAs : ℕ → Reply → List Sexpr → Ending → Output → Type 0
-GoesOnAs k reply xs ending out = GoesOn k reply xs ending out (λ kept next rest. Follows (Certificate One) kept next (k + 1) xs ending rest)
-
-goes_as : (k : ℕ) (reply other : Reply) (xs : List Sexpr) (ending : Ending) (out : Output) → reply ≡ other → GoesOnAs k reply xs ending out → GoesOnAs k other xs ending out
-goes_as k reply other xs ending out e h = subst (λ (r : Reply). GoesOnAs k r xs ending out) e h
-
-status_behind : (out : Output) (text : List ℕ) (found : List Entry) (rest : Output) → out ≡ behind text found rest → out.status ≡ 0 → rest.status ≡ 0
-status_behind out text found rest e status = sym (ap (λ (o : Output). o.status) e) ∙ status
-
-lists_effect : (k : ℕ) (x : Sexpr) (effect : Effect) (held : Held) (next : State) (reply : Reply) → Answers (Certificate One) held next x effect reply
-    → (xs : List Sexpr) (ending : Ending) (out : Output) → out.status ≡ 0 → GoesOnAs k reply xs ending out → Others k xs ending → Lists xs
-lists_effect k x (Tell notice) held next reply is_reply xs ending out zero goes others =
-    let w = goes_as k reply (answered (record { text = []; found = []; held = held; state = next })) xs ending out is_reply goes in
-    others held next w.0 (status_behind out [] [] w.0 w.2 zero) w.1
-lists_effect k x CheckSat held next reply (entry, decides, is_reply) xs ending out zero goes others =
-    let w = goes_as k reply (answered (checked (Certificate One) next entry)) xs ending out is_reply goes in
-    others (Some entry) (settled (verdict_of entry) next) w.0 (status_behind out (line_of (entry_sexpr entry)) (entry ∷ []) w.0 w.2 zero) w.1
-lists_effect k x Exit held next reply is_reply xs ending out zero goes others =
-    let w = goes_as k reply (last (line_of end_sexpr)) xs ending out is_reply goes in
-    subst Lists (sym w.0.0) tt
-
-lists_by : (s : State) (k : ℕ) (held : Held) (x : Sexpr) (r : Result Step Refusal) (reply : Reply) → after s x ≡ r → RepliesBy (Certificate One) held x r reply
-    → (xs : List Sexpr) (ending : Ending) (out : Output) → out.status ≡ 0 → GoesOnAs k reply xs ending out → Others k xs ending → Lists (x ∷ xs)
-lists_by s k held x (Ok step) reply e replies xs ending out zero goes others =
-    (carried_list s x step e, lists_effect k x step.effect held step.state reply replies xs ending out zero goes others)
-lists_by s k held x (Err why) reply e replies xs ending out zero goes others =
-    let w = goes_as k reply (error (kind_of why)) xs ending out replies goes in
-    absurd (let one : out.status ≡ 1 = ap (λ (o : Output). o.status) w.1 in omega (arith, one, zero))
-
-lists : (xs : List Sexpr) (k : ℕ) (held : Held) (s : State) (ending : Ending) (out : Output) → out.status ≡ 0 → Follows (Certificate One) held s k xs ending out → Lists xs
-unfolding Follows
-lists [] k held s ending out zero h = tt
-lists (x ∷ xs) k held s ending out zero (reply, replies, goes) =
-    lists_by s k held x (after s x) reply refl replies xs ending out zero goes (λ kept next rest left on. lists xs (k + 1) kept next ending rest left on)
-
--- ---- they are the script's
+-- ---- the commands are the script's
 
 record IsRead (script : List ℕ) (place : ℕ) (xs : List Sexpr) : Type 0 where
   here : ℕ
@@ -81,49 +37,78 @@ record IsRead (script : List ℕ) (place : ℕ) (xs : List Sexpr) : Type 0 where
   within : here ≤ length script
   closed : IsClosedGap (drop here script)
 
-module _ (within : ListIsWithin) (script : List ℕ) where
-  read_more : (place mid : ℕ) (x : Sexpr) (xs : List Sexpr) → Spells script place x mid → IsRead script mid xs → IsRead script place (x ∷ xs)
-  read_more place mid x xs spells h = record { here = h.here; reads = (mid, spells, h.reads); within = h.within; closed = h.closed }
+no_status : ◌≡◌ {A = Option ℕ} None (Some 0) → ⊥
+no_status e = absurd cc
 
-  read_end : (mid : ℕ) (xs : List Sexpr) → xs ≡ [] → mid ≤ length script → IsClosedGap (drop mid script) → IsRead script mid xs
-  read_end mid [] e le closed = record { here = mid; reads = refl; within = le; closed = closed }
-  read_end mid (x ∷ xs) e le closed = absurd cc
+failed_status : ◌≡◌ {A = Option ℕ} (Some 1) (Some 0) → ⊥
+failed_status e = absurd cc
 
-  read_behind : (exits : Bool) (mid : ℕ) (xs : List Sexpr) → mid ≤ length script → FollowsExit exits ((xs ≡ []) × IsClosedGap (drop mid script)) (IsWholeFrom script mid xs)
-      → (IsWholeFrom script mid xs → IsRead script mid xs) → IsRead script mid xs
-  read_behind true mid xs le h rest = read_end mid xs h.0 le h.1
-  read_behind false mid xs le h rest = rest h
+module _ (inside : ListIsWithin) (only : OnlyExitEnds) (script : List ℕ) where
+  module _ (place mid : ℕ) (p : Place Entry) (x : Sexpr) (xs : List Sexpr) (spells : Spells script place x mid) where
+    read_more : IsRead script mid xs → IsRead script place (x ∷ xs)
+    read_more h = record { here = h.here; reads = (mid, spells, h.reads); within = h.within; closed = h.closed }
 
-  read : (place : ℕ) (xs : List Sexpr) → place ≤ length script → Lists xs → IsWholeFrom script place xs → IsRead script place xs
-  read place [] le all whole = record { here = place; reads = refl; within = le; closed = whole }
-  read place (x ∷ xs) le all (mid, spells, follows) =
-      let l = all.0 in
-      let inside : mid ≤ length script = within script place mid l.0 (subst (λ (z : Sexpr). Spells script place z mid) l.1 spells) in
-      read_more place mid x xs spells (read_behind (is_exit x) mid xs inside follows (λ whole. read mid xs inside all.1 whole))
+    command_within : (step : Step) → after p.state x ≡ Ok step → mid ≤ length script
+    command_within step e =
+        let l = carried_list p.state x step e in
+        inside script place mid l.0 (subst (λ (z : Sexpr). Spells script place z mid) l.1 spells)
 
-ends_as : (script : List ℕ) (here : ℕ) (end : PartEnd) → here ≤ length script → IsClosedGap (drop here script) → EndsAs script here (ending_of end)
-ends_as script here part.Exit le closed = tt
-ends_as script here (part.Header v) le closed = (length script, closed_ends script here le closed)
-ends_as script here part.End le closed = (length script, closed_ends script here le closed)
-ends_as script here (part.Unread kind) le closed = (length script, closed_ends script here le closed)
+    read_end : xs ≡ [] → mid ≤ length script → IsClosedGap (drop mid script) → IsRead script mid xs
+    read_end e le closed = record { here = mid; reads = subst (λ (ys : List Sexpr). Commands script mid ys mid) (sym e) refl; within = le; closed = closed }
 
-abbrev output : List ℕ → List Entry → ℕ → Output
-output text found status = record { text = text; found = found; status = status }
+    read_behind : (exits : Bool) → mid ≤ length script → FollowsExit exits ((xs ≡ []) × IsClosedGap (drop mid script)) (IsWholeFrom script mid xs)
+        → (IsWholeFrom script mid xs → IsRead script mid xs) → IsRead script mid xs
+    read_behind true le h rest = read_end h.0 le h.1
+    read_behind false le h rest = rest h
 
-same_output : (text other : List ℕ) (found : List Entry) (status : ℕ) → text ≡ other → status ≡ 0
-    → output text found 0 ≡ output other found status
-same_output text other found status e f = ap (λ (t : List ℕ). output t found 0) e ∙ ap (λ (n : ℕ). output other found n) (sym f)
+    module _ (is : FollowsExit (is_exit x) ((xs ≡ []) × IsClosedGap (drop mid script)) (IsWholeFrom script mid xs)) (make : Place Entry → List (Turn Entry))
+        (rest : (q : Place Entry) → status_of (make q) ≡ Some 0 → mid ≤ length script → IsWholeFrom script mid xs → IsRead script mid xs) where
+      read_next : (step : Step) → after p.state x ≡ Ok step → (q : Place Entry) → status_of (make q) ≡ Some 0 → IsRead script place (x ∷ xs)
+      read_next step e q over =
+          let le = command_within step e in
+          read_more (read_behind (is_exit x) le is (λ whole. rest q over le whole))
 
-pub accepted : ListIsWithin → CertifiedIsAccepted → ConvertedIsAccepted
-accepted within law bytes script text h whole =
-    let all = lists h.commands 1 None start_state (ending_of h.end) h.output h.done h.follows in
-    let r = read within script 0 h.commands (omega arith) all whole in
+      read_asked : (s : State) (question : Question) → after p.state x ≡ Ok (step_of s (Ask question)) → (left : List Entry) → status_of (asked verdict_of p s question x left make) ≡ Some 0 → IsRead script place (x ∷ xs)
+      read_asked s question e [] over = absurd (no_status over)
+      read_asked s question e (entry ∷ left) over = read_next (step_of s (Ask question)) e (behind_answer verdict_of p s entry left) over
+
+      read_taken : (s : State) (question : Question) → after p.state x ≡ Ok (step_of s (Ask question)) → (why : Option Kind) → status_of (taken verdict_of p s question x why make) ≡ Some 0 → IsRead script place (x ∷ xs)
+      read_taken s question e (Some kind) over = absurd (failed_status over)
+      read_taken s question e None over = read_asked s question e p.left over
+
+      read_effect : (effect : Effect) (s : State) → after p.state x ≡ Ok (step_of s effect) → status_of (by_effect verdict_of p s x effect make) ≡ Some 0 → IsRead script place (x ∷ xs)
+      read_effect (Tell notice) s e over = read_next (step_of s (Tell notice)) e (behind_told p s) over
+      read_effect (Ask question) s e over = read_taken s question e (refusal_of question s x) over
+      read_effect Exit s e over =
+          let step = step_of s Exit in
+          let w : (xs ≡ []) × IsClosedGap (drop mid script) = subst (λ (b : Bool). FollowsExit b ((xs ≡ []) × IsClosedGap (drop mid script)) (IsWholeFrom script mid xs)) ((only p.state x step e).0 refl) is in
+          read_more (read_end w.0 (command_within step e) w.1)
+
+      read_by : (r : Result Step Refusal) → after p.state x ≡ r → status_of (by_command verdict_of p x r make) ≡ Some 0 → IsRead script place (x ∷ xs)
+      read_by (Err why) e over = absurd (failed_status over)
+      read_by (Ok step) e over = read_effect step.effect step.state e over
+
+  read : (place : ℕ) (xs : List Sexpr) (p : Place Entry) → status_of (course verdict_of p xs ended) ≡ Some 0 → place ≤ length script → IsWholeFrom script place xs → IsRead script place xs
+  unfolding course
+  read place [] p over le whole = record { here = place; reads = refl; within = le; closed = whole }
+  read place (x ∷ xs) p over le (mid, spells, follows) =
+      read_by place mid p x xs spells follows (λ q. course verdict_of q xs ended) (λ q left there whole. read mid xs q left there whole) (after p.state x) refl over
+
+pub accepted : ListIsWithin → OnlyExitEnds → CertifiedIsAccepted → ConvertedIsAccepted
+accepted inside only law bytes script text h whole =
+    let found = h.entries in
+    let r = read inside only script 0 h.commands (start_with found) h.decide.over (omega arith) whole in
     let report : IsReport (Certificate One) script text 0 = (
-      h.output.found,
-      (
-        h.output,
-        record { commands = h.commands; here = r.here; ending = ending_of h.end; reads = r.reads; ends = ends_as script r.here h.end r.within r.closed; answers = h.follows },
-        same_output text (line_of (header_sexpr One) ++ h.output.text) h.output.found h.output.status h.is h.done,
-      ),
+      found,
+      record {
+        turns = turns_of h.commands found;
+        are = record {
+          are = record { commands = h.commands; behind = r.here; ending = ended; reads = r.reads; ends = (length script, closed_ends script r.here r.within r.closed); are = refl };
+          legal = h.decide.fit;
+        };
+        over = h.decide.over;
+        used = h.decide.used;
+        text = h.is;
+      },
     ) in
     law One script text report (h.commands, whole)

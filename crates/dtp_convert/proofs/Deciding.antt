@@ -1,5 +1,5 @@
 -- A converted entry decides its check-sat.
-use Rattle.std.proofs.Common.{refl, sym, ap, subst, ◌∙◌, ◌≡◌, ◌+◌, ◌==◌, ◌^◌, ℕ, List, [], ◌∷◌, length, map, Bool, true, false, Option, Some, None}
+use Rattle.std.proofs.Common.{refl, sym, ap, subst, ◌∙◌, ◌≡◌, ◌+◌, ◌==◌, ◌^◌, ℕ, List, [], ◌∷◌, ◌++◌, length, map, Bool, true, false, Option, Some, None, Result, Ok}
 use Rattle.std.specs.Prelude.{All, if◌then◌else◌, option_map}
 use Rattle.std.specs.List.{AllByRecursion}
 use Rattle.std.proofs.lemmas.Bool.{eqb-true}
@@ -12,8 +12,15 @@ use Rattle.refute_tree.specs.Laws.{RefutationLaw, RefutationStays}
 use Rattle.refute_tree.specs.Lengths.{lengthened_lemma}
 use Rattle.refute_tree.specs.Trees.{IsRefutation}
 use Rattle.cert_text.specs.declared.entry.Version.TheVariants.{One}
+use Rattle.cert_text.specs.declared.entry.Entry.{Entry}
 use Rattle.cert_text.specs.declared.entry.Entry.TheVariants.{Sat, Unsat}
+use Rattle.cert_text.specs.declared.entry.FileEntry.{FileEntry}
+use Rattle.kept_lemmas.specs.Entries.{Placed}
 use Rattle.cert_text.specs.Limits.{LemmaWithin}
+use Rattle.cert_check.specs.declared.flaw.Flaw.{Flaw}
+use Rattle.kept_lemmas.specs.declared.item.Item.{Item}
+use Rattle.kept_lemmas.specs.Facts.{Shelf}
+use Rattle.lemma_shelf.specs.ItemFlaws.{items_flaw}
 use Rattle.clause_form.specs.Laws.{ProblemFollows}
 use Rattle.idl_term.specs.Contexts.{Context, IsContext, IsScheduleFor, IsTrueOn, environment}
 use Rattle.idl_term.specs.Laws.{ContextsHaveScopes, RootsAreNodes, RootsAreExact}
@@ -22,9 +29,11 @@ use Rattle.idl_term.specs.Values.{Value, whole, truth, nothing, Named, value}
 use Rattle.dtp_entry.specs.Entries.{points_of, problem_of}
 use Rattle.dtp_entry.specs.Transcripts.{Decides}
 use Rattle.dtp_entry.proofs.Verdicts.{refuted_unsatisfiable, sorts_count}
-use Rattle.dtp_check.specs.declared.judgement.EntryFlaw.TheVariants.{WrongCount, WrongSort, FalseAssertion}
+use Rattle.dtp_check.specs.declared.judgement.EntryFlaw.{EntryFlaw}
+use Rattle.dtp_check.specs.declared.judgement.EntryFlaw.TheVariants.{WrongCount, WrongSort, FalseAssertion, Flawed}
 use Rattle.dtp_check.specs.Judged.{first_of_wrong_sort, is_true, first_false, first_of_two, values_flaw}
 use Rattle.dtp_check.proofs.Judging.{are_of_sorts}
+use Rattle.dtp_convert.specs.Turns.{IsAdded, IsShown}
 
 -- ---- values without a flaw
 
@@ -66,6 +75,12 @@ values_decide c values shown none same within =
 
 -- ---- items that were written out
 
+-- what is wrong with items over the problem that the code has of the assertions
+pub items_flaw_is : (shelf : Shelf) (points : ℕ) (clauses : List (List Literal)) (c : Context) (items : List Item) (flaw : Option Flaw) → points ≡ points_of c → clauses ≡ problem_of c → items_flaw shelf points clauses items ≡ flaw
+    → option_map Flawed (items_flaw shelf (points_of c) (problem_of c) items) ≡ option_map Flawed flaw
+items_flaw_is shelf points clauses c items flaw e f h =
+    ap (λ (cs : List (List Literal)). option_map Flawed (items_flaw shelf (points_of c) cs items)) (sym f) ∙ ap (λ (n : ℕ). option_map Flawed (items_flaw shelf n clauses items)) (sym e) ∙ ap (option_map Flawed) h
+
 refuted_as : (points p : ℕ) (clauses q : List (List Literal)) (lemmas : List Lemma) → points ≡ p → clauses ≡ q → IsRefutation points clauses lemmas → IsRefutation p q lemmas
 refuted_as points p clauses q lemmas e f h =
     subst (λ (n : ℕ). IsRefutation n q lemmas) e (subst (λ (cs : List (List Literal)). IsRefutation points cs lemmas) f h)
@@ -78,3 +93,9 @@ module _ (c : Context) (made : IsContext c) (scope : ContextsHaveScopes) (roots 
       let same : shown ≡ map (lengthened_lemma (problem_of c)) found = is ∙ ap (λ (cs : List (List Literal)). map (lengthened_lemma cs) found) f in
       let good : IsRefutation (points_of c) (problem_of c) shown = subst (λ (ls : List Lemma). IsRefutation (points_of c) (problem_of c) ls) (sym same) here in
       record { right = record { right = good; fits = within; form = tt }; so = refuted_unsatisfiable c made scope roots exact holds refutes shown good }
+
+-- an entry that was added to those before it
+pub added : (placed : List Placed) (c : Context) (entry : FileEntry) (found : Result Entry EntryFlaw) (shown : Entry) (before now : List Entry) → found ≡ Ok shown → IsShown placed c entry found → now ≡ before ++ shown ∷ [] → IsAdded before now c entry
+added placed c entry found shown before now e h more =
+    let w : IsShown placed c entry (Ok shown) = subst (λ (r : Result Entry EntryFlaw). IsShown placed c entry r) e h in
+    (shown, w.1, more)

@@ -1,5 +1,3 @@
-pub mod Commands
-pub mod Walking
 pub mod Writing
 pub mod Accepting
 pub mod Deciding

@@ -1,121 +1,166 @@
--- The certificate of converted entries is the certificate of the script's commands.
-use Rattle.std.proofs.Common.{refl, sym, ap, subst, ◌∙◌, ◌≡◌, ◌+◌, ℕ, List, [], ◌∷◌, ◌++◌, Bool, true, false, Some, None, Result, Ok, Err}
-use Rattle.std.proofs.lemmas.List.{append_assoc}
+-- The entries that were kept decide the script's questions, and what is written of them is its certificate.
+use Rattle.std.proofs.Common.{refl, sym, ap, subst, ◌∙◌, ◌≡◌, ◌+◌, ℕ, List, [], ◌∷◌, ◌++◌, Option, Some, None, Result, Ok, Err}
+use Rattle.std.proofs.lemmas.List.{append-nil, append_assoc}
 use Rattle.smt_sexpr.specs.Tree.{Sexpr}
-use Rattle.smt_sexpr.specs.Commands.{Ending, ended, stopped}
+use Rattle.smt_sexpr.specs.Commands.{ended}
 use Rattle.cert_text.specs.declared.entry.Version.TheVariants.{One}
 use Rattle.cert_text.specs.declared.entry.Entry.{Entry}
-use Rattle.cert_text.specs.Form.{header_sexpr, entry_sexpr, end_sexpr, line_of}
-use Rattle.cert_stream.specs.Streams.{entry_lines, whole_text}
+use Rattle.cert_text.specs.declared.entry.FileEntry.{FileEntry}
+use Rattle.cert_text.specs.Form.{entry_sexpr, end_sexpr, line_of}
 use Rattle.smt_script.specs.declared.error.Refusal.{Refusal}
 use Rattle.smt_script.specs.declared.state.Effect.{Effect}
-use Rattle.smt_script.specs.declared.state.Effect.TheVariants.{CheckSat, Exit, Tell}
-use Rattle.smt_script.specs.Commands.{is_exit}
-use Rattle.smt_script.specs.Laws.{OnlyExitEnds}
-use Rattle.smt_script.specs.States.{State, Step, start_state, after, settled}
+use Rattle.smt_script.specs.declared.state.Effect.TheVariants.{Ask, Exit, Tell}
+use Rattle.smt_script.specs.declared.state.Notice.{Notice}
+use Rattle.smt_script.specs.declared.state.Question.{Question}
+use Rattle.smt_script.specs.declared.state.Satisfiability.{Satisfiability}
+use Rattle.smt_script.specs.States.{State, Step, after, settled, start_state}
+use Rattle.smt_answer.specs.declared.kind.Kind.{Kind}
+use Rattle.script_walk.specs.Questions.{refusal_of}
+use Rattle.script_walk.specs.Course.{Place, start_with, Turn, turn, tells, answers, ends, behind_told, behind_answer, asked, taken, by_effect, by_command, course, answers_of, AreAnswered}
+use Rattle.script_walk.proofs.Turns.{told_turn, answered_turn, exit_turn}
+use Rattle.cert_stream.specs.Streams.{entry_lines, whole_text}
 use Rattle.dtp_entry.specs.declared.report.Report.TheVariants.{Certificate}
 use Rattle.dtp_entry.specs.Entries.{verdict_of}
-use Rattle.dtp_entry.specs.Transcripts.{Held, Reply, answered, last, checked, Answers, RepliesBy, Output, behind, done, GoesOn, Follows}
+use Rattle.dtp_entry.specs.Transcripts.{DecidesIn, opening, pieces}
 use Rattle.dtp_check.specs.declared.script_part.PartEnd.{PartEnd}
-use Rattle.dtp_check.specs.declared.script_part.PartEnd.TheVariants as part
-use Rattle.dtp_check.specs.Judged.{EndsPart, ExitEnds, FollowsExit, ScriptPart}
-use Rattle.dtp_check.specs.Parts.{IsReadable}
-use Rattle.dtp_check.proofs.Judging.{not_exit, told_apart, check_apart, step_of}
-use Rattle.dtp_convert.specs.Converted.{ending_of, IsConverted}
-use Rattle.dtp_convert.specs.Turns.{ConvertedAt, ConvertedBy, ConvertedAfter, AreConverted}
+use Rattle.dtp_check.specs.Judged.{ScriptPart, told_by}
+use Rattle.dtp_check.specs.Turns.{Leads, AreKept}
+use Rattle.dtp_check.proofs.Judging.{question_taken, step_of}
+use Rattle.dtp_convert.specs.declared.converting.Converting.{Converting}
+use Rattle.dtp_convert.specs.Converted.{IsConverted}
+use Rattle.dtp_convert.specs.Turns.{turns_of, AreConverted, IsConvertedTo, IsAdded}
 
--- what is written of commands from here on, with these entries
-record IsWritten (held : Held) (s : State) (k : ℕ) (xs : List Sexpr) (ending : Ending) (es : List Entry) : Type 0 where
-  output : Output
-  follows : Follows (Certificate One) held s k xs ending output
-  status : output.status ≡ 0
-  text : output.text ≡ entry_lines es ++ line_of end_sexpr
+-- ---- what was kept decides the questions
 
--- how the commands end
-readable_ends : (bytes : List ℕ) (place : ℕ) (end : PartEnd) (behind : ℕ) → EndsPart bytes place end behind → IsReadable end → ending_of end ≡ ended
-readable_ends bytes place part.Exit behind h r = absurd h
-readable_ends bytes place (part.Header v) behind h r = refl
-readable_ends bytes place part.End behind h r = refl
-readable_ends bytes place (part.Unread kind) behind h r = absurd r
+abbrev pub added_to : Leads Converting
+added_to before now c entry = IsAdded before.entries.items now.entries.items c entry
 
-written_end : (held : Held) (s : State) (k : ℕ) (ending : Ending) (es : List Entry) → ending ≡ ended → es ≡ [] → IsWritten held s k [] ending es
-unfolding Follows
-written_end held s k ended [] e f = record { output = done (line_of end_sexpr); follows = refl; status = refl; text = refl }
-written_end held s k stopped es e f = absurd cc
-written_end held s k ended (x ∷ es) e f = absurd cc
-written_end held s k ending es e f = absurd cc
+abbrev place_at : ℕ → State → Option Entry → List Entry → Place Entry
+place_at k s held left = record { number = k; state = s; held = held; left = left }
 
-follows_by : (held : Held) (s : State) (k : ℕ) (x : Sexpr) (xs : List Sexpr) (ending : Ending) (out : Output) (r : Result Step Refusal) → after s x ≡ r
-    → (reply : Reply) → RepliesBy (Certificate One) held x r reply → GoesOn k reply xs ending out (λ kept next rest. Follows (Certificate One) kept next (k + 1) xs ending rest)
-    → Follows (Certificate One) held s k (x ∷ xs) ending out
-unfolding Follows
-follows_by held s k x xs ending out r e reply replies goes = (reply, subst (λ (found : Result Step Refusal). RepliesBy (Certificate One) held x found reply) (sym e) replies, goes)
+abbrev Decided : Place Entry → List Sexpr → Type 0
+Decided q xs = AreAnswered (DecidesIn One) (course verdict_of q xs ended) q.left
 
-module _ (only : OnlyExitEnds) (bytes : List ℕ) (end : PartEnd) (behind_it : ℕ) (readable : IsReadable end) where
-  -- what stands behind a command
-  abbrev Stands : ℕ → List Sexpr → Bool → Type 0
-  Stands mid xs exits = FollowsExit exits (ExitEnds mid xs end behind_it) (ScriptPart bytes mid xs end behind_it)
+-- so many were added, and they decide the questions of the commands from this state on
+record IsFound (s : State) (xs : List Sexpr) (first last : List Entry) : Type 0 where
+  found : List Entry
+  added : last ≡ first ++ found
+  decided : (k : ℕ) (held : Option Entry) → Decided (place_at k s held found) xs
 
-  abbrev Others : ℕ → ℕ → List Sexpr → Type 0
-  Others mid k xs = (held : Held) (next : State) (es : List Entry) → ScriptPart bytes mid xs end behind_it → AreConverted next xs es → IsWritten held next (k + 1) xs (ending_of end) es
+decided_as : (q : Place Entry) (xs : List Sexpr) (turns : List (Turn Entry)) → course verdict_of q xs ended ≡ turns → AreAnswered (DecidesIn One) turns q.left → Decided q xs
+decided_as q xs turns e h = subst (λ (ts : List (Turn Entry)). AreAnswered (DecidesIn One) ts q.left) (sym e) h
 
-  module _ (held : Held) (s : State) (k mid : ℕ) (x : Sexpr) (xs : List Sexpr) (others : Others mid k xs) where
-    written_check : (next : State) → after s x ≡ Ok (step_of next CheckSat) → Stands mid xs (is_exit x) → (es : List Entry)
-        → ConvertedAt next es (λ t rest. AreConverted t xs rest) → IsWritten held s k (x ∷ xs) (ending_of end) es
-    written_check next e stands [] c = absurd c
-    written_check next e stands (entry ∷ es) c =
-        let here : ScriptPart bytes mid xs end behind_it = subst (Stands mid xs) (not_exit only s x (step_of next CheckSat) e check_apart) stands in
-        let w = others (Some entry) (settled (verdict_of entry) next) es here c.1 in
-        record {
-          output = behind (line_of (entry_sexpr entry)) (entry ∷ []) w.output;
-          follows = follows_by held s k x xs (ending_of end) (behind (line_of (entry_sexpr entry)) (entry ∷ []) w.output) (Ok (step_of next CheckSat)) e (answered (checked (Certificate One) next entry))
-              (entry, c.0, refl) (w.output, w.follows, refl);
-          status = w.status;
-          text = ap (λ (t : List ℕ). line_of (entry_sexpr entry) ++ t) w.text ∙ sym (append_assoc (line_of (entry_sexpr entry)) (entry_lines es) (line_of end_sexpr));
-        }
-
-    written_by : (effect : Effect) (next : State) → after s x ≡ Ok (step_of next effect) → Stands mid xs (is_exit x) → (es : List Entry)
-        → ConvertedBy effect next es (λ t rest. AreConverted t xs rest) → IsWritten held s k (x ∷ xs) (ending_of end) es
-    written_by (Tell notice) next e stands es c =
-        let here : ScriptPart bytes mid xs end behind_it = subst (Stands mid xs) (not_exit only s x (step_of next (Tell notice)) e (told_apart notice)) stands in
-        let w = others held next es here c in
-        record {
-          output = behind [] [] w.output;
-          follows = follows_by held s k x xs (ending_of end) (behind [] [] w.output) (Ok (step_of next (Tell notice))) e (answered (record { text = []; found = []; held = held; state = next })) refl (w.output, w.follows, refl);
-          status = w.status;
-          text = w.text;
-        }
-    written_by CheckSat next e stands es c = written_check next e stands es c
-    written_by Exit next e stands es c =
-        let here : ExitEnds mid xs end behind_it = subst (Stands mid xs) ((only s x (step_of next Exit) e).0 refl) stands in
-        record {
-          output = done (line_of end_sexpr);
-          follows = follows_by held s k x xs (ending_of end) (done (line_of end_sexpr)) (Ok (step_of next Exit)) e (last (line_of end_sexpr)) refl ((here.0, ap ending_of here.1), refl);
-          status = refl;
-          text = ap (λ (fs : List Entry). entry_lines fs ++ line_of end_sexpr) (sym c);
-        }
-
-    written_after : (r : Result Step Refusal) → after s x ≡ r → Stands mid xs (is_exit x) → (es : List Entry)
-        → ConvertedAfter r es (λ t rest. AreConverted t xs rest) → IsWritten held s k (x ∷ xs) (ending_of end) es
-    written_after (Ok step) e stands es c = written_by step.effect step.state e stands es c
-    written_after (Err why) e stands es c = absurd c
-
-  written : (xs : List Sexpr) (place k : ℕ) (held : Held) (s : State) (es : List Entry) → ScriptPart bytes place xs end behind_it → AreConverted s xs es → IsWritten held s k xs (ending_of end) es
-  unfolding ScriptPart AreConverted
-  written [] place k held s es stands c = written_end held s k (ending_of end) es (readable_ends bytes place end behind_it stands readable) c
-  written (x ∷ xs) place k held s es (mid, spells, apart, stands) c =
-      written_after held s k mid x xs (λ held next es there on. written xs mid (k + 1) held next es there on) (after s x) refl stands es c
-
-  pub converted : (xs : List Sexpr) (es : List Entry) → ScriptPart bytes 0 xs end behind_it → AreConverted start_state xs es → IsConverted bytes (whole_text One es)
-  converted xs es stands c =
-      let w = written xs 0 1 None start_state es stands c in
+module _ (last : Converting) (p : Place FileEntry) (x : Sexpr) (xs : List Sexpr) (make : Place FileEntry → List (Turn FileEntry))
+    (rest : (q : Place FileEntry) (now : Converting) → AreKept added_to now last (make q) → IsFound q.state xs now.entries.items last.entries.items) (first : Converting) where
+  found_asked : (s : State) (question : Question) → after p.state x ≡ Ok (step_of s (Ask question)) → (left : List FileEntry) → AreKept added_to first last (asked told_by p s question x left make) → IsFound p.state (x ∷ xs) first.entries.items last.entries.items
+  found_asked s question e [] h = absurd h
+  found_asked s question e (entry ∷ left) (next, (shown, (decides, same), now), follows) =
+      let w = rest (behind_answer told_by p s entry left) next follows in
       record {
-        commands = xs;
-        end = end;
-        behind = behind_it;
-        script = stands;
-        output = w.output;
-        follows = w.follows;
-        done = w.status;
-        is = ap (λ (t : List ℕ). line_of (header_sexpr One) ++ t) (sym w.text);
+        found = shown ∷ w.found;
+        added = w.added ∙ ap (λ (es : List Entry). es ++ w.found) now ∙ append_assoc first.entries.items (shown ∷ []) w.found;
+        decided = λ k held.
+            let q = place_at k p.state held (shown ∷ w.found) in
+            let r = behind_answer verdict_of q s shown w.found in
+            let there : Decided r xs = subst (λ (v : Satisfiability). Decided (place_at (k + 1) (settled v s) (Some shown) w.found) xs) (sym same) (w.decided (k + 1) (Some shown)) in
+            decided_as q (x ∷ xs) (turn q s (answers question x shown) ∷ course verdict_of r xs ended)
+            (answered_turn verdict_of q x s question shown w.found e (question_taken question s x) refl xs ended)
+            (record { fit = (decides, there.fit); over = there.over; used = ap (λ (es : List Entry). shown ∷ es) there.used });
       }
+
+  found_taken : (s : State) (question : Question) → after p.state x ≡ Ok (step_of s (Ask question)) → (why : Option Kind) → AreKept added_to first last (taken told_by p s question x why make) → IsFound p.state (x ∷ xs) first.entries.items last.entries.items
+  found_taken s question e (Some kind) h = absurd h
+  found_taken s question e None h = found_asked s question e p.left h
+
+  found_effect : (effect : Effect) (s : State) → after p.state x ≡ Ok (step_of s effect) → AreKept added_to first last (by_effect told_by p s x effect make) → IsFound p.state (x ∷ xs) first.entries.items last.entries.items
+  found_effect (Tell notice) s e h =
+      let w = rest (behind_told p s) first h in
+      record {
+        found = w.found;
+        added = w.added;
+        decided = λ k held.
+            let q = place_at k p.state held w.found in
+            let there = w.decided (k + 1) held in
+            decided_as q (x ∷ xs) (turn q s (tells x notice) ∷ course verdict_of (behind_told q s) xs ended) (told_turn verdict_of q x s notice e xs ended)
+            (record { fit = (tt, there.fit); over = there.over; used = there.used });
+      }
+  found_effect (Ask question) s e h = found_taken s question e (refusal_of question s x) h
+  found_effect Exit s e h = record {
+    found = [];
+    added = ap (λ (k : Converting). k.entries.items) (sym h) ∙ sym (append-nil first.entries.items);
+    decided = λ k held.
+        let q = place_at k p.state held [] in
+        decided_as q (x ∷ xs) (turn q s ends ∷ []) (exit_turn verdict_of q x s e xs ended) (record { fit = (tt, tt); over = refl; used = refl });
+  }
+
+  found_after : (r : Result Step Refusal) → after p.state x ≡ r → AreKept added_to first last (by_command told_by p x r make) → IsFound p.state (x ∷ xs) first.entries.items last.entries.items
+  found_after (Err why) e h = absurd h
+  found_after (Ok step) e h = found_effect step.effect step.state e h
+
+found_all : (last : Converting) (xs : List Sexpr) (p : Place FileEntry) (first : Converting) → AreKept added_to first last (course told_by p xs ended) → IsFound p.state xs first.entries.items last.entries.items
+unfolding course
+found_all last [] p first h = record {
+  found = [];
+  added = ap (λ (k : Converting). k.entries.items) (sym h) ∙ sym (append-nil first.entries.items);
+  decided = λ k held. (let q = place_at k p.state held [] in decided_as q [] (turn q p.state ends ∷ []) refl (record { fit = (tt, tt); over = refl; used = refl }));
+}
+found_all last (x ∷ xs) p first h =
+    found_after last p x xs (λ next. course told_by next xs ended) (λ q now more. found_all last xs q now more) first (after p.state x) refl h
+
+pub all_converted : (first last : Converting) (xs : List Sexpr) (entries : List FileEntry) → first.entries.items ≡ [] → AreKept added_to first last (course told_by (start_with entries) xs ended) → AreConverted xs last.entries.items
+all_converted first last xs entries none h =
+    let w = found_all last xs (start_with entries) first h in
+    let same : last.entries.items ≡ w.found = w.added ∙ ap (λ (es : List Entry). es ++ w.found) none in
+    subst (λ (es : List Entry). AreConverted xs es) (sym same) (w.decided 1 None)
+
+-- ---- what is written of them
+
+abbrev IsWritten : List (Turn Entry) → List Entry → Type 0
+IsWritten turns entries = pieces (Certificate One) turns ≡ entry_lines entries ++ line_of end_sexpr
+
+rest_used : (entry : Entry) (these those : List Entry) → (entry ∷ these) ≡ (entry ∷ those) → these ≡ those
+rest_used entry these those e = cc
+
+no_entry : (entries : List Entry) → ◌≡◌ {A = List Entry} [] entries → line_of end_sexpr ++ [] ≡ entry_lines entries ++ line_of end_sexpr
+no_entry [] e = append-nil (line_of end_sexpr)
+no_entry (entry ∷ entries) e = absurd cc
+
+failed_apart : ◌≡◌ {A = Option ℕ} (Some 1) (Some 0) → ⊥
+failed_apart e = absurd cc
+
+module _ (p : Place Entry) (x : Sexpr) (make : Place Entry → List (Turn Entry)) (rest : (q : Place Entry) → AreAnswered (DecidesIn One) (make q) q.left → IsWritten (make q) q.left) where
+  written_asked : (s : State) (question : Question) (left : List Entry) → AreAnswered (DecidesIn One) (asked verdict_of p s question x left make) left → IsWritten (asked verdict_of p s question x left make) left
+  written_asked s question [] h = absurd h.fit.0
+  written_asked s question (entry ∷ left) h =
+      let q = behind_answer verdict_of p s entry left in
+      let w = rest q (record { fit = h.fit.1; over = h.over; used = rest_used entry (answers_of (make q)) left h.used }) in
+      ap (λ (t : List ℕ). line_of (entry_sexpr entry) ++ t) w ∙ sym (append_assoc (line_of (entry_sexpr entry)) (entry_lines left) (line_of end_sexpr))
+
+  written_taken : (s : State) (question : Question) (why : Option Kind) → AreAnswered (DecidesIn One) (taken verdict_of p s question x why make) p.left → IsWritten (taken verdict_of p s question x why make) p.left
+  written_taken s question (Some kind) h = absurd (failed_apart h.over)
+  written_taken s question None h = written_asked s question p.left h
+
+  written_effect : (effect : Effect) (s : State) → AreAnswered (DecidesIn One) (by_effect verdict_of p s x effect make) p.left → IsWritten (by_effect verdict_of p s x effect make) p.left
+  written_effect (Tell notice) s h = rest (behind_told p s) (record { fit = h.fit.1; over = h.over; used = h.used })
+  written_effect (Ask question) s h = written_taken s question (refusal_of question s x) h
+  written_effect Exit s h = no_entry p.left h.used
+
+  written_after : (r : Result Step Refusal) → AreAnswered (DecidesIn One) (by_command verdict_of p x r make) p.left → IsWritten (by_command verdict_of p x r make) p.left
+  written_after (Err why) h = absurd (failed_apart h.over)
+  written_after (Ok step) h = written_effect step.effect step.state h
+
+written : (xs : List Sexpr) (p : Place Entry) → Decided p xs → IsWritten (course verdict_of p xs ended) p.left
+unfolding course
+written [] p h = no_entry p.left h.used
+written (x ∷ xs) p h = written_after p x (λ next. course verdict_of next xs ended) (λ q there. written xs q there) (after p.state x) h
+
+pub converted : (bytes : List ℕ) (end : PartEnd) (behind : ℕ) (xs : List Sexpr) (entries : List Entry) → ScriptPart bytes 0 xs end behind → AreConverted xs entries → IsConverted bytes (whole_text One entries)
+converted bytes end behind xs entries script h = record {
+  commands = xs;
+  end = end;
+  behind = behind;
+  script = script;
+  entries = entries;
+  decide = h;
+  is = ap (λ (t : List ℕ). opening (Certificate One) ++ t) (sym (written xs (start_with entries) h));
+}

@@ -5,7 +5,7 @@ ghost use Rattle.dtp_io.specs.Faults.{Rose};
 ghost use Rattle.dtp_entry.specs.Written.{Writes};
 ghost use Rattle.dtp_convert.specs.Converted.{IsExamined, IsConversion, IsConversionPart};
 
-use crate::script::converted;
+use crate::converting::Converting;
 use cert_stream::write_certificate;
 use cert_text::{Entry, Version};
 use dtp_check::{
@@ -25,11 +25,11 @@ pub enum Examined {
     Refused(Judgement),
 }
 
-/// What the source comes to, with its certificate converted.
+/// What the source comes to, with its certificate converted: each entry is checked once, and where one is wrong, those that were
+/// converted before it go.
 fn examine(alloc: Global, bytes: &[u8]) -> Result<Examined, AllocError>
     ensures { IfOk result (IsExamined bytes.now) }
 {
-    smt_script::exit_law();
     let mut lexer = Lexer::new(bytes);
     let part = read_part(alloc, &mut lexer)?;
     match part.end {
@@ -39,13 +39,13 @@ fn examine(alloc: Global, bytes: &[u8]) -> Result<Examined, AllocError>
         _ => {}
     }
     match read_behind(alloc, &mut lexer, part.end)? {
-        Behind::Read(certificate) => match judge_script(alloc, bytes, &certificate.entries)? {
-            Judgement::Accepted => {
-                let entries = converted(alloc, bytes, &certificate.entries)?;
-                Ok(Examined::Converted(entries))
+        Behind::Read(certificate) => {
+            let mut converting = Converting::new(alloc);
+            match judge_script(alloc, bytes, &certificate.entries, &mut converting)? {
+                Judgement::Accepted => Ok(Examined::Converted(converting.entries)),
+                judgement => Ok(Examined::Refused(judgement)),
             }
-            judgement => Ok(Examined::Refused(judgement)),
-        },
+        }
         Behind::Refused(why) => Ok(Examined::Refused(Judgement::Certificate(why))),
     }
 }
@@ -53,7 +53,7 @@ fn examine(alloc: Global, bytes: &[u8]) -> Result<Examined, AllocError>
 /// Writes the certificate that stands behind a script anew, in the first version, where the two are accepted; else the line
 /// that refuses them.
 ///
-/// It takes the time of checking the pair twice, and memory for the certificate as it is read and as it is written.
+/// It takes the time of checking the pair and of writing it, and memory for the certificate as it is read and as it is written.
 pub fn convert_pair<K: Sink>(
     alloc: Global,
     bytes: &[u8],

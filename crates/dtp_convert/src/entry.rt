@@ -8,13 +8,13 @@ ghost use Rattle.kept_lemmas.specs.Entries.{Placed as Place};
 ghost use Rattle.smt_script.specs.States.{State as Meaning};
 ghost use Rattle.script_walk.specs.Standing.{Stands};
 ghost use Rattle.dtp_check.specs.Earlier.{Holds, Suffices};
-ghost use Rattle.dtp_check.specs.Judged.{entry_flaw, placed};
-ghost use Rattle.dtp_convert.specs.Turns.{IsConvertedTo};
+ghost use Rattle.dtp_check.specs.Judged.{placed};
+ghost use Rattle.dtp_convert.specs.Turns.{IsShown};
 
 use crate::fitting::{are_values_within, are_within};
 use cert_check::CheckError;
 use cert_text::{Entry, FileEntry};
-use dtp_check::Earlier;
+use dtp_check::{Earlier, EntryFlaw, Keeps, KeepsNothing};
 use dtp_entry::problem;
 use kept_lemmas::Items;
 use refute_tree::{Lemma, Refutation, lengthen};
@@ -60,20 +60,45 @@ fn converted_values(alloc: Global, values: &NamedValues) -> Result<NamedValues, 
     Ok(NamedValues::new(shown))
 }
 
-/// The items of an entry that is known to be right, as lemmas of its own.
-fn converted_items(
+/// The values of an entry, where nothing is wrong with them.
+fn shown_values(
+    alloc: Global,
+    state: &State,
+    earlier: &mut Earlier,
+    entry: &FileEntry,
+    values: &NamedValues,
+) -> Result<Result<Entry, EntryFlaw>, AllocError>
+    requires entry { entry.now ≡ Shown.Sat values.now }
+    requires stands { (s : Meaning) × Stands state.now s }
+    requires suffices { Suffices earlier.old (entry.now ∷ []) }
+    ensures shown { IfOk result (λ found. (s : Meaning) (before : List Place) → Stands state.now s
+        → Holds earlier.old before → IsShown before s.context entry.now found) }
+    ensures held { IfOk result (λ found. IsOk found → (s : Meaning) (before : List Place) → Stands state.now s
+        → Holds earlier.old before → Holds earlier.new (before ++ placed s.context entry.now ∷ [])) }
+    ensures suffices { (entries : List Shown) → Suffices earlier.old entries → Suffices earlier.new entries }
+{
+    match KeepsNothing.keep(alloc, state, earlier, entry)? {
+        Some(flaw) => Ok(Err(flaw)),
+        None => {
+            let shown = converted_values(alloc, values)?;
+            Ok(Ok(Entry::Sat(shown)))
+        }
+    }
+}
+
+/// The items of an entry as lemmas of its own, where nothing is wrong with them.
+fn shown_items(
     alloc: Global,
     state: &State,
     earlier: &mut Earlier,
     items: &Items,
-) -> Result<Entry, AllocError>
-    requires right { (s : Meaning) × (before : List Place) × Stands state.now s × Holds earlier.old before
-        × (entry_flaw before s.context (Shown.Unsat items.now) ≡ None) }
+) -> Result<Result<Entry, EntryFlaw>, AllocError>
+    requires stands { (s : Meaning) × Stands state.now s }
     requires suffices { Suffices earlier.old (Shown.Unsat items.now ∷ []) }
-    ensures shown { IfOk result (λ shown. (s : Meaning) → Stands state.now s
-        → IsConvertedTo s.context (Shown.Unsat items.now) shown) }
-    ensures held { IsOk result → (s : Meaning) (before : List Place) → Stands state.now s
-        → Holds earlier.old before → Holds earlier.new (before ++ placed s.context (Shown.Unsat items.now) ∷ []) }
+    ensures shown { IfOk result (λ found. (s : Meaning) (before : List Place) → Stands state.now s
+        → Holds earlier.old before → IsShown before s.context (Shown.Unsat items.now) found) }
+    ensures held { IfOk result (λ found. IsOk found → (s : Meaning) (before : List Place) → Stands state.now s
+        → Holds earlier.old before → Holds earlier.new (before ++ placed s.context (Shown.Unsat items.now) ∷ [])) }
     ensures suffices { (entries : List Shown) → Suffices earlier.old entries → Suffices earlier.new entries }
 {
     refute_tree::lengths_law();
@@ -83,7 +108,7 @@ fn converted_items(
     let problem = problem(alloc, state)?;
     let refutation = match earlier.lowered(alloc, &problem, items.as_slice()) {
         Ok(refutation) => refutation,
-        Err(CheckError::Refused(_)) => unreachable!(),
+        Err(CheckError::Refused(flaw)) => return Ok(Err(EntryFlaw::Flawed(flaw))),
         Err(CheckError::OutOfMemory) => return Err(AllocError),
     };
     let shown = written_out(alloc, &problem, refutation)?;
@@ -91,35 +116,32 @@ fn converted_items(
     if !are_within(shown.as_slice()) {
         return Err(AllocError);
     }
-    Ok(Entry::Unsat(shown))
+    Ok(Ok(Entry::Unsat(shown)))
 }
 
-/// An entry that is known to be right, as the first version shows it. It is held for those that come.
-pub fn converted_entry(
+/// An entry as the first version shows it, or what is wrong with it. Where nothing is, it is held for those that come.
+pub fn shown_entry(
     alloc: Global,
     state: &State,
     earlier: &mut Earlier,
     entry: &FileEntry,
-) -> Result<Entry, AllocError>
-    requires right { (s : Meaning) × (before : List Place) × Stands state.now s × Holds earlier.old before
-        × (entry_flaw before s.context entry.now ≡ None) }
+) -> Result<Result<Entry, EntryFlaw>, AllocError>
+    requires stands { (s : Meaning) × Stands state.now s }
     requires suffices { Suffices earlier.old (entry.now ∷ []) }
-    ensures shown { IfOk result (λ shown. (s : Meaning) (before : List Place) → Stands state.now s
-        → Holds earlier.old before → entry_flaw before s.context entry.now ≡ None
-        → IsConvertedTo s.context entry.now shown) }
-    ensures held { IsOk result → (s : Meaning) (before : List Place) → Stands state.now s
-        → Holds earlier.old before → Holds earlier.new (before ++ placed s.context entry.now ∷ []) }
+    ensures shown { IfOk result (λ found. (s : Meaning) (before : List Place) → Stands state.now s
+        → Holds earlier.old before → IsShown before s.context entry.now found) }
+    ensures held { IfOk result (λ found. IsOk found → (s : Meaning) (before : List Place) → Stands state.now s
+        → Holds earlier.old before → Holds earlier.new (before ++ placed s.context entry.now ∷ [])) }
     ensures suffices { (entries : List Shown) → Suffices earlier.old entries → Suffices earlier.new entries }
 {
     match entry {
         FileEntry::Sat(values) => {
-            earlier.skip()?;
-            let shown = converted_values(alloc, values)?;
-            Ok(Entry::Sat(shown))
+            let found = shown_values(alloc, state, earlier, entry, values)?;
+            Ok(found)
         }
         FileEntry::Unsat(items) => {
-            let shown = converted_items(alloc, state, earlier, items)?;
-            Ok(shown)
+            let found = shown_items(alloc, state, earlier, items)?;
+            Ok(found)
         }
     }
 }

@@ -6,5 +6,6 @@ pub fn converted_is_accepted()
     ensures { ConvertedIsAccepted }
 {
     smt_sexpr::reads_on();
+    smt_script::exit_law();
     dtp_check::certified_is_accepted();
 }

@@ -3,10 +3,10 @@
 #![tactic(auto)]
 
 mod convert;
+mod converting;
 mod entry;
 mod fitting;
 mod laws;
-mod script;
 
 pub use convert::convert_pair;
 pub use laws::converted_is_accepted;

@@ -1,11 +1,10 @@
-use Rattle.std.proofs.Common.{◌≡◌, ◌∙◌, subst, sym, ap, refl, List, [], ℕ}
+use Rattle.std.proofs.Common.{◌≡◌, ◌∙◌, subst, sym, ap, refl, List, ℕ}
 use Rattle.cert_text.specs.declared.entry.FileEntry.{FileEntry as Shown}
-use Rattle.smt_script.specs.States.{start_state}
 use Rattle.dtp_check.specs.declared.judgement.Judgement.TheVariants.{Accepted}
-use Rattle.dtp_check.specs.Judged.{ScriptPart, judged}
+use Rattle.dtp_check.specs.Judged.{ScriptPart, judged_script}
 use Rattle.dtp_check.specs.Parts.{IsReadable}
 use Rattle.dtp_check.proofs.Telling.{readable_by, stands, found_refusal, judged_entries}
-use Rattle.dtp_convert.proofs.Writing.{converted}
+use Rattle.dtp_convert.proofs.Writing.{all_converted, converted}
 use Rattle.dtp_convert.proofs.Examining.{certificate_apart}
 use Rattle.dtp_convert.proofs.convert.examine.Goals as goal
 
@@ -20,11 +19,11 @@ returns-in-Accepted c =
     let script = subst (λ (b : List ℕ). ScriptPart b 0 p.0 end place) same p.1 in
     let behind = stands bytes c.new-lexer.result.bytes c.read_part.new.lexer.bytes place end _ same c.in_ok-part.ensures.bytes readable (c.in_ok-certificate.ensures readable) _ c.in-Read.is in
     let entries = c.in-Read.certificate.entries.items in
-    let accepted : judged start_state 1 1 [] p.0 entries ≡ Accepted =
-    ap (λ (es : List Shown). judged start_state 1 1 [] p.0 es) (sym c.deref.ensures.value) ∙ sym (c.in_ok-judgement-in-Read.ensures p.0 end place script readable) ∙ c.in-Accepted.is in
-    let again = ap (λ (es : List Shown). judged start_state 1 1 [] p.0 es) c.deref-in-Accepted.ensures.value ∙ accepted in (
-      judged_entries bytes p.0 place end c.in-Read.certificate.version entries Accepted script readable behind (sym accepted),
-      converted c.exit_law.ensures.alone bytes end place readable p.0 c.in_ok-entries-in-Accepted.entries.items script (c.in_ok-entries-in-Accepted.ensures p.0 end place script readable again),
+    let comes = c.in_ok-judgement-in-Read.ensures p.0 end place script readable in
+    let accepted : Accepted ≡ judged_script p.0 entries = sym c.in-Accepted.is ∙ sym comes.judged ∙ ap (λ (es : List Shown). judged_script p.0 es) c.deref.ensures.value in (
+      judged_entries bytes p.0 place end c.in-Read.certificate.version entries Accepted script readable behind accepted,
+      converted bytes end place p.0 c.judge_script.new.keeps.entries.items script
+          (all_converted c.new-converting.result c.judge_script.new.keeps p.0 c.deref.result.now c.new-converting.ensures (comes.kept c.in-Accepted.is)),
     )
 
 pub returns-in-Read : goal.returns-in-Read
@@ -38,7 +37,7 @@ returns-in-Read c =
     let script = subst (λ (b : List ℕ). ScriptPart b 0 p.0 end place) same p.1 in
     let behind = stands bytes c.new-lexer.result.bytes c.read_part.new.lexer.bytes place end _ same c.in_ok-part.ensures.bytes readable (c.in_ok-certificate.ensures readable) _ c.in-Read.is in (
       judged_entries bytes p.0 place end c.in-Read.certificate.version c.in-Read.certificate.entries.items _ script readable behind
-          (c.in_ok-judgement-in-Read.ensures p.0 end place script readable ∙ ap (λ (es : List Shown). judged start_state 1 1 [] p.0 es) c.deref.ensures.value),
+          (sym (c.in_ok-judgement-in-Read.ensures p.0 end place script readable).judged ∙ ap (λ (es : List Shown). judged_script p.0 es) c.deref.ensures.value),
       c.in_default-2.not-Accepted,
     )
 

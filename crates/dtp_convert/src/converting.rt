@@ -1,0 +1,47 @@
+//! The conversion: what is done with each entry that the check finds right.
+ghost use Rattle.std.specs.Prelude.{◌≡◌, [], List};
+
+use crate::entry::shown_entry;
+use cert_text::{Entry, FileEntry};
+use dtp_check::{Earlier, EntryFlaw, Keeps};
+use smt_script::State;
+use std::alloc::{AllocError, Global};
+
+/// The entries so far, as the first version shows them.
+#[derive(Drop)]
+pub struct Converting {
+    pub entries: Vec<Entry>,
+}
+
+impl Converting {
+    /// Before the first entry.
+    pub fn new(alloc: Global) -> Self
+        ensures { result.entries.items ≡ [] }
+    {
+        Converting {
+            entries: Vec::new(alloc),
+        }
+    }
+}
+
+impl Keeps for Converting {
+    ghost use Rattle.dtp_convert.specs.Turns.{IsAdded};
+
+    ghost leads = { λ before now c entry. IsAdded before.entries.items now.entries.items c entry };
+
+    fn keep(
+        &mut self,
+        alloc: Global,
+        state: &State,
+        earlier: &mut Earlier,
+        entry: &FileEntry,
+    ) -> Result<Option<EntryFlaw>, AllocError> {
+        match shown_entry(alloc, state, earlier, entry)? {
+            Ok(shown) => {
+                self.entries.push(shown)?;
+                Ok(None)
+            }
+            Err(flaw) => Ok(Some(flaw)),
+        }
+    }
+}
