@@ -29,6 +29,9 @@ returns-clause-shown c = λ s before stands held.
     let right = subst (λ (items : List Item). items_flaw (shelf_of before) c.in_ok-problem.problem.points c.in_ok-problem.problem.clauses items ≡ None) c.as_slice.ensures (c.in-Ok.ensures.right (search rules) before held) in
     let within = subst (λ (lemmas : List Lemma). All (LemmaWithin One (2 ^ 32)) lemmas) c.as_slice-2.ensures (c.are_within.ensures (search rules)) in (
       items_flaw_is (shelf_of before) c.in_ok-problem.problem.points c.in_ok-problem.problem.clauses s.context c.args.items.now None e.0 e.1 right,
-      (items_decide s.context stands.made.context laws.scope laws.roots laws.exact c.clause_form_law.ensures.holds c.refutation_law.ensures c.lengths_law.ensures.lengthened
-          c.in_ok-problem.problem.points c.in_ok-problem.problem.clauses c.in-Ok.refutation c.in_ok-shown.shown e.0 e.1 c.in-Ok.ensures.refutes c.in_ok-shown.ensures within, refl),
+      (
+        items_decide s.context stands.made.context laws.scope laws.roots laws.exact c.clause_form_law.ensures.holds c.refutation_law.ensures c.lengths_law.ensures.lengthened
+            c.in_ok-problem.problem.points c.in_ok-problem.problem.clauses c.in-Ok.refutation c.in_ok-shown.shown e.0 e.1 c.in-Ok.ensures.refutes c.in_ok-shown.ensures within,
+        refl,
+      ),
     )
