@@ -3,7 +3,7 @@ ghost use Rattle.std.specs.Prelude.{◌≡◌};
 
 use crate::calls::ask;
 use book_core::{Book, Event, Verdict};
-use book_lock::{Desk, Seat, Taken};
+use book_lock::{Dealt, Desk, Seat};
 use std::alloc::AllocError;
 use std::sync::Wait;
 
@@ -66,7 +66,7 @@ pub(crate) fn asked_behind_join<R: Wait>(
     desk: &Desk,
     seat: &mut Seat,
     other: Seat,
-) -> Result<Option<Taken>, AllocError>
+) -> Result<Option<Dealt>, AllocError>
     requires desk { (seat.old.desk ≡ desk.now.id) × (other.desk ≡ desk.now.id) }
     requires first { seat.old.view.number ≡ 0 }
     requires second { other.view.number ≡ 1 }

@@ -132,7 +132,7 @@ fn idle<R: Wait>(
     problem: &Problem,
     seat: &mut Seat,
     other: &mut Seat,
-) -> Result<(Option<Taken>, bool), AllocError>
+) -> Result<(Option<Dealt>, bool), AllocError>
     requires desk { (seat.old.desk ≡ desk.now.id) × (other.old.desk ≡ desk.now.id) }
     requires problem { other.old.view.problem ≡ problem.now }
     ensures same { IsSameSeat seat.old seat.new × IsSameSeat other.old other.new }
@@ -152,10 +152,10 @@ fn who_waited_is_told_behind_a_join(rt: HostRuntime) -> Result<(), Fail> {
     let (desk, mut seat) = Desk::start(alloc, problem.copy()?)?;
     let mut other = desk.split_seat(&mut seat)?;
     let told = idle(&rt, alloc, &desk, &problem, &mut seat, &mut other)?;
-    assert_eq!(rt; told, (Some(Taken::Idle), true));
+    assert_eq!(rt; told, (Some(Dealt::Idle), true));
     assert_eq!(rt;
         asked_behind_join(&rt, &desk, &mut seat, other)?,
-        Some(Taken::Done)
+        Some(Dealt::Done)
     );
     Ok(())
 }
