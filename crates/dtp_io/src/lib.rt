@@ -18,6 +18,7 @@
 #![tactic(auto)]
 
 mod all;
+mod flushed;
 mod memory;
 mod sink;
 mod source;
@@ -25,6 +26,7 @@ mod standard;
 mod sure;
 
 pub use all::{ReadError, WriteFault, read_all, write_all_of};
+pub use flushed::FlushedWrite;
 pub use memory::{MemSink, MemSource};
 pub use sink::Sink;
 pub use source::{Failed, Source};

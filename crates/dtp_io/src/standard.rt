@@ -1,13 +1,14 @@
 //! The process's streams. They are the trusted edge: which bytes come and go there is not told, only
 //! that each error is counted and handed on.
-ghost use Rattle.std.specs.Prelude.{◌≡◌, ◌<◌, length, take, None, IfOk};
+ghost use Rattle.std.specs.Prelude.{◌≡◌, ◌<◌, length, take, None, IfOk, IsTrue};
 ghost use Rattle.std.specs.Io.{WritesAtMost};
 ghost use Rattle.std.specs.Io.KnownBytes.{Appends, WriteAppends};
 ghost use Rattle.dtp_io.specs.Faults.{HasCause};
 
+use crate::flushed::FlushedWrite;
 use crate::sink::Sink;
 use crate::source::{Failed, Source, count_fault};
-use std::io::{Read, Write};
+use std::io::Read;
 
 /// Reads from a reader, as `StdSource::new(rt.reader())` does from standard input. It tells the bytes
 /// that its reader tells, which are none where that is standard input.
@@ -41,7 +42,7 @@ impl<R: Read> Source for StdSource<R> {
 }
 
 /// Writes to a writer, as `StdSink::new(io::writer(&rt))` does to standard output, and flushes it
-/// at each write. A writer that takes nothing of a piece that isn't empty has failed. It tells no
+/// at each write, so that nothing of what was taken is held back. A writer that takes nothing of a piece that isn't empty has failed. It tells no
 /// bytes, since a flush can fail when the bytes were taken.
 #[derive(Drop)]
 pub struct StdSink<W> {
@@ -49,7 +50,7 @@ pub struct StdSink<W> {
     faults: u64,
 }
 
-impl<W: Write> StdSink<W> {
+impl<W: FlushedWrite> StdSink<W> {
     /// The writer with no faults counted.
     pub fn new(writer: W) -> Self
         ensures writer { result.writer ≡ writer }
@@ -63,15 +64,16 @@ impl<W: Write> StdSink<W> {
         ensures bound { WritesAtMost result piece.now }
         ensures taken { IfOk result (λ n.
             Appends (W.contents self.old.writer) (W.contents self.new.writer) (take n piece.now)) }
+        ensures flushed { IfOk result (λ _. IsTrue (W.is_flushed self.new.writer)) }
         ensures faults { self.new.faults ≡ self.old.faults }
     {
         let count = self.writer.write(piece)?;
-        self.writer.flush()?;
+        self.writer.flush_all()?;
         Ok(count)
     }
 }
 
-impl<W: Write> Sink for StdSink<W> {
+impl<W: FlushedWrite> Sink for StdSink<W> {
     ghost holds = { λ _. None };
 
     ghost faults = { λ k. k.faults };
@@ -83,6 +85,7 @@ impl<W: Write> Sink for StdSink<W> {
         ensures cause { HasCause self.old.faults self.new.faults result }
         ensures taken { IfOk result (λ n.
             Appends (W.contents self.old.writer) (W.contents self.new.writer) (take n piece.now)) }
+        ensures flushed { IfOk result (λ _. IsTrue (W.is_flushed self.new.writer)) }
     {
         match self.write_and_flush(piece) {
             Ok(count) if count > 0 || piece.is_empty() => Ok(count),
