@@ -27,7 +27,9 @@ fresh_point points inner k = points + inner_count inner k
 abbrev pub body_literal : ℕ → List ℕ → ℕ → NodeValue → Literal
 body_literal points inner k always = stands 0
 body_literal points inner k (atom l) = l
-body_literal points inner k _ = stands (fresh_point points inner k)
+body_literal points inner k (denial m) = stands (fresh_point points inner k)
+body_literal points inner k (conjunction ms) = stands (fresh_point points inner k)
+body_literal points inner k (disjunction ms) = stands (fresh_point points inner k)
 
 abbrev pub node_literal : ℕ → List NodeValue → List ℕ → ℕ → NodeValue → Literal
 node_literal points nodes inner k (denial m) = negation_of (body_literal points inner m (node_at nodes m))

@@ -83,7 +83,11 @@ inner_of asserted denied true nodes (conjunction ms) = compounds nodes ms
 inner_of asserted denied true nodes (disjunction ms) = compounds nodes ms
 inner_of asserted true inner nodes (conjunction ms) = compounds nodes ms
 inner_of true denied inner nodes (disjunction ms) = compounds nodes ms
-inner_of asserted denied inner nodes _ = []
+inner_of asserted denied inner nodes always = []
+inner_of asserted denied inner nodes (atom l) = []
+inner_of asserted denied inner nodes (denial m) = []
+inner_of asserted denied inner nodes (conjunction ms) = []
+inner_of asserted denied inner nodes (disjunction ms) = []
 
 abbrev pub inner_below : ℕ → List NodeValue → Polarity → List ℕ → List ℕ
 inner_below zero nodes p inner = inner

@@ -1,14 +1,14 @@
 -- The marks of the nodes so far are their truth.
-use Rattle.std.proofs.Common.{sym, ap, subst, arith, ◌∙◌, ◌≡◌, ◌<◌, ◌≤◌, ℕ, List, length, take, get_or, Bool, false, Some, ℤ, get_or-take, ◌+◌, ◌++◌, ◌∷◌, []}
+use Rattle.std.proofs.Common.{sym, ap, subst, arith, ◌∙◌, ◌≡◌, ◌<◌, ◌≤◌, ℕ, List, length, take, drop, get_or, Bool, false, Some, ℤ, get_or-take, ◌+◌, ◌++◌, ◌∷◌, []}
 use Rattle.std.specs.Prelude.{slice_get, option_map}
 use Rattle.std.proofs.lemmas.Grind.{common_steps}
-use Rattle.std.proofs.lemmas.List.{length-take-le, length-map}
+use Rattle.std.proofs.lemmas.List.{length-take, length-take-le, length-map, take-append-le, take-append-drop}
 use Rattle.std.proofs.lemmas.Option.{slice_get-map, slice_get-get_or, get_or_from_slice_get}
 use Rattle.stn_core.specs.declared.literal.Literal.{Literal}
 use Rattle.idl_node.specs.declared.node.Node.{Node}
 use Rattle.idl_node.specs.Nodes.{NodeValue, node_value, shown, always}
 use Rattle.idl_node.specs.Tables.{IsNodeOf, IsTableOf}
-use Rattle.idl_node.specs.Truth.{node_truth, truth, AreTruths}
+use Rattle.idl_node.specs.Truth.{node_truth, truth, AreTruths, BeginsWith}
 use Rattle.idl_node.proofs.Truths.{node_truth-agree, truth-node}
 
 module _ (all : List Node) (table : List NodeValue) (same : shown all ≡ table) (i : ℕ) (node : Node) (within : i < length table) (is : node ≡ get_or all i node) where
@@ -39,3 +39,15 @@ truths_pushed nodes values marks now holds room h is e = record {
   within = grind (arith, common_steps, e, room);
   each = λ k b. grind (arith, common_steps, e, is, h.each k);
 }
+
+-- what one mark more begins with
+pub front_pushed : (front marks now : List Bool) (holds : Bool) → BeginsWith marks front → now ≡ marks ++ holds ∷ [] → BeginsWith now front
+front_pushed front marks now holds h e =
+    let few : length front ≤ length marks = omega (arith, ap length h, length-take (length front) marks) in
+    ap (take (length front)) e ∙ take-append-le (length front) marks (holds ∷ []) few ∙ h
+
+-- what begins with a list that begins with another
+pub front_of_front : (front marks now : List Bool) → BeginsWith marks front → BeginsWith now marks → BeginsWith now front
+front_of_front front marks now h k =
+    let few : length front ≤ length marks = omega (arith, ap length h, length-take (length front) marks) in
+    ap (take (length front)) (sym (take-append-drop (length marks) now)) ∙ ap (λ (xs : List Bool). take (length front) (xs ++ drop (length marks) now)) k ∙ take-append-le (length front) marks (drop (length marks) now) few ∙ h

@@ -1,5 +1,5 @@
 -- The truth of a node on values of the time points.
-use Rattle.std.specs.Prelude.{◌≡◌, ◌≤◌, ◌<◌, ℕ, zero, suc, List, [], ◌∷◌, length, map, Bool, true, false, not, ◌&&◌, ◌||◌, slice_index_or, ℤ, pos, ◌-ℤ◌, int_le}
+use Rattle.std.specs.Prelude.{◌≡◌, ◌≤◌, ◌<◌, ℕ, zero, suc, List, [], ◌∷◌, length, take, map, Bool, true, false, not, ◌&&◌, ◌||◌, slice_index_or, ℤ, pos, ◌-ℤ◌, int_le}
 use Rattle.std.specs.List.{list_all, list_any}
 use Rattle.stn_core.specs.declared.literal.Literal.{Literal}
 use Rattle.stn_core.specs.declared.named.NamedValue.{NamedValue}
@@ -32,6 +32,10 @@ truth nodes values k = truth_within (suc k) nodes values k
 pub record AreTruths (nodes : List NodeValue) (values : List ℤ) (marks : List Bool) : Type 0 where
   pub within : length marks ≤ length nodes
   pub each : (k : ℕ) → k < length marks → slice_index_or marks k false ≡ truth nodes values k
+
+-- the first list begins with the second
+abbrev pub BeginsWith : List Bool → List Bool → Type 0
+BeginsWith marks front = take (length front) marks ≡ front
 
 -- the value of a name's time point: of an Int name its value, of a Bool name 0 where it is true, else 1
 abbrev pub point_value : NamedValue → ℤ

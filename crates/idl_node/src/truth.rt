@@ -1,9 +1,9 @@
 //! The truth of a node.
-ghost use Rattle.std.specs.Prelude.{◌≡◌, ◌<◌, ◌≤◌, ◌+◌, ℕ, List, length, slice_index_or, false, IfOk};
+ghost use Rattle.std.specs.Prelude.{◌≡◌, ◌<◌, ◌≤◌, ◌+◌, ℕ, List, length, slice_index_or, false, IfOk, OnOk, OnErr};
 ghost use Rattle.std.specs.List.{AllByRecursion, list_all, list_any};
 ghost use Rattle.idl_node.specs.Nodes.{NodeValue, node_value};
 ghost use Rattle.idl_node.specs.Tables.{IsTableOver, IsNodeOf};
-ghost use Rattle.idl_node.specs.Truth.{point_values, literal_truth, node_truth, truth, AreTruths};
+ghost use Rattle.idl_node.specs.Truth.{point_values, literal_truth, node_truth, truth, AreTruths, BeginsWith};
 ghost use Rattle.stn_core.specs.Literal.{IsOver, value_at};
 
 use crate::node::Node;
@@ -101,9 +101,33 @@ pub fn eval(nodes: &Nodes, number: u32, values: &NamedValues, marks: &mut [bool]
     marks[number as usize]
 }
 
+/// Goes on with the marks of the table's first nodes, up to this node's.
+fn mark_up_to(
+    nodes: &Nodes,
+    number: u32,
+    values: &NamedValues,
+    marks: &mut Vec<bool>,
+) -> Result<(), AllocError>
+    requires table { IsTableOver (length values.now + 1) nodes.now }
+    requires number { number < length nodes.now }
+    requires marks { AreTruths nodes.now (point_values values.now) marks.old.items }
+    ensures room { OnOk result (number < length marks.new.items) }
+    ensures marks { AreTruths nodes.now (point_values values.now) marks.new.items }
+    ensures front { BeginsWith marks.new.items marks.old.items }
+{
+    let slice = nodes.as_slice();
+    let last = number as usize;
+    'nodes: while marks.len() <= last {
+        let i = marks.len();
+        let value = node_holds(&slice[i], values, &marks[..i]);
+        marks.push(value)?;
+    }
+    Ok(())
+}
+
 /// Whether the node is true where the names have these values. `marks` tells the truth of the table's first nodes, as many as
 /// there are marks, and then, where there were fewer, of all nodes up to this one: so it takes time of the order of the nodes that
-/// it tells anew, and their members.
+/// it tells anew, and their members. Where there is no memory, the marks are as they were.
 pub fn eval_on(
     nodes: &Nodes,
     number: u32,
@@ -115,13 +139,13 @@ pub fn eval_on(
     requires marks { AreTruths nodes.now (point_values values.now) marks.old.items }
     ensures truth { IfOk result (λ holds. holds ≡ truth nodes.now (point_values values.now) number) }
     ensures marks { AreTruths nodes.now (point_values values.now) marks.new.items }
+    ensures front { BeginsWith marks.new.items marks.old.items }
+    ensures refused { OnErr result (marks.new.items ≡ marks.old.items) }
 {
-    let slice = nodes.as_slice();
-    let last = number as usize;
-    'nodes: while marks.len() <= last {
-        let i = marks.len();
-        let value = node_holds(&slice[i], values, &marks[..i]);
-        marks.push(value)?;
+    let before = marks.len();
+    if let Err(error) = mark_up_to(nodes, number, values, marks) {
+        marks.truncate(before);
+        return Err(error);
     }
-    Ok(marks[last])
+    Ok(marks[number as usize])
 }

@@ -91,8 +91,12 @@ each_compared relation nodes members (p ∷ rest) = follows (cases_compared rela
 
 -- `distinct` compares all pairs, the others compare neighbours
 abbrev pub compared_pairs : Relation → List (List CaseValue) → List (List CaseValue × List CaseValue)
+compared_pairs AtMost terms = neighbours terms
+compared_pairs Less terms = neighbours terms
+compared_pairs AtLeast terms = neighbours terms
+compared_pairs Greater terms = neighbours terms
+compared_pairs Equal terms = neighbours terms
 compared_pairs Distinct terms = pairs terms
-compared_pairs _ terms = neighbours terms
 
 abbrev pub all_compared : Relation → List NodeValue → List (List CaseValue) → Result Placed TermRefusal
 all_compared relation nodes terms = each_compared relation nodes [] (compared_pairs relation terms)

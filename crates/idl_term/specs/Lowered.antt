@@ -5,7 +5,7 @@ use Rattle.std.specs.Prelude.{ℕ, ◌+◌, suc, List, [], ◌∷◌, ◌++◌, 
 use Rattle.std.specs.List.{list_any}
 use Rattle.std.specs.Str.{bytes_eq}
 use Rattle.smt_lex.specs.declared.token.TokenKind.{TokenKind}
-use Rattle.smt_lex.specs.declared.token.TokenKind.TheVariants.{Numeral, Decimal, Hex, Binary, Text, Symbol}
+use Rattle.smt_lex.specs.declared.token.TokenKind.TheVariants.{Left, Right, Numeral, Decimal, Hex, Binary, Text, Symbol, Keyword}
 use Rattle.smt_lex.specs.Numbers.{value_of}
 use Rattle.smt_sexpr.specs.Tree.{Sexpr, Items, leaf, list, none, more, symbol_of}
 use Rattle.idl_linear.specs.Limits.{constant_limit}
@@ -53,7 +53,9 @@ lowered_leaf scope nodes Decimal text = Err (LeftOut left_out.Decimal)
 lowered_leaf scope nodes Hex text = Err (LeftOut left_out.Hexadecimal)
 lowered_leaf scope nodes Binary text = Err (LeftOut left_out.Binary)
 lowered_leaf scope nodes Text text = Err (LeftOut left_out.String)
-lowered_leaf scope nodes _ text = Err IllFormedTerm
+lowered_leaf scope nodes Keyword text = Err IllFormedTerm
+lowered_leaf scope nodes Left text = Err IllFormedTerm
+lowered_leaf scope nodes Right text = Err IllFormedTerm
 
 -- ---- heads
 

@@ -3,7 +3,7 @@ use Rattle.std.specs.Prelude.{ℕ, List, [], ◌∷◌, ◌++◌, Bool, true, fa
 use Rattle.std.specs.Ordering.{int_eq}
 use Rattle.std.specs.Str.{bytes_eq}
 use Rattle.smt_lex.specs.declared.token.TokenKind.{TokenKind}
-use Rattle.smt_lex.specs.declared.token.TokenKind.TheVariants.{Numeral, Symbol}
+use Rattle.smt_lex.specs.declared.token.TokenKind.TheVariants.{Left, Right, Numeral, Decimal, Hex, Binary, Text, Symbol, Keyword}
 use Rattle.smt_lex.specs.Numbers.{value_of}
 use Rattle.smt_sexpr.specs.Tree.{Sexpr, Items, leaf, list, none, more, symbol_of}
 use Rattle.idl_node.specs.Truth.{equal_truth, different_truth, exclusive_truth, implied_truth, chain, all_pairs}
@@ -46,7 +46,13 @@ symbol_value env name =
 abbrev pub leaf_value : List Named → TokenKind → List ℕ → Value
 leaf_value env Numeral text = whole (pos (value_of text))
 leaf_value env Symbol text = symbol_value env text
-leaf_value env _ text = nothing
+leaf_value env Decimal text = nothing
+leaf_value env Hex text = nothing
+leaf_value env Binary text = nothing
+leaf_value env Text text = nothing
+leaf_value env Keyword text = nothing
+leaf_value env Left text = nothing
+leaf_value env Right text = nothing
 
 -- ---- operators
 

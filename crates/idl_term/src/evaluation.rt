@@ -1,5 +1,5 @@
 //! The value of an Int term.
-ghost use Rattle.std.specs.Prelude.{◌≡◌, ◌<◌, ◌+◌, ◌*ℤ◌, ◌≤ℤ◌, neg_ℤ, pos, IfOk, List, length, map, slice_index_or, true, false};
+ghost use Rattle.std.specs.Prelude.{◌≡◌, ◌<◌, ◌+◌, ◌*ℤ◌, ◌≤ℤ◌, neg_ℤ, pos, IfOk, OnErr, List, length, map, slice_index_or, true, false};
 ghost use Rattle.std.specs.List.{AllByRecursion};
 ghost use Rattle.stn_core.specs.Literal.{value_at};
 ghost use Rattle.stn_core.specs.Named.{AreWithinLimit};
@@ -9,7 +9,7 @@ ghost use Rattle.idl_linear.specs.Values.{linear_value};
 ghost use Rattle.idl_linear.specs.declared.summand.Summand.{Summand as OneSummand};
 ghost use Rattle.idl_node.specs.Nodes.{NodeValue};
 ghost use Rattle.idl_node.specs.Tables.{IsTableOver};
-ghost use Rattle.idl_node.specs.Truth.{point_values, truth, AreTruths};
+ghost use Rattle.idl_node.specs.Truth.{point_values, truth, AreTruths, BeginsWith};
 ghost use Rattle.idl_scope.specs.Guarded.{guarded};
 ghost use Rattle.idl_term.specs.Evaluating.{product_limit, IsCaseOver, first_value};
 ghost use Rattle.idl_term.specs.Meanings.{cases_value};
@@ -132,6 +132,7 @@ fn first_true(
     ensures value { IfOk result (λ o. o
         ≡ first_value (truth nodes.now (point_values values.now)) (point_values values.now) cases.now) }
     ensures marks { AreTruths nodes.now (point_values values.now) marks.new.items }
+    ensures front { BeginsWith marks.new.items marks.old.items }
 {
     match cases.shape() {
         Shape::Plain(linear) => Ok(Some(eval_linear(linear, values))),
@@ -167,6 +168,7 @@ fn first_true_behind(
     ensures value { IfOk result (λ o. o ≡ first_value (truth nodes.now (point_values values.now))
         (point_values values.now) (map (guarded guard) cases.now)) }
     ensures marks { AreTruths nodes.now (point_values values.now) marks.new.items }
+    ensures front { BeginsWith marks.new.items marks.old.items }
 {
     if eval_on(nodes, guard, values, marks)? {
         first_true(cases, nodes, values, marks)
@@ -176,7 +178,8 @@ fn first_true_behind(
 }
 
 /// The value of an Int term of the table where the names have these values: that of the case whose guards are true. `marks` tells
-/// the truth of the table's first nodes, and then that of as many as were asked for: of none where the term has no conditions.
+/// the truth of the table's first nodes, and then that of as many as were asked for: of none where the term has no conditions. Where
+/// there is no memory, the marks are as they were.
 pub fn eval_int_on(
     cases: &Cases,
     nodes: &Nodes,
@@ -189,7 +192,15 @@ pub fn eval_int_on(
     requires marks { AreTruths nodes.now (point_values values.now) marks.old.items }
     ensures value { IfOk result (λ n. n ≡ cases_value nodes.now (point_values values.now) cases.now) }
     ensures marks { AreTruths nodes.now (point_values values.now) marks.new.items }
+    ensures front { BeginsWith marks.new.items marks.old.items }
+    ensures refused { OnErr result (marks.new.items ≡ marks.old.items) }
 {
-    let found = first_true(cases, nodes, values, marks)?;
-    Ok(found.unwrap_or(0))
+    let before = marks.len();
+    match first_true(cases, nodes, values, marks) {
+        Ok(found) => Ok(found.unwrap_or(0)),
+        Err(error) => {
+            marks.truncate(before);
+            Err(error)
+        }
+    }
 }

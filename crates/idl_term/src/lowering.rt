@@ -15,7 +15,8 @@ use std::alloc::Global;
 
 /// What a term is made into in a scope; its nodes go into the table.
 ///
-/// It takes time linear in the term, where names are short, and memory by its depth.
+/// It takes time of the order of the term, of its names' lengths, and of what it makes: nodes (one for each pair of a `distinct`), the cases of its
+/// Int terms where they are compared, and the summands of its sums, which are sorted; and memory by its depth and by what it makes.
 pub fn lower<'a>(
     alloc: Global,
     sexprs: &Sexprs<'a>,

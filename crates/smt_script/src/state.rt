@@ -514,6 +514,7 @@ impl<'a> State<'a> {
             → StandsFor self.old s → Means sexprs.now id x → IsRefused s x why }
         ensures same { self.new ≡ self.old }
         ensures marks { AreTruths self.old.nodes (point_values values.now) marks.new.items }
+        ensures unmarked { OnErr result (marks.new.items ≡ marks.old.items) }
     {
         context_law();
         lowered_law();

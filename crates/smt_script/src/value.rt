@@ -1,5 +1,5 @@
 //! The value of a term that was read.
-ghost use Rattle.std.specs.Prelude.{◌≡◌, List, IfOk};
+ghost use Rattle.std.specs.Prelude.{◌≡◌, List, IfOk, OnErr};
 ghost use Rattle.stn_core.specs.Named.{AreWithinLimit};
 ghost use Rattle.idl_node.specs.Sorts.{IsAtomFor, AreOfSorts};
 ghost use Rattle.idl_node.specs.Tables.{IsTableOf};
@@ -24,7 +24,7 @@ pub enum TermValue {
 }
 
 /// The value of a lowered term of the table, where the names have these values. `marks` tells the truth of the table's first nodes,
-/// and then of as many as the term's value asks for.
+/// and then of as many as the term's value asks for. Where there is no memory, the marks are as they were.
 pub fn term_value(
     term: &Lowered,
     nodes: &Nodes,
@@ -37,6 +37,7 @@ pub fn term_value(
     requires marks { AreTruths nodes.now (point_values values.now) marks.old.items }
     ensures value { IfOk result (λ v. lowered_value nodes.now values.now (shown_term term.now) ≡ value_shown v) }
     ensures marks { AreTruths nodes.now (point_values values.now) marks.new.items }
+    ensures refused { OnErr result (marks.new.items ≡ marks.old.items) }
 {
     match term {
         Lowered::Truth(number) => {

@@ -1,8 +1,8 @@
 use Rattle.std.proofs.Common.{arith, sym, ap, get_or, false, List, Bool, ◌∙◌, ◌≡◌, ◌≤◌, ◌<◌, ◌+◌, ℕ, length}
 use Rattle.stn_core.specs.Literal.{IsOver}
 use Rattle.idl_node.specs.Truth.{point_values, truth}
-use Rattle.idl_node.proofs.Marking.{node_fits, mark_is, truths_pushed}
-use Rattle.idl_node.proofs.truth.eval_on.Goals as goal
+use Rattle.idl_node.proofs.Marking.{node_fits, mark_is, truths_pushed, front_pushed}
+use Rattle.idl_node.proofs.truth.mark_up_to.Goals as goal
 
 pub node_holds-value-requires : goal.node_holds-value-requires
 node_holds-value-requires c =
@@ -24,4 +24,4 @@ nodes-preserved c =
     c.node_holds-value.ensures
     ∙ mark_is c.as_slice-slice.result.now c.args.nodes.now c.as_slice-slice.ensures.nodes i c.index-slice-i.result within c.index-slice-i.is (IsOver (length c.args.values.now + 1)) c.requires.table c.deref.result.now room values
     (λ k b. ap (λ (ms : List Bool). get_or ms k false) c.deref.ensures.value ∙ c.nodes.invariant.marks.each k (omega arith)) in
-    record { marks = truths_pushed _ values marks _ _ fits c.nodes.invariant.marks (here ∙ ap (truth c.args.nodes.now values) (sym counted)) c.in_ok-push.ensures.items }
+    record { marks = truths_pushed _ values marks _ _ fits c.nodes.invariant.marks (here ∙ ap (truth c.args.nodes.now values) (sym counted)) c.in_ok-push.ensures.items; front = front_pushed _ _ _ _ c.nodes.invariant.front c.in_ok-push.ensures.items }
