@@ -13,7 +13,7 @@ use Rattle.idl_term.specs.Applied.{Made}
 use Rattle.idl_term.specs.Lowered.{lowered}
 use Rattle.idl_term.specs.Scopes.{Scope}
 use Rattle.idl_term.specs.declared.error.TermRefusal.{TermRefusal}
-use Rattle.idl_term.specs.Shapes.{Lowers}
+use Rattle.idl_term.specs.code.Shapes.{Lowers}
 use Rattle.idl_term.specs.declared.error.TermError.{TermError}
 use Rattle.idl_term.specs.declared.error.TermError.TheVariants.{OutOfMemory, Refused}
 use Rattle.smt_script.specs.Shapes.{Agrees, IsTested, error_of_term}
