@@ -5,8 +5,8 @@ use Rattle.idl_node.specs.Truth.{point_values}
 use Rattle.idl_term.proofs.Evaluating.{value_found}
 use Rattle.idl_term.proofs.evaluation.eval_int_on.Goals as goal
 
-pub returns-clause-value : goal.returns-clause-value
-returns-clause-value c =
+pub returns-in-Ok-clause-value : goal.returns-in-Ok-clause-value
+returns-in-Ok-clause-value c =
     let fits : FitsSigned w128 c.unwrap_or.result = search rules in
     rw (to_z-of_z w128 c.unwrap_or.result fits)
-    (value_found c.args.nodes.now (point_values c.args.values.now) c.args.cases.now c.in_ok-found.found c.unwrap_or.result c.in_ok-found.ensures.value c.unwrap_or.ensures)
+    (value_found c.args.nodes.now (point_values c.args.values.now) c.args.cases.now c.in-Ok.found c.unwrap_or.result c.in-Ok.ensures.value c.unwrap_or.ensures)
