@@ -5,6 +5,5 @@ pub mod Keeping
 pub mod Stepping
 pub mod MadeStates
 pub mod Exiting
-pub mod Ending
 pub mod Modes
 pub mod Testing

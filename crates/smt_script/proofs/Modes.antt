@@ -1,6 +1,7 @@
--- The mode, and what it stands for: a command leaves both as they are, or sets the mode to none.
+-- What a command leads to: it leaves the mode and what it stands for as they are, or sets the mode to none; what it may
+-- tell; and it ends the script where it is `(exit)`, and nowhere else.
 use Rattle.std.proofs.Common.{refl, sym, ap, subst, inl, inr, ◌∙◌, ◌≡◌, ◌≢◌, ◌+◌, ◌⊎◌, ℕ, List, length, Bool, true, false, Option, Some, None, Result, Ok, Err}
-use Rattle.std.specs.Prelude.{if◌then◌else◌, nat_le, nat_lt, codes}
+use Rattle.std.specs.Prelude.{◌↔◌, if◌then◌else◌, nat_le, nat_lt, codes}
 use Rattle.smt_sexpr.specs.Tree.{Sexpr, Items, none, more}
 use Rattle.smt_sexpr.specs.Shapes.{is_symbol}
 use Rattle.idl_node.specs.declared.sort.Sort.{Sort}
@@ -11,9 +12,9 @@ use Rattle.idl_term.specs.Lowered.{lowered}
 use Rattle.idl_term.specs.Scopes.{LoweredTerm, formula, numeric}
 use Rattle.idl_term.specs.declared.error.TermRefusal.{TermRefusal}
 use Rattle.smt_script.specs.Commands
-use Rattle.smt_script.specs.Commands.{Command, command_of, terms_in, is_asking, asked_terms, asks_verdict}
+use Rattle.smt_script.specs.Commands.{Command, command_of, is_exiting, is_exit, terms_in, is_asking, asked_terms, asks_verdict}
 use Rattle.smt_script.specs.Informing.{information_of}
-use Rattle.smt_script.specs.Laws.{ModeIsKept, ModelNeedsSat, ValuesNeedSat, ProofNeedsUnsat, AskedIsTold}
+use Rattle.smt_script.specs.Laws.{OnlyExitEnds, ExitIsCarriedOut, ModeIsKept, ModelNeedsSat, ValuesNeedSat, ProofNeedsUnsat, AskedIsTold}
 use Rattle.smt_script.specs.Limits.{levels_limit}
 use Rattle.smt_script.specs.Options.{OptionEffect, printing_success, no_effect, not_supported, ill_formed_value, option_effect}
 use Rattle.smt_script.specs.States.{State, Step, with_model, with_proof, telling, valued_by, informed_by, terms_refusal, after_option, is_taken, sort_of, after_declaration, is_of_sort, defined_by, after_definition, asserted_by, named_by, levels_of, after_by, after}
@@ -36,7 +37,8 @@ record MayTell (s : State) (command : Command) (notice : Notice) : Type 0 where
 
 abbrev MayAnswer : State → Command → Effect → Type 0
 MayAnswer s command (Tell notice) = MayTell s command notice
-MayAnswer s command effect = Unit {0}
+MayAnswer s command (Ask question) = Unit {0}
+MayAnswer s command Exit = is_exiting (Ok command) ≡ true
 
 -- what a step leads to
 record Keeps (s : State) (command : Command) (step : Step) : Type 0 where
@@ -160,7 +162,7 @@ command_keeps s (Commands.asking_information keyword) = informed_keeps s _ (info
 command_keeps s (Commands.echoing text) = keeps_told s _ Echo (echo_told s _ s)
 command_keeps s Commands.resetting_assertions = keeps_changed s _ _ refl
 command_keeps s Commands.resetting = keeps_changed s _ _ refl
-command_keeps s Commands.exiting = record { mode = inr (refl, refl); answer = tt }
+command_keeps s Commands.exiting = record { mode = inr (refl, refl); answer = refl }
 command_keeps s Commands.unsupported = keeps_told s _ Unsupported (unsupported_told s _ s)
 
 -- ---- by the s-expression
@@ -211,3 +213,26 @@ module _ (s : State) (x : Sexpr) (step : Step) (k : Kept s (command_of x) step) 
 
 pub asked_is_told : AskedIsTold
 asked_is_told s x step e free = told_not s x step (kept s x step e) free
+
+-- ---- the end
+
+exiting_is : (found : Result Command Refusal) → is_exiting found ≡ true → found ≡ Ok Commands.exiting
+exiting_is (Ok Commands.exiting) e = refl
+exiting_is _ e = absurd cc
+
+carried_out_by : (s : State) (found : Result Command Refusal) → is_exiting found ≡ true → after_by s found ≡ Ok (record { state = s; effect = Exit })
+carried_out_by s found e = ap (after_by s) (exiting_is found e)
+
+pub exit_is_carried_out : ExitIsCarriedOut
+unfolding after
+exit_is_carried_out s x e = carried_out_by s (command_of x) e
+
+same_step : (step other : Step) → ◌≡◌ {A = Result Step Refusal} (Ok step) (Ok other) → step ≡ other
+same_step step other e = cc
+
+pub only_exit_ends : OnlyExitEnds
+only_exit_ends s x step e =
+    let k = kept s x step e in (
+      λ f. (let ends : is_exiting (Ok k.command) ≡ true = subst (MayAnswer step.state k.command) f k.keeps.answer in ap is_exiting k.is ∙ ends),
+      λ f. ap (λ (q : Step). q.effect) (same_step step (record { state = s; effect = Exit }) (sym e ∙ exit_is_carried_out s x f)),
+    )
