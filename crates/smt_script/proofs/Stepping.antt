@@ -15,9 +15,9 @@ use Rattle.idl_term.specs.Scopes.{LoweredTerm, formula, numeric, Scope, is_known
 use Rattle.idl_term.specs.declared.error.TermRefusal.{TermRefusal}
 use Rattle.idl_term.specs.declared.error.TermRefusal.TheVariants.{WrongSort}
 use Rattle.smt_script.specs.Commands.{command_of}
-use Rattle.smt_script.specs.Kept.{Kept, StandsFor, IsKept, Steps, cut_to}
+use Rattle.smt_script.specs.code.Kept.{Kept, StandsFor, IsKept, Steps, cut_to}
 use Rattle.smt_script.specs.Limits.{levels_limit}
-use Rattle.smt_script.specs.Shapes.{Agrees, TermIs, signature_sort, only_of_sort, only_formula}
+use Rattle.smt_script.specs.code.Shapes.{Agrees, TermIs, signature_sort, only_of_sort, only_formula}
 use Rattle.smt_script.specs.States.{State, is_of_sort, is_taken, carried_out, after_declaration, defined_by, after_definition, asserted_by, named_by, after_push, popped, after_pop, after_by, after}
 use Rattle.smt_script.specs.declared.error.Refusal.{Refusal}
 use Rattle.smt_script.specs.declared.error.Refusal.TheVariants.{AlreadyDeclared, TooManyNames, TooManyLevels, PopBelowTheBottom, LeftOut, Term}
