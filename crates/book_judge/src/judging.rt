@@ -8,7 +8,7 @@ ghost use Rattle.book_core.specs.Shared.{lemmas_of, clauses_of};
 use crate::limits::lemma_over;
 use crate::outcomes::check_outcome;
 use book_core::Outcome;
-use cert_check::{CheckError, FlawKind, check_lemma};
+use cert_check::{CheckError, FlawKind, check_lemma, lemma_law};
 use refute_tree::{Batch, Lemma};
 use std::alloc::{AllocError, Global};
 use std::sync::Arc;
@@ -63,6 +63,7 @@ fn add_lemma(
     if !lemma_over(problem.points, lemma) {
         return Err(Fault::BoundOutOfRange);
     }
+    lemma_law();
     match check_lemma(alloc, problem, &known.as_slice(), lemma) {
         Ok(()) => {}
         Err(CheckError::Refused(flaw)) => return Err(Fault::NotRefuted(flaw.kind)),

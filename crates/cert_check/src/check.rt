@@ -1,11 +1,11 @@
 ghost use Rattle.std.specs.Prelude.{◌≡◌, map, OnOk, Some};
-ghost use Rattle.refute_tree.specs.Trees.{IsRefuted, IsRefutation, stated};
+ghost use Rattle.refute_tree.specs.Trees.{IsRefutation, stated};
 ghost use Rattle.cert_check.specs.Flaws.{ends_empty, refutation_flaw, TellsFlaw};
 ghost use Rattle.cert_check.specs.Walks.{flaw_of_tree, flaw_of};
 
 use crate::cases::are_on_points;
 use crate::flaw::{CheckError, Flaw, FlawKind};
-use crate::laws::{flaw_law, lemma_law};
+use crate::laws::flaw_law;
 use crate::walk::{Walk, WalkError};
 use refute_tree::{Earlier, Lemma, Refutation};
 use std::alloc::Global;
@@ -51,8 +51,8 @@ fn check_steps<E: Earlier>(
     Ok(())
 }
 
-/// Whether the lemma is refuted over the problem and the earlier lemmas, whose clauses alone count, or its first flaw.
-/// The lemma's number is the count of the earlier ones.
+/// Whether the lemma is refuted over the problem and the earlier lemmas, whose clauses alone count, or its first flaw: it
+/// has none exactly where it is (`lemma_law`). The lemma's number is the count of the earlier ones.
 ///
 /// Nothing is asked of the lemma: its literals may name any points and have any bounds. It takes time in proportion to
 /// the literals of its steps and of the clauses whose cases these read, and memory in the depth of the tree and the
@@ -63,11 +63,8 @@ pub fn check_lemma<E: Earlier>(
     earlier: &E,
     lemma: &Lemma,
 ) -> Result<(), CheckError>
-    ensures flaw { TellsFlaw (flaw_of problem.now (E.clauses earlier.now) lemma.now) result }
-    ensures refuted { OnOk result
-        (IsRefuted problem.now.points problem.now.clauses (E.clauses earlier.now) lemma.now) }
+    ensures { TellsFlaw (flaw_of problem.now (E.clauses earlier.now) lemma.now) result }
 {
-    lemma_law();
     if !are_on_points(problem.points, lemma.clause.as_slice()) {
         return flawed(earlier.count(), 0, FlawKind::NoSuchPoint);
     }

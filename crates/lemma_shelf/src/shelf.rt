@@ -74,7 +74,8 @@ impl Shelf {
         self.entries.len()
     }
 
-    /// Checks the items of the next entry against its problem, and puts the entry on the shelf where they refute it.
+    /// Checks the items of the next entry against its problem, and puts the entry on the shelf where they refute it: where
+    /// they are right (`flaw_law`).
     ///
     /// Nothing is asked of the items. It takes the time and memory of `cert_check::check_lemma` for each own lemma. Where
     /// lemmas are kept it goes over the problem's clauses once, and over the steps of each lemma that the kept ones rest
@@ -82,8 +83,6 @@ impl Shelf {
     pub fn check_entry(&mut self, problem: &Problem, items: &[Item]) -> Result<(), CheckError>
         ensures flaw { TellsFlaw
             (items_flaw self.old problem.now.points problem.now.clauses items.now) result }
-        ensures right { OnOk result
-            (AreRight self.old problem.now.points problem.now.clauses items.now) }
         ensures ok { OnOk result
             (self.new ≡ self.old ++ facts_of self.old problem.now.clauses items.now ∷ []) }
         ensures refutes { OnOk result

@@ -1,2 +1,3 @@
+pub mod Rotated
 pub mod Simple
 pub use Rattle.stn_core.specs.Cycle

@@ -7,5 +7,5 @@ mod cut;
 mod rotation;
 
 pub use cut::cut_walk;
-pub use rotation::rotate_to;
+pub use rotation::{rotate_to, rotation_law};
 pub use stn_core::is_cycle;

@@ -1,14 +1,20 @@
 //! Work for the incremental network, to be timed from outside (bench/network): 60,000 points and 400,000 random literals
-//! that a hidden schedule satisfies, and with a word 1,000,000 adds and retracts in the manner of a search. What it prints
-//! is the same as what bench/network/network.cpp prints.
+//! that a hidden schedule satisfies, and with the word `search` 1,000,000 adds and retracts in the manner of a search. What it
+//! prints is the same as what bench/network/network.cpp prints. With the word `chain` it also adds 1,000,000 literals, each of
+//! which lowers one point: no time for a net that works from literal to literal, and too long for one that goes over all of
+//! its literals at each.
 #![tactic(auto)]
+
+mod chain;
 
 ghost use Rattle.std.specs.Prelude.{◌≡◌, ◌<◌, ◌≤◌, length};
 ghost use Rattle.stn_core.specs.Literal.{IsOver};
 
+use chain::{CHAIN_POINTS, add_chain, lowered};
 use inc_paths::Network;
+use std::alloc::{AllocError, Global};
 use std::{env, io};
-use stn_core::{Added, Literal, Mark, Net};
+use stn_core::{Added, Literal, Mark, Net, Value};
 
 const POINTS: u32 = 60_000;
 
@@ -52,7 +58,7 @@ fn go_back(net: &mut Network, base: usize, state: &mut u64)
 }
 
 // A million adds and retracts in the manner of a search: how many adds were refused.
-fn search(net: &mut Network, hidden: &[u32], state: &mut u64) -> io::Result<u64>
+fn search(net: &mut Network, hidden: &[u32], state: &mut u64) -> Result<u64, AllocError>
     requires { net.old.points ≡ 60000 }
 {
     let base = net.mark().length;
@@ -73,12 +79,24 @@ fn search(net: &mut Network, hidden: &[u32], state: &mut u64) -> io::Result<u64>
     Ok(refused)
 }
 
-fn main(rt: HostRuntime) -> io::Result<()> {
-    let alloc = rt.alloc();
-    let mut words = 0u32;
-    for _w in env::args(&rt)? {
-        words = words.saturating_add(1);
+// What the random work comes to.
+#[derive(Clone, Copy)]
+struct Work {
+    adds: u64,
+    length: usize,
+    refused: u64,
+    sum: u128,
+}
+
+fn sum_of(values: &[Value]) -> u128 {
+    let mut sum = 0u128;
+    for value in values {
+        sum = sum.wrapping_mul(31).wrapping_add(value.unsigned_abs());
     }
+    sum & u128::from(u64::MAX)
+}
+
+fn random_work(alloc: Global, searches: bool) -> Result<Work, AllocError> {
     let mut state = 1u64;
     let mut hidden = Vec::new(alloc);
     for _i in 0..POINTS {
@@ -90,16 +108,50 @@ fn main(rt: HostRuntime) -> io::Result<()> {
         let _ = net.add(l)?;
     }
     let mut refused = 0;
-    if words > 1 {
+    if searches {
         refused = search(&mut net, &hidden, &mut state)?;
     }
-    let mut sum = 0u128;
-    for value in net.schedule() {
-        sum = sum.wrapping_mul(31).wrapping_add(value.unsigned_abs());
+    Ok(Work {
+        adds: net.adds(),
+        length: net.mark().length,
+        refused,
+        sum: sum_of(net.schedule()),
+    })
+}
+
+// How many literals of the chain a new net takes, and how many points it lowers to where they belong.
+fn chain_work(alloc: Global) -> Result<(u32, u32), AllocError> {
+    let mut net = Network::new(alloc, CHAIN_POINTS)?;
+    let taken = add_chain(&mut net)?;
+    Ok((taken, lowered(net.schedule())))
+}
+
+fn is_same(word: &str, wanted: &str) -> bool {
+    word == wanted
+}
+
+fn has_word(words: &[String], wanted: &str) -> bool {
+    for word in words {
+        if is_same(word, wanted) {
+            return true;
+        }
     }
-    let sum = sum & u128::from(u64::MAX);
-    let adds = net.adds();
-    let length = net.mark().length;
+    false
+}
+
+fn main(rt: HostRuntime) -> io::Result<()> {
+    let alloc = rt.alloc();
+    let words: Vec<String> = env::args(&rt)?.collect(alloc)?;
+    let Work {
+        adds,
+        length,
+        refused,
+        sum,
+    } = random_work(alloc, has_word(&words, "search"))?;
     println!(rt; "adds {adds} length {length} refused {refused} sum {sum}")?;
+    if has_word(&words, "chain") {
+        let (taken, lowered) = chain_work(alloc)?;
+        println!(rt; "chain taken {taken} lowered {lowered}")?;
+    }
     Ok(())
 }

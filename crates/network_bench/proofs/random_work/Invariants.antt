@@ -1,5 +1,5 @@
 use Rattle.std.proofs.Common.{◌≡◌}
-use Rattle.network_bench.proofs.main.Given as goal
+use Rattle.network_bench.proofs.random_work.Given as goal
 
 abbrev pub invariant-first : goal.invariant-first
 invariant-first l = l.net.points ≡ 60000
