@@ -1,0 +1,8 @@
+use Rattle.better_schedules.specs.Descents.{IsDescent, left_to_ask}
+use Rattle.best_bound.proofs.shared.descend.Given as goal
+
+abbrev pub decreases-questions : goal.decreases-questions
+decreases-questions g l = left_to_ask l.problem l.descent
+
+abbrev pub invariant-questions : goal.invariant-questions
+invariant-questions g l = IsDescent l.problem l.x l.y l.descent

@@ -1,0 +1,6 @@
+pub mod Widths
+pub mod Sets
+pub mod Lowering
+pub mod Keeping
+pub mod Asked
+pub mod Worked

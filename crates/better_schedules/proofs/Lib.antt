@@ -1,0 +1,6 @@
+pub mod Widths
+pub mod Near
+pub mod Sets
+pub mod Gaps
+pub mod Choosing
+pub mod Descending
