@@ -30,7 +30,7 @@ pub record Gives (added : List ℕ) (old new : Outside) : Type 0 where
 
 -- ---- one thread and many
 
--- such a run, of one of these lines, that had memory and no fault outside, and gave this text
+-- a run of the line on the script that had memory and no fault outside, so that it ended with 0 or 1, and gave this text
 pub record Answers (line : Line) (script text : List ℕ) (code : ℕ) : Type 0 where
   pub old : Outside
   pub new : Outside
