@@ -171,7 +171,16 @@ pub fn judge_script<K: Keeps>(
             }
             Next::Ended(_) => return Ok(surplus(entries, used)),
         };
-        match judge_command(alloc, &mut walk, id, &mut made, &mut earlier, entries, used, keeps)? {
+        match judge_command(
+            alloc,
+            &mut walk,
+            id,
+            &mut made,
+            &mut earlier,
+            entries,
+            used,
+            keeps,
+        )? {
             Progress::Going(now) => used = now,
             Progress::Judged(judgement) => return Ok(judgement),
         }

@@ -30,11 +30,7 @@ fn write_last_line<K: Sink>(alloc: Global, sink: &mut K) -> Result<(), SessionEr
 }
 
 // Nothing waits to be written before or behind it.
-fn write_each<K: Sink>(
-    alloc: Global,
-    entries: &[Entry],
-    sink: &mut K,
-) -> Result<(), SessionError>
+fn write_each<K: Sink>(alloc: Global, entries: &[Entry], sink: &mut K) -> Result<(), SessionError>
     ensures { Streams (entry_lines entries.now) [] [] (K.holds sink.old) (K.holds sink.new)
         (K.faults sink.old) (K.faults sink.new) result }
 {

@@ -126,8 +126,8 @@ opening_one Verdicts (Certificate w) = tt
 opening_one (Certificate v) q = tt
 
 -- the same line, and the same lines behind it
-line_more : (a b : Option (List ℕ)) (as bs : List (Option (List ℕ))) → a ≡ b → as ≡ bs → a ∷ as ≡ b ∷ bs
-line_more a b as bs e f = ap (λ (l : Option (List ℕ)). l ∷ as) e ∙ ap (λ (ls : List (Option (List ℕ))). b ∷ ls) f
+line_more : (a b : Option (List ℕ)) (these those : List (Option (List ℕ))) → a ≡ b → these ≡ those → a ∷ these ≡ b ∷ those
+line_more a b these those e f = ap (λ (l : Option (List ℕ)). l ∷ these) e ∙ ap (λ (ls : List (Option (List ℕ))). b ∷ ls) f
 
 -- ---- a command
 
@@ -392,8 +392,8 @@ same_line true c x y quiet e = absurd cc
 same_line false true x y quiet e = absurd cc
 same_line false false x y quiet e = cc
 
-first_line : (a b : Option (List ℕ)) (as bs : List (Option (List ℕ))) → a ∷ as ≡ b ∷ bs → (a ≡ b) × (as ≡ bs)
-first_line a b as bs e = (cc, cc)
+first_line : (a b : Option (List ℕ)) (these those : List (Option (List ℕ))) → a ∷ these ≡ b ∷ those → (a ≡ b) × (these ≡ those)
+first_line a b these those e = (let first : a ≡ b = cc in first, let rest : these ≡ those = cc in rest)
 
 text_of_lines : (ts us : List (Turn Entry)) → AllByRecursion HasLine ts → lines_with_gaps ts ≡ lines_with_gaps us → pieces Verdicts ts ≡ pieces Verdicts us
 text_of_lines [] [] quiet e = refl

@@ -19,7 +19,7 @@ use Rattle.dtp_convert.proofs.entry.shown_items.Goals as goal
 
 pub returns-in-Err-Refused-clause-shown : goal.returns-in-Err-Refused-clause-shown
 returns-in-Err-Refused-clause-shown c = λ s before stands held.
-    let e = c.in_ok-problem.ensures s stands in
+    let e = c.in_ok-problem.ensures.problem s stands in
     let problem = c.in_ok-problem.problem in
     let flaw = items_flaw (shelf_of before) problem.points problem.clauses c.as_slice.result.now in
     let told : flaw ≡ Some c.in-Err-Refused.flaw = subst (λ (error : CheckError). RefusesBy flaw error) c.in-Err-Refused.field-0-is (c.in-Err-Refused.ensures.flaw before held) in
@@ -28,7 +28,7 @@ returns-in-Err-Refused-clause-shown c = λ s before stands held.
 
 pub returns-clause-shown : goal.returns-clause-shown
 returns-clause-shown c = λ s before stands held.
-    let e = c.in_ok-problem.ensures s stands in
+    let e = c.in_ok-problem.ensures.problem s stands in
     let laws = c.context_law.ensures in
     let right = subst (λ (items : List Item). items_flaw (shelf_of before) c.in_ok-problem.problem.points c.in_ok-problem.problem.clauses items ≡ None) c.as_slice.ensures (c.in-Ok.ensures.right (search rules) before held) in
     let within = subst (λ (lemmas : List Lemma). All (LemmaWithin One (2 ^ 32)) lemmas) c.as_slice-2.ensures (c.are_within.ensures (search rules)) in (
