@@ -76,8 +76,8 @@ pub made_settled : (old new : Kept) (s : State) (v : Satisfiability) (made : Opt
 made_settled old new s v made at there h = λ apart. made_carried old new s (settled v s) at there (settled_context v s) made h
 
 -- nothing was made yet
-pub nothing_made : (kept : Kept) → IsMadeStill kept None
-nothing_made kept = λ apart. tt
+pub nothing_made : (kept : Kept) (made : Option Problem) → made ≡ None → IsMadeStill kept made
+nothing_made kept made none = λ apart. subst (IsMadeOf kept) (sym none) tt
 
 pub made_as : (old new : Kept) (made : Option Problem) → new ≡ old → IsMadeStill old made → IsMadeStill new made
 made_as old new made e h = subst (λ (k : Kept). IsMadeStill k made) (sym e) h

@@ -146,21 +146,21 @@ fn read_on(walk: &mut Walk) -> Result<Next, AllocError>
     Ok(next)
 }
 
-/// What the script comes to with these entries, each of which is kept where it is right. The script is read again, command by
-/// command.
-pub fn judge_script<K: Keeps>(
+/// What the script comes to with these entries, where no problem was made before.
+fn judge_each<K: Keeps>(
     alloc: Global,
     bytes: &[u8],
+    made: &mut Option<Problem>,
     entries: &[FileEntry],
     keeps: &mut K,
 ) -> Result<Judgement, AllocError>
+    requires { made.old ≡ None }
     ensures { IfOk result (λ judgement. (xs : List Sexpr) (end : End) (behind : ℕ)
         → ScriptPart bytes.now 0 xs end behind → IsReadable end
         → ComesTo K.leads [] keeps.old (turns_with entries.now xs) judgement keeps.new) }
 {
     smt_sexpr::one_outcome();
     let mut walk = Walk::new(alloc, bytes);
-    let mut made = None;
     let mut earlier = Earlier::new(alloc, entries);
     let mut used = 0usize;
     'script: loop {
@@ -175,7 +175,7 @@ pub fn judge_script<K: Keeps>(
             alloc,
             &mut walk,
             id,
-            &mut made,
+            made,
             &mut earlier,
             entries,
             used,
@@ -185,4 +185,21 @@ pub fn judge_script<K: Keeps>(
             Progress::Judged(judgement) => return Ok(judgement),
         }
     }
+}
+
+/// What the script comes to with these entries, each of which is kept where it is right. The script is read again, command by
+/// command.
+pub fn judge_script<K: Keeps>(
+    alloc: Global,
+    bytes: &[u8],
+    entries: &[FileEntry],
+    keeps: &mut K,
+) -> Result<Judgement, AllocError>
+    ensures { IfOk result (λ judgement. (xs : List Sexpr) (end : End) (behind : ℕ)
+        → ScriptPart bytes.now 0 xs end behind → IsReadable end
+        → ComesTo K.leads [] keeps.old (turns_with entries.now xs) judgement keeps.new) }
+{
+    let mut made = None;
+    let judgement = judge_each(alloc, bytes, &mut made, entries, keeps)?;
+    Ok(judgement)
 }

@@ -6,7 +6,7 @@ use Rattle.dtp_check.specs.Judged.{EndsPart}
 use Rattle.dtp_check.proofs.Making.{nothing_made, made_as, going_on}
 use Rattle.dtp_check.proofs.Walking.{command_read, end_read, command_goes_on}
 use Rattle.dtp_check.proofs.Reading.{judging_starts, stands_as, goes_to, judging_goes_on, judged_here, judged_over, judged_unread}
-use Rattle.dtp_check.proofs.judge.judge_script.Goals as goal
+use Rattle.dtp_check.proofs.judge.judge_each.Goals as goal
 
 pub script-init : goal.script-init
 script-init g c =
@@ -26,7 +26,7 @@ script-init g c =
       few = omega (arith, few, length_is);
       used = omega arith;
       suffices = c.new-earlier.ensures.suffices;
-      made = nothing_made w.state;
+      made = nothing_made w.state c.args.made.now c.requires;
       judging = judging_starts g.K.Keeps.leads c.args.bytes.now c.args.entries.now c.args.keeps.now w c.new-earlier.result c.new-earlier.ensures.holds start;
     }
 

@@ -2,7 +2,7 @@ use Rattle.std.proofs.Common.{◌≡◌, ◌≤◌, ◌<◌, ◌-◌, ◌+◌, �
 use Rattle.dtp_check.specs.Earlier.{Suffices}
 use Rattle.dtp_check.specs.Made.{IsMadeStill}
 use Rattle.dtp_check.proofs.Reading.{IsJudging}
-use Rattle.dtp_check.proofs.judge.judge_script.Given as goal
+use Rattle.dtp_check.proofs.judge.judge_each.Given as goal
 
 abbrev pub invariant-script : goal.invariant-script
 invariant-script g l = record {
