@@ -19,7 +19,7 @@ use Rattle.idl_scope.specs.Guarded.{plain}
 use Rattle.idl_scope.specs.Scopes.{LoweredTerm, formula, linear_term, Scope, found, declared_at}
 use Rattle.idl_term.specs.Applied.{Made, applied, as_number, a_formula}
 use Rattle.idl_term.specs.Comparing.{follows, or_too_large, compared, related_by, each_case_compared, each_compared, at_most, at_least}
-use Rattle.idl_term.specs.Walks.{application_made, let_made}
+use Rattle.idl_term.specs.code.Walks.{application_made, let_made}
 use Rattle.idl_term.specs.declared.error.TermRefusal.{TermRefusal}
 use Rattle.idl_term.specs.declared.error.TermRefusal.TheVariants.{WrongCount, BoundTooLarge}
 use Rattle.idl_term.specs.Lowered.{Head, operator, binder, refused, head_of, count_of, lowered, lowered_list, lowered_each, lowered_leaf, MadeEach, put_first}

@@ -5,7 +5,7 @@ use Rattle.idl_node.specs.declared.node.Node.{Node}
 use Rattle.stn_core.specs.Literal.{IsOver}
 use Rattle.idl_node.specs.Nodes.{NodeValue, node_value, shown}
 use Rattle.idl_node.specs.Tables.{IsTableOver}
-use Rattle.clause_form.specs.Marking.{AreMarks, AreNodeMarks, ArePolarityMarks}
+use Rattle.clause_form.specs.code.Marking.{AreMarks, AreNodeMarks, ArePolarityMarks}
 use Rattle.clause_form.specs.Polarity.{Polarity, is_among, node_at, spread, polarity_below, polarity_of, compounds, inner_of, inner_below, inner_nodes}
 use Rattle.clause_form.proofs.Among.{among_append}
 use Rattle.clause_form.proofs.Spreading.{IsSameAt, late_below}

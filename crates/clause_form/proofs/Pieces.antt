@@ -5,8 +5,8 @@ use Rattle.stn_core.specs.Literal.{negation_of}
 use Rattle.idl_node.specs.declared.node.Node.{Node}
 use Rattle.idl_node.specs.Nodes.{NodeValue, always, atom, denial, conjunction, disjunction, node_value}
 use Rattle.clause_form.specs.declared.form.Marks.{Marks}
-use Rattle.clause_form.specs.Marked.{marked_clauses}
-use Rattle.clause_form.specs.Marking.{signed_literal, denied_member}
+use Rattle.clause_form.specs.code.Marked.{marked_clauses}
+use Rattle.clause_form.specs.code.Marking.{signed_literal, denied_member}
 use Rattle.clause_form.specs.Polarity.{node_at}
 use Rattle.clause_form.specs.ClauseForm.{stands, fails, body_literal, node_literal, literal_of, asserted_clauses, denied_clauses, inner_clauses, fresh_point, when}
 

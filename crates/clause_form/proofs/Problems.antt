@@ -4,7 +4,7 @@ use Rattle.stn_core.specs.declared.literal.Literal.{Literal}
 use Rattle.stn_core.specs.Literal.{IsOver}
 use Rattle.idl_node.specs.declared.node.Node.{Node}
 use Rattle.idl_node.specs.Nodes.{NodeValue, shown}
-use Rattle.clause_form.specs.Marking.{AreMarks, IsNumbering}
+use Rattle.clause_form.specs.code.Marking.{AreMarks, IsNumbering}
 use Rattle.clause_form.specs.Polarity.{polarity_of, inner_nodes}
 use Rattle.clause_form.specs.ClauseForm.{fresh_point, clauses_below, clauses_of, points_of}
 use Rattle.clause_form.proofs.Passes.{shown_count, same_marks}

@@ -2,8 +2,6 @@ pub mod Polarity
 pub mod Sets
 pub mod ClauseForm
 pub mod Restricting
-pub mod Marking
-pub mod Marked
 pub mod Examples
 pub mod Laws
 pub use Rattle.stn_core.specs.Literal
@@ -12,3 +10,4 @@ pub use Rattle.idl_node.specs.Nodes
 pub use Rattle.idl_node.specs.Sorts
 pub use Rattle.idl_node.specs.Truth
 pub use Rattle.idl_node.specs.Tables
+pub mod code

@@ -2,7 +2,7 @@
 ghost use Rattle.std.specs.Prelude.{◌≡◌, ◌<◌, ℕ, List, [], length, IfOk, nat_eq};
 ghost use Rattle.idl_node.specs.Nodes.{NodeValue, node_value, shown};
 ghost use Rattle.idl_node.specs.Tables.{IsTableOver};
-ghost use Rattle.clause_form.specs.Marking.{AreMarks, AreNodeMarks, ArePolarityMarks, MarksMore};
+ghost use Rattle.clause_form.specs.code.Marking.{AreMarks, AreNodeMarks, ArePolarityMarks, MarksMore};
 ghost use Rattle.clause_form.specs.Polarity.{Polarity, is_among, spread, body_at, is_compound, node_at, compounds, inner_of};
 
 use idl_node::Node;

@@ -1,7 +1,7 @@
 //! The fresh points.
 ghost use Rattle.std.specs.Prelude.{◌≡◌, ◌+◌, ◌≤◌, ℕ, List, length, IfOk};
 ghost use Rattle.stn_core.specs.Limits.{points_limit};
-ghost use Rattle.clause_form.specs.Marking.{AreMarks, IsNumbering};
+ghost use Rattle.clause_form.specs.code.Marking.{AreMarks, IsNumbering};
 ghost use Rattle.clause_form.specs.ClauseForm.{fresh_point};
 
 use std::alloc::{AllocError, Global};

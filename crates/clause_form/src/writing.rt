@@ -1,8 +1,8 @@
 //! The clauses of a node, written behind others.
 ghost use Rattle.std.specs.Prelude.{◌≡◌, ◌<◌, ◌∷◌, ◌++◌, [], ℕ, List, length, map, IfOk, OnOk, slice_index, true};
 ghost use Rattle.idl_node.specs.Nodes.{NodeValue, node_value, shown};
-ghost use Rattle.clause_form.specs.Marked.{marked_clauses, table_of, ForNumbers, Appends};
-ghost use Rattle.clause_form.specs.Marking.{AreMarks, ArePolarityMarks, denied_member, literal_pair, signed_literal};
+ghost use Rattle.clause_form.specs.code.Marked.{marked_clauses, table_of, ForNumbers, Appends};
+ghost use Rattle.clause_form.specs.code.Marking.{AreMarks, ArePolarityMarks, denied_member, literal_pair, signed_literal};
 ghost use Rattle.clause_form.specs.Polarity.{Polarity, node_at};
 ghost use Rattle.clause_form.specs.ClauseForm.{stands, fails, body_literal, literal_of, asserted_clauses, denied_clauses, inner_clauses, clauses_below};
 

@@ -29,17 +29,17 @@ use Rattle.smt_script.specs.declared.state.Question.TheVariants.{CheckSat}
 use Rattle.smt_script.specs.declared.state.Notice.{Notice}
 use Rattle.smt_script.specs.declared.state.Satisfiability.{Satisfiability}
 use Rattle.smt_script.specs.Commands.{is_exit}
-use Rattle.smt_script.specs.Kept.{Kept}
+use Rattle.smt_script.specs.code.Kept.{Kept}
 use Rattle.smt_script.specs.States.{State, Step, after, settled}
 use Rattle.smt_answer.specs.declared.kind.Kind.{Kind}
 use Rattle.smt_answer.specs.Kinds.{kind_of}
 use Rattle.script_walk.specs.Questions.{refusal_of}
 use Rattle.script_walk.specs.Course.{Place, Turn, turn, ends, behind_told, behind_answer, course}
-use Rattle.script_walk.specs.Events.{Leads as Walked, Refuses}
+use Rattle.script_walk.specs.code.Events.{Leads as Walked, Refuses}
 use Rattle.script_walk.specs.declared.walk.Walk.{Walk}
 use Rattle.script_walk.proofs.Turns.{told_turn, answered_turn, unanswered_turn, exit_turn, refused_turn}
 use Rattle.kept_lemmas.specs.Entries.{Placed}
-use Rattle.script_walk.specs.Standing.{Stands}
+use Rattle.script_walk.specs.code.Standing.{Stands}
 use Rattle.smt_script.specs.Laws.{OnlyExitEnds}
 use Rattle.dtp_entry.proofs.Verdicts.{sorts_count, table_over}
 use Rattle.dtp_check.specs.declared.judge.Progress.{Progress}

@@ -12,11 +12,11 @@ use Rattle.smt_script.specs.declared.state.Effect.{Effect}
 use Rattle.smt_script.specs.declared.state.Mode.TheVariants as mode
 use Rattle.smt_script.specs.declared.state.Satisfiability.{Satisfiability}
 use Rattle.smt_script.specs.declared.state.Satisfiability.TheVariants as verdict
-use Rattle.smt_script.specs.Kept.{Kept, StandsFor}
+use Rattle.smt_script.specs.code.Kept.{Kept, StandsFor}
 use Rattle.smt_script.specs.Laws.{ModeIsKept}
 use Rattle.smt_script.specs.States.{State, settled}
-use Rattle.script_walk.specs.Events.{Leads}
-use Rattle.script_walk.specs.Standing.{Stands}
+use Rattle.script_walk.specs.code.Events.{Leads}
+use Rattle.script_walk.specs.code.Standing.{Stands}
 use Rattle.script_walk.specs.declared.walk.Walk.{Walk}
 use Rattle.dtp_entry.specs.Entries.{points_of, problem_of}
 use Rattle.dtp_check.specs.declared.judge.Progress.{Progress}

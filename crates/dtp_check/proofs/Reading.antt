@@ -13,11 +13,11 @@ use Rattle.cert_text.specs.Laws.{OneHeader}
 use Rattle.smt_answer.specs.declared.kind.Kind.{Kind}
 use Rattle.smt_answer.specs.Kinds.{kind_of_unreadable}
 use Rattle.smt_script.specs.Commands.{is_exit}
-use Rattle.smt_script.specs.Kept.{Kept}
+use Rattle.smt_script.specs.code.Kept.{Kept}
 use Rattle.script_walk.specs.Course.{Place, start_with, course}
-use Rattle.script_walk.specs.Events.{IsStart}
+use Rattle.script_walk.specs.code.Events.{IsStart}
 use Rattle.script_walk.specs.declared.walk.Walk.{Walk}
-use Rattle.script_walk.specs.Standing.{Stands}
+use Rattle.script_walk.specs.code.Standing.{Stands}
 use Rattle.dtp_check.specs.declared.script_part.PartEnd.{PartEnd}
 use Rattle.dtp_check.specs.declared.script_part.PartEnd.TheVariants as part
 use Rattle.dtp_check.specs.declared.judge.Progress.{Progress}

@@ -4,7 +4,7 @@ use Rattle.smt_sexpr.specs.Tree.{Sexpr}
 use Rattle.smt_sexpr.specs.Table.{Table, Means}
 use Rattle.smt_sexpr.specs.Reading.{Spells}
 use Rattle.smt_answer.specs.declared.kind.Kind.{Kind}
-use Rattle.script_walk.specs.Events as events
+use Rattle.script_walk.specs.code.Events as events
 use Rattle.script_walk.specs.declared.reader.Next.{Next as Read}
 use Rattle.script_walk.specs.declared.reader.Next.TheVariants as read
 use Rattle.dtp_check.specs.declared.script_part.PartEnd.{PartEnd}

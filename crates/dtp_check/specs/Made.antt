@@ -3,9 +3,9 @@
 use Rattle.std.specs.Prelude.{◌≡◌, ◌≢◌, Option, IfSome}
 use Rattle.stn_core.specs.declared.problem.Problem.{Problem}
 use Rattle.smt_script.specs.declared.state.Mode.TheVariants as mode
-use Rattle.smt_script.specs.Kept.{Kept}
+use Rattle.smt_script.specs.code.Kept.{Kept}
 use Rattle.smt_script.specs.States.{State}
-use Rattle.script_walk.specs.Standing.{Stands}
+use Rattle.script_walk.specs.code.Standing.{Stands}
 use Rattle.dtp_entry.specs.Entries.{points_of, problem_of}
 use Rattle.dtp_check.specs.declared.judge.Progress.{Progress}
 use Rattle.dtp_check.specs.declared.judge.Progress.TheVariants.{Going, Judged}

@@ -8,10 +8,10 @@ use Rattle.cert_text.specs.declared.entry.FileEntry.{FileEntry}
 use Rattle.idl_term.specs.Contexts.{Context}
 use Rattle.kept_lemmas.specs.Entries.{Placed}
 use Rattle.smt_script.specs.Commands.{is_exit}
-use Rattle.smt_script.specs.Kept.{Kept}
+use Rattle.smt_script.specs.code.Kept.{Kept}
 use Rattle.smt_script.specs.States.{State, settled}
 use Rattle.script_walk.specs.Course.{Place, Turn, Outcome, tells, answers, asks, ends, fails, course}
-use Rattle.script_walk.specs.Standing.{Stands}
+use Rattle.script_walk.specs.code.Standing.{Stands}
 use Rattle.dtp_check.specs.declared.judge.Progress.{Progress}
 use Rattle.dtp_check.specs.declared.judge.Progress.TheVariants.{Going, Judged}
 use Rattle.dtp_check.specs.declared.judgement.EntryFlaw.{EntryFlaw}

@@ -6,7 +6,7 @@ ghost use Rattle.cert_text.specs.declared.entry.FileEntry.{FileEntry as Shown};
 ghost use Rattle.idl_node.specs.Tables.{IsTableOver};
 ghost use Rattle.idl_node.specs.Truth.{point_values, truth};
 ghost use Rattle.smt_script.specs.States.{State as Meaning};
-ghost use Rattle.script_walk.specs.Standing.{Stands};
+ghost use Rattle.script_walk.specs.code.Standing.{Stands};
 ghost use Rattle.dtp_check.specs.Earlier.{Holds, Suffices};
 ghost use Rattle.dtp_check.specs.Judged.{is_of_sort, first_of_wrong_sort, values_flaw, entry_flaw, placed};
 ghost use Rattle.dtp_check.specs.Made.{IsMadeOf};

@@ -6,7 +6,7 @@ ghost use Rattle.cert_text.specs.declared.entry.FileEntry.{FileEntry as Shown};
 ghost use Rattle.smt_script.specs.States.{State as Meaning};
 ghost use Rattle.kept_lemmas.specs.Entries.{Placed};
 ghost use Rattle.script_walk.specs.Course.{Place};
-ghost use Rattle.script_walk.specs.Standing.{Stands};
+ghost use Rattle.script_walk.specs.code.Standing.{Stands};
 ghost use Rattle.dtp_check.specs.Earlier.{Holds, Suffices};
 ghost use Rattle.dtp_check.specs.declared.script_part.PartEnd.{PartEnd as End};
 ghost use Rattle.dtp_check.specs.Judged.{surplus_of, turns_with, told_by, ScriptPart};

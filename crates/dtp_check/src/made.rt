@@ -1,7 +1,7 @@
 //! The problem of a script's assertions, which is made once as long as nothing is changed.
 ghost use Rattle.std.specs.Prelude.{◌≡◌, IfOk, None};
 ghost use Rattle.smt_script.specs.States.{State as Meaning};
-ghost use Rattle.script_walk.specs.Standing.{Stands};
+ghost use Rattle.script_walk.specs.code.Standing.{Stands};
 ghost use Rattle.dtp_check.specs.Made.{IsProblemOf, IsMadeOf, IsMadeStill};
 
 use dtp_entry::problem;

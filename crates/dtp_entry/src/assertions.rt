@@ -2,7 +2,7 @@
 ghost use Rattle.std.specs.Prelude.{◌≡◌, IfOk};
 ghost use Rattle.smt_script.specs.States.{State as Meaning};
 ghost use Rattle.dtp_entry.specs.Entries.{points_of, problem_of};
-ghost use Rattle.script_walk.specs.Standing.{Stands};
+ghost use Rattle.script_walk.specs.code.Standing.{Stands};
 
 use clause_form::problem_of;
 use smt_script::State;

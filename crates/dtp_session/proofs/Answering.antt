@@ -13,13 +13,13 @@ use Rattle.smt_script.specs.declared.state.Mode.{Mode}
 use Rattle.smt_script.specs.declared.state.Mode.TheVariants as mode
 use Rattle.smt_script.specs.declared.state.Notice.{Notice}
 use Rattle.smt_script.specs.declared.state.Notice.TheVariants as notice
-use Rattle.smt_script.specs.Kept.{Kept}
+use Rattle.smt_script.specs.code.Kept.{Kept}
 use Rattle.smt_script.specs.Laws.{ModeIsKept, ModelNeedsSat, ValuesNeedSat, ProofNeedsUnsat}
 use Rattle.smt_script.specs.declared.state.Satisfiability.{Satisfiability}
 use Rattle.smt_script.specs.declared.state.Satisfiability.TheVariants as verdict
 use Rattle.smt_script.specs.States.{State, Step, settled}
-use Rattle.script_walk.specs.Events.{Leads, IsReady as IsWalkReady}
-use Rattle.script_walk.specs.Standing.{Stands}
+use Rattle.script_walk.specs.code.Events.{Leads, IsReady as IsWalkReady}
+use Rattle.script_walk.specs.code.Standing.{Stands}
 use Rattle.script_walk.specs.declared.walk.Walk.{Walk}
 use Rattle.dtp_entry.specs.declared.report.Report.{Report}
 use Rattle.dtp_entry.specs.declared.report.Report.TheVariants.{Verdicts}

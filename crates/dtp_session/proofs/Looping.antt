@@ -7,7 +7,7 @@ use Rattle.cert_text.specs.declared.entry.Entry.{Entry}
 use Rattle.smt_answer.specs.declared.kind.Kind.{Kind}
 use Rattle.smt_script.specs.States.{State, start_state}
 use Rattle.script_walk.specs.Course.{Place, Turn, start_with, IsCourseOf}
-use Rattle.script_walk.specs.Events.{IsReady as IsWalkReady}
+use Rattle.script_walk.specs.code.Events.{IsReady as IsWalkReady}
 use Rattle.script_walk.proofs.Turns.{stopped_from}
 use Rattle.dtp_entry.specs.declared.report.Report.{Report}
 use Rattle.dtp_entry.specs.Entries.{verdict_of}

@@ -17,11 +17,11 @@ use Rattle.idl_term.specs.Scopes.{Scope, Declaration}
 use Rattle.idl_term.specs.Values.{Value, value}
 use Rattle.idl_term.specs.declared.error.TermRefusal.{TermRefusal}
 use Rattle.idl_term.proofs.Evaluating.{values_count}
-use Rattle.smt_answer.specs.Answers.{AreAnswers}
+use Rattle.smt_answer.specs.code.Answers.{AreAnswers}
 use Rattle.smt_answer.specs.Texts.{information_line, model_lines, values_line}
-use Rattle.smt_script.specs.Kept.{Kept}
+use Rattle.smt_script.specs.code.Kept.{Kept}
 use Rattle.smt_script.specs.States.{State, first_refusal, terms_refusal}
-use Rattle.smt_script.specs.TermValues.{value_shown}
+use Rattle.smt_script.specs.code.TermValues.{value_shown}
 use Rattle.smt_script.specs.declared.information.Information.{Information}
 use Rattle.smt_script.specs.declared.state.Mode.{Mode}
 use Rattle.smt_script.specs.declared.state.Mode.TheVariants as mode
@@ -29,7 +29,7 @@ use Rattle.smt_script.specs.declared.state.Notice.{Notice}
 use Rattle.smt_script.specs.declared.state.Notice.TheVariants as notice
 use Rattle.smt_script.specs.declared.value.TermValue.{TermValue}
 use Rattle.smt_script.proofs.Levels.{levels_count}
-use Rattle.script_walk.specs.Standing.{Stands}
+use Rattle.script_walk.specs.code.Standing.{Stands}
 use Rattle.dtp_entry.specs.Transcripts.{Held, told, told_model, told_values}
 use Rattle.dtp_entry.specs.declared.report.Report.TheVariants.{Verdicts}
 use Rattle.dtp_entry.proofs.Verdicts.{sorts_count}

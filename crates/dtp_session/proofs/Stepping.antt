@@ -8,7 +8,7 @@ use Rattle.smt_script.specs.declared.state.Notice.{Notice}
 use Rattle.smt_script.specs.declared.state.Question.{Question}
 use Rattle.smt_script.specs.Laws.{ModeIsKept, ModelNeedsSat, ValuesNeedSat, ProofNeedsUnsat}
 use Rattle.smt_script.specs.States.{State, settled}
-use Rattle.script_walk.specs.Events.{IsEvent, GoesOn, IsReady as IsWalkReady}
+use Rattle.script_walk.specs.code.Events.{IsEvent, GoesOn, IsReady as IsWalkReady}
 use Rattle.script_walk.specs.declared.walk.Event.{Event}
 use Rattle.script_walk.specs.declared.walk.Event.TheVariants.{Told as ToldOf, Asked, Ended, Failed}
 use Rattle.script_walk.specs.declared.walk.Walk.{Walk}

@@ -10,7 +10,7 @@ use Rattle.smt_script.specs.declared.state.Notice.{Notice}
 use Rattle.smt_script.specs.declared.state.Question.{Question}
 use Rattle.smt_script.specs.States.{State, settled}
 use Rattle.script_walk.specs.Course.{Place, Turn, tells, answers, ends, fails, turn, IsCourseOf, status_of, answers_of}
-use Rattle.script_walk.specs.Events.{IsEvent}
+use Rattle.script_walk.specs.code.Events.{IsEvent}
 use Rattle.script_walk.specs.declared.walk.Event.TheVariants.{Told as ToldOf, Asked}
 use Rattle.script_walk.specs.declared.walk.Walk.{Walk}
 use Rattle.script_walk.proofs.Turns.{IsLast, stopped_from, told_from, answered_from}

@@ -22,10 +22,10 @@ use Rattle.smt_script.specs.declared.state.Satisfiability.{Satisfiability}
 use Rattle.smt_script.specs.declared.state.Satisfiability.TheVariants as verdict
 use Rattle.smt_script.specs.States.{State, start_state, terms_refusal, settled}
 use Rattle.script_walk.specs.Course.{Place, Turn, IsCourseOf, status_of, answers_of}
-use Rattle.script_walk.specs.Events.{IsStart as IsWalkStart, IsReady as IsWalkReady}
+use Rattle.script_walk.specs.code.Events.{IsStart as IsWalkStart, IsReady as IsWalkReady}
 use Rattle.dtp_entry.specs.Entries.{verdict_of}
 use Rattle.dtp_entry.specs.Reports.{version_of}
-use Rattle.script_walk.specs.Standing.{Stands}
+use Rattle.script_walk.specs.code.Standing.{Stands}
 use Rattle.dtp_entry.specs.Transcripts.{Held, opening, closing, decision_line, told, Decides, Output, pieces, IsLegal}
 use Rattle.dtp_entry.specs.Written.{IsFront}
 use Rattle.dtp_session.specs.declared.piece.Piece.{Piece}

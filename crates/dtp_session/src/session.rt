@@ -2,7 +2,7 @@
 ghost use Rattle.std.specs.Prelude.{◌≡◌, ◌≢◌, ◌≤◌, ◌<◌, IfOk, OnOk, OnErr, Err};
 ghost use Rattle.dtp_io.specs.Faults.{Rose};
 ghost use Rattle.smt_script.specs.States.{State as Meaning};
-ghost use Rattle.script_walk.specs.Events.{IsReady as IsWalkReady};
+ghost use Rattle.script_walk.specs.code.Events.{IsReady as IsWalkReady};
 ghost use Rattle.dtp_entry.specs.Reports.{version_of};
 ghost use Rattle.dtp_entry.specs.Transcripts.{IsReport, IsReportPart};
 ghost use Rattle.dtp_entry.specs.Written.{Writes};

@@ -8,7 +8,7 @@ use Rattle.std.specs.Ordering.{int_eq}
 use Rattle.idl_linear.specs.declared.summand.Summand.{Summand}
 use Rattle.idl_linear.specs.Linear.{put_before, with_summand, collected}
 use Rattle.idl_linear.specs.Forms.{AscendAbove}
-use Rattle.idl_linear.specs.Trees.{part_at, coefficient_at}
+use Rattle.idl_linear.specs.code.Trees.{part_at, coefficient_at}
 
 abbrev pub summand : ℕ → ℤ → Summand
 summand point coefficient = record { point = point; coefficient = coefficient }

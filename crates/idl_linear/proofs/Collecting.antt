@@ -4,7 +4,7 @@ use Rattle.std.proofs.lemmas.Int.{ints}
 use Rattle.idl_linear.specs.declared.summand.Summand.{Summand}
 use Rattle.idl_linear.specs.Linear.{put_before, with_summand, collected, negative_summand}
 use Rattle.idl_linear.specs.Forms.{AscendAbove}
-use Rattle.idl_linear.specs.Trees.{part_at, coefficient_at}
+use Rattle.idl_linear.specs.code.Trees.{part_at, coefficient_at}
 use Rattle.idl_linear.proofs.Coefficients.{summand, coefficient-put, coefficient-with, coefficient-collected, coefficient-append, ascend_weaker, same_by_coefficients, ascend-put, ascend-with, AllAbove, ascend-collected}
 
 -- insertions commute

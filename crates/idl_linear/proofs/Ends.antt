@@ -7,7 +7,7 @@ use Rattle.idl_linear.specs.declared.difference.Ends.{Ends as Met}
 use Rattle.idl_linear.specs.Linear.{put_before}
 use Rattle.idl_linear.specs.Forms.{AscendAbove}
 use Rattle.idl_linear.specs.Differences.{ends_of}
-use Rattle.idl_linear.specs.Steps.{ends_with, ends_through}
+use Rattle.idl_linear.specs.code.Steps.{ends_with, ends_through}
 
 -- what a coefficient is to a difference
 data Kind (c : ℤ) : Type 0 where

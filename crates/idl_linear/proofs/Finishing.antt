@@ -10,8 +10,8 @@ use Rattle.idl_linear.specs.declared.error.LinearError.TheVariants as error
 use Rattle.idl_linear.specs.Limits.{coefficient_limit, constant_limit}
 use Rattle.idl_linear.specs.Linear.{LinearValue, collected, negative_summand, negative_of, is_within, is_limited, are_limited}
 use Rattle.idl_linear.specs.Forms.{IsSummand, IsLinear, SumValue, IsSum, with_signed, term_of}
-use Rattle.idl_linear.specs.Steps.{IsRest, Refuses}
-use Rattle.idl_linear.specs.Trees.{coefficient_at, signed}
+use Rattle.idl_linear.specs.code.Steps.{IsRest, Refuses}
+use Rattle.idl_linear.specs.code.Trees.{coefficient_at, signed}
 use Rattle.idl_linear.proofs.Coefficients.{AllAbove, coefficient-append, coefficient-collected}
 use Rattle.idl_linear.proofs.Collecting.{all_above-append, all_above-ascending}
 use Rattle.idl_linear.proofs.Merging.{both_true, within_low, within_high}

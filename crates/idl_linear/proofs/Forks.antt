@@ -6,8 +6,8 @@ use Rattle.std.proofs.Math.Nat.{min-le_left, le-min}
 use Rattle.idl_linear.specs.declared.summand.Summand.{Summand}
 use Rattle.idl_linear.specs.Linear.{with_summand}
 use Rattle.idl_linear.specs.Forms.{AscendAbove}
-use Rattle.idl_linear.specs.Steps.{IsRest}
-use Rattle.idl_linear.specs.Trees.{coefficient_at, since, AllFrom, AllUpTo}
+use Rattle.idl_linear.specs.code.Steps.{IsRest}
+use Rattle.idl_linear.specs.code.Trees.{coefficient_at, since, AllFrom, AllUpTo}
 use Rattle.idl_linear.proofs.Parts.{ascend-front, ascend-back, all-front, all-back, rest-front, rest-back, up_to-weaker, from-weaker, right_piece, right_none, left_piece, both_piece, both_none, leaf_piece, leaf_none, with-front, with-back, coefficient-front, coefficient-back}
 use Rattle.idl_linear.proofs.Sorting.{points_with}
 

@@ -6,7 +6,7 @@ use Rattle.std.specs.List.{AllByRecursion, list_all}
 use Rattle.idl_linear.specs.declared.summand.Summand.{Summand}
 use Rattle.idl_linear.specs.Linear.{LinearValue, is_within, put_before, with_summand, negative_summand}
 use Rattle.idl_linear.specs.Forms.{AscendAbove, IsSummand, IsLinear}
-use Rattle.idl_linear.specs.Steps.{IsRest, less}
+use Rattle.idl_linear.specs.code.Steps.{IsRest, less}
 use Rattle.idl_linear.proofs.Coefficients.{summand, AllAbove, ascend_weaker, ascend-collected}
 use Rattle.idl_linear.proofs.Collecting.{with-before, with-same, collected-middle, all_above-append, all_above-negatives, all_above-ascending, all_above-weaker}
 

@@ -11,7 +11,7 @@ use Rattle.idl_linear.specs.Limits.{number_limit}
 use Rattle.idl_linear.specs.Linear.{LinearValue, put_before, collected, sum_of, negative_summand, is_within}
 use Rattle.idl_linear.specs.Forms.{IsLinear}
 use Rattle.idl_linear.specs.Differences.{ends_of, difference_by, difference_of}
-use Rattle.idl_linear.specs.Steps.{less, ends_with, ends_through}
+use Rattle.idl_linear.specs.code.Steps.{less, ends_with, ends_through}
 use Rattle.idl_linear.proofs.Collecting.{all_above-ascending}
 use Rattle.idl_linear.proofs.Merging.{less-above, within_low, within_high}
 use Rattle.idl_linear.proofs.Ends.{ends_from_start, ends_step}

@@ -10,8 +10,8 @@ use Rattle.std.specs.Ordering.{int_eq}
 use Rattle.idl_linear.specs.declared.summand.Summand.{Summand}
 use Rattle.idl_linear.specs.Linear.{put_before, with_summand}
 use Rattle.idl_linear.specs.Forms.{AscendAbove, IsSummand}
-use Rattle.idl_linear.specs.Steps.{IsRest}
-use Rattle.idl_linear.specs.Trees.{part_at, coefficient_at, since, AllFrom, AllUpTo}
+use Rattle.idl_linear.specs.code.Steps.{IsRest}
+use Rattle.idl_linear.specs.code.Trees.{part_at, coefficient_at, since, AllFrom, AllUpTo}
 use Rattle.std.specs.List.Sorted.{IsNonDecreasingBy}
 use Rattle.std.specs.Int.{w128}
 use Rattle.idl_linear.specs.Limits.{coefficient_limit}

@@ -12,9 +12,9 @@ use Rattle.idl_linear.specs.Linear.{put_before, with_summand, collected, negativ
 use Rattle.idl_linear.specs.Forms.{AscendAbove, IsSummand}
 use Rattle.idl_linear.specs.declared.error.LinearError.{LinearError}
 use Rattle.idl_linear.specs.declared.error.LinearError.TheVariants as error
-use Rattle.idl_linear.specs.Steps.{IsRest, RiseFrom, Refuses}
-use Rattle.idl_linear.specs.FirstRuns.{IsFirstRun, signed_run}
-use Rattle.idl_linear.specs.Trees.{part_at, coefficient_at, signed, AllFrom}
+use Rattle.idl_linear.specs.code.Steps.{IsRest, RiseFrom, Refuses}
+use Rattle.idl_linear.specs.code.FirstRuns.{IsFirstRun, signed_run}
+use Rattle.idl_linear.specs.code.Trees.{part_at, coefficient_at, signed, AllFrom}
 use Rattle.idl_linear.proofs.Coefficients.{summand, coefficient-put, coefficient-with, coefficient-collected, coefficient-append, coefficient-below, same_by_coefficients, ascend-with, ascend-collected, AllAbove}
 use Rattle.idl_linear.proofs.Collecting.{collected-same, collected-ascending, all_above-append, all_above-ascending}
 use Rattle.idl_linear.proofs.Merging.{both_true}

@@ -7,11 +7,11 @@ use Rattle.std.specs.Ordering.{int_eq}
 use Rattle.std.proofs.lemmas.Bool.Decides.{Decides-int_eq}
 use Rattle.idl_linear.specs.declared.summand.Summand.{Summand}
 use Rattle.idl_linear.specs.Limits.{coefficient_limit, points_limit}
-use Rattle.idl_linear.specs.FirstRuns.{IsSmallRun, IsFirstRun}
-use Rattle.idl_linear.specs.Trees.{AllFrom}
+use Rattle.idl_linear.specs.code.FirstRuns.{IsSmallRun, IsFirstRun}
+use Rattle.idl_linear.specs.code.Trees.{AllFrom}
 use Rattle.idl_linear.specs.Linear.{put_before, with_summand, collected, is_within}
 use Rattle.idl_linear.specs.Forms.{AscendAbove, IsSummand}
-use Rattle.idl_linear.specs.Steps.{RiseFrom}
+use Rattle.idl_linear.specs.code.Steps.{RiseFrom}
 use Rattle.idl_linear.proofs.Coefficients.{summand, AllAbove, ascend-collected}
 use Rattle.idl_linear.proofs.Collecting.{with-before, with-same, with-zero}
 use Rattle.idl_linear.proofs.Merging.{both_true, within_low, within_high}

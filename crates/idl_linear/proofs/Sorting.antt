@@ -12,8 +12,8 @@ use Rattle.idl_linear.specs.declared.summand.Summand.{Summand}
 use Rattle.idl_linear.specs.Limits.{points_limit}
 use Rattle.idl_linear.specs.Linear.{put_before, with_summand, collected, is_limited}
 use Rattle.idl_linear.specs.Forms.{IsSummand, IsLinear}
-use Rattle.idl_linear.specs.Steps.{RiseFrom}
-use Rattle.idl_linear.specs.Trees.{part_at, coefficient_at}
+use Rattle.idl_linear.specs.code.Steps.{RiseFrom}
+use Rattle.idl_linear.specs.code.Trees.{part_at, coefficient_at}
 use Rattle.idl_linear.proofs.Coefficients.{AllAbove, ascend-collected}
 use Rattle.idl_linear.proofs.Collecting.{collected-same}
 

@@ -5,8 +5,8 @@ use Rattle.std.proofs.lemmas.Int.{ints}
 use Rattle.idl_linear.specs.declared.summand.Summand.{Summand}
 use Rattle.idl_linear.specs.Limits.{points_limit}
 use Rattle.idl_linear.specs.Linear.{negative_summand}
-use Rattle.idl_linear.specs.Steps.{IsRest}
-use Rattle.idl_linear.specs.Trees.{since, signed, IsWalk}
+use Rattle.idl_linear.specs.code.Steps.{IsRest}
+use Rattle.idl_linear.specs.code.Trees.{since, signed, IsWalk}
 use Rattle.idl_linear.proofs.Coefficients.{summand}
 use Rattle.idl_linear.proofs.Merging.{rest_of}
 use Rattle.idl_linear.proofs.Parts.{since-all, from-weaker, from_ascending}

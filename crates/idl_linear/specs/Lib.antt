@@ -3,11 +3,6 @@ pub mod Linear
 pub mod Forms
 pub mod Differences
 pub mod Values
-pub mod Steps
 pub mod Examples
 pub mod Laws
-pub mod Held
-pub mod Trees
-pub mod TreeParts
-pub mod FirstRuns
-pub mod Branching
+pub mod code

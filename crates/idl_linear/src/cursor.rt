@@ -2,8 +2,8 @@
 ghost use Rattle.std.specs.Prelude.{◌≡◌, ◌∷◌, ◌++◌, ◌≤◌, [], drop, length, Option, MatchOption, IfSome};
 ghost use Rattle.idl_linear.specs.Limits.{points_limit};
 ghost use Rattle.idl_linear.specs.Forms.{AscendAbove};
-ghost use Rattle.idl_linear.specs.Steps.{IsRest};
-ghost use Rattle.idl_linear.specs.Trees.{since, signed, tree_list, AllUpTo};
+ghost use Rattle.idl_linear.specs.code.Steps.{IsRest};
+ghost use Rattle.idl_linear.specs.code.Trees.{since, signed, tree_list, AllUpTo};
 
 use crate::limits::NAMES_LIMIT;
 use crate::summand::Summand;
@@ -23,7 +23,7 @@ pub struct Cursor<'a> {
 impl<'a> Model for Cursor<'a> {
     ghost use Rattle.std.specs.Prelude.{List, ◌++◌};
     ghost use Rattle.idl_linear.specs.declared.summand.Summand.{Summand as OneSummand};
-    ghost use Rattle.idl_linear.specs.Trees.{since, signed, tree_list, IsWalk};
+    ghost use Rattle.idl_linear.specs.code.Trees.{since, signed, tree_list, IsWalk};
 
     ghost Value = { List OneSummand };
 

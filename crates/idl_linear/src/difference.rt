@@ -2,7 +2,7 @@
 ghost use Rattle.std.specs.Prelude.{◌≡◌, ◌<◌, IfOk, IfErr, Ok, Err};
 ghost use Rattle.idl_linear.specs.Limits.{points_limit};
 ghost use Rattle.idl_linear.specs.Differences.{difference_of};
-ghost use Rattle.idl_linear.specs.Steps.{ends_with};
+ghost use Rattle.idl_linear.specs.code.Steps.{ends_with};
 
 use crate::error::DifferenceRefusal;
 use crate::limits::NUMBER_LIMIT;

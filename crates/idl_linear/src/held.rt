@@ -1,8 +1,8 @@
 ghost use Rattle.std.specs.Prelude.{◌≡◌, IfOk};
-ghost use Rattle.idl_linear.specs.Held.{held_summands};
-ghost use Rattle.idl_linear.specs.Steps.{IsRest};
-ghost use Rattle.idl_linear.specs.Trees.{signed};
-ghost use Rattle.idl_linear.specs.Branching.{IsBranches};
+ghost use Rattle.idl_linear.specs.code.Held.{held_summands};
+ghost use Rattle.idl_linear.specs.code.Steps.{IsRest};
+ghost use Rattle.idl_linear.specs.code.Trees.{signed};
+ghost use Rattle.idl_linear.specs.code.Branching.{IsBranches};
 
 use crate::cursor::Cursor;
 use crate::summand::Summand;

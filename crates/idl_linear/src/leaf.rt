@@ -3,8 +3,8 @@ ghost use Rattle.std.specs.Prelude.{◌≡◌, ◌<◌, ◌≤◌, ◌≤ℤ◌,
 ghost use Rattle.idl_linear.specs.Limits.{coefficient_limit};
 ghost use Rattle.idl_linear.specs.Linear.{with_summand, put_before, is_within};
 ghost use Rattle.idl_linear.specs.Forms.{AscendAbove};
-ghost use Rattle.idl_linear.specs.Steps.{IsRest, Refuses};
-ghost use Rattle.idl_linear.specs.Trees.{coefficient_at, AllFrom, AllUpTo};
+ghost use Rattle.idl_linear.specs.code.Steps.{IsRest, Refuses};
+ghost use Rattle.idl_linear.specs.code.Trees.{coefficient_at, AllFrom, AllUpTo};
 
 use crate::error::LinearError;
 use crate::limits::COEFFICIENT_LIMIT;

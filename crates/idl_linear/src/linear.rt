@@ -2,9 +2,9 @@
 ghost use Rattle.std.specs.Prelude.{◌≡◌, ◌<◌, ◌≤◌, true, map, IfOk};
 ghost use Rattle.idl_linear.specs.Limits.{points_limit, constant_limit};
 ghost use Rattle.idl_linear.specs.Linear.{number_alone, point_alone, negative_summand, is_within};
-ghost use Rattle.idl_linear.specs.Held.{held_summands};
-ghost use Rattle.idl_linear.specs.Trees.{signed};
-ghost use Rattle.idl_linear.specs.Branching.{IsBranches};
+ghost use Rattle.idl_linear.specs.code.Held.{held_summands};
+ghost use Rattle.idl_linear.specs.code.Trees.{signed};
+ghost use Rattle.idl_linear.specs.code.Branching.{IsBranches};
 ghost use Rattle.idl_linear.specs.Forms.{IsLinear};
 
 use crate::cursor::Cursor;
@@ -24,9 +24,9 @@ pub struct Linear {
 impl Model for Linear {
     ghost use Rattle.idl_linear.specs.Linear.{LinearValue};
     ghost use Rattle.idl_linear.specs.Forms.{IsLinear};
-    ghost use Rattle.idl_linear.specs.Held.{held_summands};
-    ghost use Rattle.idl_linear.specs.Trees.{signed};
-    ghost use Rattle.idl_linear.specs.Branching.{IsBranches};
+    ghost use Rattle.idl_linear.specs.code.Held.{held_summands};
+    ghost use Rattle.idl_linear.specs.code.Trees.{signed};
+    ghost use Rattle.idl_linear.specs.code.Branching.{IsBranches};
 
     ghost Value = { LinearValue };
 

@@ -3,7 +3,7 @@ ghost use Rattle.std.specs.Prelude.{◌≡◌, ◌+◌, ◌<◌, ◌^◌, ◌++�
 ghost use Rattle.std.specs.List.{AllByRecursion};
 ghost use Rattle.idl_linear.specs.Linear.{is_limited, negative_of};
 ghost use Rattle.idl_linear.specs.Forms.{IsLinear, IsSummand, with_term, with_negative, with_terms, with_signed, term_of};
-ghost use Rattle.idl_linear.specs.Steps.{IsRest, Refuses};
+ghost use Rattle.idl_linear.specs.code.Steps.{IsRest, Refuses};
 
 use crate::cursor::Cursor;
 use crate::error::LinearError;

@@ -2,7 +2,7 @@
 ghost use Rattle.std.specs.Prelude.{◌≡◌, ◌+◌, ◌<◌, length, [], MatchOption, IfSome};
 ghost use Rattle.idl_linear.specs.Limits.{points_limit};
 ghost use Rattle.idl_linear.specs.Linear.{put_before};
-ghost use Rattle.idl_linear.specs.Steps.{IsRest, less};
+ghost use Rattle.idl_linear.specs.code.Steps.{IsRest, less};
 
 use crate::cursor::Cursor;
 use crate::summand::Summand;

@@ -4,9 +4,9 @@ ghost use Rattle.std.specs.List.{AllByRecursion};
 ghost use Rattle.idl_linear.specs.Linear.{collected, put_before, with_summand, is_within, are_limited};
 ghost use Rattle.idl_linear.specs.Forms.{IsSummand};
 ghost use Rattle.idl_linear.specs.Limits.{coefficient_limit};
-ghost use Rattle.idl_linear.specs.Steps.{IsRest, RiseFrom, Refuses};
-ghost use Rattle.idl_linear.specs.Trees.{coefficient_at, signed};
-ghost use Rattle.idl_linear.specs.FirstRuns.{IsFirstRun, IsSmallRun, signed_run};
+ghost use Rattle.idl_linear.specs.code.Steps.{IsRest, RiseFrom, Refuses};
+ghost use Rattle.idl_linear.specs.code.Trees.{coefficient_at, signed};
+ghost use Rattle.idl_linear.specs.code.FirstRuns.{IsFirstRun, IsSmallRun, signed_run};
 
 use crate::error::LinearError;
 use crate::limits::COEFFICIENT_LIMIT;

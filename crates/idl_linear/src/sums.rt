@@ -1,7 +1,7 @@
 //! Sums and differences of linear terms.
 ghost use Rattle.std.specs.Prelude.{◌≡◌, ◌+◌, ◌<◌, ◌^◌, ◌++◌, map, true, length, IfOk, IfErr};
 ghost use Rattle.idl_linear.specs.Linear.{sum_of, negative_of, is_limited};
-ghost use Rattle.idl_linear.specs.Steps.{Refuses};
+ghost use Rattle.idl_linear.specs.code.Steps.{Refuses};
 
 use crate::error::LinearError;
 use crate::linear::Linear;

@@ -4,8 +4,8 @@ ghost use Rattle.std.specs.List.{AllByRecursion};
 ghost use Rattle.idl_linear.specs.Limits.{coefficient_limit, points_limit};
 ghost use Rattle.idl_linear.specs.Linear.{with_summand, is_within};
 ghost use Rattle.idl_linear.specs.Forms.{AscendAbove};
-ghost use Rattle.idl_linear.specs.Steps.{IsRest, Refuses};
-ghost use Rattle.idl_linear.specs.Trees.{coefficient_at, since, AllFrom, AllUpTo};
+ghost use Rattle.idl_linear.specs.code.Steps.{IsRest, Refuses};
+ghost use Rattle.idl_linear.specs.code.Trees.{coefficient_at, since, AllFrom, AllUpTo};
 
 use crate::error::LinearError;
 use crate::leaf::{count_below, leaf_with};
@@ -43,11 +43,11 @@ pub(crate) enum Part {
 }
 
 impl Model for Tree {
-    ghost use Rattle.idl_linear.specs.Trees.{TreeValue};
+    ghost use Rattle.idl_linear.specs.code.Trees.{TreeValue};
 
     ghost Value = { TreeValue };
 
-    ghost use Rattle.idl_linear.specs.TreeParts.{tree_in, IsParted};
+    ghost use Rattle.idl_linear.specs.code.TreeParts.{tree_in, IsParted};
 
     ghost view = { λ t. tree_in t.part };
 

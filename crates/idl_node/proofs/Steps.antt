@@ -5,7 +5,7 @@ use Rattle.std.proofs.lemmas.List.{take-take, length-take, take_all}
 use Rattle.idl_node.specs.declared.error.NodeError.{NodeError}
 use Rattle.idl_node.specs.declared.error.NodeError.TheVariants.{Refused, OutOfMemory}
 use Rattle.idl_node.specs.declared.error.NodeRefusal.TheVariants.{TooLarge}
-use Rattle.idl_node.specs.Made.{Makes}
+use Rattle.idl_node.specs.code.Made.{Makes}
 use Rattle.idl_node.specs.Making.{then}
 use Rattle.idl_node.specs.Nodes.{NodeValue, Placed}
 

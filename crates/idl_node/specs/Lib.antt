@@ -1,7 +1,6 @@
 pub mod Limits
 pub mod Nodes
 pub mod Making
-pub mod Made
 pub mod Truth
 pub mod Tables
 pub mod Sorts
@@ -9,3 +8,4 @@ pub mod Meaning
 pub mod Examples
 pub mod Laws
 pub use Rattle.stn_core.specs.Literal
+pub mod code

@@ -3,7 +3,7 @@
 //! table is full on the way. After an error of a public call the table is as it was. The private ones that add several nodes
 //! leave some behind.
 ghost use Rattle.std.specs.Prelude.{◌≡◌, ◌∷◌, [], length, take, OnErr, if◌then◌else◌};
-ghost use Rattle.idl_node.specs.Made.{Makes};
+ghost use Rattle.idl_node.specs.code.Made.{Makes};
 ghost use Rattle.idl_node.specs.Making.{denied, conjoined, disjoined, equal, different, chosen, exclusive, implied, all_equal, all_different, constant, falsehood, not_or, or_not, and_not, not_and};
 ghost use Rattle.idl_node.specs.Nodes.{placed, conjunction, disjunction};
 

@@ -1,7 +1,7 @@
 //! The node table.
 ghost use Rattle.std.specs.Prelude.{◌≡◌, ◌≤◌, [], ◌<◌, length, take, OnOk, OnErr};
 ghost use Rattle.idl_node.specs.Limits.{nodes_limit};
-ghost use Rattle.idl_node.specs.Made.{Makes};
+ghost use Rattle.idl_node.specs.code.Made.{Makes};
 ghost use Rattle.idl_node.specs.Nodes.{node_value, placed, shown};
 
 use crate::error::{NodeError, NodeRefusal};

@@ -2,7 +2,7 @@
 use Rattle.std.proofs.Common.{refl, ap, sym, ◌∙◌, ◌≡◌, ℕ, List, [], ◌∷◌, ◌++◌, map, length, take, append-nil, append_assoc}
 use Rattle.std.proofs.lemmas.List.{map-append, take_at}
 use Rattle.idl_linear.specs.Linear.{LinearValue}
-use Rattle.idl_scope.specs.CaseShapes.{behind}
+use Rattle.idl_scope.specs.code.CaseShapes.{behind}
 use Rattle.idl_scope.specs.Guarded.{CaseValue, plain, guarded, branched}
 
 abbrev case_of : List ℕ → LinearValue → CaseValue

@@ -5,7 +5,7 @@ use Rattle.std.specs.Str.{bytes_eq}
 use Rattle.std.proofs.lemmas.List.{length-reverse, reverse-append, reverse-reverse}
 use Rattle.std.proofs.lemmas.Slice.Eq.{bytes_eq-Decides}
 use Rattle.indexmap.specs.IndexMap.{IndexMap, get}
-use Rattle.idl_scope.specs.LocalNames.{binding_in, bindings_in, place_in, AreHidden, same_name, KeepsNames}
+use Rattle.idl_scope.specs.code.LocalNames.{binding_in, bindings_in, place_in, AreHidden, same_name, KeepsNames}
 use Rattle.idl_scope.specs.Scopes.{Binding, Declaration, stands_for, found_bound, shown_term}
 use Rattle.idl_scope.specs.declared.locals.Variable.{Variable}
 

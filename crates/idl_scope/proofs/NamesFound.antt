@@ -5,7 +5,7 @@ use Rattle.std.specs.List.{position}
 use Rattle.std.specs.Str.{bytes_eq}
 use Rattle.std.proofs.lemmas.List.Quantifiers.{position-Some}
 use Rattle.idl_node.specs.declared.sort.Sort.{Sort}
-use Rattle.idl_scope.specs.Kept.{declarations_of, definitions_of, Adds, Declares}
+use Rattle.idl_scope.specs.code.Kept.{declarations_of, definitions_of, Adds, Declares}
 use Rattle.idl_scope.specs.Scopes.{LoweredTerm, Declaration, Scope, Found, declared_at, stands_for, unknown, found_declared, found_bound, found, is_known, is_found, shown_term}
 use Rattle.idl_scope.specs.declared.lowered.Lowered.{Lowered}
 use Rattle.idl_scope.proofs.NamesKept.{texts, is_among}

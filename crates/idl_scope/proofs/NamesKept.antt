@@ -4,7 +4,7 @@ use Rattle.std.specs.List.{list_any}
 use Rattle.std.specs.Str.{bytes_eq}
 use Rattle.indexmap.specs.IndexSet.{insert_key}
 use Rattle.idl_node.specs.declared.sort.Sort.{Sort}
-use Rattle.idl_scope.specs.Kept.{declarations_of, definitions_of, names_of}
+use Rattle.idl_scope.specs.code.Kept.{declarations_of, definitions_of, names_of}
 use Rattle.idl_scope.specs.Scopes.{Declaration, Binding, sorts_of, shown_term}
 use Rattle.idl_scope.specs.declared.lowered.Lowered.{Lowered}
 

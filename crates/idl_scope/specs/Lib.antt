@@ -1,9 +1,5 @@
 pub mod Limits
 pub mod Guarded
-pub mod CaseTrees
-pub mod CaseShapes
 pub mod Scopes
-pub mod Kept
-pub mod Keys
-pub mod LocalNames
 pub use Rattle.idl_linear.specs.Linear
+pub mod code

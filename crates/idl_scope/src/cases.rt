@@ -39,7 +39,7 @@ impl Model for Cases {
 
     ghost Value = { List CaseValue };
 
-    ghost use Rattle.idl_scope.specs.CaseTrees.{cases_in, IsCounted};
+    ghost use Rattle.idl_scope.specs.code.CaseTrees.{cases_in, IsCounted};
 
     ghost view = { λ c. cases_in c.tree };
 

@@ -4,7 +4,7 @@ ghost use Rattle.std.specs.Cmp.{on_equiv, on_per, partial_equiv_from_equiv};
 ghost use Rattle.std.specs.Cmp.Lexicographic.{nat_list_eq_equiv};
 ghost use Rattle.std.specs.Str.{bytes_eq};
 ghost use denote.Ref.{Bor};
-ghost use Rattle.idl_scope.specs.Keys.{equal_feed, fed_by, padded};
+ghost use Rattle.idl_scope.specs.code.Keys.{equal_feed, fed_by, padded};
 
 use std::hash::{Hash, Hasher};
 use std::marker::Model;
@@ -23,7 +23,7 @@ pub(crate) struct Key<'a> {
 impl<'a> Model for Key<'a> {
     ghost use Rattle.std.specs.Prelude.{◌≡◌, List, ℕ};
     ghost use denote.Ref.{Bor};
-    ghost use Rattle.idl_scope.specs.Keys.{padded};
+    ghost use Rattle.idl_scope.specs.code.Keys.{padded};
 
     ghost Value = { Bor (List ℕ) };
 

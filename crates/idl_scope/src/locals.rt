@@ -2,8 +2,8 @@
 ghost use Rattle.std.specs.Prelude.{◌≡◌, ◌<◌, ◌≤◌, ◌∷◌, [], length, OnOk, OnErr};
 ghost use Rattle.idl_scope.specs.Limits.{names_limit};
 ghost use Rattle.idl_scope.specs.Scopes.{found, shown_term};
-ghost use Rattle.idl_scope.specs.Kept.{FoundIs, IsNearPlace};
-ghost use Rattle.idl_scope.specs.LocalNames.{scope_in, without};
+ghost use Rattle.idl_scope.specs.code.Kept.{FoundIs, IsNearPlace};
+ghost use Rattle.idl_scope.specs.code.LocalNames.{scope_in, without};
 
 use crate::lowered::Lowered;
 use crate::scope::{FoundName, Scope};
@@ -30,7 +30,7 @@ pub struct Locals<'s, 'a> {
 }
 
 impl<'s, 'a> Model for Locals<'s, 'a> {
-    ghost use Rattle.idl_scope.specs.LocalNames.{Inner, bindings_in, KeepsNames};
+    ghost use Rattle.idl_scope.specs.code.LocalNames.{Inner, bindings_in, KeepsNames};
 
     ghost Value = { Inner };
 

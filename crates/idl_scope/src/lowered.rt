@@ -1,6 +1,6 @@
 //! What terms are made into.
 ghost use Rattle.std.specs.Prelude.{◌≡◌, IfOk};
-ghost use Rattle.idl_scope.specs.Kept.{sort_of};
+ghost use Rattle.idl_scope.specs.code.Kept.{sort_of};
 ghost use Rattle.idl_scope.specs.Scopes.{linear_term, shown_term};
 
 use crate::cases::Cases;

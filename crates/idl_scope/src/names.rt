@@ -3,7 +3,7 @@ ghost use Rattle.std.specs.Prelude.{◌≡◌, ◌≤◌, ◌<◌, ℕ, List, []
 ghost use Rattle.std.specs.List.{list_any, position};
 ghost use Rattle.std.specs.Str.{bytes_eq};
 ghost use denote.Ref.{Bor};
-ghost use Rattle.idl_scope.specs.Kept.{Adds, found_place, names_of};
+ghost use Rattle.idl_scope.specs.code.Kept.{Adds, found_place, names_of};
 ghost use Rattle.idl_scope.specs.Scopes.{found_declared, sorts_of};
 
 use crate::key::Key;
@@ -23,7 +23,7 @@ pub struct Names<'a> {
 impl<'a> Model for Names<'a> {
     ghost use Rattle.std.specs.Prelude.{◌≡◌, List, length, map};
     ghost use Rattle.idl_scope.specs.Scopes.{Declaration};
-    ghost use Rattle.idl_scope.specs.Kept.{declarations_of};
+    ghost use Rattle.idl_scope.specs.code.Kept.{declarations_of};
 
     ghost Value = { List Declaration };
 

@@ -3,7 +3,7 @@ ghost use Rattle.std.specs.Prelude.{◌≡◌, ◌<◌, ◌≤◌, ◌++◌, ◌
 ghost use Rattle.std.specs.List.{list_any, position};
 ghost use Rattle.std.specs.Str.{bytes_eq};
 ghost use denote.Ref.{Bor};
-ghost use Rattle.idl_scope.specs.Kept.{Declares, IsPlaceBelow, FoundIs};
+ghost use Rattle.idl_scope.specs.code.Kept.{Declares, IsPlaceBelow, FoundIs};
 ghost use Rattle.idl_scope.specs.Scopes.{Scope as Meaning, found, is_known, shown_term};
 
 use crate::lowered::Lowered;
@@ -35,7 +35,7 @@ pub struct Scope<'a> {
 impl<'a> Model for Scope<'a> {
     ghost use Rattle.std.specs.Prelude.{◌≡◌, length, map};
     ghost use Rattle.idl_scope.specs.Scopes.{Scope as Meaning};
-    ghost use Rattle.idl_scope.specs.Kept.{definitions_of};
+    ghost use Rattle.idl_scope.specs.code.Kept.{definitions_of};
 
     ghost Value = { Meaning };
 

@@ -1,5 +1,5 @@
 //! What the cases of an Int term are made of.
-ghost use Rattle.idl_scope.specs.CaseShapes.{IsShape};
+ghost use Rattle.idl_scope.specs.code.CaseShapes.{IsShape};
 
 use crate::cases::{Cases, Tree};
 use idl_linear::Linear;

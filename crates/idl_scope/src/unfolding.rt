@@ -1,6 +1,6 @@
 //! The cases of an Int term one after the other.
 ghost use Rattle.std.specs.Prelude.{◌≡◌, ◌<◌, ◌++◌, [], IfOk, OnOk, length, map, slice_get, Some};
-ghost use Rattle.idl_scope.specs.CaseShapes.{behind};
+ghost use Rattle.idl_scope.specs.code.CaseShapes.{behind};
 
 use crate::cases::Cases;
 use crate::shape::Shape;

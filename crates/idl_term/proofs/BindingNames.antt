@@ -9,10 +9,10 @@ use Rattle.smt_lex.specs.declared.token.TokenKind.{TokenKind}
 use Rattle.smt_sexpr.specs.Table.{Table, Means, ItemsAre}
 use Rattle.smt_sexpr.specs.Tree.{Sexpr, Items, leaf, list, none, more}
 use Rattle.idl_term.specs.Lowered.{is_binding, are_bindings, variable_in, variables_in, are_different, is_let}
-use Rattle.idl_term.specs.Trees.{tree_of, trees_of, AreTrees}
+use Rattle.idl_term.specs.code.Trees.{tree_of, trees_of, AreTrees}
 use Rattle.idl_scope.proofs.NamesKept.{texts, is_among}
 use Rattle.idl_scope.proofs.LocalsKept.{bytes_sym}
-use Rattle.idl_term.specs.Heads.{AreParts}
+use Rattle.idl_term.specs.code.Heads.{AreParts}
 use Rattle.idl_term.proofs.HeadShapes.{variable_by}
 use Rattle.idl_term.proofs.TreesOfIds.{two_trees, tree_at, IsListOf, list_from}
 

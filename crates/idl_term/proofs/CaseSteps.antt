@@ -12,7 +12,7 @@ use Rattle.idl_scope.specs.Guarded.{CaseValue}
 use Rattle.idl_scope.specs.Limits.{cases_limit}
 use Rattle.idl_term.specs.Choices.{Choice, with_case, with_term, choices_from, count_from, are_few}
 use Rattle.idl_term.specs.Comparing.{follows, or_too_large, compared, case_compared, both_cases, case_pairs, each_case_compared}
-use Rattle.idl_term.specs.Shapes.{GoesOn, Places}
+use Rattle.idl_term.specs.code.Shapes.{GoesOn, Places}
 use Rattle.idl_term.specs.declared.comparing.Relation.{Relation}
 use Rattle.idl_term.specs.declared.error.TermError.{TermError}
 use Rattle.idl_term.specs.declared.error.TermError.TheVariants.{OutOfMemory, Refused}

@@ -7,7 +7,7 @@ use Rattle.idl_linear.specs.Linear.{LinearValue, is_limited}
 use Rattle.idl_scope.specs.Guarded.{CaseValue, plain_linear, unguarded, plain, guarded, branched}
 use Rattle.idl_scope.specs.Limits.{cases_limit}
 use Rattle.idl_term.specs.Applied.{are_limited, linear_sum, sum_case}
-use Rattle.idl_term.specs.Applying.{GoesPast, Sums, SumsCases}
+use Rattle.idl_term.specs.code.Applying.{GoesPast, Sums, SumsCases}
 use Rattle.idl_term.specs.Choices.{Choice, with_case, with_term, choices_from, count_from, are_few, only_choice, with_each}
 use Rattle.idl_term.specs.declared.error.TermError.{TermError}
 use Rattle.idl_term.specs.declared.error.TermError.TheVariants.{OutOfMemory, Refused}

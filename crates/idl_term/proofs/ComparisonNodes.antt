@@ -10,12 +10,12 @@ use Rattle.idl_linear.specs.Differences.{difference_by, difference_of, ends_of}
 use Rattle.idl_linear.specs.Limits.{number_limit}
 use Rattle.idl_linear.specs.Linear.{LinearValue, is_within, sum_of, negative_of}
 use Rattle.idl_node.specs.declared.error.NodeError.{NodeError}
-use Rattle.idl_node.specs.Made.{Makes}
+use Rattle.idl_node.specs.code.Made.{Makes}
 use Rattle.idl_node.specs.Making.{then, neighbours}
 use Rattle.idl_node.specs.Nodes.{NodeValue, atom, conjunction, disjunction, Placed, placed}
 use Rattle.idl_term.specs.declared.comparing.Relation.{Relation}
 use Rattle.idl_term.specs.declared.comparing.Relation.TheVariants.{Equal, Distinct}
-use Rattle.idl_term.specs.Applying.{both_atoms, either_atom}
+use Rattle.idl_term.specs.code.Applying.{both_atoms, either_atom}
 use Rattle.idl_term.specs.Comparing.{at_most, below, at_least, above, related}
 
 -- ---- a difference's number

@@ -13,7 +13,7 @@ use Rattle.stn_core.specs.Limits.{named_value_limit}
 use Rattle.stn_core.specs.Named.{IsWithinLimit, AreWithinLimit}
 use Rattle.idl_node.specs.Truth.{point_value, point_values, truth, AreTruths}
 use Rattle.std.specs.Prelude.{is_some, unwrap_or}
-use Rattle.idl_term.specs.Evaluating.{product_limit, IsCaseOver, first_value}
+use Rattle.idl_term.specs.code.Evaluating.{product_limit, IsCaseOver, first_value}
 use Rattle.std.proofs.lemmas.Option.{slice_get_within}
 use Rattle.idl_node.specs.declared.sort.Sort.{Sort}
 use Rattle.idl_node.specs.declared.sort.Sort.TheVariants as sort

@@ -7,7 +7,7 @@ use Rattle.idl_term.specs.Applied.{Made}
 use Rattle.idl_term.specs.Comparing.{follows}
 use Rattle.idl_term.specs.Lowered.{MadeEach, put_first}
 use Rattle.idl_scope.specs.Scopes.{LoweredTerm}
-use Rattle.idl_term.specs.Walks.{gathered}
+use Rattle.idl_term.specs.code.Walks.{gathered}
 use Rattle.idl_term.specs.declared.error.TermRefusal.{TermRefusal}
 
 pub follows_same : {A B : Type 0} (a : Result A TermRefusal) (f g : A → Result B TermRefusal) → ((x : A) → f x ≡ g x) → follows a f ≡ follows a g

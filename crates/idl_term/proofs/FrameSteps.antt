@@ -9,10 +9,10 @@ use Rattle.idl_term.specs.Applied.{Made}
 use Rattle.idl_term.specs.Comparing.{follows}
 use Rattle.idl_term.specs.Lowered.{lowered, is_binding, are_bindings, variable_in}
 use Rattle.idl_scope.specs.Scopes.{LoweredTerm, Scope, Binding, bindings_of, shown_term, shown_terms}
-use Rattle.idl_term.specs.Shapes.{Lowers}
-use Rattle.idl_term.specs.Trees.{tree_of, trees_of, IsTree, AreTrees, size_of, sizes_of}
-use Rattle.idl_scope.specs.LocalNames.{Inner, without}
-use Rattle.idl_term.specs.Walks.{Walk, scope_at, ended, finished, outcome, outcome_from, outcome_of, AreFrames, IsReady, IsWaiting, weight, Goes, Steps, with_frame, bound_to}
+use Rattle.idl_term.specs.code.Shapes.{Lowers}
+use Rattle.idl_term.specs.code.Trees.{tree_of, trees_of, IsTree, AreTrees, size_of, sizes_of}
+use Rattle.idl_scope.specs.code.LocalNames.{Inner, without}
+use Rattle.idl_term.specs.code.Walks.{Walk, scope_at, ended, finished, outcome, outcome_from, outcome_of, AreFrames, IsReady, IsWaiting, weight, Goes, Steps, with_frame, bound_to}
 use Rattle.idl_term.specs.declared.error.TermError.{TermError}
 use Rattle.idl_term.specs.declared.error.TermError.TheVariants.{Refused, OutOfMemory}
 use Rattle.idl_term.specs.declared.error.TermRefusal.{TermRefusal}

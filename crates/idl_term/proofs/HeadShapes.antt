@@ -7,7 +7,7 @@ use Rattle.smt_sexpr.specs.Tree.{Sexpr, Items, leaf, list, none, more, symbol_of
 use Rattle.idl_term.specs.Lowered.{refused, head_of, head_by, symbol_head, list_head, is_binding, may_be_bound, variable_in, name_in}
 use Rattle.idl_term.specs.Operators.{is_reserved}
 use Rattle.idl_scope.specs.Scopes.{Scope}
-use Rattle.idl_term.specs.Trees.{tree_of, trees_of}
+use Rattle.idl_term.specs.code.Trees.{tree_of, trees_of}
 use Rattle.idl_term.specs.declared.error.TermRefusal.TheVariants.{IllFormedTerm}
 
 pub head_symbol : (scope : Scope) (x : Sexpr) (name : List ℕ) → Some name ≡ symbol_of x → head_of scope x ≡ symbol_head scope name

@@ -12,7 +12,7 @@ use Rattle.idl_term.specs.Applied.{as_formula}
 use Rattle.idl_term.specs.Lowered.{lowered_name, lowered_found, lowered_leaf, lowered_numeral}
 use Rattle.idl_term.specs.Operators.{is_reserved}
 use Rattle.idl_scope.specs.Scopes.{Scope, Found, declared_at, stands_for, unknown, found}
-use Rattle.idl_scope.specs.Kept.{FoundIs}
+use Rattle.idl_scope.specs.code.Kept.{FoundIs}
 use Rattle.idl_scope.specs.declared.scope.FoundName.TheVariants as name
 use Rattle.idl_term.specs.declared.error.TermRefusal.TheVariants.{IllFormedTerm}
 

@@ -7,8 +7,8 @@ use Rattle.smt_sexpr.specs.Tree.{Sexpr, Items, leaf, list, more}
 use Rattle.idl_node.specs.Nodes.{NodeValue}
 use Rattle.idl_term.specs.Lowered.{Head, operator, binder, refused, head_of, lowered, lowered_list, lowered_leaf}
 use Rattle.idl_scope.specs.Scopes.{Scope}
-use Rattle.idl_term.specs.Trees.{tree_of, trees_of, size_of, sizes_of}
-use Rattle.idl_term.specs.Walks.{Walk, scope_at, outcome_behind, outcome_from, weight, Steps, let_made, application_made}
+use Rattle.idl_term.specs.code.Trees.{tree_of, trees_of, size_of, sizes_of}
+use Rattle.idl_term.specs.code.Walks.{Walk, scope_at, outcome_behind, outcome_from, weight, Steps, let_made, application_made}
 use Rattle.idl_term.specs.Applied.{Made}
 use Rattle.idl_term.specs.declared.error.TermError.{TermError}
 use Rattle.idl_term.specs.declared.error.TermError.TheVariants.{Refused}

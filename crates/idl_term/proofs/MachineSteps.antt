@@ -9,10 +9,10 @@ use Rattle.idl_term.specs.Comparing.{follows}
 use Rattle.idl_term.specs.Lowered.{lowered, lowered_each}
 use Rattle.idl_term.specs.Operators.{takes_count}
 use Rattle.idl_scope.specs.Scopes.{LoweredTerm, shown_term, shown_terms}
-use Rattle.idl_term.specs.Shapes.{Lowers}
-use Rattle.idl_term.specs.Trees.{tree_of, trees_of, IsTree, AreTrees, sizes_of}
-use Rattle.idl_scope.specs.LocalNames.{Inner}
-use Rattle.idl_term.specs.Walks.{Walk, scope_at, gathered, finished, outcome, outcome_behind, outcome_from, outcome_of, AreFrames, IsReady, IsReadyWith, IsWaiting, weight, Goes, Steps, with_frame, application_made}
+use Rattle.idl_term.specs.code.Shapes.{Lowers}
+use Rattle.idl_term.specs.code.Trees.{tree_of, trees_of, IsTree, AreTrees, sizes_of}
+use Rattle.idl_scope.specs.code.LocalNames.{Inner}
+use Rattle.idl_term.specs.code.Walks.{Walk, scope_at, gathered, finished, outcome, outcome_behind, outcome_from, outcome_of, AreFrames, IsReady, IsReadyWith, IsWaiting, weight, Goes, Steps, with_frame, application_made}
 use Rattle.idl_term.specs.declared.error.TermError.{TermError}
 use Rattle.idl_term.specs.declared.error.TermError.TheVariants.{OutOfMemory, Refused}
 use Rattle.idl_term.specs.declared.error.TermRefusal.{TermRefusal}

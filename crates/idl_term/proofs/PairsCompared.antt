@@ -7,7 +7,7 @@ use Rattle.idl_node.specs.Making.{pairs}
 use Rattle.idl_node.specs.Nodes.{NodeValue, Placed}
 use Rattle.idl_term.specs.Comparing.{cases_compared, each_compared, follows}
 use Rattle.idl_term.specs.declared.comparing.Relation.{Relation}
-use Rattle.idl_term.specs.Shapes.{Places}
+use Rattle.idl_term.specs.code.Shapes.{Places}
 use Rattle.idl_term.specs.declared.error.TermError.{TermError}
 use Rattle.idl_term.specs.declared.error.TermError.TheVariants.{OutOfMemory, Refused}
 use Rattle.idl_term.specs.declared.error.TermRefusal.{TermRefusal}

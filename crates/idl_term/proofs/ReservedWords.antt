@@ -6,7 +6,7 @@ use Rattle.std.specs.Str.{bytes_eq}
 use Rattle.std.proofs.lemmas.Bool.Decides.{nat_tests}
 use Rattle.std.proofs.lemmas.Slice.Eq.{bytes_eq-Decides}
 use Rattle.idl_term.specs.Operators.{theory_symbols, reserved_words, is_reserved}
-use Rattle.idl_term.specs.Reserved.{of_length, words_of_length}
+use Rattle.idl_term.specs.code.Reserved.{of_length, words_of_length}
 
 -- equal texts are as long as one another
 equal_lengths : (name word : List ℕ) → bytes_eq name word ≡ true → (length word == length name) ≡ true

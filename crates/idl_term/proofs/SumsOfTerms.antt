@@ -4,8 +4,8 @@ use Rattle.std.proofs.lemmas.List.{append-nil}
 use Rattle.idl_linear.specs.declared.error.LinearError.{LinearError}
 use Rattle.idl_linear.specs.declared.error.LinearError.TheVariants as linear
 use Rattle.idl_linear.specs.Linear.{LinearValue, sum_of, negative_of, less_others, is_limited}
-use Rattle.idl_linear.specs.Steps.{Refuses}
-use Rattle.idl_term.specs.Applying.{Sums, of_linear}
+use Rattle.idl_linear.specs.code.Steps.{Refuses}
+use Rattle.idl_term.specs.code.Applying.{Sums, of_linear}
 use Rattle.idl_term.specs.declared.error.TermError.{TermError}
 use Rattle.idl_term.proofs.Arguments.{seen}
 

@@ -5,7 +5,7 @@ use Rattle.smt_lex.specs.declared.token.TokenKind.{TokenKind}
 use Rattle.smt_lex.specs.declared.token.Token.{Token}
 use Rattle.smt_sexpr.specs.Tree.{Sexpr, Items, leaf, list, none, more, leaf_text, leaf_of, IsLeaf}
 use Rattle.smt_sexpr.specs.Table.{Table, Means, MeansEach, HasMeaning, AreBelow, Shows, ItemsAre}
-use Rattle.idl_term.specs.Trees.{items_by, tree_within, tree_of, trees_of, IsTree, AreTrees}
+use Rattle.idl_term.specs.code.Trees.{items_by, tree_within, tree_of, trees_of, IsTree, AreTrees}
 use Rattle.idl_term.specs.Lowered.{count_of}
 
 shown : (bytes : List ℕ) (token : Token) (kind : TokenKind) (text : List ℕ) → Shows bytes token kind text → leaf token.kind (leaf_text token.kind (slice_range bytes token.start token.end)) ≡ leaf kind text

@@ -1,16 +1,9 @@
-pub mod Evaluating
 pub mod Operators
-pub mod Reserved
 pub mod Values
 pub mod Choices
 pub mod Comparing
 pub mod Applied
 pub mod Lowered
-pub mod Shapes
-pub mod Heads
-pub mod Trees
-pub mod Walks
-pub mod Applying
 pub mod Contexts
 pub mod Meanings
 pub mod Examples
@@ -18,7 +11,7 @@ pub mod Laws
 pub use Rattle.idl_scope.specs.Limits
 pub use Rattle.idl_scope.specs.Guarded
 pub use Rattle.idl_scope.specs.Scopes
-pub use Rattle.idl_scope.specs.Kept
+pub use Rattle.idl_scope.specs.code.Kept
 pub use Rattle.smt_sexpr.specs.Tree
 pub use Rattle.smt_sexpr.specs.Table
 pub use Rattle.stn_core.specs.Literal
@@ -27,3 +20,4 @@ pub use Rattle.idl_node.specs.Nodes
 pub use Rattle.idl_node.specs.Sorts
 pub use Rattle.idl_node.specs.Tables
 pub use Rattle.idl_node.specs.Truth
+pub mod code

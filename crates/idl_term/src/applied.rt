@@ -1,10 +1,10 @@
 //! What an operator makes of its arguments. After an error the table may be longer than before it: the caller cuts it.
 ghost use Rattle.std.specs.Prelude.{◌≡◌, List, Option, length, map, option_map, take, IfOk};
-ghost use Rattle.idl_node.specs.Made.{Makes};
+ghost use Rattle.idl_node.specs.code.Made.{Makes};
 ghost use Rattle.idl_node.specs.Nodes.{NodeValue, Placed};
 ghost use Rattle.idl_scope.specs.Scopes.{shown_terms};
 ghost use Rattle.idl_term.specs.Applied.{applied, as_formula, formulas_in, numbers_in, connected, equal_formulas, summed, related_numbers, relation_of_order, relation_of_equality, of_sort, of_first_sort, of_branches, branches_made};
-ghost use Rattle.idl_term.specs.Shapes.{Lowers};
+ghost use Rattle.idl_term.specs.code.Shapes.{Lowers};
 
 use crate::choices::sum_terms;
 use crate::comparing::{Relation, compare_all};

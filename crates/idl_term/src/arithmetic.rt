@@ -1,7 +1,7 @@
 //! Sums and differences of Int terms (SMT-LIB 2.6, theory Ints).
 ghost use Rattle.std.specs.Prelude.{map};
 ghost use Rattle.idl_linear.specs.Linear.{sum_of, less_others};
-ghost use Rattle.idl_term.specs.Applying.{Sums};
+ghost use Rattle.idl_term.specs.code.Applying.{Sums};
 
 use crate::error::TermError;
 use idl_linear::{Linear, sum_less};

@@ -1,8 +1,8 @@
 //! The shape of a `let`.
 ghost use Rattle.std.specs.Prelude.{◌≡◌, ◌&&◌, [], if◌then◌else◌, IfOk, Option, Some, None, option_map};
 ghost use Rattle.idl_term.specs.Lowered.{are_bindings, is_binding, variable_in, variables_in, are_different};
-ghost use Rattle.idl_term.specs.Heads.{LetIs};
-ghost use Rattle.idl_term.specs.Trees.{tree_of, trees_of, IsTree, AreTrees};
+ghost use Rattle.idl_term.specs.code.Heads.{LetIs};
+ghost use Rattle.idl_term.specs.code.Trees.{tree_of, trees_of, IsTree, AreTrees};
 
 use crate::reserved::is_reserved;
 use indexmap::IndexSet;

@@ -1,7 +1,7 @@
 //! Sums of Int terms with cases: one of each choice of a case of each term.
 ghost use Rattle.std.specs.Prelude.{◌≡◌, ◌≤◌, true, IfOk, OnOk, length, map, take, drop};
 ghost use Rattle.idl_term.specs.Applied.{linear_sum, sum_case};
-ghost use Rattle.idl_term.specs.Applying.{GoesPast, Sums, SumsCases, SumsTerms};
+ghost use Rattle.idl_term.specs.code.Applying.{GoesPast, Sums, SumsCases, SumsTerms};
 ghost use Rattle.idl_term.specs.Choices.{choices_from, count_from, are_few, only_choice, with_each};
 
 use crate::arithmetic::{add, subtract};

@@ -1,11 +1,11 @@
 //! The nodes of comparisons of Int terms. After an error the table may be longer than before it: the caller cuts it.
 ghost use Rattle.std.specs.Prelude.{◌≡◌, ◌≤ℤ◌, pos, neg_ℤ, [], length, take, map};
 ghost use Rattle.idl_linear.specs.Limits.{number_limit};
-ghost use Rattle.idl_node.specs.Made.{Makes};
+ghost use Rattle.idl_node.specs.code.Made.{Makes};
 ghost use Rattle.idl_term.specs.Comparing.{at_most, below, at_least, above, related, compared, all_compared, each_compared, or_too_large};
 ghost use Rattle.idl_node.specs.Making.{conjoined, disjoined, neighbours, pairs};
-ghost use Rattle.idl_term.specs.Applying.{both_atoms, either_atom};
-ghost use Rattle.idl_term.specs.Shapes.{Places};
+ghost use Rattle.idl_term.specs.code.Applying.{both_atoms, either_atom};
+ghost use Rattle.idl_term.specs.code.Shapes.{Places};
 
 use crate::error::TermError;
 use crate::pairing::compare_cases;

@@ -73,7 +73,7 @@ impl From<AllocError> for TermError {
 
 impl From<NodeError> for TermError {
     ghost use Rattle.std.specs.Prelude.{◌≡◌};
-    ghost use Rattle.idl_term.specs.Applying.{of_node};
+    ghost use Rattle.idl_term.specs.code.Applying.{of_node};
 
     ghost from_gives = { λ d e. e ≡ of_node d };
 
@@ -87,7 +87,7 @@ impl From<NodeError> for TermError {
 
 impl From<LinearError> for TermError {
     ghost use Rattle.std.specs.Prelude.{◌≡◌};
-    ghost use Rattle.idl_term.specs.Applying.{of_linear};
+    ghost use Rattle.idl_term.specs.code.Applying.{of_linear};
 
     ghost from_gives = { λ d e. e ≡ of_linear d };
 
@@ -101,7 +101,7 @@ impl From<LinearError> for TermError {
 
 impl From<DifferenceRefusal> for TermError {
     ghost use Rattle.std.specs.Prelude.{◌≡◌};
-    ghost use Rattle.idl_term.specs.Applying.{of_difference};
+    ghost use Rattle.idl_term.specs.code.Applying.{of_difference};
 
     ghost from_gives = { λ d e. e ≡ of_difference d };
 

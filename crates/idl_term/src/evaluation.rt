@@ -11,7 +11,7 @@ ghost use Rattle.idl_node.specs.Nodes.{NodeValue};
 ghost use Rattle.idl_node.specs.Tables.{IsTableOver};
 ghost use Rattle.idl_node.specs.Truth.{point_values, truth, AreTruths};
 ghost use Rattle.idl_scope.specs.Guarded.{guarded};
-ghost use Rattle.idl_term.specs.Evaluating.{product_limit, IsCaseOver, first_value};
+ghost use Rattle.idl_term.specs.code.Evaluating.{product_limit, IsCaseOver, first_value};
 ghost use Rattle.idl_term.specs.Meanings.{cases_value};
 
 use idl_linear::{Linear, Summand};

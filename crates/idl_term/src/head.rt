@@ -1,10 +1,10 @@
 //! What a list begins with.
 ghost use Rattle.std.specs.Prelude.{◌≡◌, ◌≤◌, length};
-ghost use Rattle.idl_term.specs.Heads.{head_meaning};
+ghost use Rattle.idl_term.specs.code.Heads.{head_meaning};
 ghost use Rattle.idl_scope.specs.Limits.{names_limit};
 ghost use Rattle.idl_term.specs.Lowered.{head_of, symbol_head, list_head, no_operator};
-ghost use Rattle.idl_term.specs.Trees.{tree_of, trees_of, IsTree, AreTrees};
-ghost use Rattle.idl_scope.specs.LocalNames.{scope_in};
+ghost use Rattle.idl_term.specs.code.Trees.{tree_of, trees_of, IsTree, AreTrees};
+ghost use Rattle.idl_scope.specs.code.LocalNames.{scope_in};
 
 use crate::error::{LeftOutTerm, TermRefusal};
 use crate::operator::Operator;

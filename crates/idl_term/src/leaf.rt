@@ -11,8 +11,8 @@ ghost use Rattle.idl_term.specs.Operators.{is_reserved};
 ghost use Rattle.idl_scope.specs.Scopes.{Scope as Meaning, Found, found};
 ghost use Rattle.idl_term.specs.declared.error.TermError.TheVariants.{Refused};
 ghost use Rattle.idl_term.specs.declared.error.TermRefusal.TheVariants.{LeftOut};
-ghost use Rattle.idl_scope.specs.Kept.{FoundIs, IsNearPlace};
-ghost use Rattle.idl_term.specs.Shapes.{Lowers};
+ghost use Rattle.idl_scope.specs.code.Kept.{FoundIs, IsNearPlace};
+ghost use Rattle.idl_term.specs.code.Shapes.{Lowers};
 
 use crate::applied::as_formula;
 use crate::error::{LeftOutTerm, TermError, TermRefusal};

@@ -4,7 +4,7 @@ ghost use Rattle.smt_sexpr.specs.Table.{Means, HasMeaning};
 ghost use Rattle.smt_sexpr.specs.Tree.{Sexpr};
 ghost use Rattle.idl_scope.specs.Limits.{names_limit};
 ghost use Rattle.idl_term.specs.Lowered.{lowered};
-ghost use Rattle.idl_term.specs.Shapes.{Lowers};
+ghost use Rattle.idl_term.specs.code.Shapes.{Lowers};
 
 use crate::error::TermError;
 use crate::machine::Machine;

@@ -4,9 +4,9 @@ ghost use Rattle.smt_sexpr.specs.Tree.{more, none, IsLeaf};
 ghost use Rattle.idl_node.specs.Nodes.{NodeValue};
 ghost use Rattle.idl_scope.specs.Limits.{names_limit};
 ghost use Rattle.idl_term.specs.Lowered.{lowered, lowered_leaf, lowered_list, are_bindings, is_binding};
-ghost use Rattle.idl_term.specs.Shapes.{Lowers};
-ghost use Rattle.idl_term.specs.Trees.{tree_of, trees_of, IsTree, AreTrees, size_of, sizes_of};
-ghost use Rattle.idl_term.specs.Walks.{at_start, IsReady, IsReadyWith, IsWaiting, Steps, outcome, outcome_of, outcome_behind, outcome_from, scope_at, weight, with_frame, let_made, application_made, bound_to};
+ghost use Rattle.idl_term.specs.code.Shapes.{Lowers};
+ghost use Rattle.idl_term.specs.code.Trees.{tree_of, trees_of, IsTree, AreTrees, size_of, sizes_of};
+ghost use Rattle.idl_term.specs.code.Walks.{at_start, IsReady, IsReadyWith, IsWaiting, Steps, outcome, outcome_of, outcome_behind, outcome_from, scope_at, weight, with_frame, let_made, application_made, bound_to};
 ghost use Rattle.idl_term.specs.Operators.{takes_count};
 ghost use Rattle.idl_term.specs.declared.error.TermError.TheVariants.{Refused};
 ghost use Rattle.idl_term.specs.declared.error.TermRefusal.TheVariants.{IllFormedTerm};
@@ -63,7 +63,7 @@ pub(crate) struct Machine<'s, 'a> {
 
 impl<'s, 'a> Model for Machine<'s, 'a> {
     ghost use Rattle.std.specs.Prelude.{reverse};
-    ghost use Rattle.idl_term.specs.Walks.{Walk};
+    ghost use Rattle.idl_term.specs.code.Walks.{Walk};
     ghost use Rattle.idl_scope.specs.Scopes.{shown_terms};
 
     ghost Value = { Walk };

@@ -4,7 +4,7 @@ ghost use Rattle.std.specs.Prelude.{◌≡◌, ◌++◌, ℕ, List, [], length, 
 ghost use Rattle.idl_linear.specs.Linear.{LinearValue};
 ghost use Rattle.idl_scope.specs.Guarded.{CaseValue};
 ghost use Rattle.idl_term.specs.Comparing.{both_cases, case_compared, case_pairs, cases_compared, each_case_compared};
-ghost use Rattle.idl_term.specs.Shapes.{GoesOn, Places};
+ghost use Rattle.idl_term.specs.code.Shapes.{GoesOn, Places};
 ghost use Rattle.idl_term.specs.declared.comparing.Relation.{Relation as Relations};
 
 use crate::comparing::{Relation, compare_two, conjoin, disjoin};

@@ -3,7 +3,7 @@ ghost use Rattle.std.specs.Prelude.{◌≡◌};
 ghost use Rattle.std.specs.List.{list_any};
 ghost use Rattle.std.specs.Str.{bytes_eq};
 ghost use Rattle.idl_term.specs.Operators.{is_reserved};
-ghost use Rattle.idl_term.specs.Reserved.{words_of_length};
+ghost use Rattle.idl_term.specs.code.Reserved.{words_of_length};
 
 #[tactic(auto, unfolding(crate::specs::Operators::theory_symbols, crate::specs::Operators::reserved_words))]
 fn is_word_of_one(name: &[u8]) -> bool

@@ -6,14 +6,14 @@ use Rattle.smt_script.specs.declared.state.Satisfiability.{Satisfiability}
 use Rattle.smt_script.specs.States.{State, start_state}
 use Rattle.smt_answer.specs.declared.kind.Kind.{Kind}
 use Rattle.script_walk.specs.Course.{Place, start_with, Turn, tells, asks, ends, fails, turn, behind_told, IsCourseOf}
-use Rattle.script_walk.specs.Events.{IsStart, IsReady, IsEvent}
-use Rattle.script_walk.specs.Standing.{Stands}
+use Rattle.script_walk.specs.code.Events.{IsStart, IsReady, IsEvent}
+use Rattle.script_walk.specs.code.Standing.{Stands}
 use Rattle.script_walk.specs.declared.walk.Event.{Event}
 use Rattle.script_walk.specs.declared.walk.Event.TheVariants.{Told, Asked, Ended, Failed}
 use Rattle.script_walk.specs.declared.walk.Walk.{Walk}
 use Rattle.script_walk.proofs.Turns.{told_from, unanswered_from, ends_with, fails_with}
 use Rattle.script_counts.specs.Counting.{IsLast, last_state}
-use Rattle.script_counts.specs.Walking.{Leads}
+use Rattle.script_counts.specs.code.Walking.{Leads}
 
 abbrev says : Satisfiability → Satisfiability
 says verdict = verdict

@@ -1,8 +1,8 @@
 //! Counts a script's names and clauses. No question is answered for it.
 ghost use Rattle.std.specs.Prelude.{IfOk, OnOk};
-ghost use Rattle.script_walk.specs.Events.{IsStart};
+ghost use Rattle.script_walk.specs.code.Events.{IsStart};
 ghost use Rattle.script_counts.specs.Counting.{AreCounts};
-ghost use Rattle.script_counts.specs.Walking.{Leads};
+ghost use Rattle.script_counts.specs.code.Walking.{Leads};
 
 use dtp_entry::problem;
 use script_walk::{Event, Walk};

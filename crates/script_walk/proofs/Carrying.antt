@@ -8,13 +8,13 @@ use Rattle.smt_script.specs.declared.state.Notice.{Notice}
 use Rattle.smt_script.specs.declared.state.Question.{Question}
 use Rattle.smt_script.specs.declared.state.Question.TheVariants.{CheckSat}
 use Rattle.smt_script.specs.declared.error.Refusal.{Refusal}
-use Rattle.smt_script.specs.Kept.{Steps}
+use Rattle.smt_script.specs.code.Kept.{Steps}
 use Rattle.smt_script.specs.Laws.{StepMade}
 use Rattle.smt_script.specs.States.{State, IsMadeState, after}
 use Rattle.smt_answer.specs.declared.kind.Kind.{Kind}
 use Rattle.smt_answer.specs.Kinds.{kind_of}
 use Rattle.script_walk.specs.Questions.{refusal_of}
-use Rattle.script_walk.specs.Events.{IsNext, Leads, Carries, IsCommand, IsEnd}
+use Rattle.script_walk.specs.code.Events.{IsNext, Leads, Carries, IsCommand, IsEnd}
 use Rattle.script_walk.specs.declared.reader.Next.{Next}
 use Rattle.script_walk.specs.declared.reader.Next.TheVariants.{End}
 use Rattle.script_walk.specs.declared.walk.Event.TheVariants.{Told, Asked, Ended, Failed}

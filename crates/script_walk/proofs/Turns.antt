@@ -15,8 +15,8 @@ use Rattle.smt_answer.specs.declared.kind.Kind.{Kind}
 use Rattle.smt_answer.specs.Kinds.{kind_of, kind_of_unreadable}
 use Rattle.script_walk.specs.Questions.{refusal_of}
 use Rattle.script_walk.specs.Course.{Place, Turn, Outcome, tells, answers, asks, ends, fails, turn, behind_told, behind_answer, asked, taken, by_command, course, IsCourseOf}
-use Rattle.script_walk.specs.Standing.{Stands}
-use Rattle.script_walk.specs.Events.{IsEvent}
+use Rattle.script_walk.specs.code.Standing.{Stands}
+use Rattle.script_walk.specs.code.Events.{IsEvent}
 use Rattle.script_walk.specs.declared.walk.Event.TheVariants.{Ended, Failed}
 use Rattle.script_walk.specs.declared.walk.Walk.{Walk}
 

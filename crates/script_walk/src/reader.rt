@@ -1,6 +1,6 @@
 //! What stands next in a text of commands.
 ghost use Rattle.std.specs.Prelude.{◌≡◌, ◌<◌, ◌≤◌, length, IfOk, None};
-ghost use Rattle.script_walk.specs.Events.{IsNext, IsMore};
+ghost use Rattle.script_walk.specs.code.Events.{IsNext, IsMore};
 
 use smt_answer::{Kind, kind_of_unreadable};
 use smt_lex::Lexer;

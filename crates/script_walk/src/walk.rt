@@ -3,8 +3,8 @@ ghost use Rattle.std.specs.Prelude.{◌≡◌, ◌<◌, ◌-◌, ◌^◌, IfOk};
 ghost use Rattle.smt_sexpr.specs.Tree.{Sexpr};
 ghost use Rattle.smt_sexpr.specs.Table.{Means, HasMeaning};
 ghost use Rattle.smt_script.specs.States.{State as Meaning, start_state, settled};
-ghost use Rattle.script_walk.specs.Events.{IsStart, IsReady, Carries, IsEvent, GoesOn};
-ghost use Rattle.script_walk.specs.Standing.{Stands};
+ghost use Rattle.script_walk.specs.code.Events.{IsStart, IsReady, Carries, IsEvent, GoesOn};
+ghost use Rattle.script_walk.specs.code.Standing.{Stands};
 
 use crate::kind::kind_of;
 use crate::reader::{Next, read_next};

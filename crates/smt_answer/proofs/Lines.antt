@@ -7,7 +7,7 @@ use Rattle.stn_core.specs.declared.named.NamedValue.{NamedValue}
 use Rattle.stn_core.specs.declared.named.NamedValue.TheVariants as named
 use Rattle.idl_node.specs.declared.sort.Sort.{Sort}
 use Rattle.idl_node.specs.declared.sort.Sort.TheVariants as sort
-use Rattle.idl_scope.specs.Kept.{names_of}
+use Rattle.idl_scope.specs.code.Kept.{names_of}
 use Rattle.idl_scope.specs.Scopes.{Declaration, sorts_of}
 use Rattle.smt_answer.specs.Texts.{definition_line, definition_lines}
 

@@ -5,10 +5,10 @@ use Rattle.smt_sexpr.specs.Tree.{Sexpr, Items, none, more}
 use Rattle.smt_sexpr.specs.Table.{Table, Means, MeansEach, HasMeaning}
 use Rattle.smt_sexpr.proofs.Shapes.{next_of, none_of}
 use Rattle.idl_term.specs.Values.{Value}
-use Rattle.smt_script.specs.TermValues.{value_shown}
+use Rattle.smt_script.specs.code.TermValues.{value_shown}
 use Rattle.smt_script.specs.declared.value.TermValue.{TermValue}
 use Rattle.smt_script.specs.declared.value.TermValue.TheVariants as term
-use Rattle.smt_answer.specs.Answers.{AreAnswers}
+use Rattle.smt_answer.specs.code.Answers.{AreAnswers}
 use Rattle.smt_answer.specs.Texts.{pair_text, pairs_behind, values_line}
 
 abbrev pub no_answer : TermValue

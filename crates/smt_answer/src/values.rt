@@ -11,9 +11,9 @@ ghost use Rattle.idl_scope.specs.Scopes.{Declaration};
 ghost use Rattle.idl_term.specs.Contexts.{value_of_named};
 ghost use Rattle.idl_term.specs.Scopes.{sorts_of};
 ghost use Rattle.idl_term.specs.Values.{Value as Meaning};
-ghost use Rattle.smt_script.specs.TermValues.{value_shown};
+ghost use Rattle.smt_script.specs.code.TermValues.{value_shown};
 ghost use Rattle.smt_answer.specs.Texts.{number_text, truth_text, value_text, sort_text, signature_text, definition_line, definition_lines, model_lines, pair_text, pairs_behind, values_line};
-ghost use Rattle.smt_answer.specs.Answers.{AreAnswers};
+ghost use Rattle.smt_answer.specs.code.Answers.{AreAnswers};
 
 use bstr::ByteVec;
 use idl_term::{Names, Sort};

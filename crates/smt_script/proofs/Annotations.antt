@@ -6,7 +6,7 @@ use Rattle.smt_lex.specs.declared.token.TokenKind.TheVariants.{Keyword}
 use Rattle.smt_sexpr.specs.Tree.{Sexpr, Items, leaf, list, none, more, symbol_of, keyword_of}
 use Rattle.smt_sexpr.specs.Table.{Table, Means, MeansEach}
 use Rattle.smt_script.specs.Attributes.{Attribute, with_attribute, attributes_of, Named, unnamed, named, symbol_in, only_name, name_by, named_in}
-use Rattle.smt_script.specs.Shapes.{named_as, may_come, named_after, shown_name, left_after, AttributeIs, AttributesAre}
+use Rattle.smt_script.specs.code.Shapes.{named_as, may_come, named_after, shown_name, left_after, AttributeIs, AttributesAre}
 use Rattle.smt_script.specs.declared.attribute.Attributes.{Attributes}
 use Rattle.smt_script.specs.declared.attribute.Awaited.{Awaited}
 use Rattle.smt_script.specs.declared.attribute.Awaited.TheVariants as awaited

@@ -6,7 +6,7 @@ use Rattle.smt_sexpr.specs.Table.{Table, MeansEach}
 use Rattle.smt_sexpr.proofs.Shapes.{begun}
 use Rattle.smt_script.specs.Commands.{declaring, defining, with_name, function_command, definition_command, annotation_in, annotated, annotation_command, assertion_by, assertion_command, asserting, values_of, values_command, asking_values}
 use Rattle.smt_script.specs.Attributes.{Named, named_in}
-use Rattle.smt_script.specs.Shapes.{AnnotationIs, CountIs}
+use Rattle.smt_script.specs.code.Shapes.{AnnotationIs, CountIs}
 
 -- ---- numbers of levels
 

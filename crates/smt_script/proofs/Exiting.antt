@@ -2,7 +2,7 @@
 use Rattle.std.proofs.Common.{sym, ap, ◌≡◌, Result, Ok, Err}
 use Rattle.smt_sexpr.specs.Table.{Table}
 use Rattle.smt_script.specs.Commands.{Command, is_exiting}
-use Rattle.smt_script.specs.Shapes.{RequestIs, asks_exit}
+use Rattle.smt_script.specs.code.Shapes.{RequestIs, asks_exit}
 use Rattle.smt_script.specs.declared.command.Request.{Request}
 use Rattle.smt_script.specs.declared.command.Request.TheVariants.{SetLogic, SetOption, SetInfo, Declare, Define, Assert, AssertNamed, Push, Pop, CheckSat, Model, Values, Proof, Information, Echo, ResetAssertions, Reset, Exit, Unsupported}
 use Rattle.smt_script.specs.declared.error.Refusal.{Refusal}

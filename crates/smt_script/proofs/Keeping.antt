@@ -9,7 +9,7 @@ use Rattle.idl_term.specs.Applied.{Made}
 use Rattle.idl_term.specs.Contexts.{Context, Definition, binding_of, scope_of, with_declaration, with_definition, with_assertion}
 use Rattle.idl_term.specs.Limits.{names_limit}
 use Rattle.idl_term.specs.Scopes.{LoweredTerm, formula, Scope, Binding}
-use Rattle.smt_script.specs.Kept.{Kept, AreLevels, StandsFor, IsKept, amount_of, cut_to}
+use Rattle.smt_script.specs.code.Kept.{Kept, AreLevels, StandsFor, IsKept, amount_of, cut_to}
 use Rattle.smt_script.specs.States.{State, popped}
 use Rattle.smt_script.specs.declared.state.Level.{Level}
 use Rattle.smt_script.specs.declared.state.Mode.{Mode}

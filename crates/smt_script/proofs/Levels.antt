@@ -2,7 +2,7 @@
 use Rattle.std.proofs.Common.{refl, sym, ap, subst, arith, ◌∙◌, ◌≡◌, ◌≤◌, ◌++◌, ℕ, zero, suc, List, [], ◌∷◌, length, take, replicate, get_or, Some, slice_get}
 use Rattle.idl_term.specs.Contexts.{Context, scope_of}
 use Rattle.idl_term.specs.Scopes.{Scope, Declaration, Binding}
-use Rattle.smt_script.specs.Kept.{Kept, IsLevelOf, AreLevels, IsNoLess, Ascend, amount_of, cut_to}
+use Rattle.smt_script.specs.code.Kept.{Kept, IsLevelOf, AreLevels, IsNoLess, Ascend, amount_of, cut_to}
 use Rattle.smt_script.specs.declared.state.Level.{Level}
 
 -- ---- fronts of lists

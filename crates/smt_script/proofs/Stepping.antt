@@ -5,7 +5,7 @@ use Rattle.std.proofs.lemmas.Bool.Decides.{nat_tests}
 use Rattle.idl_node.specs.Nodes.{NodeValue}
 use Rattle.idl_node.specs.declared.sort.Sort.{Sort}
 use Rattle.smt_sexpr.specs.Tree.{Sexpr, Items, none, more}
-use Rattle.idl_scope.specs.Kept.{Declares}
+use Rattle.idl_scope.specs.code.Kept.{Declares}
 use Rattle.idl_term.specs.Applied.{Made}
 use Rattle.idl_term.specs.Contexts.{scope_of, with_declaration, with_definition, with_assertion}
 use Rattle.idl_term.specs.Limits.{names_limit}
@@ -15,9 +15,9 @@ use Rattle.idl_term.specs.Scopes.{LoweredTerm, formula, numeric, Scope, is_known
 use Rattle.idl_term.specs.declared.error.TermRefusal.{TermRefusal}
 use Rattle.idl_term.specs.declared.error.TermRefusal.TheVariants.{WrongSort}
 use Rattle.smt_script.specs.Commands.{command_of}
-use Rattle.smt_script.specs.Kept.{Kept, StandsFor, IsKept, Steps, cut_to}
+use Rattle.smt_script.specs.code.Kept.{Kept, StandsFor, IsKept, Steps, cut_to}
 use Rattle.smt_script.specs.Limits.{levels_limit}
-use Rattle.smt_script.specs.Shapes.{Agrees, TermIs, signature_sort, only_of_sort, only_formula}
+use Rattle.smt_script.specs.code.Shapes.{Agrees, TermIs, signature_sort, only_of_sort, only_formula}
 use Rattle.smt_script.specs.States.{State, is_of_sort, is_taken, carried_out, after_declaration, defined_by, after_definition, asserted_by, named_by, after_push, popped, after_pop, after_by, after}
 use Rattle.smt_script.specs.declared.error.Refusal.{Refusal}
 use Rattle.smt_script.specs.declared.error.Refusal.TheVariants.{AlreadyDeclared, TooManyNames, TooManyLevels, PopBelowTheBottom, LeftOut, Term}

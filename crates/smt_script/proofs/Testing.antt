@@ -13,10 +13,10 @@ use Rattle.idl_term.specs.Applied.{Made}
 use Rattle.idl_term.specs.Lowered.{lowered}
 use Rattle.idl_term.specs.Scopes.{Scope}
 use Rattle.idl_term.specs.declared.error.TermRefusal.{TermRefusal}
-use Rattle.idl_term.specs.Shapes.{Lowers}
+use Rattle.idl_term.specs.code.Shapes.{Lowers}
 use Rattle.idl_term.specs.declared.error.TermError.{TermError}
 use Rattle.idl_term.specs.declared.error.TermError.TheVariants.{OutOfMemory, Refused}
-use Rattle.smt_script.specs.Shapes.{Agrees, IsTested, error_of_term}
+use Rattle.smt_script.specs.code.Shapes.{Agrees, IsTested, error_of_term}
 use Rattle.smt_script.specs.declared.error.ScriptError.{ScriptError}
 use Rattle.smt_script.specs.declared.error.ScriptError.TheVariants as script
 use Rattle.smt_script.specs.declared.state.Effect.TheVariants.{Tell}
@@ -24,7 +24,7 @@ use Rattle.smt_script.specs.declared.state.Mode.{Mode}
 use Rattle.smt_script.specs.declared.state.Mode.TheVariants as mode
 use Rattle.smt_script.specs.declared.state.Notice.TheVariants.{Values}
 use Rattle.idl_term.specs.Contexts.{scope_of}
-use Rattle.smt_script.specs.Kept.{Kept, StandsFor}
+use Rattle.smt_script.specs.code.Kept.{Kept, StandsFor}
 use Rattle.smt_script.specs.States.{State, first_refusal, terms_refusal, with_model, valued_by, after_values}
 use Rattle.smt_script.specs.declared.error.Refusal.{Refusal}
 use Rattle.smt_script.specs.declared.error.Refusal.TheVariants.{Term}

@@ -4,9 +4,6 @@ pub mod Options
 pub mod Informing
 pub mod Attributes
 pub mod States
-pub mod Kept
-pub mod Shapes
-pub mod TermValues
 pub mod Laws
 pub use Rattle.smt_sexpr.specs.Tree
 pub use Rattle.smt_sexpr.specs.Table
@@ -14,3 +11,4 @@ pub use Rattle.idl_node.specs.Nodes
 pub use Rattle.idl_term.specs.Scopes
 pub use Rattle.idl_term.specs.Contexts
 pub mod Examples
+pub mod code

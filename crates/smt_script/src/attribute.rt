@@ -3,7 +3,7 @@ ghost use Rattle.std.specs.Prelude.{◌≡◌, option_map, IfErr};
 ghost use Rattle.smt_sexpr.specs.Tree.{Sexpr, Items};
 ghost use Rattle.smt_sexpr.specs.Table.{Means, MeansEach, HasMeaning};
 ghost use Rattle.smt_script.specs.Attributes.{named_in};
-ghost use Rattle.smt_script.specs.Shapes.{AttributeIs, AttributesAre};
+ghost use Rattle.smt_script.specs.code.Shapes.{AttributeIs, AttributesAre};
 ghost use Rattle.smt_sexpr.specs.Shapes.{HaveMeaning};
 
 use crate::error::Refusal;

@@ -3,7 +3,7 @@ ghost use Rattle.std.specs.Prelude.{◌≡◌, Ok, ℕ};
 ghost use Rattle.smt_sexpr.specs.Tree.{Sexpr, Items};
 ghost use Rattle.smt_sexpr.specs.Table.{Table, Means, MeansEach, HasMeaning};
 ghost use Rattle.smt_script.specs.Commands.{Command, alone, logic_command, option_command, info_command, constant_command, function_command, definition_command, annotation_in, annotation_command, assertion_command, level_command, values_command, information_command, echo_command, command_by, without_name, command_of};
-ghost use Rattle.smt_script.specs.Shapes.{SignatureIs, AnnotationIs, CommandIs, LevelsAre, RequestIs, AsksFor};
+ghost use Rattle.smt_script.specs.code.Shapes.{SignatureIs, AnnotationIs, CommandIs, LevelsAre, RequestIs, AsksFor};
 ghost use Rattle.smt_sexpr.specs.Shapes.{HaveMeaning};
 
 use crate::attribute::named_in;

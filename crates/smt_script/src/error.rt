@@ -68,7 +68,7 @@ impl From<AllocError> for ScriptError {
 
 impl From<TermError> for ScriptError {
     ghost use Rattle.std.specs.Prelude.{◌≡◌};
-    ghost use Rattle.smt_script.specs.Shapes.{error_of_term};
+    ghost use Rattle.smt_script.specs.code.Shapes.{error_of_term};
 
     ghost from_gives = { λ error e. e ≡ error_of_term error };
 

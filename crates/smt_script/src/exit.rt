@@ -3,7 +3,7 @@ ghost use Rattle.std.specs.Prelude.{◌≡◌};
 ghost use Rattle.smt_sexpr.specs.Tree.{Sexpr};
 ghost use Rattle.smt_sexpr.specs.Table.{Means, HasMeaning};
 ghost use Rattle.smt_script.specs.Commands.{is_exit};
-ghost use Rattle.smt_script.specs.Shapes.{asks_exit};
+ghost use Rattle.smt_script.specs.code.Shapes.{asks_exit};
 
 use crate::command::{Request, request_of};
 use crate::error::Refusal;

@@ -7,7 +7,7 @@ ghost use Rattle.idl_term.specs.Limits.{names_limit};
 ghost use Rattle.idl_term.specs.Lowered.{lowered};
 ghost use Rattle.idl_term.specs.Scopes.{shown_term};
 ghost use Rattle.smt_script.specs.States.{is_of_sort, terms_refusal};
-ghost use Rattle.smt_script.specs.Shapes.{only_of_sort, only_formula, TermIs, FormulaIs, IsTested};
+ghost use Rattle.smt_script.specs.code.Shapes.{only_of_sort, only_formula, TermIs, FormulaIs, IsTested};
 
 use crate::error::{Refusal, ScriptError};
 use idl_node::{Nodes, Sort};

@@ -3,7 +3,7 @@ ghost use Rattle.std.specs.Prelude.{◌≡◌, Option, option_map};
 ghost use Rattle.smt_sexpr.specs.Tree.{Sexpr};
 ghost use Rattle.smt_sexpr.specs.Table.{Means, HasMeaning};
 ghost use Rattle.smt_script.specs.Options.{truth_named, truth_given, is_production, printing_by, production_by, option_effect};
-ghost use Rattle.smt_script.specs.Shapes.{ValueIs, HasValue, shown_effect};
+ghost use Rattle.smt_script.specs.code.Shapes.{ValueIs, HasValue, shown_effect};
 
 use smt_sexpr::{SexprId, Sexprs};
 

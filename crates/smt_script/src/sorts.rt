@@ -3,7 +3,7 @@ ghost use Rattle.std.specs.Prelude.{◌≡◌};
 ghost use Rattle.smt_sexpr.specs.Tree.{Sexpr, Items};
 ghost use Rattle.smt_sexpr.specs.Table.{Means, HasMeaning};
 ghost use Rattle.smt_script.specs.States.{sort_of};
-ghost use Rattle.smt_script.specs.Shapes.{IsSignature, HasSignature, signature_sort};
+ghost use Rattle.smt_script.specs.code.Shapes.{IsSignature, HasSignature, signature_sort};
 
 use crate::command::Signature;
 use crate::error::{LeftOutCommand, Refusal};

@@ -9,13 +9,13 @@ ghost use Rattle.idl_term.specs.Limits.{names_limit};
 ghost use Rattle.idl_term.specs.Lowered.{lowered};
 ghost use Rattle.idl_term.specs.declared.error.TermRefusal.{TermRefusal};
 ghost use Rattle.smt_script.specs.Commands.{Command};
-ghost use Rattle.smt_script.specs.Kept.{StandsFor, Steps, nothing_kept, cut_to};
+ghost use Rattle.smt_script.specs.code.Kept.{StandsFor, Steps, nothing_kept, cut_to};
 ghost use Rattle.smt_script.specs.Options.{option_effect};
-ghost use Rattle.smt_script.specs.Shapes.{ValueIs, HasValue, IsSignature, HasSignature, CountIs, CommandIs, Agrees, Carries};
+ghost use Rattle.smt_script.specs.code.Shapes.{ValueIs, HasValue, IsSignature, HasSignature, CountIs, CommandIs, Agrees, Carries};
 ghost use Rattle.smt_script.specs.States.{State as Meaning, start_state, after_logic, after_option, sort_of, after_declaration, after_definition, after_assertion, after_naming, after_push, after_pop, with_model, with_proof, telling, after_values, informed_by, after_by, after, settled, IsMadeState};
 ghost use Rattle.smt_script.specs.Informing.{information_of};
 ghost use Rattle.smt_script.specs.declared.state.Notice.TheVariants.{Model, Proof};
-ghost use Rattle.smt_script.specs.TermValues.{IsAccepted, IsRefused, IsValue};
+ghost use Rattle.smt_script.specs.code.TermValues.{IsAccepted, IsRefused, IsValue};
 ghost use Rattle.smt_script.specs.declared.error.Refusal.{Refusal as Why};
 ghost use Rattle.smt_script.specs.declared.state.Level.{Level as Before};
 
@@ -114,7 +114,7 @@ pub struct State<'a> {
 }
 
 impl<'a> Model for State<'a> {
-    ghost use Rattle.smt_script.specs.Kept.{Kept, IsKept};
+    ghost use Rattle.smt_script.specs.code.Kept.{Kept, IsKept};
 
     ghost Value = { Kept };
 

@@ -7,7 +7,7 @@ ghost use Rattle.idl_node.specs.Truth.{point_values, AreTruths};
 ghost use Rattle.idl_node.specs.declared.sort.Sort.{Sort};
 ghost use Rattle.idl_term.specs.Meanings.{IsTermIn, lowered_value};
 ghost use Rattle.idl_term.specs.Scopes.{shown_term};
-ghost use Rattle.smt_script.specs.TermValues.{value_shown};
+ghost use Rattle.smt_script.specs.code.TermValues.{value_shown};
 
 use idl_node::{Nodes, eval_on};
 use idl_term::{Lowered, eval_int_on};

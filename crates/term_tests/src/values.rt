@@ -1,6 +1,6 @@
 ghost use Rattle.std.specs.Prelude.{◌≡◌, []};
 ghost use Rattle.idl_term.specs.Contexts.{IsScheduleFor};
-ghost use Rattle.smt_script.specs.Kept.{StandsFor};
+ghost use Rattle.smt_script.specs.code.Kept.{StandsFor};
 ghost use Rattle.smt_script.specs.States.{State as Meaning, IsMadeState};
 
 use idl_term::{TermError, TermRefusal};

@@ -1,5 +1,5 @@
 use Rattle.std.proofs.Common.{◌≡◌, ◌≤◌, ◌<◌, ◌+◌, ℕ, List, length, get_or}
-use Rattle.clause_form.specs.Marking.{AreMarks}
+use Rattle.clause_form.specs.code.Marking.{AreMarks}
 use Rattle.clause_form.specs.ClauseForm.{fresh_point}
 use Rattle.clause_form.proofs.numbering.number_points.Given as goal
 

@@ -2,7 +2,7 @@ use Rattle.std.proofs.Common.{◌≡◌, ◌+◌, sym, ap, subst, ℕ}
 use Rattle.smt_sexpr.specs.Tree.{Sexpr}
 use Rattle.smt_script.specs.declared.state.Effect.TheVariants.{Ask, Tell}
 use Rattle.smt_script.specs.States.{State as Meaning}
-use Rattle.script_walk.specs.Events.{Carries}
+use Rattle.script_walk.specs.code.Events.{Carries}
 use Rattle.script_walk.specs.declared.walk.Event.{Event}
 use Rattle.script_walk.specs.declared.walk.Event.TheVariants.{Told, Asked, Ended, Failed}
 use Rattle.script_walk.specs.declared.walk.Walk.{Walk}

@@ -1,6 +1,6 @@
 use Rattle.std.proofs.Common.{◌≡◌, sym, subst, ℕ, List}
 use Rattle.smt_sexpr.specs.Table.{Table}
-use Rattle.script_walk.specs.Events.{IsNext}
+use Rattle.script_walk.specs.code.Events.{IsNext}
 use Rattle.script_walk.specs.declared.reader.Next.{Next}
 use Rattle.script_walk.specs.declared.reader.Next.TheVariants.{Unread}
 use Rattle.dtp_check.proofs.Walking.{unread_ends}

@@ -3,7 +3,7 @@ use Rattle.smt_script.specs.States.{State}
 use Rattle.idl_term.specs.Contexts.{IsScheduleFor, environment, scope_of}
 use Rattle.idl_term.specs.Values.{value}
 use Rattle.idl_node.specs.Truth.{point_values, AreTruths}
-use Rattle.script_walk.specs.Standing.{Stands}
+use Rattle.script_walk.specs.code.Standing.{Stands}
 use Rattle.dtp_session.proofs.Saying.{AreTestedFrom, AreAnsweredTo}
 use Rattle.dtp_session.proofs.notices.values_of.Given as goal
 

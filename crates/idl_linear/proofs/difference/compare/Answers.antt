@@ -1,7 +1,7 @@
 use Rattle.std.proofs.Common.{ap, sym, ◌∙◌, arith, ◌≡◌, ℤ, ◌-ℤ◌, Ok, to_z, of_z}
 use Rattle.std.specs.Int.{w128}
 use Rattle.std.proofs.lemmas.Int.{ints}
-use Rattle.idl_linear.specs.Steps.{less}
+use Rattle.idl_linear.specs.code.Steps.{less}
 use Rattle.idl_linear.proofs.Merging.{rest_from_linear}
 use Rattle.idl_linear.proofs.Outcomes.{starts, stops, ends_at, accepted, too_large, number_fits}
 use Rattle.idl_linear.proofs.difference.compare.Goals as goal

@@ -4,7 +4,7 @@ use Rattle.std.proofs.lemmas.List.{take_rest}
 use Rattle.std.specs.Int.{w128}
 use Rattle.idl_linear.specs.declared.summand.Summand.{Summand}
 use Rattle.idl_linear.specs.Linear.{with_summand, put_before}
-use Rattle.idl_linear.specs.Trees.{coefficient_at}
+use Rattle.idl_linear.specs.code.Trees.{coefficient_at}
 use Rattle.idl_linear.proofs.Coefficients.{summand}
 use Rattle.idl_linear.proofs.LeafMade.{made_with, made_without, made_within}
 use Rattle.idl_linear.proofs.leaf.leaf_with.Goals as goal

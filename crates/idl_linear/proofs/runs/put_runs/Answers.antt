@@ -4,9 +4,9 @@ use Rattle.std.proofs.lemmas.Result.{err_from_is_err_and}
 use Rattle.idl_linear.specs.declared.summand.Summand.{Summand}
 use Rattle.idl_linear.specs.Limits.{coefficient_limit}
 use Rattle.idl_linear.specs.Linear.{is_within, are_limited, collected, with_summand, put_before}
-use Rattle.idl_linear.specs.FirstRuns.{IsFirstRun, signed_run}
-use Rattle.idl_linear.specs.Steps.{Refuses}
-use Rattle.idl_linear.specs.Trees.{TreeValue, coefficient_at, signed}
+use Rattle.idl_linear.specs.code.FirstRuns.{IsFirstRun, signed_run}
+use Rattle.idl_linear.specs.code.Steps.{Refuses}
+use Rattle.idl_linear.specs.code.Trees.{TreeValue, coefficient_at, signed}
 use Rattle.idl_linear.proofs.Putting.{put_step, put_stops, putting_ends, put_refused}
 use Rattle.idl_linear.proofs.runs.put_runs.Goals as goal
 

@@ -6,9 +6,9 @@ use Rattle.idl_linear.specs.declared.tree.Part.{Part}
 use Rattle.idl_linear.specs.Limits.{coefficient_limit}
 use Rattle.idl_linear.specs.Linear.{with_summand, is_within}
 use Rattle.idl_linear.specs.Forms.{AscendAbove}
-use Rattle.idl_linear.specs.Steps.{IsRest, Refuses}
-use Rattle.idl_linear.specs.TreeParts.{tree_in, IsParted}
-use Rattle.idl_linear.specs.Trees.{TreeValue, coefficient_at}
+use Rattle.idl_linear.specs.code.Steps.{IsRest, Refuses}
+use Rattle.idl_linear.specs.code.TreeParts.{tree_in, IsParted}
+use Rattle.idl_linear.specs.code.Trees.{TreeValue, coefficient_at}
 use Rattle.std.proofs.lemmas.Result.{err_from_is_err_and}
 use Rattle.idl_linear.proofs.Coefficients.{summand, ascend-with}
 use Rattle.idl_linear.proofs.Forks.{left_rest, right_rest, left_with, right_with, left_stays, right_stays, left_coefficient, right_coefficient}

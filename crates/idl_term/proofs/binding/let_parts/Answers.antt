@@ -1,6 +1,6 @@
 use Rattle.std.proofs.Common.{arith, ◌≡◌, sym, ◌∙◌, length, get_or}
 use Rattle.std.proofs.lemmas.Bool.Decides.{nat_tests}
-use Rattle.idl_term.specs.Trees.{IsTree}
+use Rattle.idl_term.specs.code.Trees.{IsTree}
 use Rattle.idl_term.proofs.TreesOfIds.{leaf_from, tree_at}
 use Rattle.idl_term.proofs.BindingNames.{first_list, some_there, let_needs_two, let_needs_list, let_needs_binding, let_is_shaped, parts_of}
 use Rattle.idl_term.proofs.binding.let_parts.Goals as goal

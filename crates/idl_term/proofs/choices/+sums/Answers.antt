@@ -4,7 +4,7 @@ use Rattle.std.proofs.lemmas.Result.{err_from_is_err_and}
 use Rattle.std.proofs.lemmas.List.{take_rest}
 use Rattle.idl_linear.specs.Linear.{LinearValue}
 use Rattle.idl_scope.specs.Guarded.{CaseValue}
-use Rattle.idl_term.specs.Applying.{SumsCases}
+use Rattle.idl_term.specs.code.Applying.{SumsCases}
 use Rattle.idl_term.specs.Choices.{are_few, count_from}
 use Rattle.idl_term.proofs.Arguments.{seen}
 use Rattle.idl_term.proofs.ChoiceSums.{sums, few_yes, few_no, few_made, yes_fails, no_fails, both_made, branch_lengths, cases_left, fewer_left, first_few, kept_front}

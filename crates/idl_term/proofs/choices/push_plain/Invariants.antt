@@ -1,5 +1,5 @@
 use Rattle.std.proofs.Common.{◌≡◌, length, take, drop}
-use Rattle.idl_term.specs.Applying.{GoesPast}
+use Rattle.idl_term.specs.code.Applying.{GoesPast}
 use Rattle.idl_term.proofs.Arguments.{seen}
 use Rattle.idl_term.proofs.choices.push_plain.Given as goal
 

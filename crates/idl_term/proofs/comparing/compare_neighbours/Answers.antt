@@ -5,7 +5,7 @@ use Rattle.idl_scope.specs.Guarded.{CaseValue}
 use Rattle.idl_node.specs.Nodes.{Placed}
 use Rattle.idl_term.specs.Comparing.{each_compared}
 use Rattle.idl_term.specs.declared.error.TermRefusal.{TermRefusal}
-use Rattle.idl_term.specs.Shapes.{Places}
+use Rattle.idl_term.specs.code.Shapes.{Places}
 use Rattle.idl_term.proofs.Arguments.{seen}
 use Rattle.idl_term.proofs.ComparisonNodes.{neighbours_none}
 use Rattle.idl_term.proofs.comparing.compare_neighbours.Goals as goal

@@ -7,7 +7,7 @@ use Rattle.idl_node.specs.Making.{pairs}
 use Rattle.idl_node.specs.Nodes.{Placed}
 use Rattle.idl_node.proofs.Steps.{front_on}
 use Rattle.idl_term.specs.Comparing.{each_compared}
-use Rattle.idl_term.specs.Shapes.{Places}
+use Rattle.idl_term.specs.code.Shapes.{Places}
 use Rattle.idl_term.specs.declared.error.TermRefusal.{TermRefusal}
 use Rattle.idl_term.proofs.Arguments.{seen}
 use Rattle.idl_term.proofs.PairsCompared.{pairs_end, pairs_refused, pairs_start, pairs_step}

@@ -2,7 +2,7 @@ use Rattle.std.proofs.Common.{rules, sym, subst, arith, ◌∙◌, ◌≡◌, �
 use Rattle.std.specs.Prelude.{IfOk}
 use Rattle.idl_node.specs.Truth.{point_values, truth}
 use Rattle.idl_scope.specs.Guarded.{guarded}
-use Rattle.idl_term.specs.Evaluating.{first_value}
+use Rattle.idl_term.specs.code.Evaluating.{first_value}
 use Rattle.idl_term.proofs.ChoiceSums.{branch_lengths}
 use Rattle.idl_term.proofs.Evaluating.{first_here, first_not_here, in_first, in_second, first_over, second_over, first_guard, second_guard}
 use Rattle.idl_term.proofs.evaluation.+asked.Goals as goal

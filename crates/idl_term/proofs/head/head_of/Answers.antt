@@ -1,6 +1,6 @@
 use Rattle.std.proofs.Common.{sym, ◌∙◌}
-use Rattle.idl_term.specs.Trees.{tree_of}
-use Rattle.idl_scope.specs.LocalNames.{scope_in}
+use Rattle.idl_term.specs.code.Trees.{tree_of}
+use Rattle.idl_scope.specs.code.LocalNames.{scope_in}
 use Rattle.idl_term.proofs.TreesOfIds.{list_from, leaf_from}
 use Rattle.idl_term.proofs.HeadShapes.{head_symbol, head_list, head_other}
 use Rattle.idl_term.proofs.head.head_of.Goals as goal

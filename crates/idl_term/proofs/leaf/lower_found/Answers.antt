@@ -1,8 +1,8 @@
 use Rattle.std.proofs.Common.{sym, ap, subst, ◌∙◌}
 use Rattle.std.specs.Prelude.{Result}
 use Rattle.idl_term.specs.Applied.{Made}
-use Rattle.idl_scope.specs.Kept.{FoundIs}
-use Rattle.idl_term.specs.Shapes.{Lowers}
+use Rattle.idl_scope.specs.code.Kept.{FoundIs}
+use Rattle.idl_term.specs.code.Shapes.{Lowers}
 use Rattle.idl_term.specs.declared.error.TermRefusal.{TermRefusal}
 use Rattle.idl_scope.specs.declared.scope.FoundName.{FoundName}
 use Rattle.idl_scope.specs.declared.scope.FoundName.TheVariants.{Declared}

@@ -3,7 +3,7 @@ use Rattle.std.specs.Prelude.{Result}
 use Rattle.smt_lex.specs.declared.token.TokenKind.{TokenKind}
 use Rattle.idl_term.specs.Applied.{Made}
 use Rattle.idl_term.specs.Lowered.{lowered_leaf}
-use Rattle.idl_term.specs.Shapes.{Lowers}
+use Rattle.idl_term.specs.code.Shapes.{Lowers}
 use Rattle.idl_term.specs.declared.error.TermRefusal.{TermRefusal}
 use Rattle.idl_term.proofs.Leaves.{numeral_leaf}
 use Rattle.idl_term.proofs.leaf.lower_token.Goals as goal

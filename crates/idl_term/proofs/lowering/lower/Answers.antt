@@ -3,8 +3,8 @@ use Rattle.smt_sexpr.specs.Table.{Table}
 use Rattle.idl_term.proofs.FrameSteps.{lowers_as}
 use Rattle.idl_term.specs.Lowered.{lowered}
 use Rattle.idl_scope.specs.Scopes.{Scope}
-use Rattle.idl_term.specs.Trees.{tree_of, IsTree}
-use Rattle.idl_term.specs.Walks.{Walk, scope_at}
+use Rattle.idl_term.specs.code.Trees.{tree_of, IsTree}
+use Rattle.idl_term.specs.code.Walks.{Walk, scope_at}
 use Rattle.idl_term.proofs.TreesOfIds.{tree_is, tree_means}
 use Rattle.idl_term.proofs.lowering.lower.Goals as goal
 

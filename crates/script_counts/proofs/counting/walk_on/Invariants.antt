@@ -1,5 +1,5 @@
 use Rattle.std.proofs.Common.{◌≡◌, ◌-◌, length}
-use Rattle.script_walk.specs.Events.{IsReady}
+use Rattle.script_walk.specs.code.Events.{IsReady}
 use Rattle.script_counts.proofs.Leading.{IsSoFar}
 use Rattle.script_counts.proofs.counting.walk_on.Given as goal
 

@@ -2,7 +2,7 @@ use Rattle.std.proofs.Common.{sym, subst, ap, Ok, Result}
 use Rattle.smt_sexpr.specs.Tree.{Items}
 use Rattle.smt_sexpr.specs.Table.{MeansEach}
 use Rattle.smt_script.specs.Commands.{terms_in, command_of}
-use Rattle.smt_script.specs.Shapes.{CommandIs}
+use Rattle.smt_script.specs.code.Shapes.{CommandIs}
 use Rattle.smt_script.specs.declared.command.Request.{Request}
 use Rattle.smt_script.proofs.asked.asked_terms.Goals as goal
 

@@ -1,6 +1,6 @@
 use Rattle.std.proofs.Common.{ap, ◌∙◌, Some}
 use Rattle.std.proofs.lemmas.Result.{err_from_is_err_and}
-use Rattle.smt_script.specs.Shapes.{named_as, shown_name}
+use Rattle.smt_script.specs.code.Shapes.{named_as, shown_name}
 use Rattle.smt_script.proofs.Arguments.{annotated_is}
 use Rattle.smt_sexpr.proofs.Shapes.{begun}
 use Rattle.smt_script.proofs.command.annotated_command.Goals as goal

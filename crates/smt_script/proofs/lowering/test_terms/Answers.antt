@@ -4,7 +4,7 @@ use Rattle.std.proofs.lemmas.List.{drop_all}
 use Rattle.smt_sexpr.proofs.Shapes.{next_of}
 use Rattle.idl_node.specs.Nodes.{NodeValue}
 use Rattle.smt_script.specs.States.{terms_refusal}
-use Rattle.smt_script.specs.Shapes.{IsTested}
+use Rattle.smt_script.specs.code.Shapes.{IsTested}
 use Rattle.smt_script.proofs.Testing.{IsTestedTo, tested_none, tested_more, tested_error, tested_all}
 use Rattle.smt_script.proofs.lowering.test_terms.Goals as goal
 

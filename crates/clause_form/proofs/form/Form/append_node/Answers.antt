@@ -1,7 +1,7 @@
 use Rattle.std.proofs.Common.{refl, ◌≡◌, ◌++◌, ℕ, List, length, get_or}
 use Rattle.idl_node.specs.Nodes.{NodeValue, node_value, shown}
 use Rattle.clause_form.specs.ClauseForm.{asserted_clauses, denied_clauses, when}
-use Rattle.clause_form.specs.Marking.{IsNumbering}
+use Rattle.clause_form.specs.code.Marking.{IsNumbering}
 use Rattle.clause_form.proofs.Passes.{shown_get}
 use Rattle.clause_form.proofs.Pieces.{when_written, when_left, node_written}
 use Rattle.clause_form.proofs.form.Form.append_node.Goals.{Joined-marks-2, then-marks+in_ok-append_asserted, else-marks, then-marks-2+in_ok-append_denied, else-marks-2}

@@ -1,6 +1,6 @@
 use Rattle.std.proofs.Common.{◌≡◌, ◌++◌, ℕ, List, length, map, take}
 use Rattle.idl_node.specs.Nodes.{shown}
-use Rattle.clause_form.specs.Marking.{IsNumbering, literal_pair}
+use Rattle.clause_form.specs.code.Marking.{IsNumbering, literal_pair}
 use Rattle.clause_form.proofs.form.Form.append_pairs.Given as goal
 
 abbrev pub invariant-loop-member : goal.invariant-loop-member

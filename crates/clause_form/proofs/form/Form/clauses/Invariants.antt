@@ -1,7 +1,7 @@
 use Rattle.std.proofs.Common.{◌≡◌, ℕ, List, length}
 use Rattle.idl_node.specs.Nodes.{shown}
 use Rattle.clause_form.specs.ClauseForm.{clauses_below}
-use Rattle.clause_form.specs.Marking.{AreMarks, ArePolarityMarks, IsNumbering}
+use Rattle.clause_form.specs.code.Marking.{AreMarks, ArePolarityMarks, IsNumbering}
 use Rattle.clause_form.specs.Polarity.{Polarity}
 use Rattle.clause_form.proofs.form.Form.clauses.Given as goal
 

@@ -1,5 +1,5 @@
 use Rattle.std.proofs.Common.{◌≡◌, ◌-◌, length}
-use Rattle.script_walk.specs.Events.{IsReady as IsWalkReady}
+use Rattle.script_walk.specs.code.Events.{IsReady as IsWalkReady}
 use Rattle.dtp_session.proofs.Looping.{IsSoFar}
 use Rattle.dtp_session.proofs.session.Session.answer.Given as goal
 

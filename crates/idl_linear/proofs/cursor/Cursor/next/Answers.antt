@@ -1,4 +1,4 @@
-use Rattle.idl_linear.specs.Trees.{tree_list}
+use Rattle.idl_linear.specs.code.Trees.{tree_list}
 use Rattle.idl_linear.proofs.Walking.{walk_goes_on}
 use Rattle.idl_linear.proofs.cursor.Cursor.next.Goals as goal
 

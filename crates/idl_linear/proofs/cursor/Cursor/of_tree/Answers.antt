@@ -1,6 +1,6 @@
 use Rattle.std.proofs.Common.{ap, List}
 use Rattle.idl_linear.specs.declared.summand.Summand.{Summand}
-use Rattle.idl_linear.specs.Trees.{signed}
+use Rattle.idl_linear.specs.code.Trees.{signed}
 use Rattle.idl_linear.proofs.Walking.{walk_whole, walk_starts}
 use Rattle.idl_linear.proofs.cursor.Cursor.of_tree.Goals as goal
 

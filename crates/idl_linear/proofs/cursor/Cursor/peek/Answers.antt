@@ -1,7 +1,7 @@
 use Rattle.std.proofs.Common.{subst, List, ◌++◌}
 use Rattle.idl_linear.specs.declared.summand.Summand.{Summand}
-use Rattle.idl_linear.specs.Steps.{IsRest}
-use Rattle.idl_linear.specs.Trees.{since, tree_list}
+use Rattle.idl_linear.specs.code.Steps.{IsRest}
+use Rattle.idl_linear.specs.code.Trees.{since, tree_list}
 use Rattle.idl_linear.proofs.Putting.{rest-signed}
 use Rattle.idl_linear.proofs.cursor.Cursor.peek.Goals as goal
 

@@ -2,9 +2,9 @@ use Rattle.std.proofs.Common.{ap, sym, subst, ◌∙◌, List}
 use mathlib.Core.Bool.{not, beq}
 use Rattle.idl_linear.specs.declared.summand.Summand.{Summand}
 use Rattle.idl_linear.specs.declared.held.Held.{Held as Holding}
-use Rattle.idl_linear.specs.Held.{held_summands}
-use Rattle.idl_linear.specs.Steps.{IsRest}
-use Rattle.idl_linear.specs.Trees.{TreeValue, signed}
+use Rattle.idl_linear.specs.code.Held.{held_summands}
+use Rattle.idl_linear.specs.code.Steps.{IsRest}
+use Rattle.idl_linear.specs.code.Trees.{TreeValue, signed}
 use Rattle.idl_linear.proofs.Walking.{signed-signed, rest-unsigned}
 use Rattle.idl_linear.proofs.held.Held.branches.Goals as goal
 

@@ -1,4 +1,4 @@
-use Rattle.idl_linear.specs.Held.{held_summands}
+use Rattle.idl_linear.specs.code.Held.{held_summands}
 use Rattle.idl_linear.proofs.Merging.{rest_from_linear}
 use Rattle.idl_linear.proofs.linear.Linear.cursor.Goals as goal
 

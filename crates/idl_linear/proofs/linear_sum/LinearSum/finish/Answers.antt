@@ -5,7 +5,7 @@ use Rattle.std.proofs.lemmas.Result.{err_from_is_err_and}
 use Rattle.std.proofs.lemmas.List.Sorted.{IsNonDecreasingBy-from_sort_by_key}
 use Rattle.idl_linear.specs.declared.summand.Summand.{Summand}
 use Rattle.idl_linear.specs.Linear.{collected, are_limited}
-use Rattle.idl_linear.specs.Steps.{Refuses}
+use Rattle.idl_linear.specs.code.Steps.{Refuses}
 use Rattle.idl_linear.proofs.Finishing.{refused_as, refused_by_coefficients}
 use Rattle.idl_linear.proofs.Merging.{rest_from_linear}
 use Rattle.idl_linear.proofs.Sorting.{each-permuted, collected-permuted, rise_from_sorted}

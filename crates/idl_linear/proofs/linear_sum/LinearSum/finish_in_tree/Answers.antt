@@ -5,8 +5,8 @@ use Rattle.std.proofs.lemmas.List.Sorted.{IsNonDecreasingBy-from_sort_by_key}
 use Rattle.idl_linear.specs.declared.summand.Summand.{Summand}
 use Rattle.idl_linear.specs.Linear.{collected, are_limited}
 use Rattle.idl_linear.specs.Forms.{SumValue, with_signed}
-use Rattle.idl_linear.specs.Steps.{Refuses}
-use Rattle.idl_linear.specs.Trees.{signed}
+use Rattle.idl_linear.specs.code.Steps.{Refuses}
+use Rattle.idl_linear.specs.code.Trees.{signed}
 use Rattle.idl_linear.proofs.Finishing.{refused_as, constant_is, constant_low, constant_high, number_is, constant_refused, tree_refused, tree_ok, tree_limited, tree_linear}
 use Rattle.idl_linear.proofs.Sorting.{each-permuted, rise_from_sorted}
 use Rattle.idl_linear.proofs.linear_sum.LinearSum.finish_in_tree.Goals as goal

@@ -1,7 +1,7 @@
 use Rattle.std.proofs.Common.{ap, sym, subst, ◌∙◌, arith, ◌≡◌, List, [], ◌∷◌, ℤ, drop, Option, MatchOption}
 use Rattle.idl_linear.specs.declared.summand.Summand.{Summand}
 use Rattle.idl_linear.specs.Linear.{put_before}
-use Rattle.idl_linear.specs.Steps.{less}
+use Rattle.idl_linear.specs.code.Steps.{less}
 use Rattle.idl_linear.proofs.Coefficients.{summand}
 use Rattle.idl_linear.proofs.Merging.{difference_is, rest_of, above_none, above_first, next_left, next_right, next_both, each_first}
 use Rattle.idl_linear.proofs.merge.Merge.next.Goals as goal

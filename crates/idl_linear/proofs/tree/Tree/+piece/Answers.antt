@@ -1,8 +1,8 @@
 use Rattle.std.proofs.Common.{rules, arith, ap, sym, subst, ◌∙◌, ◌≡◌, ◌<◌, ◌+◌, ◌++◌}
 use Rattle.idl_linear.specs.declared.tree.Part.{Part}
 use Rattle.idl_linear.specs.Forms.{AscendAbove}
-use Rattle.idl_linear.specs.TreeParts.{tree_in, IsParted}
-use Rattle.idl_linear.specs.Trees.{TreeValue, AllUpTo}
+use Rattle.idl_linear.specs.code.TreeParts.{tree_in, IsParted}
+use Rattle.idl_linear.specs.code.Trees.{TreeValue, AllUpTo}
 use Rattle.idl_linear.proofs.Forks.{left_ascends, right_ascends, right_over, left_min, min_below, none_left, leaf_same, leaf_empty, right_same, left_same, both_same, right_empty, both_empty}
 use Rattle.idl_linear.proofs.tree.Tree.+piece.Goals as goal
 

@@ -1,5 +1,5 @@
 use Rattle.std.proofs.Common.{refl, arith, sym, ap, subst, ◌∙◌, ◌≡◌, ◌≤◌, ◌-◌, ℕ, List, [], ◌∷◌, length, drop, length-drop, Option}
-use Rattle.idl_node.specs.Made.{Makes}
+use Rattle.idl_node.specs.code.Made.{Makes}
 use Rattle.idl_node.specs.Making.{equal, neighbours, each_pair}
 use Rattle.idl_node.specs.Nodes.{Placed}
 use Rattle.idl_node.proofs.nodes.Nodes.add_equality.Goals as goal

@@ -1,7 +1,7 @@
 use Rattle.std.proofs.Common.{subst, sym, ◌≡◌, ℕ}
 use Rattle.std.specs.Prelude.{Result, OnErr}
 use Rattle.idl_node.specs.declared.error.NodeError.{NodeError}
-use Rattle.idl_node.specs.Made.{Makes}
+use Rattle.idl_node.specs.code.Made.{Makes}
 use Rattle.idl_node.specs.Making.{chosen}
 use Rattle.idl_node.proofs.Steps.{settled_makes, settled_front, settled_err}
 use Rattle.idl_node.proofs.nodes.Nodes.choose.Goals as goal

@@ -1,5 +1,5 @@
 use Rattle.std.proofs.Common.{arith, sym, subst, Option}
-use Rattle.idl_node.specs.Made.{Makes}
+use Rattle.idl_node.specs.code.Made.{Makes}
 use Rattle.idl_node.specs.Nodes.{Placed}
 use Rattle.idl_node.proofs.Denying.{disjoined_many}
 use Rattle.idl_node.proofs.nodes.Nodes.disjoin.Goals as goal

@@ -1,5 +1,5 @@
 use Rattle.std.proofs.Common.{ℕ, List, subst}
-use Rattle.idl_node.specs.Made.{Makes}
+use Rattle.idl_node.specs.code.Made.{Makes}
 use Rattle.idl_node.specs.Nodes.{disjunction, placed}
 use Rattle.idl_node.proofs.nodes.Nodes.either.Goals as goal
 

@@ -1,7 +1,7 @@
 use Rattle.std.proofs.Common.{sym, ap, subst, ◌∙◌, ◌≡◌, Option}
 use Rattle.stn_core.specs.declared.literal.Literal.{Literal}
 use Rattle.stn_core.specs.Literal.{negation_of}
-use Rattle.idl_node.specs.Made.{Makes}
+use Rattle.idl_node.specs.code.Made.{Makes}
 use Rattle.idl_node.specs.Making.{denied}
 use Rattle.idl_node.specs.Nodes.{Placed, atom, placed}
 use Rattle.idl_node.proofs.Denying.{denied_atom, denied_denial, denied_other}

@@ -1,6 +1,6 @@
 use Rattle.std.proofs.Common.{arith, ◌≡◌, ◌∙◌, refl, ap, sym, ◌<◌, length, reverse, Some, None}
 use Rattle.std.proofs.lemmas.Option.{slice_get_read}
-use Rattle.idl_scope.specs.LocalNames.{place_in, Inner, scope_in}
+use Rattle.idl_scope.specs.code.LocalNames.{place_in, Inner, scope_in}
 use Rattle.idl_scope.specs.Scopes.{found, stands_for, shown_term}
 use Rattle.idl_scope.proofs.LocalsKept.{place_within, found_variable, found_outside}
 use Rattle.idl_scope.proofs.locals.Locals.find.Goals as goal

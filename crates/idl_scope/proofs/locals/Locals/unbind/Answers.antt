@@ -1,6 +1,6 @@
 use Rattle.std.proofs.Common.{◌∙◌, ap, List}
 use Rattle.idl_scope.specs.Scopes.{Binding}
-use Rattle.idl_scope.specs.LocalNames.{without}
+use Rattle.idl_scope.specs.code.LocalNames.{without}
 use Rattle.idl_scope.proofs.LocalsKept.{drop_twice}
 use Rattle.idl_scope.proofs.locals.Locals.unbind.Goals as goal
 

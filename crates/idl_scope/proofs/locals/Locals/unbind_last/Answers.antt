@@ -1,6 +1,6 @@
 use Rattle.std.proofs.Common.{◌≡◌, ◌∙◌, sym, subst, ℕ, Option, Some, None, refl}
 use Rattle.std.specs.Prelude.{IsSome, reverse, length}
-use Rattle.idl_scope.specs.LocalNames.{place_in}
+use Rattle.idl_scope.specs.code.LocalNames.{place_in}
 use Rattle.idl_scope.proofs.LocalsKept.{keeps_unbound, place_of_last, not_none, Sets}
 use Rattle.idl_scope.proofs.locals.Locals.unbind_last.Goals as goal
 

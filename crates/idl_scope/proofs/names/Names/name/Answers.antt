@@ -1,5 +1,5 @@
 use Rattle.std.proofs.Common.{arith, Option, Some, Bor, ◌≡◌, ◌∙◌, ap, sym, List, ℕ, length, ◌<◌}
-use Rattle.idl_scope.specs.Kept.{names_of}
+use Rattle.idl_scope.specs.code.Kept.{names_of}
 use Rattle.idl_scope.specs.Scopes.{Declaration}
 use Rattle.std.specs.Prelude.{slice_get}
 use Rattle.std.specs.Option.{option_copied, option_map}

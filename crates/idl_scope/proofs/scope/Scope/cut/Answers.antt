@@ -1,6 +1,6 @@
 use Rattle.std.proofs.Common.{◌≡◌, ◌∙◌, ap, List, take}
 use Rattle.idl_scope.specs.Scopes.{Scope, Declaration, Binding}
-use Rattle.idl_scope.specs.Kept.{definitions_of}
+use Rattle.idl_scope.specs.code.Kept.{definitions_of}
 use Rattle.idl_scope.proofs.NamesKept.{take-definitions, texts}
 use Rattle.idl_scope.proofs.scope.Scope.cut.Goals as goal
 

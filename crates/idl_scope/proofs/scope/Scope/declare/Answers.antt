@@ -1,6 +1,6 @@
 use Rattle.std.proofs.Common.{arith, refl, ◌∙◌, ◌≡◌, ap, sym, subst, true, false}
 use Rattle.idl_scope.specs.Scopes.{Scope, is_known}
-use Rattle.idl_scope.specs.Kept.{Declares, definitions_of}
+use Rattle.idl_scope.specs.code.Kept.{Declares, definitions_of}
 use Rattle.idl_scope.proofs.NamesFound.{among-defined, defined-absent, declares-by}
 use Rattle.idl_scope.proofs.NamesKept.{is_among, texts}
 use Rattle.idl_scope.proofs.scope.Scope.declare.Goals as goal

@@ -1,7 +1,7 @@
 use Rattle.std.proofs.Common.{arith, ◌∙◌, ◌≡◌, ap, List, [], ◌∷◌, ◌++◌, false}
 use Rattle.std.proofs.lemmas.List.{length-append}
 use Rattle.idl_scope.specs.declared.lowered.Lowered.{Lowered}
-use Rattle.idl_scope.specs.Kept.{definitions_of}
+use Rattle.idl_scope.specs.code.Kept.{definitions_of}
 use Rattle.idl_scope.specs.Scopes.{Scope, Binding, is_known, shown_term}
 use Rattle.idl_scope.proofs.NamesKept.{is_among, key_added, definitions-push, texts}
 use Rattle.idl_scope.proofs.NamesFound.{unknown-undefined}

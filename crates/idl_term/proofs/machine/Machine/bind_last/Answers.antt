@@ -1,6 +1,6 @@
 use Rattle.std.proofs.Common.{sym, subst}
 use Rattle.smt_sexpr.specs.Table.{HasItem}
-use Rattle.idl_term.specs.Walks.{Walk}
+use Rattle.idl_term.specs.code.Walks.{Walk}
 use Rattle.idl_term.proofs.machine.Machine.bind_last.Goals as goal
 use Rattle.idl_term.proofs.LetSteps.{binding_has}
 

@@ -1,6 +1,6 @@
 use Rattle.std.proofs.Common.{length}
-use Rattle.idl_term.specs.Trees.{trees_of}
-use Rattle.idl_term.specs.Walks.{bound_to}
+use Rattle.idl_term.specs.code.Trees.{trees_of}
+use Rattle.idl_term.specs.code.Walks.{bound_to}
 use Rattle.idl_term.proofs.FrameSteps.{IsBinding}
 use Rattle.idl_term.proofs.machine.Machine.bind_variables.Given as goal
 

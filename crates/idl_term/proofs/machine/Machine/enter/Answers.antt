@@ -1,6 +1,6 @@
 use Rattle.std.proofs.Common.{sym, subst}
-use Rattle.idl_term.specs.Trees.{tree_of, IsTree}
-use Rattle.idl_term.specs.Walks.{Walk}
+use Rattle.idl_term.specs.code.Trees.{tree_of, IsTree}
+use Rattle.idl_term.specs.code.Walks.{Walk}
 use Rattle.idl_term.proofs.TreesOfIds.{is_leaf, list_from, IsLeafOf, IsListOf}
 use Rattle.idl_term.proofs.ListSteps.{entered_leaf, entered_list}
 use Rattle.idl_term.proofs.machine.Machine.enter.Goals as goal

@@ -1,7 +1,7 @@
 use Rattle.std.proofs.Common.{arith, ◌≡◌, ap, sym, ◌∙◌, length}
 use Rattle.std.proofs.lemmas.List.{length-map}
 use Rattle.idl_scope.specs.Scopes.{shown_term}
-use Rattle.idl_term.specs.Walks.{Walk}
+use Rattle.idl_term.specs.code.Walks.{Walk}
 use Rattle.idl_term.proofs.MachineSteps.{with_pushed, opens_application, refuses_count}
 use Rattle.idl_term.proofs.machine.Machine.enter_application.Goals as goal
 

@@ -2,9 +2,9 @@ use Rattle.std.proofs.Common.{sym, subst, Err}
 use Rattle.smt_lex.specs.declared.token.TokenKind.{TokenKind}
 use Rattle.idl_term.specs.Lowered.{lowered_leaf}
 use Rattle.idl_scope.specs.Scopes.{found}
-use Rattle.idl_term.specs.Shapes.{Lowers}
-use Rattle.idl_scope.specs.Kept.{FoundIs}
-use Rattle.idl_term.specs.Walks.{Walk, scope_at}
+use Rattle.idl_term.specs.code.Shapes.{Lowers}
+use Rattle.idl_scope.specs.code.Kept.{FoundIs}
+use Rattle.idl_term.specs.code.Walks.{Walk, scope_at}
 use Rattle.idl_term.proofs.FirstRefusals.{front_same}
 use Rattle.idl_term.proofs.MachineSteps.{steps_error}
 use Rattle.idl_term.proofs.machine.Machine.enter_leaf.Goals as goal

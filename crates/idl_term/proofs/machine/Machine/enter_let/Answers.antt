@@ -1,8 +1,8 @@
 use Rattle.std.proofs.Common.{arith, ◌≡◌, ap, subst, length, Option}
 use Rattle.std.proofs.lemmas.List.{length-map}
-use Rattle.idl_term.specs.Heads.{AreParts, LetIs}
+use Rattle.idl_term.specs.code.Heads.{AreParts, LetIs}
 use Rattle.idl_scope.specs.Scopes.{shown_term}
-use Rattle.idl_term.specs.Walks.{Walk}
+use Rattle.idl_term.specs.code.Walks.{Walk}
 use Rattle.idl_term.specs.declared.binding.LetParts.{LetParts}
 use Rattle.idl_term.proofs.MachineSteps.{with_pushed}
 use Rattle.idl_term.proofs.LetSteps.{opens_let}

@@ -1,8 +1,8 @@
 use Rattle.std.proofs.Common.{◌≡◌, sym, subst, ◌+◌}
 use Rattle.std.proofs.lemmas.List.{nil_from_length}
 use Rattle.idl_term.specs.Lowered.{operator, binder, refused, head_of, lowered_list}
-use Rattle.idl_term.specs.Trees.{tree_of, trees_of, sizes_of}
-use Rattle.idl_term.specs.Walks.{Walk, scope_at, outcome_behind, weight}
+use Rattle.idl_term.specs.code.Trees.{tree_of, trees_of, sizes_of}
+use Rattle.idl_term.specs.code.Walks.{Walk, scope_at, outcome_behind, weight}
 use Rattle.idl_term.proofs.ListSteps.{steps_ill_formed, nothing_refused, head_refused, opened_by_operator, opened_by_let}
 use Rattle.idl_term.proofs.machine.Machine.enter_list.Goals as goal
 

@@ -2,8 +2,8 @@ use Rattle.std.proofs.Common.{◌≡◌, sym, subst, refl, true, length}
 use Rattle.std.proofs.lemmas.List.{nil_from_length}
 use Rattle.smt_sexpr.specs.Table.{HasItem}
 use Rattle.idl_term.specs.Lowered.{is_binding}
-use Rattle.idl_term.specs.Trees.{tree_of, IsTree}
-use Rattle.idl_term.specs.Walks.{Walk}
+use Rattle.idl_term.specs.code.Trees.{tree_of, IsTree}
+use Rattle.idl_term.specs.code.Walks.{Walk}
 use Rattle.idl_term.proofs.MachineSteps.{with_pushed}
 use Rattle.idl_term.proofs.LetSteps.{binding_waits, binding_has, body_waits, term_from, IsNext, IsTermOf}
 use Rattle.idl_term.proofs.FrameSteps.{binding_steps, body_steps}

@@ -1,7 +1,7 @@
 use Rattle.std.proofs.Common.{arith, ◌+◌, ◌∙◌, ap}
 use Rattle.idl_term.specs.Lowered.{lowered}
-use Rattle.idl_term.specs.Trees.{tree_of, size_of}
-use Rattle.idl_term.specs.Walks.{Walk, scope_at, outcome_from, weight}
+use Rattle.idl_term.specs.code.Trees.{tree_of, size_of}
+use Rattle.idl_term.specs.code.Walks.{Walk, scope_at, outcome_from, weight}
 use Rattle.idl_term.proofs.FrameSteps.{starts_outcome, lowers_error, running, value_lowers}
 use Rattle.idl_term.proofs.machine.Machine.run.Goals as goal
 

@@ -1,6 +1,6 @@
 use Rattle.idl_term.specs.Lowered.{lowered}
-use Rattle.idl_term.specs.Trees.{tree_of}
-use Rattle.idl_term.specs.Walks.{scope_at, weight}
+use Rattle.idl_term.specs.code.Trees.{tree_of}
+use Rattle.idl_term.specs.code.Walks.{scope_at, weight}
 use Rattle.idl_term.proofs.FrameSteps.{IsRunning}
 use Rattle.idl_term.proofs.machine.Machine.run.Given as goal
 

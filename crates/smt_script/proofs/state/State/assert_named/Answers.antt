@@ -1,5 +1,5 @@
 use Rattle.std.proofs.Common.{sym, subst}
-use Rattle.smt_script.specs.Kept.{Kept, StandsFor}
+use Rattle.smt_script.specs.code.Kept.{Kept, StandsFor}
 use Rattle.smt_script.proofs.Keeping.{kept_named}
 use Rattle.smt_script.proofs.Stepping.{naming_steps}
 use Rattle.smt_script.proofs.state.State.assert_named.Goals as goal

@@ -1,5 +1,5 @@
 use Rattle.std.proofs.Common.{sym, subst}
-use Rattle.smt_script.specs.Kept.{Kept, StandsFor}
+use Rattle.smt_script.specs.code.Kept.{Kept, StandsFor}
 use Rattle.smt_script.proofs.Keeping.{kept_asserted}
 use Rattle.smt_script.proofs.Stepping.{assertion_steps}
 use Rattle.smt_script.proofs.state.State.assert_term.Goals as goal

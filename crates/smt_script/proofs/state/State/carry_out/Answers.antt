@@ -1,5 +1,5 @@
 use Rattle.std.proofs.Common.{subst}
-use Rattle.smt_script.specs.Shapes.{CommandIs}
+use Rattle.smt_script.specs.code.Shapes.{CommandIs}
 use Rattle.smt_script.specs.declared.command.Request.{Request}
 use Rattle.smt_script.proofs.state.State.carry_out.Goals as goal
 

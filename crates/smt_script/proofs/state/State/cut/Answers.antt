@@ -1,5 +1,5 @@
 use Rattle.std.proofs.Common.{refl, sym, ap, subst, ◌∙◌, ◌≡◌, ◌<◌, Some, slice_get, length}
-use Rattle.smt_script.specs.Kept.{Kept}
+use Rattle.smt_script.specs.code.Kept.{Kept}
 use Rattle.smt_script.proofs.Levels.{level_within}
 use Rattle.smt_script.proofs.Keeping.{level_got, kept_cut}
 use Rattle.smt_script.proofs.state.State.cut.Goals as goal

@@ -3,7 +3,7 @@ use Rattle.std.proofs.lemmas.Result.{err_from_is_err_and}
 use Rattle.idl_term.specs.Limits.{names_limit}
 use Rattle.idl_term.specs.Operators.{is_reserved}
 use Rattle.idl_term.specs.Scopes.{Declaration, is_known}
-use Rattle.smt_script.specs.Kept.{Kept, StandsFor}
+use Rattle.smt_script.specs.code.Kept.{Kept, StandsFor}
 use Rattle.smt_script.specs.States.{sort_of}
 use Rattle.smt_script.proofs.Keeping.{kept_declared}
 use Rattle.smt_script.proofs.Stepping.{declaration_refused, declaration_taken, declaration_when_full, declaration_steps, declares_known, declares_new, known_taken, neither_taken, reserved_taken}

@@ -1,7 +1,7 @@
 use Rattle.std.proofs.Common.{sym, subst}
 use Rattle.std.proofs.lemmas.Result.{err_from_is_err_and}
 use Rattle.idl_term.specs.Scopes.{shown_term}
-use Rattle.smt_script.specs.Kept.{Kept, StandsFor}
+use Rattle.smt_script.specs.code.Kept.{Kept, StandsFor}
 use Rattle.smt_script.specs.States.{sort_of}
 use Rattle.smt_script.proofs.Keeping.{kept_defined}
 use Rattle.smt_script.proofs.Stepping.{definition_refused, definition_taken, definition_error, definition_steps}

@@ -1,8 +1,8 @@
 use Rattle.std.proofs.Common.{sym, ap, subst, arith, ◌∙◌, ◌≡◌, ◌≤◌, ◌-◌, ◌^◌, ℕ, length, get_or, Option, Ok}
 use Rattle.std.proofs.lemmas.Option.{slice_get-get_or}
 use Rattle.std.proofs.lemmas.Bool.Decides.{nat_tests}
-use Rattle.smt_script.specs.Kept.{Kept, StandsFor, IsKept}
-use Rattle.smt_script.specs.Shapes.{CountIs, Agrees}
+use Rattle.smt_script.specs.code.Kept.{Kept, StandsFor, IsKept}
+use Rattle.smt_script.specs.code.Shapes.{CountIs, Agrees}
 use Rattle.smt_script.specs.States.{after_pop}
 use Rattle.smt_script.specs.declared.state.Level.{Level}
 use Rattle.smt_script.specs.declared.state.Effect.TheVariants.{Tell}

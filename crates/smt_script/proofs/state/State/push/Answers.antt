@@ -1,8 +1,8 @@
 use Rattle.std.proofs.Common.{sym, ap, subst, arith, ◌∙◌, ◌≡◌, ◌<◌, ◌≤◌, ◌+◌, ℕ, List, length, Option}
 use Rattle.std.specs.Vec.{vec_len}
 use Rattle.idl_term.specs.Scopes.{Declaration}
-use Rattle.smt_script.specs.Kept.{Kept, StandsFor}
-use Rattle.smt_script.specs.Shapes.{CountIs}
+use Rattle.smt_script.specs.code.Kept.{Kept, StandsFor}
+use Rattle.smt_script.specs.code.Shapes.{CountIs}
 use Rattle.smt_script.proofs.Keeping.{level_is, pushed_is, kept_pushed}
 use Rattle.smt_script.proofs.Stepping.{push_refused, push_steps}
 use Rattle.smt_script.proofs.state.State.push.Goals as goal

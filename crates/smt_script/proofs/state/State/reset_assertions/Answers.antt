@@ -1,5 +1,5 @@
 use Rattle.std.proofs.Common.{sym, subst, Bool}
-use Rattle.smt_script.specs.Kept.{Kept, StandsFor}
+use Rattle.smt_script.specs.code.Kept.{Kept, StandsFor}
 use Rattle.smt_script.specs.States.{start_state}
 use Rattle.smt_script.proofs.state.State.reset_assertions.Goals as goal
 

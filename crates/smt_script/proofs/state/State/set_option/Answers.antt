@@ -1,5 +1,5 @@
 use Rattle.std.proofs.Common.{sym, ap, subst}
-use Rattle.smt_script.specs.Kept.{Kept, StandsFor}
+use Rattle.smt_script.specs.code.Kept.{Kept, StandsFor}
 use Rattle.smt_script.specs.States.{after_option}
 use Rattle.smt_script.proofs.Keeping.{stands_printing}
 use Rattle.smt_script.proofs.state.State.set_option.Goals as goal

@@ -1,5 +1,5 @@
 use Rattle.std.proofs.Common.{sym, subst}
-use Rattle.smt_script.specs.Kept.{Kept, StandsFor}
+use Rattle.smt_script.specs.code.Kept.{Kept, StandsFor}
 use Rattle.smt_script.proofs.Keeping.{stands_mode}
 use Rattle.smt_script.proofs.state.State.settle.Goals.{in-Sat, in-Unsat}
 use Rattle.smt_script.proofs.state.State.settle.Goals as goal

@@ -5,7 +5,7 @@ use Rattle.smt_script.proofs.Testing.{truths_grown, truths_cut}
 use Rattle.idl_term.specs.Applied.{Made}
 use Rattle.idl_term.specs.Contexts.{scope_of, environment}
 use Rattle.idl_term.specs.Scopes.{shown_term, sorts_of}
-use Rattle.smt_script.specs.Kept.{Kept, StandsFor}
+use Rattle.smt_script.specs.code.Kept.{Kept, StandsFor}
 use Rattle.smt_script.proofs.Stepping.{term_same}
 use Rattle.smt_script.proofs.state.State.value.Goals as goal
 

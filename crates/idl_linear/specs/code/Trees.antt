@@ -5,7 +5,7 @@ use Rattle.std.specs.List.{AllByRecursion, filter}
 use Rattle.idl_linear.specs.declared.summand.Summand.{Summand}
 use Rattle.idl_linear.specs.Limits.{points_limit}
 use Rattle.idl_linear.specs.Linear.{negative_summand}
-use Rattle.idl_linear.specs.Steps.{IsRest}
+use Rattle.idl_linear.specs.code.Steps.{IsRest}
 
 -- what a tree holds, and a number that is larger than those of its parts
 pub record TreeValue : Type 0 where

@@ -4,7 +4,7 @@ use Rattle.stn_core.specs.declared.literal.Literal.{Literal}
 use Rattle.idl_node.specs.Nodes.{NodeValue, shown}
 use Rattle.clause_form.specs.declared.form.Form.{Form}
 use Rattle.clause_form.specs.declared.form.Marks.{Marks}
-use Rattle.clause_form.specs.Marking.{IsNumbering}
+use Rattle.clause_form.specs.code.Marking.{IsNumbering}
 use Rattle.clause_form.specs.Polarity.{node_at}
 use Rattle.clause_form.specs.ClauseForm.{fresh_point, asserted_clauses, denied_clauses, inner_clauses, when}
 

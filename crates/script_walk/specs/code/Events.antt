@@ -12,7 +12,7 @@ use Rattle.smt_script.specs.States.{State, start_state, after}
 use Rattle.smt_answer.specs.declared.kind.Kind.{Kind}
 use Rattle.smt_answer.specs.Kinds.{kind_of, kind_of_unreadable}
 use Rattle.script_walk.specs.Questions.{refusal_of}
-use Rattle.script_walk.specs.Standing.{Stands}
+use Rattle.script_walk.specs.code.Standing.{Stands}
 use Rattle.script_walk.specs.declared.reader.Next.{Next}
 use Rattle.script_walk.specs.declared.reader.Next.TheVariants.{Command, End, Unread}
 use Rattle.script_walk.specs.declared.walk.Event.{Event}

@@ -16,7 +16,7 @@ use Rattle.idl_term.specs.declared.error.TermError.{TermError}
 use Rattle.idl_term.specs.declared.error.TermError.TheVariants as term
 use Rattle.smt_script.specs.Attributes.{Named, unnamed, named}
 use Rattle.smt_script.specs.Commands.{Command, setting_logic, setting_option, informing, declaring, defining, asserting, naming, pushing, popping, checking, asking_model, asking_values, asking_proof, asking_information, echoing, resetting_assertions, resetting, exiting, unsupported, function_command, definition_command}
-use Rattle.smt_script.specs.Kept.{Kept, StandsFor}
+use Rattle.smt_script.specs.code.Kept.{Kept, StandsFor}
 use Rattle.smt_script.specs.Options
 use Rattle.smt_script.specs.States.{State, Step, is_of_sort}
 use Rattle.smt_script.specs.declared.attribute.Attributes.{Attributes as AttributesRead}

@@ -3,7 +3,7 @@ use Rattle.std.specs.Prelude.{◌+◌, ◌++◌}
 use Rattle.std.specs.Arc.{arc_value}
 use Rattle.idl_linear.specs.declared.tree.Part.{Part}
 use Rattle.idl_linear.specs.declared.tree.Part.TheVariants.{Leaf, Fork}
-use Rattle.idl_linear.specs.Trees.{TreeValue, AllFrom, AllUpTo}
+use Rattle.idl_linear.specs.code.Trees.{TreeValue, AllFrom, AllUpTo}
 
 abbrev pub tree_in : Part → TreeValue
 tree_in (Leaf items) = record { summands = items.items; height = 0 }

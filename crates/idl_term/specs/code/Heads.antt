@@ -4,7 +4,7 @@ use Rattle.std.specs.Prelude.{◌≡◌, ℕ, List, true, false, Option, Some, N
 use Rattle.smt_sexpr.specs.Table.{Table}
 use Rattle.smt_sexpr.specs.Tree.{list, none, more}
 use Rattle.idl_term.specs.Lowered.{Head as Meaning, operator, binder, refused, is_let}
-use Rattle.idl_term.specs.Trees.{tree_of, trees_of, IsTree, AreTrees}
+use Rattle.idl_term.specs.code.Trees.{tree_of, trees_of, IsTree, AreTrees}
 use Rattle.idl_term.specs.declared.binding.LetParts.{LetParts}
 use Rattle.idl_term.specs.declared.head.Head.{Head}
 use Rattle.idl_term.specs.declared.head.Head.TheVariants.{Operator, Let, Refused}

@@ -4,7 +4,7 @@ use Rattle.idl_linear.specs.declared.summand.Summand.{Summand}
 use Rattle.idl_linear.specs.declared.runs.Run.{Run}
 use Rattle.idl_linear.specs.Linear.{negative_summand}
 use Rattle.idl_linear.specs.Limits.{points_limit}
-use Rattle.idl_linear.specs.Trees.{AllFrom}
+use Rattle.idl_linear.specs.code.Trees.{AllFrom}
 use Rattle.std.specs.Prelude.{◌+◌, if◌then◌else◌}
 
 -- its time point is that of a name, and its sum is far below the least number that doesn't fit its type

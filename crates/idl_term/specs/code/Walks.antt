@@ -7,11 +7,11 @@ use Rattle.idl_node.specs.Nodes.{NodeValue}
 use Rattle.idl_term.specs.Applied.{Made, applied}
 use Rattle.idl_term.specs.Comparing.{follows}
 use Rattle.idl_scope.specs.Limits.{names_limit}
-use Rattle.idl_scope.specs.LocalNames.{Inner, scope_in, without}
+use Rattle.idl_scope.specs.code.LocalNames.{Inner, scope_in, without}
 use Rattle.idl_term.specs.Lowered.{lowered, lowered_each, lowered_bound, lowered_let, is_let, with_bound, variables_in, are_bindings, count_of}
 use Rattle.idl_term.specs.Operators.{takes_count}
 use Rattle.idl_scope.specs.Scopes.{LoweredTerm, bindings_of, Scope}
-use Rattle.idl_term.specs.Trees.{tree_of, trees_of, IsTree, AreTrees, size_of, sizes_of}
+use Rattle.idl_term.specs.code.Trees.{tree_of, trees_of, IsTree, AreTrees, size_of, sizes_of}
 use Rattle.idl_term.specs.declared.error.TermError.{TermError}
 use Rattle.idl_term.specs.declared.error.TermError.TheVariants.{OutOfMemory, Refused}
 use Rattle.idl_term.specs.declared.error.TermRefusal.{TermRefusal}

@@ -4,7 +4,7 @@ use Rattle.std.specs.Arc.{arc_value}
 use Rattle.idl_linear.specs.declared.summand.Summand.{Summand}
 use Rattle.idl_linear.specs.declared.held.Held.{Held as Holding}
 use Rattle.idl_linear.specs.declared.held.Held.TheVariants.{One, Many, Shared}
-use Rattle.idl_linear.specs.Trees.{signed}
+use Rattle.idl_linear.specs.code.Trees.{signed}
 
 abbrev pub held_summands : Holding → List Summand
 held_summands (One s) = s ∷ []

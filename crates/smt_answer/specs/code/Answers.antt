@@ -2,7 +2,7 @@
 use Rattle.std.specs.Prelude.{◌≡◌, List, [], ◌∷◌}
 use Rattle.smt_sexpr.specs.Tree.{Sexpr, Items, none, more}
 use Rattle.idl_term.specs.Values.{Value}
-use Rattle.smt_script.specs.TermValues.{value_shown}
+use Rattle.smt_script.specs.code.TermValues.{value_shown}
 use Rattle.smt_script.specs.declared.value.TermValue.{TermValue}
 
 -- one for each term, in order

@@ -1,7 +1,7 @@
 -- Of the code and not of the meaning: where a walk without answers leads.
 use Rattle.std.specs.Prelude.{ℕ, List}
 use Rattle.smt_script.specs.States.{State}
-use Rattle.script_walk.specs.Standing.{Stands}
+use Rattle.script_walk.specs.code.Standing.{Stands}
 use Rattle.script_walk.specs.declared.walk.Walk.{Walk}
 use Rattle.script_counts.specs.Counting.{IsLast}
 

@@ -1,0 +1,7 @@
+-- Words of the code alone, which contracts of the code's own calls cite: no part of the meaning.
+pub mod Branching
+pub mod FirstRuns
+pub mod Held
+pub mod Steps
+pub mod TreeParts
+pub mod Trees

@@ -1,0 +1,8 @@
+-- Words of the code alone, which contracts of the code's own calls cite: no part of the meaning.
+pub mod Applying
+pub mod Evaluating
+pub mod Heads
+pub mod Reserved
+pub mod Shapes
+pub mod Trees
+pub mod Walks
