@@ -7,3 +7,4 @@ pub mod Accepting
 pub mod WholeExamples
 pub mod Held
 pub mod Lines
+pub mod Making

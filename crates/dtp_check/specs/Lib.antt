@@ -4,6 +4,7 @@ pub mod Texts
 pub mod Answered
 pub mod Told
 pub mod Laws
+pub mod Made
 pub mod Whole
 pub mod WholeExamples
 pub mod Parts

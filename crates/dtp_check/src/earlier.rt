@@ -2,6 +2,7 @@
 ghost use Rattle.std.specs.Prelude.{◌≡◌, ◌↔◌, [], ◌∷◌, ◌++◌, map, All, IfOk, IfErr, IsOk, OnOk, List, IsTrue, None};
 ghost use Rattle.std.specs.List.{AllByRecursion};
 ghost use Rattle.kept_lemmas.specs.Entries.{Placed as Place, IsOwn, shelf_of, without_items};
+ghost use Rattle.kept_lemmas.specs.Facts.{Shelf as Facts};
 ghost use Rattle.cert_text.specs.declared.entry.FileEntry.{FileEntry as Shown};
 ghost use Rattle.lemma_shelf.specs.Tables.{own_item};
 ghost use Rattle.lemma_shelf.specs.ItemFlaws.{items_flaw};
@@ -48,7 +49,7 @@ fn keeps_none(entry: &FileEntry) -> bool
 
 /// Whether all items are lemmas of the entry's own.
 fn are_own(items: &[Item]) -> bool
-    ensures { IsTrue result → All IsOwn items.now }
+    ensures { IsTrue result ↔ All IsOwn items.now }
 {
     items.iter().all(|item| is_own(item))
 }
@@ -102,6 +103,8 @@ impl Earlier {
             (before ++ record { points = problem.now.points; clauses = problem.now.clauses; items = items.now } ∷ [])) }
         ensures refutes { OnOk result
             (LastRefutes self.new problem.now.points problem.now.clauses items.now) }
+        ensures right { OnOk result ((shelf : Facts)
+            × (items_flaw shelf problem.now.points problem.now.clauses items.now ≡ None)) }
         ensures suffices { (entries : List Shown) → Suffices self.old entries → Suffices self.new entries }
     {
         kept_lemmas::entries_law();
@@ -111,8 +114,8 @@ impl Earlier {
         }
     }
 
-    /// The refutation that the items are of the problem, with each kept lemma written out, or their first flaw. Where they
-    /// refute it, they are held.
+    /// The refutation that the items are of the problem, or their first flaw. Where they refute it, they are held. Lemmas of
+    /// which none is kept stay, all of them in their order; else each that the last one needs is written out.
     pub fn lowered(
         &mut self,
         alloc: Global,
@@ -125,6 +128,7 @@ impl Earlier {
         ensures right { IsOk result → (before : List Place) → Holds self.old before
             → items_flaw (shelf_of before) problem.now.points problem.now.clauses items.now ≡ None }
         ensures refutes { IfOk result (IsRefutation problem.now.points problem.now.clauses) }
+        ensures own { IfOk result (λ lemmas. All IsOwn items.now → map own_item lemmas ≡ items.now) }
         ensures held { IsOk result → (before : List Place) → Holds self.old before → Holds self.new
             (before ++ record { points = problem.now.points; clauses = problem.now.clauses; items = items.now } ∷ []) }
         ensures suffices { (entries : List Shown) → Suffices self.old entries → Suffices self.new entries }
@@ -134,7 +138,13 @@ impl Earlier {
         self.check(alloc, problem, items)?;
         match self {
             Earlier::Unkept => Ok(own_lemmas(alloc, items)?),
-            Earlier::Shelved(shelf) => Ok(shelf.lower(alloc, problem, shelf.len() - 1)?),
+            Earlier::Shelved(shelf) => {
+                if are_own(items) {
+                    Ok(own_lemmas(alloc, items)?)
+                } else {
+                    Ok(shelf.lower(alloc, problem, shelf.len() - 1)?)
+                }
+            }
         }
     }
 

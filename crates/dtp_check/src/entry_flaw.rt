@@ -9,18 +9,19 @@ ghost use Rattle.smt_script.specs.States.{State as Meaning};
 ghost use Rattle.script_walk.specs.code.Standing.{Stands};
 ghost use Rattle.dtp_check.specs.Earlier.{Holds, Suffices};
 ghost use Rattle.dtp_check.specs.Judged.{is_of_sort, first_of_wrong_sort, values_flaw, entry_flaw, placed};
+ghost use Rattle.dtp_check.specs.Made.{IsMadeOf};
 ghost use Rattle.dtp_check.specs.Roots.{first_unmarked};
 
 use crate::earlier::Earlier;
 use crate::judgement::EntryFlaw;
+use crate::made::take_or_make;
 use cert_check::CheckError;
 use cert_text::FileEntry;
-use dtp_entry::problem;
 use idl_node::{Nodes, Sort, eval};
 use kept_lemmas::Items;
 use smt_script::State;
 use std::alloc::{AllocError, Global};
-use stn_core::{NamedValue, NamedValues};
+use stn_core::{NamedValue, NamedValues, Problem};
 
 fn is_of_sort(sort: Sort, value: NamedValue) -> bool
     ensures { result ≡ is_of_sort sort value }
@@ -100,15 +101,19 @@ fn values_flaw(
 }
 
 /// What is wrong with the entry of a check-sat in this state. Where nothing is, it is held for those that come. It takes
-/// time of the order of the entry and the state, and of what it keeps with what that cites.
+/// time of the order of the entry and the state, and of what it keeps with what that cites; of a refutation without kept
+/// items, of the order of the entry where the problem was made before.
 pub fn entry_flaw(
     alloc: Global,
     state: &State,
+    made: &mut Option<Problem>,
     earlier: &mut Earlier,
     entry: &FileEntry,
 ) -> Result<Option<EntryFlaw>, AllocError>
     requires stands { (s : Meaning) × Stands state.now s }
+    requires made { IsMadeOf state.now made.old }
     requires suffices { Suffices earlier.old (entry.now ∷ []) }
+    ensures made { IsMadeOf state.now made.new }
     ensures flaw { IfOk result (λ flaw. (s : Meaning) (before : List Place) → Stands state.now s
         → Holds earlier.old before → flaw ≡ entry_flaw before s.context entry.now) }
     ensures held { IfOk result (λ flaw. flaw ≡ None → (s : Meaning) (before : List Place) → Stands state.now s
@@ -122,7 +127,7 @@ pub fn entry_flaw(
             Ok(flaw)
         }
         FileEntry::Unsat(items) => {
-            let flaw = items_flaw(alloc, state, earlier, items)?;
+            let flaw = items_flaw(alloc, state, made, earlier, items)?;
             Ok(flaw)
         }
     }
@@ -132,19 +137,24 @@ pub fn entry_flaw(
 fn items_flaw(
     alloc: Global,
     state: &State,
+    made: &mut Option<Problem>,
     earlier: &mut Earlier,
     items: &Items,
 ) -> Result<Option<EntryFlaw>, AllocError>
     requires stands { (s : Meaning) × Stands state.now s }
+    requires made { IsMadeOf state.now made.old }
     requires suffices { Suffices earlier.old (Shown.Unsat items.now ∷ []) }
+    ensures made { IsMadeOf state.now made.new }
     ensures flaw { IfOk result (λ flaw. (s : Meaning) (before : List Place) → Stands state.now s
         → Holds earlier.old before → flaw ≡ entry_flaw before s.context (Shown.Unsat items.now)) }
     ensures held { IfOk result (λ flaw. flaw ≡ None → (s : Meaning) (before : List Place) → Stands state.now s
         → Holds earlier.old before → Holds earlier.new (before ++ placed s.context (Shown.Unsat items.now) ∷ [])) }
     ensures suffices { (entries : List Shown) → Suffices earlier.old entries → Suffices earlier.new entries }
 {
-    let problem = problem(alloc, state)?;
-    match earlier.check(alloc, &problem, items.as_slice()) {
+    let problem = take_or_make(alloc, state, made)?;
+    let checked = earlier.check(alloc, &problem, items.as_slice());
+    *made = Some(problem);
+    match checked {
         Ok(()) => Ok(None),
         Err(CheckError::Refused(flaw)) => Ok(Some(EntryFlaw::Flawed(flaw))),
         Err(CheckError::OutOfMemory) => Err(AllocError),

@@ -10,18 +10,21 @@ ghost use Rattle.script_walk.specs.code.Standing.{Stands};
 ghost use Rattle.dtp_check.specs.Earlier.{Holds, Suffices};
 ghost use Rattle.dtp_check.specs.declared.script_part.PartEnd.{PartEnd as End};
 ghost use Rattle.dtp_check.specs.Judged.{surplus_of, turns_with, told_by, ScriptPart};
+ghost use Rattle.dtp_check.specs.Made.{IsMadeStill, GoesOn as More};
 ghost use Rattle.dtp_check.specs.Parts.{IsNext, GoesOn, IsReadable};
 ghost use Rattle.dtp_check.specs.Turns.{ComesTo, StandsAt, IsCheckTurn, IsJudgedTurn};
 
 use crate::earlier::Earlier;
 use crate::judgement::Judgement;
 use crate::keeps::Keeps;
+use crate::made::let_go_if_changed;
 use crate::script_part::{Next, PartEnd, next_command};
 use cert_text::FileEntry;
 use script_walk::{Event, Walk};
 use smt_script::Satisfiability;
 use smt_sexpr::SexprId;
 use std::alloc::{AllocError, Global};
+use stn_core::Problem;
 
 /// What a command leads to.
 #[derive(Clone, Copy)]
@@ -57,22 +60,26 @@ pub fn told_by(entry: &FileEntry) -> Satisfiability
 fn judge_check<K: Keeps>(
     alloc: Global,
     walk: &mut Walk,
+    made: &mut Option<Problem>,
     earlier: &mut Earlier,
     entries: &[FileEntry],
     used: usize,
     keeps: &mut K,
 ) -> Result<Progress, AllocError>
     requires stands { (s : Meaning) × Stands walk.old.state s }
+    requires made { IsMadeStill walk.old.state made.old }
     requires used { used ≤ length entries.now }
     requires suffices { Suffices earlier.old entries.now }
     ensures turn { IfOk result (λ progress. (s : Meaning) (before : List Placed) → Stands walk.old.state s
         → Holds earlier.old before
         → IsCheckTurn K.leads keeps.old keeps.new s used before entries.now walk.new.state earlier.new progress) }
+    ensures made { IfOk result (λ progress. More progress → IsMadeStill walk.new.state made.new) }
     ensures suffices { Suffices earlier.new entries.now }
     ensures rest { walk.new ≡ record walk.old { state = walk.new.state } }
 {
+    let_go_if_changed(&walk.state, made);
     match entries.get(used) {
-        Some(entry) => match keeps.keep(alloc, &walk.state, earlier, entry)? {
+        Some(entry) => match keeps.keep(alloc, &walk.state, made, earlier, entry)? {
             Some(flaw) => Ok(Progress::Judged(Judgement::Entry(used + 1, flaw))),
             None => {
                 walk.settle(told_by(entry));
@@ -88,6 +95,7 @@ fn judge_command<K: Keeps>(
     alloc: Global,
     walk: &mut Walk,
     id: SexprId,
+    made: &mut Option<Problem>,
     earlier: &mut Earlier,
     entries: &[FileEntry],
     used: usize,
@@ -96,21 +104,24 @@ fn judge_command<K: Keeps>(
     requires meaning { HasMeaning walk.old.sexprs id }
     requires stands { (place : Place Shown) × (before : List Placed)
         × StandsAt entries.now walk.old.number used walk.old.state earlier.old place before }
+    requires made { IsMadeStill walk.old.state made.old }
     requires few { walk.old.number < 2 ^ 64 - 1 }
     requires used { used ≤ length entries.now }
     requires suffices { Suffices earlier.old entries.now }
     ensures turn { IfOk result (λ progress. (place : Place Shown) (before : List Placed) (x : Sexpr)
         → StandsAt entries.now walk.old.number used walk.old.state earlier.old place before → Means walk.old.sexprs id x
         → IsJudgedTurn K.leads keeps.old keeps.new place before entries.now x walk.new.number walk.new.state earlier.new progress) }
+    ensures made { IfOk result (λ progress. More progress → IsMadeStill walk.new.state made.new) }
     ensures suffices { Suffices earlier.new entries.now }
     ensures lexer { walk.new.lexer ≡ walk.old.lexer }
     ensures sexprs { walk.new.sexprs ≡ walk.old.sexprs }
 {
     smt_script::exit_law();
+    smt_script::mode_law();
     match walk.carry_out(id)? {
         Event::Told(_, _) => Ok(Progress::Going(used)),
         Event::Asked(_, _) => {
-            let progress = judge_check(alloc, walk, earlier, entries, used, keeps)?;
+            let progress = judge_check(alloc, walk, made, earlier, entries, used, keeps)?;
             Ok(progress)
         }
         Event::Ended => Ok(Progress::Judged(surplus(entries, used))),
@@ -135,14 +146,15 @@ fn read_on(walk: &mut Walk) -> Result<Next, AllocError>
     Ok(next)
 }
 
-/// What the script comes to with these entries, each of which is kept where it is right. The script is read again, command by
-/// command.
-pub fn judge_script<K: Keeps>(
+/// What the script comes to with these entries, where no problem was made before.
+fn judge_each<K: Keeps>(
     alloc: Global,
     bytes: &[u8],
+    made: &mut Option<Problem>,
     entries: &[FileEntry],
     keeps: &mut K,
 ) -> Result<Judgement, AllocError>
+    requires { made.old ≡ None }
     ensures { IfOk result (λ judgement. (xs : List Sexpr) (end : End) (behind : ℕ)
         → ScriptPart bytes.now 0 xs end behind → IsReadable end
         → ComesTo K.leads [] keeps.old (turns_with entries.now xs) judgement keeps.new) }
@@ -159,9 +171,35 @@ pub fn judge_script<K: Keeps>(
             }
             Next::Ended(_) => return Ok(surplus(entries, used)),
         };
-        match judge_command(alloc, &mut walk, id, &mut earlier, entries, used, keeps)? {
+        match judge_command(
+            alloc,
+            &mut walk,
+            id,
+            made,
+            &mut earlier,
+            entries,
+            used,
+            keeps,
+        )? {
             Progress::Going(now) => used = now,
             Progress::Judged(judgement) => return Ok(judgement),
         }
     }
+}
+
+/// What the script comes to with these entries, each of which is kept where it is right. The script is read again, command by
+/// command.
+pub fn judge_script<K: Keeps>(
+    alloc: Global,
+    bytes: &[u8],
+    entries: &[FileEntry],
+    keeps: &mut K,
+) -> Result<Judgement, AllocError>
+    ensures { IfOk result (λ judgement. (xs : List Sexpr) (end : End) (behind : ℕ)
+        → ScriptPart bytes.now 0 xs end behind → IsReadable end
+        → ComesTo K.leads [] keeps.old (turns_with entries.now xs) judgement keeps.new) }
+{
+    let mut made = None;
+    let judgement = judge_each(alloc, bytes, &mut made, entries, keeps)?;
+    Ok(judgement)
 }

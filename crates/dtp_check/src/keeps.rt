@@ -7,6 +7,7 @@ ghost use Rattle.smt_script.specs.States.{State as Meaning};
 ghost use Rattle.script_walk.specs.code.Standing.{Stands};
 ghost use Rattle.dtp_check.specs.Earlier.{Holds, Suffices};
 ghost use Rattle.dtp_check.specs.Judged.{entry_flaw, placed};
+ghost use Rattle.dtp_check.specs.Made.{IsMadeOf};
 
 use crate::earlier::Earlier;
 use crate::entry_flaw::entry_flaw;
@@ -14,6 +15,7 @@ use crate::judgement::EntryFlaw;
 use cert_text::FileEntry;
 use smt_script::State;
 use std::alloc::{AllocError, Global};
+use stn_core::Problem;
 
 /// Takes each right entry.
 pub trait Keeps {
@@ -21,15 +23,19 @@ pub trait Keeps {
     ghost leads: { Self → Self → Context → Shown → Type 0 };
 
     /// What is wrong with the entry of a check-sat in this state. Where nothing is, it is kept, and held for those that come.
+    /// The problem of the state's assertions is given where it was made before, and is held where it is made.
     fn keep(
         &mut self,
         alloc: Global,
         state: &State,
+        made: &mut Option<Problem>,
         earlier: &mut Earlier,
         entry: &FileEntry,
     ) -> Result<Option<EntryFlaw>, AllocError>
         requires stands { (s : Meaning) × Stands state.now s }
+        requires made { IsMadeOf state.now made.old }
         requires suffices { Suffices earlier.old (entry.now ∷ []) }
+        ensures made { IsMadeOf state.now made.new }
         ensures flaw { IfOk result (λ flaw. (s : Meaning) (before : List Place) → Stands state.now s
             → Holds earlier.old before → flaw ≡ entry_flaw before s.context entry.now) }
         ensures held { IfOk result (λ flaw. flaw ≡ None → (s : Meaning) (before : List Place) → Stands state.now s
@@ -50,10 +56,11 @@ impl Keeps for KeepsNothing {
         &mut self,
         alloc: Global,
         state: &State,
+        made: &mut Option<Problem>,
         earlier: &mut Earlier,
         entry: &FileEntry,
     ) -> Result<Option<EntryFlaw>, AllocError> {
-        let flaw = entry_flaw(alloc, state, earlier, entry)?;
+        let flaw = entry_flaw(alloc, state, made, earlier, entry)?;
         Ok(flaw)
     }
 }

@@ -9,6 +9,7 @@ mod judge;
 mod judgement;
 mod keeps;
 mod laws;
+mod made;
 mod script_part;
 mod text;
 
@@ -19,5 +20,6 @@ pub use judge::{judge_script, told_by};
 pub use judgement::{EntryFlaw, Judgement};
 pub use keeps::{Keeps, KeepsNothing};
 pub use laws::{certified_is_accepted, nothing_false_is_accepted, one_judgement, whole_examples};
+pub use made::take_or_make;
 pub use script_part::{Next, Part, PartEnd, next_command, read_part};
 pub use text::judgement_line;

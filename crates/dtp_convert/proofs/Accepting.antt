@@ -1,12 +1,13 @@
 -- A script with what it was converted to is accepted.
 use Rattle.std.proofs.Common.{refl, sym, ap, subst, arith, ◌∙◌, ◌≡◌, ◌≢◌, ◌+◌, ◌≤◌, ℕ, List, [], ◌∷◌, ◌++◌, length, drop, Bool, true, false, Option, Some, None, Result, Ok, Err}
 use Rattle.smt_sexpr.specs.Tree.{Sexpr, list}
-use Rattle.smt_sexpr.specs.Laws.{ListIsWithin}
+use Rattle.smt_sexpr.specs.Laws.{OneOutcome, ListIsWithin}
 use Rattle.smt_sexpr.specs.Reading.{Spells}
 use Rattle.smt_sexpr.specs.Commands.{Commands, ended}
 use Rattle.cert_read.specs.Written.{IsClosedGap}
 use Rattle.cert_text.specs.declared.entry.Version.TheVariants.{One}
 use Rattle.cert_text.specs.declared.entry.Entry.{Entry}
+use Rattle.cert_text.specs.Laws.{OneHeader}
 use Rattle.smt_script.specs.declared.error.Refusal.{Refusal}
 use Rattle.smt_script.specs.declared.state.Effect.{Effect}
 use Rattle.smt_script.specs.declared.state.Effect.TheVariants.{Ask, Exit, Tell}
@@ -25,6 +26,7 @@ use Rattle.dtp_check.specs.Laws.{CertifiedIsAccepted}
 use Rattle.dtp_check.specs.Whole.{IsWholeFrom}
 use Rattle.dtp_check.proofs.Accepting.{carried_list, closed_ends}
 use Rattle.dtp_check.proofs.Judging.{step_of}
+use Rattle.dtp_check.proofs.Reading.{same_part}
 use Rattle.dtp_convert.specs.Converted.{IsConverted}
 use Rattle.dtp_convert.specs.Laws.{ConvertedIsAccepted}
 use Rattle.dtp_convert.specs.Turns.{turns_of}
@@ -94,9 +96,11 @@ module _ (inside : ListIsWithin) (only : OnlyExitEnds) (script : List ℕ) where
   read place (x ∷ xs) p over le (mid, spells, follows) =
       read_by place mid p x xs spells follows (λ q. course verdict_of q xs ended) (λ q left there whole. read mid xs q left there whole) (after p.state x) refl over
 
-pub accepted : ListIsWithin → OnlyExitEnds → CertifiedIsAccepted → ConvertedIsAccepted
-accepted inside only law bytes script text h whole =
+pub accepted : OneOutcome → OneHeader → ListIsWithin → OnlyExitEnds → CertifiedIsAccepted → ConvertedIsAccepted
+accepted one headers inside only law source script text h is =
     let found = h.entries in
+    let same = same_part one headers source 0 is.commands h.commands is.end h.end is.behind h.behind is.part h.script in
+    let whole : IsWholeFrom script 0 h.commands = subst (IsWholeFrom script 0) same.commands is.whole in
     let r = read inside only script 0 h.commands (start_with found) h.decide.over (omega arith) whole in
     let report : IsReport (Certificate One) script text 0 = (
       found,

@@ -1,4 +1,5 @@
-pub mod Writing
 pub mod Accepting
 pub mod Deciding
 pub mod Examining
+pub mod Lines
+pub mod Writing

@@ -3,7 +3,9 @@ use Rattle.std.proofs.Common.{refl, sym, ap, subst, ◌∙◌, ◌≡◌, ◌+�
 use Rattle.std.proofs.lemmas.List.{append-nil, append_assoc}
 use Rattle.smt_sexpr.specs.Tree.{Sexpr}
 use Rattle.smt_sexpr.specs.Commands.{ended}
+use Rattle.cert_text.specs.declared.entry.Version.{Version}
 use Rattle.cert_text.specs.declared.entry.Version.TheVariants.{One}
+use Rattle.cert_read.specs.Certificates.{certificate}
 use Rattle.cert_text.specs.declared.entry.Entry.{Entry}
 use Rattle.cert_text.specs.declared.entry.FileEntry.{FileEntry}
 use Rattle.cert_text.specs.Form.{entry_sexpr, end_sexpr, line_of}
@@ -16,19 +18,19 @@ use Rattle.smt_script.specs.declared.state.Satisfiability.{Satisfiability}
 use Rattle.smt_script.specs.States.{State, Step, after, settled, start_state}
 use Rattle.smt_answer.specs.declared.kind.Kind.{Kind}
 use Rattle.script_walk.specs.Questions.{refusal_of}
-use Rattle.script_walk.specs.Course.{Place, start_with, Turn, turn, tells, answers, ends, behind_told, behind_answer, asked, taken, by_effect, by_command, course, answers_of, AreAnswered}
+use Rattle.script_walk.specs.Course.{Place, start_with, Turn, Outcome, turn, tells, answers, asks, ends, fails, behind_told, behind_answer, asked, taken, by_effect, by_command, course, answers_of, AreAnswered}
 use Rattle.script_walk.proofs.Turns.{told_turn, answered_turn, exit_turn}
 use Rattle.cert_stream.specs.Streams.{entry_lines, whole_text}
 use Rattle.dtp_entry.specs.declared.report.Report.TheVariants.{Certificate}
 use Rattle.dtp_entry.specs.Entries.{verdict_of}
 use Rattle.dtp_entry.specs.Transcripts.{DecidesIn, opening, pieces}
 use Rattle.dtp_check.specs.declared.script_part.PartEnd.{PartEnd}
-use Rattle.dtp_check.specs.Judged.{ScriptPart, told_by}
-use Rattle.dtp_check.specs.Turns.{Leads, AreKept}
+use Rattle.dtp_check.specs.Judged.{ScriptPart, CertificateBehind, told_by, turns_with}
+use Rattle.dtp_check.specs.Turns.{Leads, KeptBy, AreKept}
 use Rattle.dtp_check.proofs.Judging.{question_taken, step_of}
 use Rattle.dtp_convert.specs.declared.converting.Converting.{Converting}
 use Rattle.dtp_convert.specs.Converted.{IsConverted}
-use Rattle.dtp_convert.specs.Turns.{turns_of, AreConverted, IsConvertedTo, IsAdded}
+use Rattle.dtp_convert.specs.Turns.{turns_of, AreConverted, ShowsBy, AreShown, IsAdded}
 
 -- ---- what was kept decides the questions
 
@@ -54,7 +56,7 @@ module _ (last : Converting) (p : Place FileEntry) (x : Sexpr) (xs : List Sexpr)
     (rest : (q : Place FileEntry) (now : Converting) → AreKept added_to now last (make q) → IsFound q.state xs now.entries.items last.entries.items) (first : Converting) where
   found_asked : (s : State) (question : Question) → after p.state x ≡ Ok (step_of s (Ask question)) → (left : List FileEntry) → AreKept added_to first last (asked told_by p s question x left make) → IsFound p.state (x ∷ xs) first.entries.items last.entries.items
   found_asked s question e [] h = absurd h
-  found_asked s question e (entry ∷ left) (next, (shown, (decides, same), now), follows) =
+  found_asked s question e (entry ∷ left) (next, (shown, (decides, same, stays), now), follows) =
       let w = rest (behind_answer told_by p s entry left) next follows in
       record {
         found = shown ∷ w.found;
@@ -113,6 +115,46 @@ all_converted first last xs entries none h =
     let same : last.entries.items ≡ w.found = w.added ∙ ap (λ (es : List Entry). es ++ w.found) none in
     subst (λ (es : List Entry). AreConverted xs es) (sym same) (w.decided 1 None)
 
+-- ---- what becomes of the entries that were read
+
+record HasShown (first last : List Entry) (turns : List (Turn FileEntry)) : Type 0 where
+  found : List Entry
+  added : last ≡ first ++ found
+  stay : AreShown turns found
+
+module _ (last : Converting) (t : Turn FileEntry) (ts : List (Turn FileEntry)) (rest : (now : Converting) → AreKept added_to now last ts → HasShown now.entries.items last.entries.items ts) where
+  shown_at : (outcome : Outcome FileEntry) (first : Converting) → KeptBy added_to first last t.state outcome (λ next. AreKept added_to next last ts)
+      → (found : List Entry) × (last.entries.items ≡ first.entries.items ++ found) × ShowsBy t.state outcome found (λ others. AreShown ts others)
+  shown_at (tells x notice) first h = let w = rest first h in (w.found, w.added, w.stay)
+  shown_at (answers question x entry) first (next, (shown, (decides, same, stays), now), follows) =
+      let w = rest next follows in (
+        shown ∷ w.found,
+        w.added ∙ ap (λ (es : List Entry). es ++ w.found) now ∙ append_assoc first.entries.items (shown ∷ []) w.found,
+        (stays, w.stay),
+      )
+  shown_at (asks question x) first h = absurd h
+  shown_at ends first h = ([], ap (λ (k : Converting). k.entries.items) (sym h) ∙ sym (append-nil first.entries.items), refl)
+  shown_at (fails kind) first h = absurd h
+
+  shown_by : (outcome : Outcome FileEntry) → t.outcome ≡ outcome → (first : Converting) → KeptBy added_to first last t.state outcome (λ next. AreKept added_to next last ts) → HasShown first.entries.items last.entries.items (t ∷ ts)
+  shown_by outcome e first h =
+      let w = shown_at outcome first h in
+      record {
+        found = w.0;
+        added = w.1;
+        stay = subst (λ (o : Outcome FileEntry). ShowsBy t.state o w.0 (λ others. AreShown ts others)) (sym e) w.2;
+      }
+
+shown_all : (last : Converting) (turns : List (Turn FileEntry)) (first : Converting) → AreKept added_to first last turns → HasShown first.entries.items last.entries.items turns
+shown_all last [] first h = absurd h
+shown_all last (t ∷ ts) first h = shown_by last t ts (λ now more. shown_all last ts now more) t.outcome refl first h
+
+pub all_stay : (first last : Converting) (xs : List Sexpr) (entries : List FileEntry) → first.entries.items ≡ [] → AreKept added_to first last (turns_with entries xs) → AreShown (turns_with entries xs) last.entries.items
+all_stay first last xs entries none h =
+    let w = shown_all last (turns_with entries xs) first h in
+    let same : last.entries.items ≡ w.found = w.added ∙ ap (λ (es : List Entry). es ++ w.found) none in
+    subst (AreShown (turns_with entries xs)) (sym same) w.stay
+
 -- ---- what is written of them
 
 abbrev IsWritten : List (Turn Entry) → List Entry → Type 0
@@ -154,13 +196,18 @@ unfolding course
 written [] p h = no_entry p.left h.used
 written (x ∷ xs) p h = written_after p x (λ next. course verdict_of next xs ended) (λ q there. written xs q there) (after p.state x) h
 
-pub converted : (bytes : List ℕ) (end : PartEnd) (behind : ℕ) (xs : List Sexpr) (entries : List Entry) → ScriptPart bytes 0 xs end behind → AreConverted xs entries → IsConverted bytes (whole_text One entries)
-converted bytes end behind xs entries script h = record {
+pub converted : (bytes : List ℕ) (end : PartEnd) (behind : ℕ) (xs : List Sexpr) (version : Version) (given : List FileEntry) (entries : List Entry) → ScriptPart bytes 0 xs end behind
+    → CertificateBehind bytes end behind (certificate version given) → AreConverted xs entries → AreShown (turns_with given xs) entries → IsConverted bytes (whole_text One entries)
+converted bytes end behind xs version given entries script reads h stay = record {
   commands = xs;
   end = end;
   behind = behind;
   script = script;
+  version = version;
+  given = given;
+  reads = reads;
   entries = entries;
   decide = h;
+  stay = stay;
   is = ap (λ (t : List ℕ). opening (Certificate One) ++ t) (sym (written xs (start_with entries) h));
 }

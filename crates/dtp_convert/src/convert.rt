@@ -6,8 +6,8 @@ ghost use Rattle.dtp_entry.specs.Written.{Writes};
 ghost use Rattle.dtp_convert.specs.Converted.{IsExamined, IsConversion, IsConversionPart};
 
 use crate::converting::Converting;
-use cert_stream::write_certificate;
-use cert_text::{Entry, Version};
+use crate::lines::write_lines;
+use cert_text::Entry;
 use dtp_check::{
     Behind, Checked, Judgement, PartEnd, judge_script, judgement_line, read_behind, read_part,
 };
@@ -68,7 +68,7 @@ pub fn convert_pair<K: Sink>(
 {
     match examine(alloc, bytes)? {
         Examined::Converted(entries) => {
-            write_certificate(alloc, Version::One, &entries, sink)?;
+            write_lines(alloc, &entries, sink)?;
             Ok(Checked::Accepted)
         }
         Examined::Refused(judgement) => {

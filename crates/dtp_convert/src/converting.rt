@@ -6,6 +6,7 @@ use cert_text::{Entry, FileEntry};
 use dtp_check::{Earlier, EntryFlaw, Keeps};
 use smt_script::State;
 use std::alloc::{AllocError, Global};
+use stn_core::Problem;
 
 /// The entries so far, as the first version shows them.
 #[derive(Drop)]
@@ -33,10 +34,11 @@ impl Keeps for Converting {
         &mut self,
         alloc: Global,
         state: &State,
+        made: &mut Option<Problem>,
         earlier: &mut Earlier,
         entry: &FileEntry,
     ) -> Result<Option<EntryFlaw>, AllocError> {
-        match shown_entry(alloc, state, earlier, entry)? {
+        match shown_entry(alloc, state, made, earlier, entry)? {
             Ok(shown) => {
                 self.entries.push(shown)?;
                 Ok(None)

@@ -9,13 +9,13 @@ ghost use Rattle.smt_script.specs.States.{State as Meaning};
 ghost use Rattle.script_walk.specs.code.Standing.{Stands};
 ghost use Rattle.dtp_check.specs.Earlier.{Holds, Suffices};
 ghost use Rattle.dtp_check.specs.Judged.{placed};
+ghost use Rattle.dtp_check.specs.Made.{IsMadeOf};
 ghost use Rattle.dtp_convert.specs.Turns.{IsShown};
 
 use crate::fitting::{are_values_within, are_within};
 use cert_check::CheckError;
 use cert_text::{Entry, FileEntry};
-use dtp_check::{Earlier, EntryFlaw, Keeps, KeepsNothing};
-use dtp_entry::problem;
+use dtp_check::{Earlier, EntryFlaw, Keeps, KeepsNothing, take_or_make};
 use kept_lemmas::Items;
 use refute_tree::{Lemma, Refutation, lengthen};
 use smt_script::State;
@@ -64,20 +64,23 @@ fn converted_values(alloc: Global, values: &NamedValues) -> Result<NamedValues, 
 fn shown_values(
     alloc: Global,
     state: &State,
+    made: &mut Option<Problem>,
     earlier: &mut Earlier,
     entry: &FileEntry,
     values: &NamedValues,
 ) -> Result<Result<Entry, EntryFlaw>, AllocError>
     requires entry { entry.now ≡ Shown.Sat values.now }
     requires stands { (s : Meaning) × Stands state.now s }
+    requires made { IsMadeOf state.now made.old }
     requires suffices { Suffices earlier.old (entry.now ∷ []) }
+    ensures made { IsMadeOf state.now made.new }
     ensures shown { IfOk result (λ found. (s : Meaning) (before : List Place) → Stands state.now s
         → Holds earlier.old before → IsShown before s.context entry.now found) }
     ensures held { IfOk result (λ found. IsOk found → (s : Meaning) (before : List Place) → Stands state.now s
         → Holds earlier.old before → Holds earlier.new (before ++ placed s.context entry.now ∷ [])) }
     ensures suffices { (entries : List Shown) → Suffices earlier.old entries → Suffices earlier.new entries }
 {
-    match KeepsNothing.keep(alloc, state, earlier, entry)? {
+    match KeepsNothing.keep(alloc, state, made, earlier, entry)? {
         Some(flaw) => Ok(Err(flaw)),
         None => {
             let shown = converted_values(alloc, values)?;
@@ -90,11 +93,14 @@ fn shown_values(
 fn shown_items(
     alloc: Global,
     state: &State,
+    made: &mut Option<Problem>,
     earlier: &mut Earlier,
     items: &Items,
 ) -> Result<Result<Entry, EntryFlaw>, AllocError>
     requires stands { (s : Meaning) × Stands state.now s }
+    requires made { IsMadeOf state.now made.old }
     requires suffices { Suffices earlier.old (Shown.Unsat items.now ∷ []) }
+    ensures made { IsMadeOf state.now made.new }
     ensures shown { IfOk result (λ found. (s : Meaning) (before : List Place) → Stands state.now s
         → Holds earlier.old before → IsShown before s.context (Shown.Unsat items.now) found) }
     ensures held { IfOk result (λ found. IsOk found → (s : Meaning) (before : List Place) → Stands state.now s
@@ -105,13 +111,14 @@ fn shown_items(
     refute_tree::refutation_law();
     idl_term::context_law();
     clause_form::clause_form_law();
-    let problem = problem(alloc, state)?;
+    let problem = take_or_make(alloc, state, made)?;
     let refutation = match earlier.lowered(alloc, &problem, items.as_slice()) {
         Ok(refutation) => refutation,
         Err(CheckError::Refused(flaw)) => return Ok(Err(EntryFlaw::Flawed(flaw))),
         Err(CheckError::OutOfMemory) => return Err(AllocError),
     };
     let shown = written_out(alloc, &problem, refutation)?;
+    *made = Some(problem);
     // numbers that can be read stay as they are, so this doesn't come
     if !are_within(shown.as_slice()) {
         return Err(AllocError);
@@ -123,11 +130,14 @@ fn shown_items(
 pub fn shown_entry(
     alloc: Global,
     state: &State,
+    made: &mut Option<Problem>,
     earlier: &mut Earlier,
     entry: &FileEntry,
 ) -> Result<Result<Entry, EntryFlaw>, AllocError>
     requires stands { (s : Meaning) × Stands state.now s }
+    requires made { IsMadeOf state.now made.old }
     requires suffices { Suffices earlier.old (entry.now ∷ []) }
+    ensures made { IsMadeOf state.now made.new }
     ensures shown { IfOk result (λ found. (s : Meaning) (before : List Place) → Stands state.now s
         → Holds earlier.old before → IsShown before s.context entry.now found) }
     ensures held { IfOk result (λ found. IsOk found → (s : Meaning) (before : List Place) → Stands state.now s
@@ -136,11 +146,11 @@ pub fn shown_entry(
 {
     match entry {
         FileEntry::Sat(values) => {
-            let found = shown_values(alloc, state, earlier, entry, values)?;
+            let found = shown_values(alloc, state, made, earlier, entry, values)?;
             Ok(found)
         }
         FileEntry::Unsat(items) => {
-            let found = shown_items(alloc, state, earlier, items)?;
+            let found = shown_items(alloc, state, made, earlier, items)?;
             Ok(found)
         }
     }

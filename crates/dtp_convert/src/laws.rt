@@ -5,7 +5,9 @@ ghost use Rattle.dtp_convert.specs.Laws.{ConvertedIsAccepted};
 pub fn converted_is_accepted()
     ensures { ConvertedIsAccepted }
 {
+    smt_sexpr::one_outcome();
     smt_sexpr::reads_on();
+    cert_text::one_entry();
     smt_script::exit_law();
     dtp_check::certified_is_accepted();
 }

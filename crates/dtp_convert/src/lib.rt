@@ -7,6 +7,7 @@ mod converting;
 mod entry;
 mod fitting;
 mod laws;
+mod lines;
 
 pub use convert::convert_pair;
 pub use laws::converted_is_accepted;

@@ -1,6 +1,6 @@
--- Whatever is written of a script, its verdicts and its status are the same; and a script has one transcript for the entries that
--- decided it, and one at most where it asks for none of what they hold.
-use Rattle.std.proofs.Common.{refl, sym, ap, subst, inl, inr, ◌∙◌, ◌≡◌, ◌+◌, ◌⊎◌, ℕ, List, [], ◌∷◌, ◌++◌, map, false, Option, None, Some, Result, Ok, Err}
+-- Whatever is written of a script, its verdicts and its status are the same, and so are the lines of its transcripts but for models,
+-- values and proofs; and a script has one transcript for the entries that decided it.
+use Rattle.std.proofs.Common.{refl, sym, ap, subst, inl, inr, ◌∙◌, ◌≡◌, ◌+◌, ◌⊎◌, ℕ, List, [], ◌∷◌, ◌++◌, map, Bool, true, false, if◌then◌else◌, Option, None, Some, Result, Ok, Err}
 use Rattle.std.specs.List.{AllByRecursion}
 use Rattle.smt_sexpr.specs.Tree.{Sexpr}
 use Rattle.smt_sexpr.specs.declared.error.SexprRefusal.{SexprRefusal}
@@ -29,8 +29,8 @@ use Rattle.script_walk.specs.Questions.{refusal_of}
 use Rattle.dtp_entry.specs.declared.report.Report.{Report}
 use Rattle.dtp_entry.specs.declared.report.Report.TheVariants.{Verdicts, Certificate}
 use Rattle.dtp_entry.specs.Entries.{verdict_of}
-use Rattle.dtp_entry.specs.Laws.{OneVerdict, OneTranscriptByEntries, OneTranscript}
-use Rattle.dtp_entry.specs.Transcripts.{IsVerdict, Held, told, decision_line, opening, closing, pieces, IsLegal, Output, IsOutput}
+use Rattle.dtp_entry.specs.Laws.{OneVerdict, OneTranscriptByEntries, OneTranscriptButGaps, AskNone, OneTranscript}
+use Rattle.dtp_entry.specs.Transcripts.{IsVerdict, Held, told, decision_line, opening, closing, piece_by, pieces, is_of_held, tells_held, line_with_gaps, lines_with_gaps, IsLegal, Output, IsOutput}
 
 same_refusal : (e f : SexprRefusal) → unreadable e ≡ unreadable f → e ≡ f
 same_refusal e f h = cc
@@ -71,15 +71,16 @@ text_by r q a b c d e f h = subst (λ (t : List ℕ). SameText r q t b) (sym e) 
 -- the turns from here on, the text where there is a reason for it
 record Same (r q : Report) (Reason : Type 0) (ts us : List (Turn Entry)) : Type 0 where
   text : Reason → SameText r q (pieces r ts) (pieces q us)
+  lines : lines_with_gaps ts ≡ lines_with_gaps us
   verdicts : map verdict_of (answers_of ts) ≡ map verdict_of (answers_of us)
   status : status_of ts ≡ status_of us
 
--- the reason for the same text from here on: the same entries, or that none of the commands asks for what they hold
-abbrev Agree : Held → Held → List Sexpr → List (Turn Entry) → List (Turn Entry) → Type 0
-Agree held other xs ts us = ((held ≡ other) × (answers_of ts ≡ answers_of us)) ⊎ AllByRecursion (λ (x : Sexpr). asks_verdict x ≡ false) xs
+-- the reason for the same text from here on: the same entries
+abbrev Agree : Held → Held → List (Turn Entry) → List (Turn Entry) → Type 0
+Agree held other ts us = (held ≡ other) × (answers_of ts ≡ answers_of us)
 
-abbrev SameAt : Report → Report → Held → Held → List Sexpr → List (Turn Entry) → List (Turn Entry) → Type 0
-SameAt r q held other xs ts us = Same r q (Agree held other xs ts us) ts us
+abbrev SameAt : Report → Report → Held → Held → List (Turn Entry) → List (Turn Entry) → Type 0
+SameAt r q held other ts us = Same r q (Agree held other ts us) ts us
 
 -- ---- the answers
 
@@ -98,28 +99,21 @@ decision_one Verdicts Verdicts (Unsat a) (Unsat b) h = refl
 decision_one Verdicts (Certificate w) e f h = tt
 decision_one (Certificate v) q e f h = tt
 
--- what is held is told
-abbrev TellsHeld : Effect → Type 0
-TellsHeld effect = (effect ≡ Tell Model) ⊎ ((effect ≡ Tell Values) ⊎ (effect ≡ Tell Proof))
+told_one : (r q : Report) (held other : Held) (s : State) (x : Sexpr) (notice : Notice) → held ≡ other → SameText r q (told r held s x notice) (told q other s x notice)
+told_one Verdicts Verdicts held other s x notice same = ap (λ (h : Held). told Verdicts h s x notice) same
+told_one Verdicts (Certificate w) held other s x notice same = tt
+told_one (Certificate v) q held other s x notice same = tt
 
-told_quiet : (held other : Held) (s : State) (x : Sexpr) (notice : Notice) → (TellsHeld (Tell notice) → ⊥) → told Verdicts held s x notice ≡ told Verdicts other s x notice
-told_quiet held other s x Success free = refl
-told_quiet held other s x Unsupported free = refl
-told_quiet held other s x Model free = absurd (free (inl refl))
-told_quiet held other s x Values free = absurd (free (inr (inl refl)))
-told_quiet held other s x Proof free = absurd (free (inr (inr refl)))
-told_quiet held other s x (Inform information) free = refl
-told_quiet held other s x Echo free = refl
-
--- the reason for the same answer to this command
-abbrev AgreeNow : Held → Held → Sexpr → Type 0
-AgreeNow held other x = (held ≡ other) ⊎ (asks_verdict x ≡ false)
-
-told_one : (r q : Report) (held other : Held) (s : State) (x : Sexpr) (notice : Notice) → (asks_verdict x ≡ false → TellsHeld (Tell notice) → ⊥) → AgreeNow held other x → SameText r q (told r held s x notice) (told q other s x notice)
-told_one Verdicts Verdicts held other s x notice free (inl same) = ap (λ (h : Held). told Verdicts h s x notice) same
-told_one Verdicts Verdicts held other s x notice free (inr quiet) = told_quiet held other s x notice (free quiet)
-told_one Verdicts (Certificate w) held other s x notice free agree = tt
-told_one (Certificate v) q held other s x notice free agree = tt
+-- what rests on no answer is told, or there is a gap
+told_line : (k : ℕ) (held other : Held) (st s : State) (left others : List Entry) (x : Sexpr) (notice : Notice)
+    → line_with_gaps (turn (record { number = k; state = st; held = held; left = left }) s (tells x notice)) ≡ line_with_gaps (turn (record { number = k; state = st; held = other; left = others }) s (tells x notice))
+told_line k held other st s left others x Success = refl
+told_line k held other st s left others x Unsupported = refl
+told_line k held other st s left others x Model = refl
+told_line k held other st s left others x Values = refl
+told_line k held other st s left others x Proof = refl
+told_line k held other st s left others x (Inform information) = refl
+told_line k held other st s left others x Echo = refl
 
 closing_one : (r q : Report) → SameText r q (closing r) (closing q)
 closing_one Verdicts Verdicts = refl
@@ -131,9 +125,9 @@ opening_one Verdicts Verdicts = refl
 opening_one Verdicts (Certificate w) = tt
 opening_one (Certificate v) q = tt
 
--- what a command is asked for is told, and nothing else
-abbrev IsAsked : Sexpr → Result Step Why → Type 0
-IsAsked x found = (step : Step) → found ≡ Ok step → asks_verdict x ≡ false → TellsHeld step.effect → ⊥
+-- the same line, and the same lines behind it
+line_more : (a b : Option (List ℕ)) (these those : List (Option (List ℕ))) → a ≡ b → these ≡ those → a ∷ these ≡ b ∷ those
+line_more a b these those e f = ap (λ (l : Option (List ℕ)). l ∷ these) e ∙ ap (λ (ls : List (Option (List ℕ))). b ∷ ls) f
 
 -- ---- a command
 
@@ -147,34 +141,26 @@ AreLegal r ts = AllByRecursion (IsLegal r) ts
 abbrev AreOver : List (Turn Entry) → Type 0
 AreOver ts = (n : ℕ) × (status_of ts ≡ Some n)
 
-abbrev OneTurns : Report → Report → Held → Held → List Sexpr → List (Turn Entry) → List (Turn Entry) → Type 0
-OneTurns r q held other xs ts us = AreLegal r ts → AreOver ts → AreLegal q us → AreOver us → SameAt r q held other xs ts us
+abbrev OneTurns : Report → Report → Held → Held → List (Turn Entry) → List (Turn Entry) → Type 0
+OneTurns r q held other ts us = AreLegal r ts → AreOver ts → AreLegal q us → AreOver us → SameAt r q held other ts us
 
-abbrev OneRest : Report → Report → ℕ → List Sexpr → (Place Entry → List (Turn Entry)) → (Place Entry → List (Turn Entry)) → Type 0
-OneRest r q k xs P Q = (held other : Held) (s : State) (left others : List Entry)
-    → OneTurns r q held other xs (P (place k s held left)) (Q (place k s other others))
+abbrev OneRest : Report → Report → ℕ → (Place Entry → List (Turn Entry)) → (Place Entry → List (Turn Entry)) → Type 0
+OneRest r q k P Q = (held other : Held) (s : State) (left others : List Entry)
+    → OneTurns r q held other (P (place k s held left)) (Q (place k s other others))
 
-module _ (r q : Report) (held other : Held) (x : Sexpr) (xs : List Sexpr) where
-  agree_now : (ts us : List (Turn Entry)) → Agree held other (x ∷ xs) ts us → AgreeNow held other x
-  agree_now ts us (inl same) = inl same.0
-  agree_now ts us (inr all) = inr all.0
-
-  fails_one : (p o : Place Entry) (s : State) (kind : Kind) → p.number ≡ o.number → OneTurns r q held other (x ∷ xs) (turn p s (fails kind) ∷ []) (turn o s (fails kind) ∷ [])
+module _ (r q : Report) (held other : Held) where
+  fails_one : (p o : Place Entry) (s : State) (kind : Kind) → p.number ≡ o.number → OneTurns r q held other (turn p s (fails kind) ∷ []) (turn o s (fails kind) ∷ [])
   fails_one p o s kind e legal over legal_too over_too = record {
     text = λ agree. text_by r q _ (error_line o.number kind ++ []) _ (error_line o.number kind ++ []) (ap (λ (k : ℕ). error_line k kind ++ []) e) refl (text_refl r q (error_line o.number kind ++ []));
+    lines = line_more (Some (error_line p.number kind)) (Some (error_line o.number kind)) [] [] (ap (λ (k : ℕ). Some (error_line k kind)) e) refl;
     verdicts = refl;
     status = refl;
   }
 
-module _ (r q : Report) (k : ℕ) (x : Sexpr) (xs : List Sexpr) (P Q : Place Entry → List (Turn Entry)) (one : OneRest r q (k + 1) xs P Q) where
-  told_rest : (held other : Held) (t u : Turn Entry) (ts us : List (Turn Entry)) → answers_of (t ∷ ts) ≡ answers_of ts → answers_of (u ∷ us) ≡ answers_of us
-      → Agree held other (x ∷ xs) (t ∷ ts) (u ∷ us) → Agree held other xs ts us
-  told_rest held other t u ts us e f (inl (same, found)) = inl (same, sym e ∙ found ∙ f)
-  told_rest held other t u ts us e f (inr all) = inr all.1
-
-  told_turns : (held other : Held) (st s : State) (left others : List Entry) (notice : Notice) → (asks_verdict x ≡ false → TellsHeld (Tell notice) → ⊥)
-      → OneTurns r q held other (x ∷ xs) (turn (place k st held left) s (tells x notice) ∷ P (place (k + 1) s held left)) (turn (place k st other others) s (tells x notice) ∷ Q (place (k + 1) s other others))
-  told_turns held other st s left others notice free legal over legal_too over_too =
+module _ (r q : Report) (k : ℕ) (x : Sexpr) (P Q : Place Entry → List (Turn Entry)) (one : OneRest r q (k + 1) P Q) where
+  told_turns : (held other : Held) (st s : State) (left others : List Entry) (notice : Notice)
+      → OneTurns r q held other (turn (place k st held left) s (tells x notice) ∷ P (place (k + 1) s held left)) (turn (place k st other others) s (tells x notice) ∷ Q (place (k + 1) s other others))
+  told_turns held other st s left others notice legal over legal_too over_too =
       let rest = one held other s left others legal.1 over legal_too.1 over_too in
       let t = turn (place k st held left) s (tells x notice) in
       let u = turn (place k st other others) s (tells x notice) in
@@ -182,7 +168,8 @@ module _ (r q : Report) (k : ℕ) (x : Sexpr) (xs : List Sexpr) (P Q : Place Ent
       let us = Q (place (k + 1) s other others) in
       record {
         text = λ agree. text_append r q (told r held s x notice) (told q other s x notice) (pieces r ts) (pieces q us)
-            (told_one r q held other s x notice free (agree_now r q held other x xs (t ∷ ts) (u ∷ us) agree)) (rest.text (told_rest held other t u ts us refl refl agree));
+            (told_one r q held other s x notice agree.0) (rest.text (agree.0, agree.1));
+        lines = line_more (line_with_gaps t) (line_with_gaps u) (lines_with_gaps ts) (lines_with_gaps us) (told_line k held other st s left others x notice) rest.lines;
         verdicts = rest.verdicts;
         status = rest.status;
       }
@@ -190,76 +177,72 @@ module _ (r q : Report) (k : ℕ) (x : Sexpr) (xs : List Sexpr) (P Q : Place Ent
   first_entries : (e f : Entry) (rest others : List Entry) → (e ∷ rest) ≡ (f ∷ others) → (◌≡◌ {A = Held} (Some e) (Some f)) × (rest ≡ others)
   first_entries e f rest others same = let both : e ≡ f = cc in (ap Some both, cc)
 
-  answered_rest : (held other : Held) (e f : Entry) (t u : Turn Entry) (ts us : List (Turn Entry)) → answers_of (t ∷ ts) ≡ e ∷ answers_of ts → answers_of (u ∷ us) ≡ f ∷ answers_of us
-      → Agree held other (x ∷ xs) (t ∷ ts) (u ∷ us) → Agree (Some e) (Some f) xs ts us
-  answered_rest held other e f t u ts us i j (inl (same, found)) = inl (first_entries e f (answers_of ts) (answers_of us) (sym i ∙ found ∙ j))
-  answered_rest held other e f t u ts us i j (inr all) = inr all.1
-
   -- behind the same verdict
   one_settled : (held other : Held) (s : State) (v w : Satisfiability) (left others : List Entry) → v ≡ w
-      → OneTurns r q held other xs (P (place (k + 1) (settled v s) held left)) (Q (place (k + 1) (settled w s) other others))
+      → OneTurns r q held other (P (place (k + 1) (settled v s) held left)) (Q (place (k + 1) (settled w s) other others))
   one_settled held other s v w left others e =
-      subst (λ (u : Satisfiability). OneTurns r q held other xs (P (place (k + 1) (settled v s) held left)) (Q (place (k + 1) (settled u s) other others))) e
+      subst (λ (u : Satisfiability). OneTurns r q held other (P (place (k + 1) (settled v s) held left)) (Q (place (k + 1) (settled u s) other others))) e
       (one held other (settled v s) left others)
 
   asked_turns : (held other : Held) (st s : State) (left others : List Entry) (question : Question)
-      → OneTurns r q held other (x ∷ xs) (asked verdict_of (place k st held left) s question x left P) (asked verdict_of (place k st other others) s question x others Q)
+      → OneTurns r q held other (asked verdict_of (place k st held left) s question x left P) (asked verdict_of (place k st other others) s question x others Q)
   asked_turns held other st s [] others question legal over legal_too over_too = absurd legal.0
   asked_turns held other st s (e ∷ left) [] question legal over legal_too over_too = absurd legal_too.0
   asked_turns held other st s (e ∷ left) (f ∷ others) question legal over legal_too over_too =
       let v : verdict_of e ≡ verdict_of f = verdict_one s.context (verdict_of e) (verdict_of f) legal.0.so legal_too.0.so in
       let rest = one_settled (Some e) (Some f) s (verdict_of e) (verdict_of f) left others v legal.1 over legal_too.1 over_too in
-      let t = turn (place k st held (e ∷ left)) s (answers question x e) in
-      let u = turn (place k st other (f ∷ others)) s (answers question x f) in
       let ts = P (place (k + 1) (settled (verdict_of e) s) (Some e) left) in
       let us = Q (place (k + 1) (settled (verdict_of f) s) (Some f) others) in
       record {
         text = λ agree. text_append r q (decision_line r e) (decision_line q f) (pieces r ts) (pieces q us)
-            (decision_one r q e f v) (rest.text (answered_rest held other e f t u ts us refl refl agree));
+            (decision_one r q e f v) (rest.text (first_entries e f (answers_of ts) (answers_of us) agree.1));
+        lines = line_more (Some (decision_line Verdicts e)) (Some (decision_line Verdicts f)) (lines_with_gaps ts) (lines_with_gaps us)
+            (ap (λ (l : List ℕ). Some l) (decision_one Verdicts Verdicts e f v)) rest.lines;
         verdicts = ap (λ (w : Satisfiability). w ∷ map verdict_of (answers_of ts)) v ∙ ap (λ (vs : List Satisfiability). verdict_of f ∷ vs) rest.verdicts;
         status = rest.status;
       }
 
   taken_turns : (held other : Held) (st s : State) (left others : List Entry) (question : Question) (refused : Option Kind)
-      → OneTurns r q held other (x ∷ xs) (taken verdict_of (place k st held left) s question x refused P) (taken verdict_of (place k st other others) s question x refused Q)
-  taken_turns held other st s left others question (Some kind) = fails_one r q held other x xs (place k st held left) (place k st other others) s kind refl
+      → OneTurns r q held other (taken verdict_of (place k st held left) s question x refused P) (taken verdict_of (place k st other others) s question x refused Q)
+  taken_turns held other st s left others question (Some kind) = fails_one r q held other (place k st held left) (place k st other others) s kind refl
   taken_turns held other st s left others question None = asked_turns held other st s left others question
 
   ends_turns : (held other : Held) (st s : State) (left others : List Entry)
-      → OneTurns r q held other (x ∷ xs) (turn (place k st held left) s ends ∷ []) (turn (place k st other others) s ends ∷ [])
+      → OneTurns r q held other (turn (place k st held left) s ends ∷ []) (turn (place k st other others) s ends ∷ [])
   ends_turns held other st s left others legal over legal_too over_too =
-      record { text = λ agree. text_append r q (closing r) (closing q) [] [] (closing_one r q) (text_refl r q []); verdicts = refl; status = refl }
+      record { text = λ agree. text_append r q (closing r) (closing q) [] [] (closing_one r q) (text_refl r q []); lines = refl; verdicts = refl; status = refl }
 
-  effect_turns : (held other : Held) (st s : State) (left others : List Entry) (effect : Effect) → (asks_verdict x ≡ false → TellsHeld effect → ⊥)
-      → OneTurns r q held other (x ∷ xs) (by_effect verdict_of (place k st held left) s x effect P) (by_effect verdict_of (place k st other others) s x effect Q)
-  effect_turns held other st s left others (Tell notice) free = told_turns held other st s left others notice free
-  effect_turns held other st s left others (Ask question) free = taken_turns held other st s left others question (refusal_of question s x)
-  effect_turns held other st s left others Exit free = ends_turns held other st s left others
+  effect_turns : (held other : Held) (st s : State) (left others : List Entry) (effect : Effect)
+      → OneTurns r q held other (by_effect verdict_of (place k st held left) s x effect P) (by_effect verdict_of (place k st other others) s x effect Q)
+  effect_turns held other st s left others (Tell notice) = told_turns held other st s left others notice
+  effect_turns held other st s left others (Ask question) = taken_turns held other st s left others question (refusal_of question s x)
+  effect_turns held other st s left others Exit = ends_turns held other st s left others
 
-  command_turns : (held other : Held) (st : State) (left others : List Entry) (found : Result Step Why) → IsAsked x found
-      → OneTurns r q held other (x ∷ xs) (by_command verdict_of (place k st held left) x found P) (by_command verdict_of (place k st other others) x found Q)
-  command_turns held other st left others (Ok step) free = effect_turns held other st step.state left others step.effect (free step refl)
-  command_turns held other st left others (Err why) free = fails_one r q held other x xs (place k st held left) (place k st other others) st (kind_of why) refl
+  command_turns : (held other : Held) (st : State) (left others : List Entry) (found : Result Step Why)
+      → OneTurns r q held other (by_command verdict_of (place k st held left) x found P) (by_command verdict_of (place k st other others) x found Q)
+  command_turns held other st left others (Ok step) = effect_turns held other st step.state left others step.effect
+  command_turns held other st left others (Err why) = fails_one r q held other (place k st held left) (place k st other others) st (kind_of why) refl
 
 -- ---- a script
 
-module _ (one : OneOutcome) (asked_told : AskedIsTold) (bytes : List ℕ) (r q : Report) where
+module _ (one : OneOutcome) (bytes : List ℕ) (r q : Report) where
   no_status : (n : ℕ) → ◌≡◌ {A = Option ℕ} None (Some n) → ⊥
   no_status n e = cc
 
   unread_turns : (held other : Held) (k : ℕ) (s : State) (left others : List Entry) (m n : Kind) → m ≡ n
-      → Same r q (Agree held other [] (turn (place k s held left) s (fails m) ∷ []) (turn (place k s other others) s (fails n) ∷ []))
+      → Same r q (Agree held other (turn (place k s held left) s (fails m) ∷ []) (turn (place k s other others) s (fails n) ∷ []))
       (turn (place k s held left) s (fails m) ∷ []) (turn (place k s other others) s (fails n) ∷ [])
   unread_turns held other k s left others m n e = record {
     text = λ agree. text_by r q _ (error_line k n ++ []) _ (error_line k n ++ []) (ap (λ (kind : Kind). error_line k kind ++ []) e) refl (text_refl r q (error_line k n ++ []));
+    lines = line_more (Some (error_line k m)) (Some (error_line k n)) [] [] (ap (λ (kind : Kind). Some (error_line k kind)) e) refl;
     verdicts = refl;
     status = refl;
   }
 
   closes_one : (held other : Held) (k : ℕ) (s : State) (left others : List Entry) (at : ℕ) (e f : Ending) → EndsAs bytes at e → EndsAs bytes at f
-      → OneTurns r q held other [] (last_turn (place k s held left) e) (last_turn (place k s other others) f)
+      → OneTurns r q held other (last_turn (place k s held left) e) (last_turn (place k s other others) f)
   closes_one held other k s left others at ended ended p o legal over legal_too over_too =
-      record { text = λ agree. text_append r q (closing r) (closing q) [] [] (closing_one r q) (text_refl r q []); verdicts = refl; status = refl }
+      record { text = λ agree. text_append r q (closing r) (closing q) [] [] (closing_one r q) (text_refl r q []); lines = refl; verdicts = refl; status = refl }
   closes_one held other k s left others at ended (unread why) p o legal over legal_too over_too = absurd (end_no_refusal why (one bytes at finished (unreadable why) p.0 o.0 p.1 o.1).0)
   closes_one held other k s left others at (unread why) ended p o legal over legal_too over_too = absurd (end_no_refusal why (one bytes at finished (unreadable why) o.0 p.0 o.1 p.1).0)
   closes_one held other k s left others at (unread why) (unread because) p o legal over legal_too over_too =
@@ -280,7 +263,7 @@ module _ (one : OneOutcome) (asked_told : AskedIsTold) (bytes : List ℕ) (r q :
 
   course_one : (xs ys : List Sexpr) (held other : Held) (k : ℕ) (s : State) (left others : List Entry) (at h j : ℕ) (e f : Ending) → Commands bytes at xs h → EndsAs bytes h e
       → Commands bytes at ys j → EndsAs bytes j f
-      → OneTurns r q held other xs (course verdict_of (place k s held left) xs e) (course verdict_of (place k s other others) ys f)
+      → OneTurns r q held other (course verdict_of (place k s held left) xs e) (course verdict_of (place k s other others) ys f)
   unfolding course
   course_one [] [] held other k s left others at h j e f reads end reads_too end_too =
       closes_one held other k s left others at e f (ends_here at h e reads end) (ends_here at j f reads_too end_too)
@@ -291,24 +274,17 @@ module _ (one : OneOutcome) (asked_told : AskedIsTold) (bytes : List ℕ) (r q :
   course_one (x ∷ xs) (y ∷ ys) held other k s left others at h j e f reads end reads_too end_too =
       let same = one bytes at (expression x) (expression y) reads.0 reads_too.0 reads.1 reads_too.1 in
       let from : Commands bytes reads.0 ys j = subst (λ (p : ℕ). Commands bytes p ys j) (sym same.1) reads_too.2 in
-      subst (λ (z : Sexpr). OneTurns r q held other (x ∷ xs) (by_command verdict_of (place k s held left) x (after s x) (λ next. course verdict_of next xs e)) (by_command verdict_of (place k s other others) z (after s z) (λ next. course verdict_of next ys f)))
+      subst (λ (z : Sexpr). OneTurns r q held other (by_command verdict_of (place k s held left) x (after s x) (λ next. course verdict_of next xs e)) (by_command verdict_of (place k s other others) z (after s z) (λ next. course verdict_of next ys f)))
       (same_expression x y same.0)
-      (command_turns r q k x xs (λ next. course verdict_of next xs e) (λ next. course verdict_of next ys f)
+      (command_turns r q k x (λ next. course verdict_of next xs e) (λ next. course verdict_of next ys f)
       (λ kept kept_too next rest rest_too. course_one xs ys kept kept_too (k + 1) next rest rest_too reads.0 h j e f reads.2 end from end_too)
-      held other s left others (after s x) (λ step is. asked_told s x step is))
+      held other s left others (after s x))
 
-  -- with a reason for the same text: the same entries, or commands that ask for none
-  abbrev Reason : List Sexpr → Output → Output → Type 0
-  Reason xs a b = (a.found ≡ b.found) ⊎ AllByRecursion (λ (x : Sexpr). asks_verdict x ≡ false) xs
-
-  record OneOutput (xs : List Sexpr) (a b : Output) : Type 0 where
-    text : Reason xs a b → SameText r q a.text b.text
+  record OneOutput (a b : Output) (ts us : List (Turn Entry)) : Type 0 where
+    text : a.found ≡ b.found → SameText r q a.text b.text
+    lines : lines_with_gaps ts ≡ lines_with_gaps us
     verdicts : map verdict_of a.found ≡ map verdict_of b.found
     status : a.status ≡ b.status
-
-  agree_at_start : (xs : List Sexpr) (a b : Output) (ts us : List (Turn Entry)) → answers_of ts ≡ a.found → answers_of us ≡ b.found → Reason xs a b → Agree None None xs ts us
-  agree_at_start xs a b ts us e f (inl found) = inl (refl, e ∙ found ∙ sym f)
-  agree_at_start xs a b ts us e f (inr all) = inr all
 
   same_status : (a b : ℕ) → ◌≡◌ {A = Option ℕ} (Some a) (Some b) → a ≡ b
   same_status a b e = cc
@@ -320,7 +296,7 @@ module _ (one : OneOutcome) (asked_told : AskedIsTold) (bytes : List ℕ) (r q :
     abbrev us : List (Turn Entry)
     us = course verdict_of (place 1 start_state None b.found) k.are.are.commands k.are.are.ending
 
-    same_turns : SameAt r q None None h.are.are.commands ts us
+    same_turns : SameAt r q None None ts us
     same_turns = course_one h.are.are.commands k.are.are.commands None None 1 start_state a.found b.found 0 h.are.are.behind k.are.are.behind h.are.are.ending k.are.are.ending
         h.are.are.reads h.are.are.ends k.are.are.reads k.are.are.ends
         (subst (AreLegal r) h.are.are.are h.are.legal) (a.status, sym (ap (λ (l : List (Turn Entry)). status_of l) h.are.are.are) ∙ h.over)
@@ -332,30 +308,106 @@ module _ (one : OneOutcome) (asked_told : AskedIsTold) (bytes : List ℕ) (r q :
     used_too : answers_of us ≡ b.found
     used_too = sym (ap (λ (l : List (Turn Entry)). answers_of l) k.are.are.are) ∙ k.used
 
-    output_one : OneOutput h.are.are.commands a b
+    output_one : OneOutput a b h.turns k.turns
     output_one = record {
-      text = λ reason. text_by r q a.text b.text (opening r ++ pieces r ts) (opening q ++ pieces q us)
+      text = λ found. text_by r q a.text b.text (opening r ++ pieces r ts) (opening q ++ pieces q us)
           (h.text ∙ ap (λ (l : List (Turn Entry)). opening r ++ pieces r l) h.are.are.are) (k.text ∙ ap (λ (l : List (Turn Entry)). opening q ++ pieces q l) k.are.are.are)
-          (text_append r q (opening r) (opening q) (pieces r ts) (pieces q us) (opening_one r q) (same_turns.text (agree_at_start h.are.are.commands a b ts us used used_too reason)));
+          (text_append r q (opening r) (opening q) (pieces r ts) (pieces q us) (opening_one r q) (same_turns.text (refl, used ∙ found ∙ sym used_too)));
+      lines = ap (λ (l : List (Turn Entry)). lines_with_gaps l) h.are.are.are ∙ same_turns.lines ∙ sym (ap (λ (l : List (Turn Entry)). lines_with_gaps l) k.are.are.are);
       verdicts = sym (ap (map verdict_of) used) ∙ same_turns.verdicts ∙ ap (map verdict_of) used_too;
       status = same_status a.status b.status
           (sym h.over ∙ ap (λ (l : List (Turn Entry)). status_of l) h.are.are.are ∙ same_turns.status ∙ sym (ap (λ (l : List (Turn Entry)). status_of l) k.are.are.are) ∙ k.over);
     }
 
-pub verdicts_one : OneOutcome → AskedIsTold → OneVerdict
-verdicts_one one asked script r q a b h k = let w = output_one one asked script r q a b h k in (w.verdicts, w.status)
+pub verdicts_one : OneOutcome → OneVerdict
+verdicts_one one script r q a b h k = let w = output_one one script r q a b h k in (w.verdicts, w.status)
 
 output_is : (a b : Output) → a.text ≡ b.text → a.found ≡ b.found → a.status ≡ b.status → a ≡ b
 output_is a b text found status =
     let of_all : List ℕ → List Entry → ℕ → Output = λ t f s. record { text = t; found = f; status = s } in
     ap (λ (t : List ℕ). of_all t a.found a.status) text ∙ ap (λ (f : List Entry). of_all b.text f a.status) found ∙ ap (λ (s : ℕ). of_all b.text b.found s) status
 
-pub entries_one : OneOutcome → AskedIsTold → OneTranscriptByEntries
-entries_one one asked script a b h k found =
-    let w = output_one one asked script Verdicts Verdicts a b h k in
-    output_is a b (w.text (inl found)) found w.status
+pub entries_one : OneOutcome → OneTranscriptByEntries
+entries_one one script a b h k found =
+    let w = output_one one script Verdicts Verdicts a b h k in
+    output_is a b (w.text found) found w.status
+
+pub lines_one : OneOutcome → OneTranscriptButGaps
+lines_one one script a b h k = let w = output_one one script Verdicts Verdicts a b h k in (w.lines, w.status)
+
+-- ---- without gaps
+
+abbrev HasLine : Turn Entry → Type 0
+HasLine t = tells_held t.outcome ≡ false
+
+-- what is held is told
+abbrev TellsHeld : Effect → Type 0
+TellsHeld effect = (effect ≡ Tell Model) ⊎ ((effect ≡ Tell Values) ⊎ (effect ≡ Tell Proof))
+
+told_free : (notice : Notice) → (TellsHeld (Tell notice) → ⊥) → is_of_held notice ≡ false
+told_free Success free = refl
+told_free Unsupported free = refl
+told_free Model free = absurd (free (inl refl))
+told_free Values free = absurd (free (inr (inl refl)))
+told_free Proof free = absurd (free (inr (inr refl)))
+told_free (Inform information) free = refl
+told_free Echo free = refl
+
+abbrev HaveLines : List (Turn Entry) → Type 0
+HaveLines turns = AskNone turns → AllByRecursion HasLine turns
+
+module _ (x : Sexpr) (rest : Place Entry → List (Turn Entry)) (more : (p : Place Entry) → HaveLines (rest p)) where
+  lines_asked : (p : Place Entry) (s : State) (question : Question) (left : List Entry) → HaveLines (asked verdict_of p s question x left rest)
+  lines_asked p s question [] none = (refl, tt)
+  lines_asked p s question (e ∷ left) none = (refl, more (record { number = p.number + 1; state = settled (verdict_of e) s; held = Some e; left = left }) none.1)
+
+  lines_taken : (p : Place Entry) (s : State) (question : Question) (refused : Option Kind) → HaveLines (taken verdict_of p s question x refused rest)
+  lines_taken p s question (Some kind) none = (refl, tt)
+  lines_taken p s question None none = lines_asked p s question p.left none
+
+  lines_effect : (p : Place Entry) (s : State) (effect : Effect) → (asks_verdict x ≡ false → TellsHeld effect → ⊥) → HaveLines (by_effect verdict_of p s x effect rest)
+  lines_effect p s (Tell notice) free none = (told_free notice (free none.0), more (record { number = p.number + 1; state = s; held = p.held; left = p.left }) none.1)
+  lines_effect p s (Ask question) free none = lines_taken p s question (refusal_of question s x) none
+  lines_effect p s Exit free none = (refl, tt)
+
+  -- what a command is asked for is told, and nothing else
+  lines_command : (p : Place Entry) (found : Result Step Why) → ((step : Step) → found ≡ Ok step → asks_verdict x ≡ false → TellsHeld step.effect → ⊥)
+      → HaveLines (by_command verdict_of p x found rest)
+  lines_command p (Ok step) free none = lines_effect p step.state step.effect (free step refl) none
+  lines_command p (Err why) free none = (refl, tt)
+
+lines_last : (p : Place Entry) (ending : Ending) → HaveLines (last_turn p ending)
+lines_last p ended none = (refl, tt)
+lines_last p (unread why) none = (refl, tt)
+lines_last p stopped none = tt
+
+have_lines : AskedIsTold → (xs : List Sexpr) (p : Place Entry) (ending : Ending) → HaveLines (course verdict_of p xs ending)
+unfolding course
+have_lines asked_told [] p ending = lines_last p ending
+have_lines asked_told (x ∷ xs) p ending =
+    lines_command x (λ next. course verdict_of next xs ending) (λ next. have_lines asked_told xs next ending) p (after p.state x) (λ step is. asked_told p.state x step is)
+
+same_line : (b c : Bool) (x y : List ℕ) → b ≡ false → ◌≡◌ {A = Option (List ℕ)} (if b then None else Some x) (if c then None else Some y) → x ≡ y
+same_line true c x y quiet e = absurd cc
+same_line false true x y quiet e = absurd cc
+same_line false false x y quiet e = cc
+
+first_line : (a b : Option (List ℕ)) (these those : List (Option (List ℕ))) → a ∷ these ≡ b ∷ those → (a ≡ b) × (these ≡ those)
+first_line a b these those e = (let first : a ≡ b = cc in first, let rest : these ≡ those = cc in rest)
+
+text_of_lines : (ts us : List (Turn Entry)) → AllByRecursion HasLine ts → lines_with_gaps ts ≡ lines_with_gaps us → pieces Verdicts ts ≡ pieces Verdicts us
+text_of_lines [] [] quiet e = refl
+text_of_lines [] (u ∷ us) quiet e = absurd cc
+text_of_lines (t ∷ ts) [] quiet e = absurd cc
+text_of_lines (t ∷ ts) (u ∷ us) quiet e =
+    let both = first_line (line_with_gaps t) (line_with_gaps u) (lines_with_gaps ts) (lines_with_gaps us) e in
+    let here = same_line (tells_held t.outcome) (tells_held u.outcome) (piece_by Verdicts t t.outcome) (piece_by Verdicts u u.outcome) quiet.0 both.0 in
+    ap (λ (l : List ℕ). l ++ pieces Verdicts ts) here ∙ ap (λ (l : List ℕ). piece_by Verdicts u u.outcome ++ l) (text_of_lines ts us quiet.1 both.1)
 
 pub transcript_one : OneOutcome → AskedIsTold → OneTranscript
-transcript_one one asked script a b s t quiet (found, h) (others, k) =
-    let w = output_one one asked script Verdicts Verdicts (record { text = a; found = found; status = s }) (record { text = b; found = others; status = t }) h k in
-    (w.text (inr (quiet h.are.are.commands h.are.are.behind h.are.are.reads)), w.status)
+transcript_one one asked_told script a b s t (found, h) none (others, k) =
+    let lines = lines_one one script (record { text = a; found = found; status = s }) (record { text = b; found = others; status = t }) h k in
+    let of_course = subst AskNone h.are.are.are none in
+    let quiet = have_lines asked_told h.are.are.commands (place 1 start_state None found) h.are.are.ending of_course in
+    let has_lines = subst (AllByRecursion HasLine) (sym h.are.are.are) quiet in
+    (h.text ∙ text_of_lines h.turns k.turns has_lines lines.0 ∙ sym k.text, lines.1)

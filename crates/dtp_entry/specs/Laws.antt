@@ -1,13 +1,13 @@
 -- What holds of what is written of every script.
 use Rattle.std.specs.Prelude.{◌≡◌, ℕ, List, map, false}
 use Rattle.std.specs.List.{AllByRecursion}
-use Rattle.smt_sexpr.specs.Tree.{Sexpr}
-use Rattle.smt_sexpr.specs.Commands.{Commands}
 use Rattle.smt_script.specs.Commands.{asks_verdict}
+use Rattle.cert_text.specs.declared.entry.Entry.{Entry}
+use Rattle.script_walk.specs.Course.{Turn, Outcome, tells, answers, asks, ends, fails}
 use Rattle.dtp_entry.specs.declared.report.Report.{Report}
 use Rattle.dtp_entry.specs.declared.report.Report.TheVariants.{Verdicts}
 use Rattle.dtp_entry.specs.Entries.{verdict_of}
-use Rattle.dtp_entry.specs.Transcripts.{Output, IsOutput, IsTranscript}
+use Rattle.dtp_entry.specs.Transcripts.{Output, IsOutput, IsTranscript, lines_with_gaps}
 
 -- The verdicts at a script's check-sats and its status are the same in everything that is written of it, in the transcript
 -- and in the certificate.
@@ -22,14 +22,28 @@ OneTranscriptByEntries =
     (script : List ℕ) (a b : Output) → IsOutput Verdicts script a → IsOutput Verdicts script b
     → a.found ≡ b.found → a ≡ b
 
--- no command of the script asks for a model, for values or for a proof
-abbrev pub AsksNoVerdict : List ℕ → Type 0
-AsksNoVerdict script =
-    (xs : List Sexpr) (here : ℕ) → Commands script 0 xs here
-    → AllByRecursion (λ (x : Sexpr). asks_verdict x ≡ false) xs
+-- Two transcripts of a script have the same lines in the same places, but for models, values and proofs, and the same status:
+-- the script's bytes alone decide them.
+abbrev pub OneTranscriptButGaps : Type 0
+OneTranscriptButGaps =
+    (script : List ℕ) (a b : Output) (h : IsOutput Verdicts script a) (k : IsOutput Verdicts script b)
+    → (lines_with_gaps h.turns ≡ lines_with_gaps k.turns) × (a.status ≡ b.status)
 
--- Such a script has one transcript at most: its bytes alone decide what is written, and the status.
+-- where the turn's command is told something, it asks for no model, for no values and for no proof
+abbrev pub AsksNoneBy : Outcome Entry → Type 0
+AsksNoneBy (tells x notice) = asks_verdict x ≡ false
+AsksNoneBy (answers question x entry) = Unit {0}
+AsksNoneBy (asks question x) = Unit {0}
+AsksNoneBy ends = Unit {0}
+AsksNoneBy (fails kind) = Unit {0}
+
+-- no command that is answered asks for them
+abbrev pub AskNone : List (Turn Entry) → Type 0
+AskNone turns = AllByRecursion (λ (t : Turn Entry). AsksNoneBy t.outcome) turns
+
+-- A script none of whose answered commands asks for them has one transcript at most: its bytes alone decide what is written,
+-- and the status. Whatever stands behind `exit` or an error isn't looked at.
 abbrev pub OneTranscript : Type 0
 OneTranscript =
-    (script a b : List ℕ) (s t : ℕ) → AsksNoVerdict script → IsTranscript script a s → IsTranscript script b t
+    (script a b : List ℕ) (s t : ℕ) (h : IsTranscript script a s) → AskNone h.1.turns → IsTranscript script b t
     → (a ≡ b) × (s ≡ t)

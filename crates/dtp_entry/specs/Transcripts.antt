@@ -1,7 +1,7 @@
 -- What is written of a script: a relation of its bytes, the bytes of the output and the status.
 -- Source: SMT-LIB 2.6, section 4.1 (responses, and the error behavior `immediate-exit`), section 4.2.1 (`exit`) and section
 -- 4.2.5 (`check-sat`).
-use Rattle.std.specs.Prelude.{◌≡◌, ℕ, List, [], ◌∷◌, ◌++◌, true, false, if◌then◌else◌, Option, Some}
+use Rattle.std.specs.Prelude.{◌≡◌, ℕ, List, [], ◌∷◌, ◌++◌, map, Bool, true, false, if◌then◌else◌, Option, Some, None}
 use Rattle.std.specs.List.{AllByRecursion}
 use Rattle.smt_sexpr.specs.Tree.{Sexpr, Items}
 use Rattle.smt_script.specs.declared.state.Question.{Question}
@@ -101,6 +101,31 @@ piece_by report t (fails kind) = error_line t.before.number kind
 abbrev pub pieces : Report → List (Turn Entry) → List ℕ
 pieces report [] = []
 pieces report (t ∷ ts) = piece_by report t t.outcome ++ pieces report ts
+
+-- what the mode holds is told: a model, values or a proof
+abbrev pub is_of_held : Notice → Bool
+is_of_held Success = false
+is_of_held Unsupported = false
+is_of_held Model = true
+is_of_held Values = true
+is_of_held Proof = true
+is_of_held (Inform information) = false
+is_of_held Echo = false
+
+abbrev pub tells_held : Outcome Entry → Bool
+tells_held (tells x notice) = is_of_held notice
+tells_held (answers question x entry) = false
+tells_held (asks question x) = false
+tells_held ends = false
+tells_held (fails kind) = false
+
+-- The lines of a transcript, turn by turn, with a gap for each model, for values and for each proof: these are of the schedule
+-- or the refutation that was found.
+abbrev pub line_with_gaps : Turn Entry → Option (List ℕ)
+line_with_gaps t = if tells_held t.outcome then None else Some (piece_by Verdicts t t.outcome)
+
+abbrev pub lines_with_gaps : List (Turn Entry) → List (Option (List ℕ))
+lines_with_gaps turns = map line_with_gaps turns
 
 -- the entry of a question decides it
 abbrev pub DecidesIn : Version → Question → Sexpr → State → Entry → Type 0

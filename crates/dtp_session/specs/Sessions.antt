@@ -8,6 +8,7 @@ use Rattle.stn_core.specs.Named.{AreWithinLimit}
 use Rattle.refute_tree.specs.declared.lemma.Lemma.{Lemma}
 use Rattle.idl_node.specs.Truth.{point_values, AreTruths}
 use Rattle.idl_term.specs.Contexts.{Context, IsScheduleFor, scope_of}
+use Rattle.cert_text.specs.declared.entry.Version.{Version}
 use Rattle.cert_text.specs.declared.entry.Entry.{Entry}
 use Rattle.cert_text.specs.declared.entry.Entry.TheVariants.{Sat, Unsat}
 use Rattle.cert_text.specs.Form.{entry_sexpr, line_of}
@@ -17,6 +18,8 @@ use Rattle.smt_script.specs.declared.state.Mode.TheVariants as mode
 use Rattle.smt_script.specs.declared.state.Notice.{Notice}
 use Rattle.smt_script.specs.declared.state.Notice.TheVariants as notice
 use Rattle.smt_answer.specs.Texts.{error_line}
+use Rattle.smt_script.specs.declared.state.Satisfiability.{Satisfiability}
+use Rattle.smt_script.specs.declared.state.Satisfiability.TheVariants as verdict
 use Rattle.smt_script.specs.States.{State, start_state, terms_refusal, settled}
 use Rattle.script_walk.specs.Course.{Place, Turn, IsCourseOf, status_of, answers_of}
 use Rattle.script_walk.specs.code.Events.{IsStart as IsWalkStart, IsReady as IsWalkReady}
@@ -46,10 +49,22 @@ ShowsVerdict mode.Sat c held marks =
     × AreWithinLimit schedule × AreTruths c.nodes (point_values schedule) marks
 ShowsVerdict mode.Unsat c held marks = (lemmas : List Lemma) × (held ≡ Some (Unsat lemmas))
 
+-- an entry is held that says so and decides what is active
+abbrev pub IsDecidedSo : Version → Context → Held → Satisfiability → Type 0
+IsDecidedSo version c held says =
+    (entry : Entry) × (held ≡ Some entry) × (verdict_of entry ≡ says) × Decides version c entry
+
+-- where nothing was changed since the last answer, what is held decides what is active
+abbrev pub IsDecided : Version → Mode → Context → Held → Type 0
+IsDecided version mode.Nothing c held = Unit {0}
+IsDecided version mode.Sat c held = IsDecidedSo version c held verdict.Sat
+IsDecided version mode.Unsat c held = IsDecidedSo version c held verdict.Unsat
+
 -- what is kept of the commands stands for the state, and what is held shows its verdict
 pub record Holds (p : Session) (s : State) : Type 0 where
   pub stands : Stands p.walk.state s
   pub shows : ShowsVerdict s.mode s.context p.held p.marks.items
+  pub decided : IsDecided (version_of p.report) s.mode s.context p.held
 
 -- what is told in a state may be told there
 pub record MayTell (s : State) (x : Sexpr) (n : Notice) : Type 0 where

@@ -19,7 +19,7 @@ use cert_text::Version;
 use dtp_entry::{Report, SessionError};
 use dtp_io::Sink;
 use script_walk::{Event, Walk};
-use smt_script::Question;
+use smt_script::{Mode, Question};
 use std::alloc::{AllocError, Global};
 use std::sync::Wait;
 use std::thread::Threads;
@@ -132,8 +132,24 @@ impl<'a> Session<'a> {
         }
     }
 
-    /// Decides the assertions, and holds what was found in place of what was held before.
+    /// Answers a check-sat. Where nothing was changed since the last one, what is held answers this one too.
     fn check<R: Threads + Wait + Sync, G: Gate>(
+        &mut self,
+        rt: &R,
+        gate: &G,
+    ) -> Result<(), AllocError>
+        requires { (s : Meaning) × Holds self.old s }
+        ensures checked { OnOk result ((s : Meaning) → Holds self.old s → IsChecked self.new s) }
+        ensures keeps { KeepsReading self.old self.new }
+    {
+        match self.walk.state.mode() {
+            Mode::Nothing => self.decide_anew(rt, gate),
+            Mode::Sat | Mode::Unsat => Ok(()),
+        }
+    }
+
+    /// Decides the assertions, and holds what was found in place of what was held before.
+    fn decide_anew<R: Threads + Wait + Sync, G: Gate>(
         &mut self,
         rt: &R,
         gate: &G,

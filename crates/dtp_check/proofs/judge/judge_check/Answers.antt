@@ -1,4 +1,5 @@
 use Rattle.dtp_check.proofs.Judging.{check_right, check_flawed, check_missing, suffices_at}
+use Rattle.dtp_check.proofs.Making.{made_settled}
 use Rattle.dtp_check.proofs.judge.judge_check.Goals as goal
 
 pub keep-requires-clause-suffices : goal.keep-requires-clause-suffices
@@ -22,3 +23,9 @@ returns-in-None-2-clause-turn g c = λ s before stands held.
 pub returns-in-None-clause-turn : goal.returns-in-None-clause-turn
 returns-in-None-clause-turn g c = λ s before stands held.
     check_missing g.K.Keeps.leads c.args.keeps.now c.args.keeps.now s c.args.used before c.args.entries.now c.args.walk.now.state c.args.earlier.now c.in-None.ensures.lookup.3
+
+pub returns-in-None-2-clause-made : goal.returns-in-None-2-clause-made
+returns-in-None-2-clause-made g c = λ more.
+    let s = c.requires.stands in
+    let stands = c.settle.ensures.stands s.0 s.1 in
+    made_settled c.args.walk.now.state c.settle.new.self.state s.0 c.told_by.result c.keep.new.made s.1 stands c.in_ok-flaw-in-Some.ensures.made

@@ -1,5 +1,6 @@
 use Rattle.std.proofs.Common.{◌≡◌, ◌+◌, sym, ap, subst, ℕ}
 use Rattle.smt_sexpr.specs.Tree.{Sexpr}
+use Rattle.smt_script.specs.declared.state.Effect.TheVariants.{Ask, Tell}
 use Rattle.smt_script.specs.States.{State as Meaning}
 use Rattle.script_walk.specs.code.Events.{Carries}
 use Rattle.script_walk.specs.declared.walk.Event.{Event}
@@ -7,6 +8,7 @@ use Rattle.script_walk.specs.declared.walk.Event.TheVariants.{Told, Asked, Ended
 use Rattle.script_walk.specs.declared.walk.Walk.{Walk}
 use Rattle.dtp_check.specs.Turns.{IsJudgedTurn}
 use Rattle.dtp_check.proofs.Judging.{notice_judged, check_judged, exit_judged, refused_judged}
+use Rattle.dtp_check.proofs.Making.{made_after}
 use Rattle.dtp_check.proofs.judge.judge_command.Goals as goal
 
 carries : (v w : Walk) (s : Meaning) (x : Sexpr) (event is : Event) → event ≡ is → Carries v w s x event → Carries v w s x is
@@ -49,3 +51,21 @@ returns-in-Failed-clause-turn g c = λ p before x at means.
     let v = c.args.walk.now in
     let h = carries v c.carry_out.new.self p.state x _ (Failed c.in-Failed.kind) c.in-Failed.is (c.in_ok-carry_out.ensures.carries p.state x at.stands means) in
     refused_judged g.K.Keeps.leads before c.args.keeps.now c.args.entries.now v.number c.args.used v.state c.args.earlier.now p at c.carry_out.new.self x v c.in-Failed.kind c.args.keeps.now h.0 h.1
+
+pub judge_check-requires-clause-made : goal.judge_check-requires-clause-made
+judge_check-requires-clause-made g c =
+    let at = c.requires.stands in
+    let x = c.requires.meaning in
+    let v = c.args.walk.now in
+    let w = c.carry_out.new.self in
+    let h = carries v w at.0.state x.0 _ (Asked c.in-Asked.field-0 c.in-Asked.field-1) c.in-Asked.is (c.in_ok-carry_out.ensures.carries at.0.state x.0 at.2.stands x.1) in
+    made_after c.mode_law.ensures.kept v w at.0.state x.0 (Ask c.in-Asked.field-1) c.args.made.now at.2.stands h.1.0 c.requires.made
+
+pub returns-in-Told-clause-made : goal.returns-in-Told-clause-made
+returns-in-Told-clause-made g c = λ more.
+    let at = c.requires.stands in
+    let x = c.requires.meaning in
+    let v = c.args.walk.now in
+    let w = c.carry_out.new.self in
+    let h = carries v w at.0.state x.0 _ (Told c.in-Told.field-0 c.in-Told.field-1) c.in-Told.is (c.in_ok-carry_out.ensures.carries at.0.state x.0 at.2.stands x.1) in
+    made_after c.mode_law.ensures.kept v w at.0.state x.0 (Tell c.in-Told.field-1) c.args.made.now at.2.stands h.1 c.requires.made

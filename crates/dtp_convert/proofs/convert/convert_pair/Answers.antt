@@ -10,15 +10,15 @@ use Rattle.dtp_convert.specs.Converted.{IsConversion, IsConversionPart, IsExamin
 use Rattle.dtp_convert.proofs.Examining.{failed, conversion_cut}
 use Rattle.dtp_convert.proofs.convert.convert_pair.Goals as goal
 
-pub returns-in_err-write_certificate-in-Converted-clause-part : goal.returns-in_err-write_certificate-in-Converted-clause-part
-returns-in_err-write_certificate-in-Converted-clause-part g c =
+pub returns-in_err-write_lines-in-Converted-clause-part : goal.returns-in_err-write_lines-in-Converted-clause-part
+returns-in_err-write_lines-in-Converted-clause-part g c =
     let bytes = c.args.bytes.now in
     let before = g.K.Sink.holds c.args.sink.now in
-    let now = g.K.Sink.holds c.write_certificate.new.sink in
+    let now = g.K.Sink.holds c.write_lines.new.sink in
     let text = whole_text One c.deref.result.now in
     let found = subst (λ (e : Examined). IsExamined bytes e) c.in-Converted.is c.in_ok-entries.ensures in
     let h : IsConversion bytes text checked.Accepted = subst (λ (es : List Entry). IsConversion bytes (whole_text One es) checked.Accepted) (sym c.deref.ensures.value) found in
-    let w = failed _ _ (Writes before now (IsPartOf (λ t. t ≡ text))) c.in_err-write_certificate-in-Converted.was c.write_certificate.ensures.part in
+    let w = failed _ _ (Writes before now (IsPartOf (λ t. t ≡ text))) c.in_err-write_lines-in-Converted.was c.write_lines.ensures.part in
     let part : Writes before now (IsConversionPart bytes) = (w.0, w.1, conversion_cut bytes text checked.Accepted h w.0 w.2) in
     on_err _ _ part
 

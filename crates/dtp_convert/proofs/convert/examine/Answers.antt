@@ -1,10 +1,11 @@
 use Rattle.std.proofs.Common.{◌≡◌, ◌∙◌, subst, sym, ap, refl, List, ℕ}
 use Rattle.cert_text.specs.declared.entry.FileEntry.{FileEntry as Shown}
 use Rattle.dtp_check.specs.declared.judgement.Judgement.TheVariants.{Accepted}
-use Rattle.dtp_check.specs.Judged.{ScriptPart, judged_script}
+use Rattle.dtp_check.specs.Judged.{ScriptPart, turns_with, judged_script}
 use Rattle.dtp_check.specs.Parts.{IsReadable}
 use Rattle.dtp_check.proofs.Telling.{readable_by, stands, found_refusal, judged_entries}
-use Rattle.dtp_convert.proofs.Writing.{all_converted, converted}
+use Rattle.dtp_convert.specs.Turns.{AreShown}
+use Rattle.dtp_convert.proofs.Writing.{all_converted, all_stay, converted}
 use Rattle.dtp_convert.proofs.Examining.{certificate_apart}
 use Rattle.dtp_convert.proofs.convert.examine.Goals as goal
 
@@ -22,8 +23,10 @@ returns-in-Accepted c =
     let comes = c.in_ok-judgement-in-Read.ensures p.0 end place script readable in
     let accepted : Accepted ≡ judged_script p.0 entries = sym c.in-Accepted.is ∙ sym comes.judged ∙ ap (λ (es : List Shown). judged_script p.0 es) c.deref.ensures.value in (
       judged_entries bytes p.0 place end c.in-Read.certificate.version entries Accepted script readable behind accepted,
-      converted bytes end place p.0 c.judge_script.new.keeps.entries.items script
-          (all_converted c.new-converting.result c.judge_script.new.keeps p.0 c.deref.result.now c.new-converting.ensures (comes.kept c.in-Accepted.is)),
+      converted bytes end place p.0 c.in-Read.certificate.version entries c.judge_script.new.keeps.entries.items script behind
+          (all_converted c.new-converting.result c.judge_script.new.keeps p.0 c.deref.result.now c.new-converting.ensures (comes.kept c.in-Accepted.is))
+          (subst (λ (es : List Shown). AreShown (turns_with es p.0) c.judge_script.new.keeps.entries.items) c.deref.ensures.value
+          (all_stay c.new-converting.result c.judge_script.new.keeps p.0 c.deref.result.now c.new-converting.ensures (comes.kept c.in-Accepted.is))),
     )
 
 pub returns-in-Read : goal.returns-in-Read

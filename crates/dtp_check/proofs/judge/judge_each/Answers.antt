@@ -3,9 +3,10 @@ use Rattle.smt_sexpr.specs.Reading.{Spells}
 use Rattle.dtp_check.specs.declared.script_part.PartEnd.TheVariants as part
 use Rattle.dtp_check.specs.declared.script_part.Next.TheVariants.{Ended}
 use Rattle.dtp_check.specs.Judged.{EndsPart}
+use Rattle.dtp_check.proofs.Making.{nothing_made, made_as, going_on}
 use Rattle.dtp_check.proofs.Walking.{command_read, end_read, command_goes_on}
 use Rattle.dtp_check.proofs.Reading.{judging_starts, stands_as, goes_to, judging_goes_on, judged_here, judged_over, judged_unread}
-use Rattle.dtp_check.proofs.judge.judge_script.Goals as goal
+use Rattle.dtp_check.proofs.judge.judge_each.Goals as goal
 
 pub script-init : goal.script-init
 script-init g c =
@@ -25,6 +26,7 @@ script-init g c =
       few = omega (arith, few, length_is);
       used = omega arith;
       suffices = c.new-earlier.ensures.suffices;
+      made = nothing_made w.state c.args.made.now c.requires;
       judging = judging_starts g.K.Keeps.leads c.args.bytes.now c.args.entries.now c.args.keeps.now w c.new-earlier.result c.new-earlier.ensures.holds start;
     }
 
@@ -46,6 +48,9 @@ pub judge_command-requires-clause-stands : goal.judge_command-requires-clause-st
 judge_command-requires-clause-stands g c =
     let j = c.script.invariant.judging in
     (j.place, j.before, stands_as c.args.entries.now c.script.used c.script.earlier j.place j.before c.script.walk c.read_on.new.walk c.in_ok-id.ensures.number c.in_ok-id.ensures.state j.there)
+
+pub judge_command-requires-clause-made : goal.judge_command-requires-clause-made
+judge_command-requires-clause-made g c = made_as c.script.walk.state c.read_on.new.walk.state c.script.made c.in_ok-id.ensures.state c.script.invariant.made
 
 pub returns-in-Judged : goal.returns-in-Judged
 returns-in-Judged g c =
@@ -83,6 +88,7 @@ script-preserved g c =
       few = c.script.invariant.few;
       used = turn.within;
       suffices = c.in_ok-now.ensures.suffices;
+      made = c.in_ok-now.ensures.made (going_on _ c.in-Going.now c.in-Going.is);
       judging = judging_goes_on c.one_outcome.ensures leads c.args.bytes.now c.args.entries.now c.args.keeps.now walk.lexer.place walk.number c.script.used walk.state c.script.earlier c.script.keeps j c.read_on.new.walk.lexer.place command.x new.number new.state c.judge_command.new.earlier c.judge_command.new.keeps c.in-Going.now
           spells command.apart turn;
     }))

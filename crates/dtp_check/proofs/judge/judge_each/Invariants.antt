@@ -1,7 +1,8 @@
 use Rattle.std.proofs.Common.{◌≡◌, ◌≤◌, ◌<◌, ◌-◌, ◌+◌, ◌^◌, length, None}
 use Rattle.dtp_check.specs.Earlier.{Suffices}
+use Rattle.dtp_check.specs.Made.{IsMadeStill}
 use Rattle.dtp_check.proofs.Reading.{IsJudging}
-use Rattle.dtp_check.proofs.judge.judge_script.Given as goal
+use Rattle.dtp_check.proofs.judge.judge_each.Given as goal
 
 abbrev pub invariant-script : goal.invariant-script
 invariant-script g l = record {
@@ -13,6 +14,7 @@ invariant-script g l = record {
   few : length l.bytes < 2 ^ 63;
   used : l.used ≤ length l.entries;
   suffices : Suffices l.earlier l.entries;
+  made : IsMadeStill l.walk.state l.made;
   judging : IsJudging g.K.Keeps.leads l.bytes l.entries l.fn.keeps l.walk.lexer.place l.walk.number l.used l.walk.state l.earlier l.keeps;
 }
 
