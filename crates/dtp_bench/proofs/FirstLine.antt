@@ -24,7 +24,7 @@ use Rattle.dtp_entry.specs.declared.report.Report.TheVariants.{Certificate}
 use Rattle.dtp_entry.specs.Entries.{verdict_of}
 use Rattle.dtp_entry.specs.Transcripts.{Output, piece_by, pieces, IsOutput, IsReport}
 use Rattle.bench_law.specs.Laws.{EndsWell}
-use Rattle.dtp_bench.specs.Outcomes.{HasVerdict}
+use Rattle.dtp_bench.specs.code.Outcomes.{HasVerdict}
 
 -- ---- the lines of a certificate
 

@@ -46,14 +46,14 @@ use Rattle.dtp_check.specs.declared.judge.Progress.{Progress}
 use Rattle.dtp_check.specs.declared.judge.Progress.TheVariants.{Going, Judged}
 use Rattle.dtp_check.specs.declared.earlier.Earlier.{Earlier}
 use Rattle.dtp_check.specs.declared.earlier.Earlier.TheVariants.{Unkept, Shelved}
-use Rattle.dtp_check.specs.Earlier.{KeepsNone, Holds, Suffices}
-use Rattle.dtp_check.specs.Turns.{Leads, ComesTo, StandsAt, GoesTo, IsCheckTurn, IsJudgedTurn}
+use Rattle.dtp_check.specs.code.Earlier.{KeepsNone, Holds, Suffices}
+use Rattle.dtp_check.specs.code.Turns.{Leads, ComesTo, StandsAt, GoesTo, IsCheckTurn, IsJudgedTurn}
 use Rattle.dtp_check.specs.declared.judgement.EntryFlaw.{EntryFlaw}
 use Rattle.dtp_check.specs.declared.judgement.EntryFlaw.TheVariants.{WrongCount, WrongSort, FalseAssertion}
 use Rattle.dtp_check.specs.declared.judgement.Judgement.{Judgement}
 use Rattle.dtp_check.specs.declared.judgement.Judgement.TheVariants.{Accepted, Script, Missing, Entry as BadEntry, Surplus}
 use Rattle.dtp_check.specs.Judged.{is_of_sort, first_of_wrong_sort, is_true, first_false, first_of_two, values_flaw, entry_flaw, placed, told_by, surplus_of, judged_entry, judged_turns}
-use Rattle.dtp_check.specs.Roots.{first_unmarked}
+use Rattle.dtp_check.specs.code.Roots.{first_unmarked}
 
 -- ---- entries that are left
 

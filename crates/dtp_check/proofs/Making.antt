@@ -21,7 +21,7 @@ use Rattle.script_walk.specs.declared.walk.Walk.{Walk}
 use Rattle.dtp_entry.specs.Entries.{points_of, problem_of}
 use Rattle.dtp_check.specs.declared.judge.Progress.{Progress}
 use Rattle.dtp_check.specs.declared.judge.Progress.TheVariants.{Going}
-use Rattle.dtp_check.specs.Made.{IsProblemOf, IsMadeOf, IsMadeStill, GoesOn}
+use Rattle.dtp_check.specs.code.Made.{IsProblemOf, IsMadeOf, IsMadeStill, GoesOn}
 use Rattle.dtp_check.proofs.Judging.{step_of}
 
 -- states that the code keeps alike have one problem

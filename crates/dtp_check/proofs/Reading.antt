@@ -27,10 +27,10 @@ use Rattle.cert_read.specs.Certificates.{CertificateOutcome}
 use Rattle.cert_read.specs.Laws.{OneCertificate, OneRest}
 use Rattle.dtp_check.specs.Judged.{CertificateBehind, judged_with, JudgedPart, EndsPart, IsApart, ExitEnds, FollowsExit, ScriptPart, told_by, surplus_of, turns_with}
 use Rattle.dtp_check.specs.Laws.{OneJudgement}
-use Rattle.dtp_check.specs.Parts.{IsReadable}
+use Rattle.dtp_check.specs.code.Parts.{IsReadable}
 use Rattle.dtp_check.specs.declared.earlier.Earlier.{Earlier}
-use Rattle.dtp_check.specs.Earlier.{Holds}
-use Rattle.dtp_check.specs.Turns.{Leads, ComesTo, StandsAt, GoesTo, IsJudgedTurn}
+use Rattle.dtp_check.specs.code.Earlier.{Holds}
+use Rattle.dtp_check.specs.code.Turns.{Leads, ComesTo, StandsAt, GoesTo, IsJudgedTurn}
 use Rattle.dtp_check.proofs.Judging.{course_none, comes_over}
 
 -- the command that was read is the script's next

@@ -19,9 +19,9 @@ use Rattle.dtp_check.specs.declared.judgement.Judgement.{Judgement}
 use Rattle.dtp_check.specs.declared.judgement.Judgement.TheVariants.{Script, Certificate}
 use Rattle.dtp_check.specs.declared.script_part.PartEnd.{PartEnd}
 use Rattle.dtp_check.specs.declared.script_part.PartEnd.TheVariants as part
-use Rattle.dtp_check.specs.Behind.{IsBehind}
+use Rattle.dtp_check.specs.code.Behind.{IsBehind}
 use Rattle.dtp_check.specs.Judged.{ScriptPart, CertificateBehind, judged_script, IsJudged}
-use Rattle.dtp_check.specs.Parts.{IsReadable}
+use Rattle.dtp_check.specs.code.Parts.{IsReadable}
 
 -- an error that is a refusal says so
 pub refusal_told : (IsRefused : CertificateRefusal → Type 0) (error : CertReadError) (why : CertificateRefusal) → error ≡ Refused why → ErrorSays IsRefused error → IsRefused why

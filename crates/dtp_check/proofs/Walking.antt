@@ -11,7 +11,7 @@ use Rattle.dtp_check.specs.declared.script_part.PartEnd.{PartEnd}
 use Rattle.dtp_check.specs.declared.script_part.PartEnd.TheVariants as part
 use Rattle.dtp_check.specs.declared.script_part.Next.{Next}
 use Rattle.dtp_check.specs.declared.script_part.Next.TheVariants.{Command, Ended}
-use Rattle.dtp_check.specs.Parts.{IsNext, GoesOn}
+use Rattle.dtp_check.specs.code.Parts.{IsNext, GoesOn}
 use Rattle.smt_script.specs.Commands.{is_exit}
 use Rattle.dtp_check.specs.Judged.{EndsPart, IsApart, ExitEnds, FollowsExit, ScriptPart}
 

@@ -1,16 +1,11 @@
 pub mod Judged
-pub mod Earlier
 pub mod Texts
 pub mod Answered
 pub mod Told
 pub mod Laws
-pub mod Made
 pub mod Whole
 pub mod WholeExamples
-pub mod Parts
-pub mod Behind
-pub mod Roots
-pub mod Turns
 pub use Rattle.smt_sexpr.specs.Tree
 pub use Rattle.smt_sexpr.specs.Table
 pub use Rattle.smt_script.specs.States
+pub mod code

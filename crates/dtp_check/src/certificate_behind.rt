@@ -1,7 +1,7 @@
 //! What stands behind the script's part of a source.
 ghost use Rattle.std.specs.Prelude.{◌≡◌, IfOk, None};
-ghost use Rattle.dtp_check.specs.Behind.{IsBehind};
-ghost use Rattle.dtp_check.specs.Parts.{IsBefore, IsReadable};
+ghost use Rattle.dtp_check.specs.code.Behind.{IsBehind};
+ghost use Rattle.dtp_check.specs.code.Parts.{IsBefore, IsReadable};
 
 use crate::script_part::PartEnd;
 use cert_read::{CertReadError, Certificate, CertificateRefusal, read_certificate, read_entries};

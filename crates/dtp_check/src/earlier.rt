@@ -8,7 +8,7 @@ ghost use Rattle.lemma_shelf.specs.Tables.{own_item};
 ghost use Rattle.lemma_shelf.specs.ItemFlaws.{items_flaw};
 ghost use Rattle.cert_check.specs.Flaws.{TellsFlaw};
 ghost use Rattle.refute_tree.specs.Trees.{IsRefutation};
-ghost use Rattle.dtp_check.specs.Earlier.{KeepsNone, Holds, Suffices, LastRefutes, RefusesBy};
+ghost use Rattle.dtp_check.specs.code.Earlier.{KeepsNone, Holds, Suffices, LastRefutes, RefusesBy};
 
 use cert_check::CheckError;
 use cert_text::FileEntry;

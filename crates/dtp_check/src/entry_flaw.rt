@@ -7,10 +7,10 @@ ghost use Rattle.idl_node.specs.Tables.{IsTableOver};
 ghost use Rattle.idl_node.specs.Truth.{point_values, truth};
 ghost use Rattle.smt_script.specs.States.{State as Meaning};
 ghost use Rattle.script_walk.specs.code.Standing.{Stands};
-ghost use Rattle.dtp_check.specs.Earlier.{Holds, Suffices};
+ghost use Rattle.dtp_check.specs.code.Earlier.{Holds, Suffices};
 ghost use Rattle.dtp_check.specs.Judged.{is_of_sort, first_of_wrong_sort, values_flaw, entry_flaw, placed};
-ghost use Rattle.dtp_check.specs.Made.{IsMadeOf};
-ghost use Rattle.dtp_check.specs.Roots.{first_unmarked};
+ghost use Rattle.dtp_check.specs.code.Made.{IsMadeOf};
+ghost use Rattle.dtp_check.specs.code.Roots.{first_unmarked};
 
 use crate::earlier::Earlier;
 use crate::judgement::EntryFlaw;

@@ -7,12 +7,12 @@ ghost use Rattle.smt_script.specs.States.{State as Meaning};
 ghost use Rattle.kept_lemmas.specs.Entries.{Placed};
 ghost use Rattle.script_walk.specs.Course.{Place};
 ghost use Rattle.script_walk.specs.code.Standing.{Stands};
-ghost use Rattle.dtp_check.specs.Earlier.{Holds, Suffices};
+ghost use Rattle.dtp_check.specs.code.Earlier.{Holds, Suffices};
 ghost use Rattle.dtp_check.specs.declared.script_part.PartEnd.{PartEnd as End};
 ghost use Rattle.dtp_check.specs.Judged.{surplus_of, turns_with, told_by, ScriptPart};
-ghost use Rattle.dtp_check.specs.Made.{IsMadeStill, GoesOn as More};
-ghost use Rattle.dtp_check.specs.Parts.{IsNext, GoesOn, IsReadable};
-ghost use Rattle.dtp_check.specs.Turns.{ComesTo, StandsAt, IsCheckTurn, IsJudgedTurn};
+ghost use Rattle.dtp_check.specs.code.Made.{IsMadeStill, GoesOn as More};
+ghost use Rattle.dtp_check.specs.code.Parts.{IsNext, GoesOn, IsReadable};
+ghost use Rattle.dtp_check.specs.code.Turns.{ComesTo, StandsAt, IsCheckTurn, IsJudgedTurn};
 
 use crate::earlier::Earlier;
 use crate::judgement::Judgement;

@@ -5,9 +5,9 @@ ghost use Rattle.idl_term.specs.Contexts.{Context};
 ghost use Rattle.kept_lemmas.specs.Entries.{Placed as Place};
 ghost use Rattle.smt_script.specs.States.{State as Meaning};
 ghost use Rattle.script_walk.specs.code.Standing.{Stands};
-ghost use Rattle.dtp_check.specs.Earlier.{Holds, Suffices};
+ghost use Rattle.dtp_check.specs.code.Earlier.{Holds, Suffices};
 ghost use Rattle.dtp_check.specs.Judged.{entry_flaw, placed};
-ghost use Rattle.dtp_check.specs.Made.{IsMadeOf};
+ghost use Rattle.dtp_check.specs.code.Made.{IsMadeOf};
 
 use crate::earlier::Earlier;
 use crate::entry_flaw::entry_flaw;

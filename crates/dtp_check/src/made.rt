@@ -2,7 +2,7 @@
 ghost use Rattle.std.specs.Prelude.{◌≡◌, IfOk, None};
 ghost use Rattle.smt_script.specs.States.{State as Meaning};
 ghost use Rattle.script_walk.specs.code.Standing.{Stands};
-ghost use Rattle.dtp_check.specs.Made.{IsProblemOf, IsMadeOf, IsMadeStill};
+ghost use Rattle.dtp_check.specs.code.Made.{IsProblemOf, IsMadeOf, IsMadeStill};
 
 use dtp_entry::problem;
 use smt_script::{Mode, State};

@@ -2,7 +2,7 @@
 ghost use Rattle.std.specs.Prelude.{◌≡◌, ◌<◌, ◌≤◌, length, List, IfOk, None};
 ghost use Rattle.smt_sexpr.specs.Tree.{Sexpr};
 ghost use Rattle.dtp_check.specs.Judged.{ScriptPart};
-ghost use Rattle.dtp_check.specs.Parts.{IsNext, GoesOn, IsBefore};
+ghost use Rattle.dtp_check.specs.code.Parts.{IsNext, GoesOn, IsBefore};
 
 use cert_read::header_version;
 use cert_text::Version;

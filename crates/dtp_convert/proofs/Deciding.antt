@@ -33,7 +33,7 @@ use Rattle.dtp_check.specs.declared.judgement.EntryFlaw.{EntryFlaw}
 use Rattle.dtp_check.specs.declared.judgement.EntryFlaw.TheVariants.{WrongCount, WrongSort, FalseAssertion, Flawed}
 use Rattle.dtp_check.specs.Judged.{first_of_wrong_sort, is_true, first_false, first_of_two, values_flaw}
 use Rattle.dtp_check.proofs.Judging.{are_of_sorts}
-use Rattle.dtp_convert.specs.Turns.{IsAdded, IsShown}
+use Rattle.dtp_convert.specs.code.Shown.{IsAdded, IsShown}
 
 -- ---- values without a flaw
 

@@ -26,11 +26,12 @@ use Rattle.dtp_entry.specs.Entries.{verdict_of}
 use Rattle.dtp_entry.specs.Transcripts.{DecidesIn, opening, pieces}
 use Rattle.dtp_check.specs.declared.script_part.PartEnd.{PartEnd}
 use Rattle.dtp_check.specs.Judged.{ScriptPart, CertificateBehind, told_by, turns_with}
-use Rattle.dtp_check.specs.Turns.{Leads, KeptBy, AreKept}
+use Rattle.dtp_check.specs.code.Turns.{Leads, KeptBy, AreKept}
 use Rattle.dtp_check.proofs.Judging.{question_taken, step_of}
 use Rattle.dtp_convert.specs.declared.converting.Converting.{Converting}
 use Rattle.dtp_convert.specs.Converted.{IsConverted}
-use Rattle.dtp_convert.specs.Turns.{turns_of, AreConverted, ShowsBy, AreShown, IsAdded}
+use Rattle.dtp_convert.specs.Turns.{turns_of, AreConverted, ShowsBy, AreShown}
+use Rattle.dtp_convert.specs.code.Shown.{IsAdded}
 
 -- ---- what was kept decides the questions
 

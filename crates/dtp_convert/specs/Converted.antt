@@ -10,8 +10,6 @@ use Rattle.cert_read.specs.Certificates.{certificate}
 use Rattle.dtp_entry.specs.declared.report.Report.TheVariants.{Certificate}
 use Rattle.dtp_entry.specs.Transcripts.{opening, pieces}
 use Rattle.dtp_entry.specs.Written.{IsFront}
-use Rattle.cert_stream.specs.Streams.{whole_text}
-use Rattle.dtp_check.specs.Answered.{checked_of}
 use Rattle.dtp_check.specs.declared.check.Checked.{Checked}
 use Rattle.dtp_check.specs.declared.check.Checked.TheVariants as checked
 use Rattle.dtp_check.specs.declared.judgement.Judgement.{Judgement}
@@ -20,8 +18,6 @@ use Rattle.dtp_check.specs.declared.script_part.PartEnd.{PartEnd}
 use Rattle.dtp_check.specs.Judged.{ScriptPart, CertificateBehind, turns_with, IsJudged}
 use Rattle.dtp_check.specs.Texts.{judgement_line}
 use Rattle.dtp_convert.specs.Turns.{turns_of, AreConverted, AreShown}
-use Rattle.dtp_convert.specs.declared.convert.Examined.{Examined}
-use Rattle.dtp_convert.specs.declared.convert.Examined.TheVariants.{Converted, Refused}
 
 -- The text is the certificate, of the first version, of the commands of the script's part of the source, none of which is
 -- refused. Its entries are what becomes of those of the source's certificate.
@@ -49,8 +45,3 @@ abbrev pub IsConversionPart : List ℕ → List ℕ → Type 0
 IsConversionPart bytes written =
     (written ≡ [])
     ⊎ ((text : List ℕ) × (checked : Checked) × IsConversion bytes text checked × IsFront written text)
-
--- what the code found of the source
-abbrev pub IsExamined : List ℕ → Examined → Type 0
-IsExamined bytes (Converted entries) = IsJudged bytes Accepted × IsConverted bytes (whole_text One entries.items)
-IsExamined bytes (Refused judgement) = IsJudged bytes judgement × (judgement ≢ Accepted)

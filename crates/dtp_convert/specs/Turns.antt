@@ -1,5 +1,5 @@
 -- The entries of a conversion.
-use Rattle.std.specs.Prelude.{◌≡◌, List, [], ◌∷◌, ◌++◌, map, All, Some, None, Result, Ok, Err}
+use Rattle.std.specs.Prelude.{◌≡◌, List, [], ◌∷◌, map, All}
 use Rattle.smt_sexpr.specs.Tree.{Sexpr}
 use Rattle.smt_sexpr.specs.Commands.{ended}
 use Rattle.cert_text.specs.declared.entry.Version.TheVariants.{One}
@@ -11,13 +11,11 @@ use Rattle.refute_tree.specs.declared.lemma.Lemma.{Lemma}
 use Rattle.refute_tree.specs.Lengths.{lengthened_lemma}
 use Rattle.idl_term.specs.Contexts.{Context}
 use Rattle.kept_lemmas.specs.declared.item.Item.TheVariants.{Own}
-use Rattle.kept_lemmas.specs.Entries.{Placed, IsOwn}
+use Rattle.kept_lemmas.specs.Entries.{IsOwn}
 use Rattle.smt_script.specs.States.{State}
 use Rattle.script_walk.specs.Course.{start_with, Turn, Outcome, tells, answers, asks, ends, fails, course, AreAnswered}
 use Rattle.dtp_entry.specs.Entries.{problem_of, verdict_of}
-use Rattle.dtp_entry.specs.Transcripts.{Decides, DecidesIn}
-use Rattle.dtp_check.specs.declared.judgement.EntryFlaw.{EntryFlaw}
-use Rattle.dtp_check.specs.Judged.{told_by, entry_flaw}
+use Rattle.dtp_entry.specs.Transcripts.{DecidesIn}
 
 -- the turns of the commands, with these entries as answers
 abbrev pub turns_of : List Sexpr → List Entry → List (Turn Entry)
@@ -55,16 +53,3 @@ AreShown [] shown = ⊥
 AreShown (t ∷ ts) shown = ShowsBy t.state t.outcome shown (λ others. AreShown ts others)
 
 -- ---- one entry: words of the code's inner contracts, and no part of the meaning
-
--- the entry decides the assertions, and is what becomes of the entry that was read
-abbrev pub IsConvertedTo : Context → FileEntry → Entry → Type 0
-IsConvertedTo c entry shown = Decides One c shown × (verdict_of shown ≡ told_by entry) × StaysAs c entry shown
-
--- it was added to those before it
-abbrev pub IsAdded : List Entry → List Entry → Context → FileEntry → Type 0
-IsAdded before now c entry = (shown : Entry) × IsConvertedTo c entry shown × (now ≡ before ++ shown ∷ [])
-
--- what an entry that was read comes to behind these: it is right, and is shown so, or this is wrong with it
-abbrev pub IsShown : List Placed → Context → FileEntry → Result Entry EntryFlaw → Type 0
-IsShown before c entry (Ok shown) = (entry_flaw before c entry ≡ None) × IsConvertedTo c entry shown
-IsShown before c entry (Err flaw) = entry_flaw before c entry ≡ Some flaw

@@ -3,7 +3,8 @@ ghost use Rattle.std.specs.Prelude.{◌≡◌, ◌≢◌, ◌≤◌, IfOk, OnErr
 ghost use Rattle.std.specs.Io.KnownBytes.{Appends};
 ghost use Rattle.dtp_io.specs.Faults.{Rose};
 ghost use Rattle.dtp_entry.specs.Written.{Writes};
-ghost use Rattle.dtp_convert.specs.Converted.{IsExamined, IsConversion, IsConversionPart};
+ghost use Rattle.dtp_convert.specs.Converted.{IsConversion, IsConversionPart};
+ghost use Rattle.dtp_convert.specs.code.Examining.{IsExamined};
 
 use crate::converting::Converting;
 use crate::lines::write_lines;

@@ -26,7 +26,7 @@ impl Converting {
 }
 
 impl Keeps for Converting {
-    ghost use Rattle.dtp_convert.specs.Turns.{IsAdded};
+    ghost use Rattle.dtp_convert.specs.code.Shown.{IsAdded};
 
     ghost leads = { λ before now c entry. IsAdded before.entries.items now.entries.items c entry };
 

@@ -7,10 +7,10 @@ ghost use Rattle.cert_text.specs.declared.entry.FileEntry.{FileEntry as Shown};
 ghost use Rattle.kept_lemmas.specs.Entries.{Placed as Place};
 ghost use Rattle.smt_script.specs.States.{State as Meaning};
 ghost use Rattle.script_walk.specs.code.Standing.{Stands};
-ghost use Rattle.dtp_check.specs.Earlier.{Holds, Suffices};
+ghost use Rattle.dtp_check.specs.code.Earlier.{Holds, Suffices};
 ghost use Rattle.dtp_check.specs.Judged.{placed};
-ghost use Rattle.dtp_check.specs.Made.{IsMadeOf};
-ghost use Rattle.dtp_convert.specs.Turns.{IsShown};
+ghost use Rattle.dtp_check.specs.code.Made.{IsMadeOf};
+ghost use Rattle.dtp_convert.specs.code.Shown.{IsShown};
 
 use crate::fitting::{are_values_within, are_within};
 use cert_check::CheckError;

@@ -29,7 +29,7 @@ use Rattle.dtp_entry.specs.Transcripts.{Held, told, told_proof, Decides}
 use Rattle.dtp_session.specs.declared.piece.Piece.{Piece}
 use Rattle.dtp_session.specs.declared.piece.Piece.TheVariants.{Proof, Told}
 use Rattle.dtp_session.specs.declared.session.Session.{Session}
-use Rattle.dtp_session.specs.Sessions.{ShowsVerdict, IsDecidedSo, IsDecided, Holds, MayTell, KeepsReading, KeepsVerdict, Tells, IsChecked}
+use Rattle.dtp_session.specs.code.Sessions.{ShowsVerdict, IsDecidedSo, IsDecided, Holds, MayTell, KeepsReading, KeepsVerdict, Tells, IsChecked}
 
 -- ---- behind a command
 

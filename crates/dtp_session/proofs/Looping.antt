@@ -17,7 +17,7 @@ use Rattle.dtp_entry.proofs.Written.{appends_nothing}
 use Rattle.dtp_session.specs.declared.piece.Piece.{Piece}
 use Rattle.dtp_session.specs.declared.piece.Piece.TheVariants.{Opening, Decision, Proof, Told, Closing, Error}
 use Rattle.dtp_session.specs.declared.session.Session.{Session}
-use Rattle.dtp_session.specs.Sessions.{IsText, Holds, IsStart, place_of, From, PartFrom, behind, IsGoing, Ends, GoesOn, Leads, IsNext}
+use Rattle.dtp_session.specs.code.Sessions.{IsText, Holds, IsStart, place_of, From, PartFrom, behind, IsGoing, Ends, GoesOn, Leads, IsNext}
 use Rattle.dtp_session.proofs.Transcribing.{nothing_yet, front_more, front_of, front_behind, nothing_front, same_place}
 
 -- what was written goes on to what is written of the whole script

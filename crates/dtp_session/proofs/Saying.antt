@@ -34,8 +34,8 @@ use Rattle.dtp_entry.specs.Transcripts.{Held, told, told_model, told_values}
 use Rattle.dtp_entry.specs.declared.report.Report.TheVariants.{Verdicts}
 use Rattle.dtp_entry.proofs.Verdicts.{sorts_count}
 use Rattle.dtp_session.specs.declared.session.Session.{Session}
-use Rattle.dtp_session.specs.Forms.{schedule_of}
-use Rattle.dtp_session.specs.Sessions.{ShowsVerdict, Holds}
+use Rattle.dtp_session.specs.code.Forms.{schedule_of}
+use Rattle.dtp_session.specs.code.Sessions.{ShowsVerdict, Holds}
 
 -- ---- information
 

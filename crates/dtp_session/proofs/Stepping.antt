@@ -17,7 +17,7 @@ use Rattle.dtp_entry.specs.Entries.{verdict_of}
 use Rattle.dtp_session.specs.declared.piece.Piece.{Piece}
 use Rattle.dtp_session.specs.declared.piece.Piece.TheVariants.{Decision, Closing, Error}
 use Rattle.dtp_session.specs.declared.session.Session.{Session}
-use Rattle.dtp_session.specs.Sessions.{Holds, MayTell, place_of, KeepsReading, Tells, IsChecked, IsNext}
+use Rattle.dtp_session.specs.code.Sessions.{Holds, MayTell, place_of, KeepsReading, Tells, IsChecked, IsNext}
 use Rattle.dtp_session.proofs.Answering.{holds_after, may_after, ready_kept}
 use Rattle.dtp_session.proofs.Transcribing.{closing_next, error_next, told_next, checked_next}
 

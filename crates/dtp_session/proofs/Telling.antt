@@ -10,7 +10,7 @@ use Rattle.dtp_entry.proofs.Written.{appends_nothing}
 use Rattle.dtp_session.specs.declared.piece.Piece.{Piece}
 use Rattle.dtp_session.specs.declared.piece.Piece.TheVariants.{Decision, Proof}
 use Rattle.dtp_session.specs.declared.session.Session.{Session}
-use Rattle.dtp_session.specs.Sessions.{IsText}
+use Rattle.dtp_session.specs.code.Sessions.{IsText}
 
 -- what is legal for one reason is legal for another
 module _ (P Q : List ℕ → Type 0) (f : (text : List ℕ) → P text → Q text) where

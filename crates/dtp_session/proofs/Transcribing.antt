@@ -22,7 +22,7 @@ use Rattle.dtp_entry.specs.Written.{IsFront}
 use Rattle.dtp_session.specs.declared.piece.Piece.{Piece}
 use Rattle.dtp_session.specs.declared.piece.Piece.TheVariants.{Opening, Decision, Proof, Told, Closing, Error}
 use Rattle.dtp_session.specs.declared.session.Session.{Session}
-use Rattle.dtp_session.specs.Sessions.{IsText, Holds, place_of, PartFrom, KeepsReading, Tells, IsChecked, IsGoing, GoesOn, Leads, IsNext}
+use Rattle.dtp_session.specs.code.Sessions.{IsText, Holds, place_of, PartFrom, KeepsReading, Tells, IsChecked, IsGoing, GoesOn, Leads, IsNext}
 
 -- ---- fronts
 

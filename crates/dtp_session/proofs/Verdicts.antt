@@ -29,7 +29,7 @@ use Rattle.book_core.specs.declared.verdict.Verdict.{Verdict}
 use Rattle.book_core.specs.Verdicts.{IsRight}
 use Rattle.dtp_entry.specs.Entries.{points_of, problem_of, IsInForm}
 use Rattle.dtp_entry.specs.Transcripts.{Decides}
-use Rattle.dtp_session.specs.Forms.{formed}
+use Rattle.dtp_session.specs.code.Forms.{formed}
 use Rattle.dtp_session.proofs.Fitting.{IsFormed, refutation_within, written_lemmas_over, written_without_clash}
 use Rattle.dtp_session.proofs.Shortening.{short_lemmas_over, lemmas_short, formed_second}
 use Rattle.dtp_entry.proofs.Roots.{assertions_true}

@@ -1,6 +1,4 @@
 pub mod Ends
-pub mod Forms
-pub mod Sessions
 pub mod Solving
 pub use Rattle.dtp_io.specs.Faults
 pub use Rattle.smt_sexpr.specs.Tree
@@ -12,3 +10,4 @@ pub use Rattle.idl_term.specs.Contexts
 pub use Rattle.cert_text.specs.Limits
 pub use Rattle.smt_script.specs.States
 pub use Rattle.smt_answer.specs.Kinds
+pub mod code

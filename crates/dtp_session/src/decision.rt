@@ -5,7 +5,7 @@ ghost use Rattle.cert_text.specs.declared.entry.Entry.TheVariants.{Unsat};
 ghost use Rattle.smt_script.specs.States.{State as Meaning};
 ghost use Rattle.script_walk.specs.code.Standing.{Stands};
 ghost use Rattle.dtp_entry.specs.Transcripts.{Decides};
-ghost use Rattle.dtp_session.specs.Forms.{formed, version_wanted};
+ghost use Rattle.dtp_session.specs.code.Forms.{formed, version_wanted};
 ghost use Rattle.trim_lemmas.specs.Trimming.{StaysRefutation, StaysOver};
 
 use crate::form::in_form;

@@ -1,6 +1,6 @@
 //! Refutations as a version of certificates shows them.
 ghost use Rattle.std.specs.Prelude.{◌≡◌, map, IfOk, OnOk};
-ghost use Rattle.dtp_session.specs.Forms.{formed};
+ghost use Rattle.dtp_session.specs.code.Forms.{formed};
 
 use cert_text::Version;
 use refute_tree::{Lemma, Refutation, lengthen, shorten};

@@ -5,7 +5,7 @@ ghost use Rattle.cert_text.specs.declared.entry.Entry.TheVariants.{Sat, Unsat};
 ghost use Rattle.cert_text.specs.Form.{entry_sexpr, line_of};
 ghost use Rattle.dtp_entry.specs.Entries.{verdict_of};
 ghost use Rattle.dtp_entry.specs.Written.{WritesOne};
-ghost use Rattle.dtp_session.specs.Forms.{formed, schedule_of};
+ghost use Rattle.dtp_session.specs.code.Forms.{formed, schedule_of};
 
 use crate::form::forms_of;
 use cert_stream::write_entry;
@@ -29,7 +29,7 @@ pub struct Found {
 
 impl Model for Found {
     ghost use Rattle.cert_text.specs.declared.entry.Entry.{Entry as Shown};
-    ghost use Rattle.dtp_session.specs.Forms.{shown_as};
+    ghost use Rattle.dtp_session.specs.code.Forms.{shown_as};
 
     ghost Value = { Shown };
 

@@ -13,7 +13,7 @@ ghost use Rattle.smt_script.specs.declared.state.Notice.TheVariants as told_of;
 ghost use Rattle.script_walk.specs.code.Standing.{Stands};
 ghost use Rattle.dtp_entry.specs.Transcripts.{told};
 ghost use Rattle.dtp_entry.specs.declared.report.Report.TheVariants.{Verdicts};
-ghost use Rattle.dtp_session.specs.Sessions.{Holds, MayTell, KeepsReading, KeepsVerdict, Tells};
+ghost use Rattle.dtp_session.specs.code.Sessions.{Holds, MayTell, KeepsReading, KeepsVerdict, Tells};
 
 use crate::piece::Piece;
 use crate::session::Session;

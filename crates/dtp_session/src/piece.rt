@@ -4,7 +4,7 @@ ghost use Rattle.dtp_entry.specs.Transcripts.{decision_line};
 ghost use Rattle.dtp_entry.specs.Written.{WritesOne};
 ghost use Rattle.dtp_entry.specs.declared.report.Report.TheVariants.{Verdicts};
 ghost use Rattle.dtp_session.specs.declared.piece.Piece.TheVariants.{Decision, Proof, Told};
-ghost use Rattle.dtp_session.specs.Sessions.{IsText};
+ghost use Rattle.dtp_session.specs.code.Sessions.{IsText};
 
 use crate::found::Found;
 use crate::session::Session;

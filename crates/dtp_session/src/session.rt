@@ -6,9 +6,9 @@ ghost use Rattle.script_walk.specs.code.Events.{IsReady as IsWalkReady};
 ghost use Rattle.dtp_entry.specs.Reports.{version_of};
 ghost use Rattle.dtp_entry.specs.Transcripts.{IsReport, IsReportPart};
 ghost use Rattle.dtp_entry.specs.Written.{Writes};
-ghost use Rattle.dtp_session.specs.Sessions.{Holds, IsReady, IsStart, KeepsReading, KeepsScript, IsChecked, IsGoing, IsNext};
+ghost use Rattle.dtp_session.specs.code.Sessions.{Holds, IsReady, IsStart, KeepsReading, KeepsScript, IsChecked, IsGoing, IsNext};
 ghost use Rattle.dtp_session.specs.Ends.{status_of};
-ghost use Rattle.dtp_session.specs.Forms.{version_wanted};
+ghost use Rattle.dtp_session.specs.code.Forms.{version_wanted};
 
 use crate::decision::decide;
 use crate::found::Found;

@@ -3,7 +3,7 @@ use Rattle.cert_read.specs.Certificates.{no_certificate, ReadsEntries, ReadsCert
 use Rattle.cert_read.specs.declared.error.CertificateRefusal.{CertificateRefusal}
 use Rattle.dtp_check.specs.declared.script_part.PartEnd.{PartEnd}
 use Rattle.dtp_check.specs.Judged.{CertificateBehind}
-use Rattle.dtp_check.specs.Parts.{IsBefore}
+use Rattle.dtp_check.specs.code.Parts.{IsBefore}
 use Rattle.dtp_check.proofs.Telling.{refusal_told}
 use Rattle.dtp_check.proofs.certificate_behind.read_behind.Goals as goal
 

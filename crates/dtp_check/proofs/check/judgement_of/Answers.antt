@@ -1,7 +1,7 @@
 use Rattle.std.proofs.Common.{◌≡◌, ◌∙◌, sym, subst, ap, refl, List, ℕ}
 use Rattle.cert_text.specs.declared.entry.FileEntry.{FileEntry as Shown}
 use Rattle.dtp_check.specs.Judged.{ScriptPart, judged_script}
-use Rattle.dtp_check.specs.Parts.{IsReadable}
+use Rattle.dtp_check.specs.code.Parts.{IsReadable}
 use Rattle.dtp_check.proofs.Telling.{readable_by, stands, found_refusal, judged_entries}
 use Rattle.dtp_check.proofs.check.judgement_of.Goals as goal
 

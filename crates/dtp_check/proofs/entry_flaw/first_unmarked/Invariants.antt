@@ -1,5 +1,5 @@
 use Rattle.std.proofs.Common.{◌≡◌, ◌+◌, drop}
-use Rattle.dtp_check.specs.Roots.{first_unmarked}
+use Rattle.dtp_check.specs.code.Roots.{first_unmarked}
 use Rattle.dtp_check.proofs.entry_flaw.first_unmarked.Given as goal
 
 abbrev pub invariant-loop-k : goal.invariant-loop-k

@@ -5,7 +5,7 @@ use Rattle.idl_node.specs.Nodes.{NodeValue}
 use Rattle.idl_node.specs.Tables.{IsTableOver}
 use Rattle.idl_node.specs.Truth.{truth, point_values}
 use Rattle.dtp_check.specs.declared.judgement.EntryFlaw.TheVariants.{FalseAssertion}
-use Rattle.dtp_check.specs.Roots.{first_unmarked}
+use Rattle.dtp_check.specs.code.Roots.{first_unmarked}
 use Rattle.dtp_check.proofs.Judging.{counted_by, sorts_by, kept_table_over, roots_within, sorts_judged, values_judged}
 use Rattle.dtp_check.proofs.entry_flaw.values_flaw.Goals as goal
 

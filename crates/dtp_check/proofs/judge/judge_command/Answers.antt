@@ -6,7 +6,7 @@ use Rattle.script_walk.specs.code.Events.{Carries}
 use Rattle.script_walk.specs.declared.walk.Event.{Event}
 use Rattle.script_walk.specs.declared.walk.Event.TheVariants.{Told, Asked, Ended, Failed}
 use Rattle.script_walk.specs.declared.walk.Walk.{Walk}
-use Rattle.dtp_check.specs.Turns.{IsJudgedTurn}
+use Rattle.dtp_check.specs.code.Turns.{IsJudgedTurn}
 use Rattle.dtp_check.proofs.Judging.{notice_judged, check_judged, exit_judged, refused_judged}
 use Rattle.dtp_check.proofs.Making.{made_after}
 use Rattle.dtp_check.proofs.judge.judge_command.Goals as goal

@@ -1,6 +1,6 @@
 use Rattle.std.proofs.Common.{◌≡◌, ◌≤◌, ◌<◌, ◌-◌, ◌+◌, ◌^◌, length, None}
-use Rattle.dtp_check.specs.Earlier.{Suffices}
-use Rattle.dtp_check.specs.Made.{IsMadeStill}
+use Rattle.dtp_check.specs.code.Earlier.{Suffices}
+use Rattle.dtp_check.specs.code.Made.{IsMadeStill}
 use Rattle.dtp_check.proofs.Reading.{IsJudging}
 use Rattle.dtp_check.proofs.judge.judge_each.Given as goal
 

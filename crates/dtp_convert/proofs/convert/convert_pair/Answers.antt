@@ -6,7 +6,8 @@ use Rattle.dtp_entry.specs.Written.{Writes, IsPartOf}
 use Rattle.dtp_entry.proofs.Written.{on_err}
 use Rattle.dtp_check.specs.declared.check.Checked.TheVariants as checked
 use Rattle.dtp_convert.specs.declared.convert.Examined.{Examined}
-use Rattle.dtp_convert.specs.Converted.{IsConversion, IsConversionPart, IsExamined}
+use Rattle.dtp_convert.specs.Converted.{IsConversion, IsConversionPart}
+use Rattle.dtp_convert.specs.code.Examining.{IsExamined}
 use Rattle.dtp_convert.proofs.Examining.{failed, conversion_cut}
 use Rattle.dtp_convert.proofs.convert.convert_pair.Goals as goal
 

@@ -2,7 +2,7 @@ use Rattle.std.proofs.Common.{◌≡◌, ◌∙◌, subst, sym, ap, refl, List, 
 use Rattle.cert_text.specs.declared.entry.FileEntry.{FileEntry as Shown}
 use Rattle.dtp_check.specs.declared.judgement.Judgement.TheVariants.{Accepted}
 use Rattle.dtp_check.specs.Judged.{ScriptPart, turns_with, judged_script}
-use Rattle.dtp_check.specs.Parts.{IsReadable}
+use Rattle.dtp_check.specs.code.Parts.{IsReadable}
 use Rattle.dtp_check.proofs.Telling.{readable_by, stands, found_refusal, judged_entries}
 use Rattle.dtp_convert.specs.Turns.{AreShown}
 use Rattle.dtp_convert.proofs.Writing.{all_converted, all_stay, converted}

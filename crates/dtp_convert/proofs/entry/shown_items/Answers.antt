@@ -13,7 +13,7 @@ use Rattle.cert_check.specs.declared.flaw.CheckError.{CheckError}
 use Rattle.cert_check.specs.declared.flaw.Flaw.{Flaw}
 use Rattle.dtp_check.specs.declared.judgement.EntryFlaw.TheVariants.{Flawed}
 use Rattle.lemma_shelf.specs.ItemFlaws.{items_flaw}
-use Rattle.dtp_check.specs.Earlier.{RefusesBy}
+use Rattle.dtp_check.specs.code.Earlier.{RefusesBy}
 use Rattle.dtp_convert.proofs.Deciding.{items_decide, items_flaw_is}
 use Rattle.dtp_convert.proofs.entry.shown_items.Goals as goal
 

@@ -11,7 +11,7 @@ use Rattle.idl_term.specs.Scopes.{Scope, sorts_of}
 use Rattle.stn_core.specs.Solution.{IsSolution}
 use Rattle.dtp_entry.specs.Entries.{points_of, problem_of}
 use Rattle.dtp_entry.specs.Transcripts.{Decides}
-use Rattle.dtp_session.specs.Forms.{formed, version_wanted}
+use Rattle.dtp_session.specs.code.Forms.{formed, version_wanted}
 use Rattle.dtp_session.proofs.Verdicts.{as_found, holds_as, refuted_as, over_as, sat_decides, shown_within, unsat_decides}
 use Rattle.dtp_entry.proofs.Verdicts.{sorts_count}
 use Rattle.dtp_session.proofs.decision.decide.Goals as goal

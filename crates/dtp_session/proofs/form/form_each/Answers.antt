@@ -1,7 +1,7 @@
 use Rattle.std.proofs.Common.{arith, slice_index_or, slice_set, ap, ◌∙◌}
 use Rattle.std.proofs.lemmas.List.{get_or_default}
 use Rattle.std.proofs.lemmas.List.Edits.{map_over_more}
-use Rattle.dtp_session.specs.Forms.{formed}
+use Rattle.dtp_session.specs.code.Forms.{formed}
 use Rattle.dtp_session.proofs.form.form_each.Goals as goal
 
 pub loop-lemma-preserved : goal.loop-lemma-preserved

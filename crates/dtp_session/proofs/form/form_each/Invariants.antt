@@ -1,5 +1,5 @@
 use Rattle.std.proofs.Common.{◌≡◌, ◌++◌, take, drop, map}
-use Rattle.dtp_session.specs.Forms.{formed}
+use Rattle.dtp_session.specs.code.Forms.{formed}
 use Rattle.dtp_session.proofs.form.form_each.Given as goal
 
 abbrev pub invariant-loop-lemma : goal.invariant-loop-lemma

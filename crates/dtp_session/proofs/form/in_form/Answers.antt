@@ -1,6 +1,6 @@
 use Rattle.std.proofs.Common.{◌≡◌, map, ap, sym, ◌∙◌, length}
 use Rattle.std.proofs.lemmas.List.{length-map, with_items_is}
-use Rattle.dtp_session.specs.Forms.{formed}
+use Rattle.dtp_session.specs.code.Forms.{formed}
 use Rattle.dtp_session.proofs.form.in_form.Goals as goal
 
 pub returns : goal.returns

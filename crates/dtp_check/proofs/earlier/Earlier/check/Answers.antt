@@ -3,7 +3,7 @@ use Rattle.std.specs.Prelude.{OnOk}
 use Rattle.kept_lemmas.specs.Entries.{shelf_of}
 use Rattle.lemma_shelf.specs.ItemFlaws.{items_flaw}
 use Rattle.dtp_check.specs.declared.earlier.Earlier.{Earlier}
-use Rattle.dtp_check.specs.Earlier.{LastRefutes}
+use Rattle.dtp_check.specs.code.Earlier.{LastRefutes}
 use Rattle.dtp_check.proofs.Held.{none_anywhere, right_on}
 use Rattle.dtp_check.proofs.earlier.Earlier.check.Goals as goal
 

@@ -2,7 +2,7 @@ use Rattle.std.proofs.Common.{sym, subst, List, []}
 use Rattle.kept_lemmas.specs.declared.item.Item.{Item}
 use Rattle.kept_lemmas.specs.Entries.{AreRight}
 use Rattle.dtp_check.specs.declared.earlier.Earlier.{Earlier}
-use Rattle.dtp_check.specs.Earlier.{LastRefutes}
+use Rattle.dtp_check.specs.code.Earlier.{LastRefutes}
 use Rattle.dtp_check.proofs.earlier.Earlier.lowered.Goals as goal
 
 pub returns-in_ok-own_lemmas-in-Unkept-clause-refutes : goal.returns-in_ok-own_lemmas-in-Unkept-clause-refutes

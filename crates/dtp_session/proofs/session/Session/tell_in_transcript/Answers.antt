@@ -4,7 +4,7 @@ use Rattle.smt_script.specs.declared.state.Notice.TheVariants as notice
 use Rattle.dtp_entry.specs.declared.report.Report.{Report}
 use Rattle.dtp_entry.specs.Transcripts.{told}
 use Rattle.dtp_session.specs.declared.piece.Piece.TheVariants.{Proof, Told}
-use Rattle.dtp_session.specs.Sessions.{MayTell}
+use Rattle.dtp_session.specs.code.Sessions.{MayTell}
 use Rattle.dtp_session.proofs.Answering.{told_tells, proof_tells, tells_as, holds_kept}
 use Rattle.dtp_session.proofs.session.Session.tell_in_transcript.Goals as goal
 

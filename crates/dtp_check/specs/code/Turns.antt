@@ -18,7 +18,7 @@ use Rattle.dtp_check.specs.declared.judgement.EntryFlaw.{EntryFlaw}
 use Rattle.dtp_check.specs.declared.judgement.Judgement.{Judgement}
 use Rattle.dtp_check.specs.declared.judgement.Judgement.TheVariants.{Accepted, Missing, Entry as BadEntry}
 use Rattle.dtp_check.specs.declared.earlier.Earlier.{Earlier}
-use Rattle.dtp_check.specs.Earlier.{Holds}
+use Rattle.dtp_check.specs.code.Earlier.{Holds}
 use Rattle.dtp_check.specs.Judged.{entry_flaw, placed, told_by, judged_turns}
 
 -- how one value leads to another at an entry where these assertions are active
