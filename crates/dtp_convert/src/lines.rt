@@ -52,5 +52,6 @@ pub fn write_lines<K: Sink>(
 {
     write_first_line(alloc, sink)?;
     write_each(alloc, entries, sink)?;
-    write_last_line(alloc, sink)
+    write_last_line(alloc, sink)?;
+    Ok(())
 }
