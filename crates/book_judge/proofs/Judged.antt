@@ -1,11 +1,19 @@
 -- Steps of the loops that decide.
-use Rattle.std.proofs.Common.{arith, ◌≡◌, ℕ, zero, suc, ◌<◌, ◌≤◌, ◌+◌, Bool, true, false, List, [], ◌∷◌, ◌++◌, length, map, take, get_or, All, Contains, Some, refl, sym, ap, ◌∙◌, subst, append_assoc}
-use Rattle.std.proofs.lemmas.List.{take_more, map-append}
-use Rattle.std.proofs.lemmas.List.Elements.{All-nil, All-cons, All-push, All-map}
+use Rattle.std.proofs.Common.{arith, ◌≡◌, ◌≢◌, ℕ, zero, suc, ◌<◌, ◌≤◌, ◌+◌, Bool, true, false, List, [], ◌∷◌, ◌++◌, length, map, take, get_or, All, Contains, Some, None, refl, sym, ap, ◌∙◌, subst, append_assoc}
+use Rattle.std.proofs.lemmas.List.{take_more, map-append, append-nil, get_or-map, length-map}
+use Rattle.std.specs.Prelude.{◌↔◌, slice_get, Err}
+use Rattle.std.proofs.lemmas.Option.{slice_get_past}
+use Rattle.std.proofs.lemmas.List.Elements.{All-nil, All-cons, All-push, All-map, All-get_or, All-contains}
 use Rattle.stn_core.specs.declared.literal.Literal.{Literal}
 use Rattle.stn_core.specs.Literal.{negation_of}
 use Rattle.cert_check.specs.Tests.{is_assumed}
 use Rattle.cert_check.proofs.Decided.{is_assumed_decides}
+use Rattle.cert_check.proofs.Reading.{refuted_lemma}
+use Rattle.cert_check.specs.Flaws.{lemma_flaw, TellsFlaw}
+use Rattle.cert_check.specs.declared.flaw.CheckError.{CheckError}
+use Rattle.cert_check.specs.declared.flaw.CheckError.TheVariants.{Refused}
+use Rattle.cert_check.specs.declared.flaw.Flaw.{Flaw}
+use Rattle.cert_check.specs.declared.flaw.FlawKind.{FlawKind}
 use Rattle.stn_core.specs.declared.problem.Problem.{Problem}
 use Rattle.refute_tree.specs.declared.step.Step.{Step}
 use Rattle.refute_tree.specs.declared.lemma.Lemma.{Lemma}
@@ -15,6 +23,10 @@ use Rattle.refute_tree.proofs.Moved.{joined}
 use Rattle.book_core.specs.Books.{IsShutBy, IsJustified, Fits}
 use Rattle.stn_core.specs.Solution.{IsAtom}
 use Rattle.book_core.specs.declared.event.Outcome.{Outcome}
+use Rattle.book_core.specs.declared.event.Outcome.TheVariants.{Found, Shut as ShutBy, Split as SplitBy}
+use Rattle.book_judge.specs.declared.judging.Fault.{Fault}
+use Rattle.book_judge.specs.declared.judging.Fault.TheVariants.{NoSuchClause, BoundOutOfRange, NotRefuted, NotASchedule, DoesNotExclude, AlreadyDecided, OutOfMemory}
+use Rattle.book_judge.specs.Faults.{fault_of, Misfits, IsFaultOf, IsFaultOfLemma, IsFaultOfLemmas}
 use Rattle.book_core.proofs.Concluding.{got, shared_clauses}
 use Rattle.cover_tree.proofs.Tables.{get_map}
 
@@ -107,3 +119,132 @@ steps_next P whole old new s e h all rest = all (subst (All P) (sym e) (All-cons
 
 pub steps_end : (P : Step → Type 0) (whole old : List Step) → old ≡ [] → (All P old → All P whole) → All P whole
 steps_end P whole old e all = all (subst (All P) (sym e) (All-nil P))
+
+-- a literal's negation is missing
+pub denied_at : (cube clause : List Literal) (i : ℕ) (d : Literal) → i < length clause → IsDenied cube clause → Contains cube (negation_of (get_or clause i d))
+denied_at cube clause i d within h =
+    subst (Contains cube) (get_or-map negation_of clause i d (negation_of d) within) (All-get_or (Contains cube) (map negation_of clause) i (negation_of d) (omega (arith, within, length-map clause negation_of)) h)
+
+pub undenied : (cube clause : List Literal) (i : ℕ) (d m : Literal) (b : Bool) → i < length clause → m ≡ negation_of (get_or clause i d) → b ≡ is_assumed cube m → b ≡ false → IsDenied cube clause → ⊥
+undenied cube clause i d m b within neg e f h = is_out cube m b e f (subst (Contains cube) (sym neg) (denied_at cube clause i d within h))
+
+-- a clause of the problem doesn't have the literal
+abbrev pub Lacks : Literal → List Literal → Type 0
+Lacks l clause = Contains clause l → ⊥
+
+pub lacks_more : (whole clauses : List (List Literal)) (i : ℕ) (clause shown : List Literal) (l : Literal) (b : Bool) → clauses ≡ whole → i < length clauses → clause ≡ get_or clauses i clause → shown ≡ clause → b ≡ is_assumed shown l → b ≡ false → All (Lacks l) (take i whole) → All (Lacks l) (take (i + 1) whole)
+lacks_more whole clauses i clause shown l b same within there of e f h =
+    let before : All (Lacks l) (take i clauses) = subst (λ (cs : List (List Literal)). All (Lacks l) (take i cs)) (sym same) h in
+    let after : All (Lacks l) (take (i + 1) clauses) = all_more (Lacks l) clauses i clause within before (subst (Lacks l) (of ∙ there) (is_out shown l b e f)) in
+    subst (λ (cs : List (List Literal)). All (Lacks l) (take (i + 1) cs)) same after
+
+pub lacks_end : (problem : Problem) (clauses : List (List Literal)) (i : ℕ) (l : Literal) → clauses ≡ problem.clauses → length clauses ≤ i → All (Lacks l) (take i problem.clauses) → IsAtom problem l → ⊥
+lacks_end problem clauses i l same ended h a =
+    let few : length problem.clauses ≤ i = subst (λ (cs : List (List Literal)). length cs ≤ i) same ended in
+    All-contains (Lacks l) problem.clauses a.0 (all_end (Lacks l) problem.clauses i few h) a.1 a.2
+
+-- there is no lemma at a place, or another one
+pub shut_past : (clauses : List (List Literal)) (cube : List Literal) (j : ℕ) → length clauses ≤ j → IsShutBy clauses cube j → ⊥
+shut_past clauses cube j past s = let t : None ≡ Some s.0 = sym (slice_get_past clauses j past) ∙ s.1 in absurd (cc t)
+
+pub shut_at : {A : Type 0} (value : A → Lemma) (xs : List A) (j : ℕ) (x : A) (shown : Lemma) (clause cube : List Literal) → j < length xs → x ≡ get_or xs j x → shown ≡ value x → clause ≡ shown.clause → IsShutBy (map stated (map value xs)) cube j → IsDenied cube clause
+shut_at value xs j x shown clause cube within there of is s =
+    let here : slice_get (map stated (map value xs)) j ≡ Some (stated (value x)) = get_map stated (map value xs) j (value x) (get_map value xs j x (got xs j x within there)) in
+    let same : stated (value x) ≡ s.0 = (let t : Some (stated (value x)) ≡ Some s.0 = sym here ∙ s.1 in cc t) in
+    subst (IsDenied cube) (sym (is ∙ (ap stated of ∙ same))) s.2
+
+-- a flaw that was found denies that the lemma is refuted
+unrefuted : (points : ℕ) (clauses earlier : List (List Literal)) (lemma : Lemma) (flaw : Flaw) → lemma_flaw points clauses earlier lemma ≡ Some flaw → IsRefuted points clauses earlier lemma → ⊥
+unrefuted points clauses earlier lemma flaw e h = let t : None ≡ Some flaw = sym (refuted_lemma points clauses earlier lemma h) ∙ e in absurd (cc t)
+
+pub unrefuted_by : (points : ℕ) (clauses earlier : List (List Literal)) (lemma : Lemma) (error : CheckError) (flaw : Flaw) → error ≡ Refused flaw → TellsFlaw (lemma_flaw points clauses earlier lemma) (Err error) → IsRefuted points clauses earlier lemma → ⊥
+unrefuted_by points clauses earlier lemma error flaw e tells =
+    unrefuted points clauses earlier lemma flaw (subst (λ (x : CheckError). TellsFlaw (lemma_flaw points clauses earlier lemma) (Err x)) e tells)
+
+-- of refuted lemmas each is refuted over those before it
+refuted_at : (points : ℕ) (clauses earlier : List (List Literal)) (lemmas : List Lemma) (i : ℕ) (d : Lemma) → i < length lemmas → AreRefuted points clauses earlier lemmas → IsRefuted points clauses (earlier ++ map stated (take i lemmas)) (get_or lemmas i d)
+refuted_at points clauses earlier [] i d within h = absurd (omega arith)
+refuted_at points clauses earlier (x ∷ xs) zero d within h = subst (λ (cs : List (List Literal)). IsRefuted points clauses cs x) (sym (append-nil earlier)) h.0
+refuted_at points clauses earlier (x ∷ xs) (suc i) d within h =
+    subst (λ (cs : List (List Literal)). IsRefuted points clauses cs (get_or xs i d)) (append_assoc earlier (x.clause ∷ []) (map stated (take i xs)))
+    (refuted_at points clauses (earlier ++ x.clause ∷ []) xs i d (omega (arith, within)) h.1)
+
+-- a fault of one lemma is one of the batch
+pub faulted : {A : Type 0} (value : A → Lemma) (problem : Problem) (old now : List A) (lemmas : List Lemma) (i : ℕ) (lemma : Lemma) (fault : Fault) → i < length lemmas → lemma ≡ get_or lemmas i lemma → map value now ≡ map value old ++ take i lemmas → IsFaultOfLemma problem (map (λ a. stated (value a)) now) lemma fault → IsFaultOfLemmas problem (map stated (map value old)) lemmas fault
+faulted value problem old now lemmas i lemma NoSuchClause within is known f = f
+faulted value problem old now lemmas i lemma BoundOutOfRange within is known f =
+    λ h. f (subst (LemmaIsOver problem.points) (sym is) (All-get_or (LemmaIsOver problem.points) lemmas i lemma within h))
+faulted value problem old now lemmas i lemma (NotRefuted kind) within is known f =
+    let clauses_now : map (λ a. stated (value a)) now ≡ map stated (map value old) ++ map stated (take i lemmas) =
+    sym (shared_clauses value now) ∙ (ap (map stated) known ∙ map-append stated (map value old) (take i lemmas)) in
+    λ h. f (subst (IsRefuted problem.points problem.clauses (map (λ a. stated (value a)) now)) (sym is)
+    (subst (λ (cs : List (List Literal)). IsRefuted problem.points problem.clauses cs (get_or lemmas i lemma)) (sym clauses_now)
+    (refuted_at problem.points problem.clauses (map stated (map value old)) lemmas i lemma within h)))
+faulted value problem old now lemmas i lemma NotASchedule within is known f = f
+faulted value problem old now lemmas i lemma DoesNotExclude within is known f = f
+faulted value problem old now lemmas i lemma AlreadyDecided within is known f = f
+faulted value problem old now lemmas i lemma OutOfMemory within is known f = tt
+
+-- a fault of the batch is one of the delivery
+pub batch_fault : (problem : Problem) (lemmas : List Lemma) (cube : List Literal) (batch : LemmaBatch) (outcome : Outcome) (seen : ℕ) (own known : List Lemma) (fault : Fault) → seen ≡ batch.seen → own ≡ batch.lemmas → known ≡ take seen lemmas → IsFaultOfLemmas problem (map stated known) own fault → IsFaultOf problem lemmas cube batch outcome fault
+batch_fault problem lemmas cube batch outcome seen own known NoSuchClause es eo ek f = absurd f
+batch_fault problem lemmas cube batch outcome seen own known BoundOutOfRange es eo ek f = λ h. f (subst (All (LemmaIsOver problem.points)) (sym eo) h)
+batch_fault problem lemmas cube batch outcome seen own known (NotRefuted kind) es eo ek f =
+    let first : known ≡ take batch.seen lemmas = ek ∙ ap (λ (n : ℕ). take n lemmas) es in
+    λ h. f (subst (λ (ls : List Lemma). AreRefuted problem.points problem.clauses (map stated ls) own) (sym first)
+    (subst (AreRefuted problem.points problem.clauses (map stated (take batch.seen lemmas))) (sym eo) h))
+batch_fault problem lemmas cube batch outcome seen own known NotASchedule es eo ek f = absurd f
+batch_fault problem lemmas cube batch outcome seen own known DoesNotExclude es eo ek f = absurd f
+batch_fault problem lemmas cube batch outcome seen own known AlreadyDecided es eo ek f = absurd f
+batch_fault problem lemmas cube batch outcome seen own known OutOfMemory es eo ek f = tt
+
+not_missing : (outcome : Outcome) → NoSuchClause ≢ fault_of outcome
+not_missing (Found values) e = absurd (cc e)
+not_missing (ShutBy j) e = absurd (cc e)
+not_missing (SplitBy l) e = absurd (cc e)
+
+not_over : (outcome : Outcome) → BoundOutOfRange ≢ fault_of outcome
+not_over (Found values) e = absurd (cc e)
+not_over (ShutBy j) e = absurd (cc e)
+not_over (SplitBy l) e = absurd (cc e)
+
+not_unrefuted : (outcome : Outcome) (fault : Fault) → fault ≡ fault_of outcome → (kind : FlawKind) → fault ≢ NotRefuted kind
+not_unrefuted (Found values) fault e kind is = let t : NotRefuted kind ≡ NotASchedule = sym is ∙ e in absurd (cc t)
+not_unrefuted (ShutBy j) fault e kind is = let t : NotRefuted kind ≡ DoesNotExclude = sym is ∙ e in absurd (cc t)
+not_unrefuted (SplitBy l) fault e kind is = let t : NotRefuted kind ≡ AlreadyDecided = sym is ∙ e in absurd (cc t)
+
+-- a fault of the outcome is one of the delivery
+pub outcome_fault : (problem : Problem) (lemmas : List Lemma) (cube : List Literal) (batch : LemmaBatch) (outcome : Outcome) (seen : ℕ) (own known all : List Lemma) (fault : Fault) → seen ≡ batch.seen → own ≡ batch.lemmas → known ≡ take seen lemmas → all ≡ known ++ own → Misfits problem all cube outcome fault → IsFaultOf problem lemmas cube batch outcome fault
+outcome_fault problem lemmas cube batch outcome seen own known all fault es eo ek ea m =
+    let first : known ≡ take batch.seen lemmas = ek ∙ ap (λ (n : ℕ). take n lemmas) es in
+    let same : all ≡ take batch.seen lemmas ++ batch.lemmas = ea ∙ (ap (λ (ls : List Lemma). ls ++ own) first ∙ ap (λ (ls : List Lemma). take batch.seen lemmas ++ ls) eo) in
+    by_fault fault (subst (λ (ls : List Lemma). Misfits problem ls cube outcome fault) same m)
+  where
+    by_fault : (fault : Fault) → Misfits problem (take batch.seen lemmas ++ batch.lemmas) cube outcome fault → IsFaultOf problem lemmas cube batch outcome fault
+    by_fault NoSuchClause h = absurd (not_missing outcome h.0)
+    by_fault BoundOutOfRange h = absurd (not_over outcome h.0)
+    by_fault (NotRefuted kind) h = absurd (not_unrefuted outcome (NotRefuted kind) h.0 kind refl)
+    by_fault NotASchedule h = h
+    by_fault DoesNotExclude h = h
+    by_fault AlreadyDecided h = h
+    by_fault OutOfMemory h = tt
+
+-- each fault but want of memory denies that the delivery is justified
+pub unjustified : (problem : Problem) (lemmas : List Lemma) (cube : List Literal) (batch : LemmaBatch) (outcome : Outcome) (fault : Fault) → fault ≢ OutOfMemory → IsFaultOf problem lemmas cube batch outcome fault → IsJustified problem lemmas cube batch outcome → ⊥
+unjustified problem lemmas cube batch outcome NoSuchClause other f j = absurd (omega (arith, f, j.seen))
+unjustified problem lemmas cube batch outcome BoundOutOfRange other f j = f j.over
+unjustified problem lemmas cube batch outcome (NotRefuted kind) other f j = f j.refuted
+unjustified problem lemmas cube batch outcome NotASchedule other f j = f.1 j.fits
+unjustified problem lemmas cube batch outcome DoesNotExclude other f j = f.1 j.fits
+unjustified problem lemmas cube batch outcome AlreadyDecided other f j = f.1 j.fits
+unjustified problem lemmas cube batch outcome OutOfMemory other f j = other refl
+
+-- the reader's next step is one of all
+pub next_holds : (P : Step → Type 0) (whole old new : List Step) (s : Step) → old ≡ s ∷ new → (All P old ↔ All P whole) → All P whole → P s
+next_holds P whole old new s e both h = All-get_or P (s ∷ new) 0 s (omega arith) (subst (All P) e (both.1 h))
+
+pub steps_both : (P : Step → Type 0) (whole old new : List Step) (s : Step) → old ≡ s ∷ new → P s → (All P old ↔ All P whole) → (All P new ↔ All P whole)
+steps_both P whole old new s e p both = (
+  λ rest. both.0 (subst (All P) (sym e) (All-cons P s new p rest)),
+  λ h. (let old_all : All P (s ∷ new) = subst (All P) e (both.1 h) in λ k d l. old_all (suc k) d (omega (arith, l))),
+)

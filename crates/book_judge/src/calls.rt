@@ -1,9 +1,10 @@
 //! Calls on a book whose conditions are tested first.
-ghost use Rattle.std.specs.Prelude.{◌≡◌, ◌↔◌, ℕ, IfOk, OnErr, IsTrue};
+ghost use Rattle.std.specs.Prelude.{◌≡◌, ◌≢◌, ◌↔◌, ℕ, IfOk, OnOk, OnErr, IsTrue};
 ghost use Rattle.cover_tree.specs.Covers.{cube_at};
 ghost use Rattle.book_core.specs.declared.event.Event.TheVariants.{Release};
 ghost use Rattle.book_core.specs.Books.{IsHeldBy};
 ghost use Rattle.book_core.specs.Runs.{state_of, with_event, Answers};
+ghost use Rattle.book_judge.specs.declared.judging.Fault.TheVariants.{OutOfMemory};
 ghost use Rattle.book_judge.specs.Replies.{DeliversIf, IsCubeOf};
 
 use crate::judging::{Fault, judge};
@@ -32,8 +33,23 @@ fn is_holder(book: &Book, seat: u32, id: usize) -> bool
     }
 }
 
+/// Want of memory comes through.
+fn refused(fault: Fault) -> Result<(), AllocError>
+    ensures { OnOk result (fault ≢ OutOfMemory) }
+{
+    match fault {
+        Fault::OutOfMemory => Err(AllocError),
+        Fault::NoSuchClause
+        | Fault::BoundOutOfRange
+        | Fault::NotRefuted(_)
+        | Fault::NotASchedule
+        | Fault::DoesNotExclude
+        | Fault::AlreadyDecided => Ok(()),
+    }
+}
+
 /// Delivers of the cube that was taken what is justified, where the seat holds it, and says whether that was
-/// so. Else the book stays as it was.
+/// so. Exactly where it wasn't, the book stays as it was.
 pub fn deliver_justified(
     alloc: Global,
     book: &mut Book,
@@ -60,10 +76,9 @@ pub fn deliver_justified(
         &batch,
         &outcome,
     );
-    match judged {
-        Ok(()) => {}
-        Err(Fault::OutOfMemory) => return Err(AllocError),
-        Err(_) => return Ok(false),
+    if let Err(fault) = judged {
+        refused(fault)?;
+        return Ok(false);
     }
     match book.deliver(seat, *id, batch, outcome) {
         Ok(()) => Ok(true),

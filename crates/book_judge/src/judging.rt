@@ -1,9 +1,11 @@
 //! Whether a delivery is justified, and the first thing that is wrong where it isn't.
-ghost use Rattle.std.specs.Prelude.{◌≡◌, ◌≤◌, ◌++◌, [], ◌∷◌, length, map, take, IfOk, OnOk, All};
+ghost use Rattle.std.specs.Prelude.{◌≡◌, ◌≤◌, ◌++◌, [], ◌∷◌, length, map, take, IfOk, IfErr, OnOk, All};
 ghost use Rattle.refute_tree.specs.Trees.{IsRefuted, stated};
 ghost use Rattle.refute_tree.specs.Batches.{AreRefuted, LemmaIsOver};
 ghost use Rattle.book_core.specs.Books.{IsJustified};
+ghost use Rattle.book_judge.specs.declared.judging.Fault.TheVariants.{OutOfMemory};
 ghost use Rattle.book_core.specs.Shared.{lemmas_of, clauses_of};
+ghost use Rattle.book_judge.specs.Faults.{IsFaultOf, IsFaultOfLemma, IsFaultOfLemmas};
 
 use crate::limits::lemma_over;
 use crate::outcomes::check_outcome;
@@ -28,6 +30,11 @@ pub enum Fault {
 }
 
 impl From<AllocError> for Fault {
+    ghost use Rattle.std.specs.Prelude.{◌≡◌};
+    ghost use Rattle.book_judge.specs.declared.judging.Fault.TheVariants.{OutOfMemory};
+
+    ghost from_gives = { λ _ e. e ≡ OutOfMemory };
+
     fn from(_failed: AllocError) -> Self {
         Fault::OutOfMemory
     }
@@ -49,6 +56,24 @@ fn first_lemmas(
     Ok(known)
 }
 
+/// Whether the lemma is one of the problem, refuted over those that are known.
+fn check(alloc: Global, problem: &Problem, known: &[Arc<Lemma>], lemma: &Lemma) -> Result<(), Fault>
+    ensures over { OnOk result (LemmaIsOver problem.now.points lemma.now) }
+    ensures refuted { OnOk result
+        (IsRefuted problem.now.points problem.now.clauses (clauses_of known.now) lemma.now) }
+    ensures fault { IfErr result (IsFaultOfLemma problem.now (clauses_of known.now) lemma.now) }
+{
+    if !lemma_over(problem.points, lemma) {
+        return Err(Fault::BoundOutOfRange);
+    }
+    lemma_law();
+    match check_lemma(alloc, problem, &known, lemma) {
+        Ok(()) => Ok(()),
+        Err(CheckError::Refused(flaw)) => Err(Fault::NotRefuted(flaw.kind)),
+        Err(CheckError::OutOfMemory) => Err(Fault::OutOfMemory),
+    }
+}
+
 fn add_lemma(
     alloc: Global,
     problem: &Problem,
@@ -59,16 +84,10 @@ fn add_lemma(
     ensures over { OnOk result (LemmaIsOver problem.now.points lemma.now) }
     ensures refuted { OnOk result
         (IsRefuted problem.now.points problem.now.clauses (clauses_of known.old.items) lemma.now) }
+    ensures fault { IfErr result
+        (IsFaultOfLemma problem.now (clauses_of known.old.items) lemma.now) }
 {
-    if !lemma_over(problem.points, lemma) {
-        return Err(Fault::BoundOutOfRange);
-    }
-    lemma_law();
-    match check_lemma(alloc, problem, &known.as_slice(), lemma) {
-        Ok(()) => {}
-        Err(CheckError::Refused(flaw)) => return Err(Fault::NotRefuted(flaw.kind)),
-        Err(CheckError::OutOfMemory) => return Err(Fault::OutOfMemory),
-    }
+    check(alloc, problem, known.as_slice(), lemma)?;
     let copy = lemma.copy(alloc)?;
     match Arc::new(alloc, copy) {
         Ok(shared) => push(known, shared),
@@ -77,7 +96,8 @@ fn add_lemma(
 }
 
 fn push(known: &mut Vec<Arc<Lemma>>, lemma: Arc<Lemma>) -> Result<(), Fault>
-    ensures { OnOk result (known.new.items ≡ known.old.items ++ lemma ∷ []) }
+    ensures known { OnOk result (known.new.items ≡ known.old.items ++ lemma ∷ []) }
+    ensures fault { IfErr result (λ fault. fault ≡ OutOfMemory) }
 {
     match known.push(lemma) {
         Ok(()) => Ok(()),
@@ -96,6 +116,8 @@ fn add_lemmas(
     ensures refuted { OnOk result
         (AreRefuted problem.now.points problem.now.clauses
         (map stated (lemmas_of known.old.items)) lemmas.now) }
+    ensures fault { IfErr result
+        (IsFaultOfLemmas problem.now (map stated (lemmas_of known.old.items)) lemmas.now) }
 {
     for lemma in lemmas {
         add_lemma(alloc, problem, known, lemma)?;
@@ -103,7 +125,8 @@ fn add_lemmas(
     Ok(())
 }
 
-/// Whether the delivery is justified over these lemmas, of this cube.
+/// Whether the delivery is justified over these lemmas, of this cube. Beside want of memory a fault comes exactly where
+/// it isn't, and says what is wrong.
 pub fn judge(
     alloc: Global,
     problem: &Problem,
@@ -112,7 +135,10 @@ pub fn judge(
     batch: &Batch,
     outcome: &Outcome,
 ) -> Result<(), Fault>
-    ensures { OnOk result (IsJustified problem.now (lemmas_of lemmas.now) cube.now batch.now outcome.now) }
+    ensures justified { OnOk result
+        (IsJustified problem.now (lemmas_of lemmas.now) cube.now batch.now outcome.now) }
+    ensures fault { IfErr result
+        (IsFaultOf problem.now (lemmas_of lemmas.now) cube.now batch.now outcome.now) }
 {
     if batch.seen() > lemmas.len() {
         return Err(Fault::NoSuchClause);

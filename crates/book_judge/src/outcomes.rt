@@ -1,11 +1,12 @@
 //! Whether an outcome holds of a cube.
-ghost use Rattle.std.specs.Prelude.{◌≡◌, IsTrue, OnOk, All, map};
+ghost use Rattle.std.specs.Prelude.{◌≡◌, ◌↔◌, IsTrue, OnOk, IfErr, All, map};
 ghost use Rattle.stn_core.specs.Schedule.{IsInRange};
 ghost use Rattle.cert_check.specs.Tests.{is_assumed};
 ghost use Rattle.refute_tree.specs.Trees.{IsDenied, stated};
 ghost use Rattle.book_core.specs.Books.{Fits, IsDecidable, IsShutBy, IsUndecided};
 ghost use Rattle.stn_core.specs.Solution.{IsAtom, IsSolution};
 ghost use Rattle.book_core.specs.Shared.{lemmas_of};
+ghost use Rattle.book_judge.specs.Faults.{Misfits};
 
 use crate::judging::Fault;
 use book_core::Outcome;
@@ -23,7 +24,7 @@ fn contains(literals: &[Literal], wanted: Literal) -> bool
 }
 
 fn is_denied(cube: &[Literal], clause: &[Literal]) -> bool
-    ensures { IsTrue result → IsDenied cube.now clause.now }
+    ensures { IsTrue result ↔ IsDenied cube.now clause.now }
 {
     for literal in clause {
         if !contains(cube, negate(*literal)) {
@@ -34,7 +35,7 @@ fn is_denied(cube: &[Literal], clause: &[Literal]) -> bool
 }
 
 fn is_atom(problem: &Problem, literal: Literal) -> bool
-    ensures { IsTrue result → IsAtom problem.now literal }
+    ensures { IsTrue result ↔ IsAtom problem.now literal }
 {
     for clause in problem.clauses.as_slice() {
         if contains(clause.as_slice(), literal) {
@@ -45,13 +46,13 @@ fn is_atom(problem: &Problem, literal: Literal) -> bool
 }
 
 fn is_in_range(value: &Value) -> bool
-    ensures { IsTrue result → IsInRange value.now }
+    ensures { IsTrue result ↔ IsInRange value.now }
 {
     *value > LEAST && *value <= 0
 }
 
 fn in_range(values: &[Value]) -> bool
-    ensures { IsTrue result → All IsInRange values.now }
+    ensures { IsTrue result ↔ All IsInRange values.now }
 {
     for value in values {
         if !is_in_range(value) {
@@ -62,17 +63,20 @@ fn in_range(values: &[Value]) -> bool
 }
 
 fn is_solution(problem: &Problem, schedule: &Schedule) -> bool
-    ensures { IsTrue result → IsSolution problem.now schedule.now }
+    ensures { IsTrue result ↔ IsSolution problem.now schedule.now }
 {
     let values = schedule.as_slice();
-    if values.len() != problem.points as usize || !in_range(values) {
+    if values.len() != problem.points as usize {
+        return false;
+    }
+    if !in_range(values) {
         return false;
     }
     check_schedule(problem, schedule).is_ok()
 }
 
 fn excludes(known: &[Arc<Lemma>], cube: &[Literal], j: usize) -> bool
-    ensures { IsTrue result → IsShutBy (map stated (lemmas_of known.now)) cube.now j }
+    ensures { IsTrue result ↔ IsShutBy (map stated (lemmas_of known.now)) cube.now j }
 {
     if j >= known.len() {
         return false;
@@ -81,13 +85,18 @@ fn excludes(known: &[Arc<Lemma>], cube: &[Literal], j: usize) -> bool
 }
 
 fn is_open(problem: &Problem, cube: &[Literal], literal: Literal) -> bool
-    ensures decidable { IsTrue result → IsDecidable problem.now literal }
-    ensures undecided { IsTrue result → IsUndecided cube.now literal }
+    ensures { IsTrue result ↔ (IsDecidable problem.now literal × IsUndecided cube.now literal) }
 {
-    if contains(cube, literal) || contains(cube, negate(literal)) {
+    if contains(cube, literal) {
         return false;
     }
-    is_atom(problem, literal) || is_atom(problem, negate(literal))
+    if contains(cube, negate(literal)) {
+        return false;
+    }
+    if is_atom(problem, literal) {
+        return true;
+    }
+    is_atom(problem, negate(literal))
 }
 
 /// What the outcome says of the cube, where these lemmas are known.
@@ -97,7 +106,8 @@ pub(crate) fn check_outcome(
     cube: &[Literal],
     outcome: &Outcome,
 ) -> Result<(), Fault>
-    ensures { OnOk result (Fits problem.now (lemmas_of known.now) cube.now outcome.now) }
+    ensures fits { OnOk result (Fits problem.now (lemmas_of known.now) cube.now outcome.now) }
+    ensures fault { IfErr result (Misfits problem.now (lemmas_of known.now) cube.now outcome.now) }
 {
     match outcome {
         Outcome::Found(schedule) => {

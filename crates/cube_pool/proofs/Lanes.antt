@@ -2,10 +2,10 @@
 use Rattle.std.proofs.Common.{arith, ◌≡◌, ◌≢◌, ℕ, zero, suc, ◌<◌, ◌+◌, ◌-◌, List, [], ◌∷◌, ◌++◌, length, set, sym, refl, ap, ◌∙◌, ⊎_elim}
 use mathlib.Core.Option.{some, some-ne-none}
 use lib.ListN.{get_elem?}
-use Rattle.crossbeam_deque.specs.Tasks.{Pushes, Takes, Finds, FindsFew, Forks, Merges, Learns}
+use Rattle.crossbeam_deque.specs.Tasks.{Pushes, Takes, Finds, Forks, Merges, Learns}
 use Rattle.crossbeam_deque.proofs.Lists.{at_set, at_snoc}
 use Rattle.cube_pool.specs.declared.slip.Slip.{Slip}
-use Rattle.cube_pool.specs.Lanes.{slip, whole, weigh, total, IdleIsEmpty, Balanced, IsSettled, WasEmpty}
+use Rattle.cube_pool.specs.Lanes.{slip, whole, weigh, total, IdleIsEmpty, Balanced, IsSettled}
 
 pub weigh_append : (h : ℕ → ℕ) (xs ys : List ℕ) → weigh h (xs ++ ys) ≡ weigh h xs + weigh h ys
 weigh_append h [] ys = omega arith
@@ -50,13 +50,6 @@ takes port v some_part xs items views some_item few b at = let w : Slip = slip v
   ),
   refl,
 )
-
-pub finds : (port : ℕ) (v : Slip) → Finds Balanced port v (WasEmpty v)
-finds port v views b at = (views, port, b, at)
-
-pub finds_few : (port : ℕ) (v : Slip) (n : ℕ) → n ≡ 0 → FindsFew Balanced n port v (WasEmpty v)
-finds_few port v n e [] views few b at = (views, port, b, at)
-finds_few port v n e (x ∷ items) views few b at = absurd (omega arith)
 
 pub begins : Balanced [] (slip whole [] [] ∷ [])
 begins = (refl, (λ h. refl), idle_one)

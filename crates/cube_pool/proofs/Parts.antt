@@ -11,8 +11,8 @@ use Rattle.crossbeam_deque.specs.Handles.{Pass, view, SamePass, SameWorker, stea
 use Rattle.cube_pool.specs.declared.slip.Slip.{Slip}
 use Rattle.crossbeam_deque.specs.declared.handles.Stealer.{Stealer}
 use Rattle.cube_pool.specs.declared.lane.Fair.{Fair}
-use Rattle.cube_pool.specs.Lanes.{slip, whole, weigh, IsSettled, WasEmpty}
-use Rattle.cube_pool.specs.Hands.{Deque, Doings, IsHand, IsTaker, AreTakers, deque_of, taken_by, weigh_all, pushed_by, fetched_by, newcomer, WasEmptyAt, with_fetched}
+use Rattle.cube_pool.specs.Lanes.{slip, whole, weigh, IsSettled}
+use Rattle.cube_pool.specs.Hands.{Deque, Doings, IsHand, IsTaker, AreTakers, deque_of, taken_by, weigh_all, pushed_by, fetched_by, newcomer, with_fetched}
 use Rattle.cube_pool.specs.Closings.{Lane, Row, IsEnd, AreHandsLeft, AreJoining, IsRow, IsOpenWith, AreSplit, IsFreshRow, deques, put_by, taken_there, taken_in, taken_over}
 use Rattle.cube_pool.proofs.Lanes.{weigh_append}
 use Rattle.cube_pool.proofs.Lists.{same_or_not, either_side, length_pushed, first_of, last_of, all_pushed, all_set, heads, take_more, sum_by_map, same_at}
@@ -251,10 +251,10 @@ module _ (passes : List (Pass ℕ Slip Global)) (mouths : List (Stealer ℕ Glob
       (ap (λ (x : Deque). x.0) same, ap (λ (x : Deque). x.1) same, is_taker.0, is_taker.1)
 
   abbrev Fetches : Option ℕ → Type 0
-  Fetches r = MatchOption r ((view pass' ≡ view pass) × WasEmpty (view pass)) (λ x. view pass' ≡ slip (view pass).parts (view pass).put ((view pass).taken ++ x ∷ []))
+  Fetches r = MatchOption r (view pass' ≡ view pass) (λ x. view pass' ≡ slip (view pass).parts (view pass).put ((view pass).taken ++ x ∷ []))
 
   view_after : (r : Option ℕ) → Fetches r → view pass' ≡ slip 1 [] (taken_by pass')
-  view_after None f = f.0 ∙ (is_taker.2 ∙ ap (λ (v : Slip). slip 1 [] v.taken) (sym f.0))
+  view_after None f = f ∙ (is_taker.2 ∙ ap (λ (v : Slip). slip 1 [] v.taken) (sym f))
   view_after (Some x) f =
       let now : view pass' ≡ slip 1 [] (taken_by pass ++ x ∷ []) = f ∙ ap (λ (v : Slip). slip v.parts v.put ((view pass).taken ++ x ∷ [])) is_taker.2 in
       now ∙ ap (λ (v : Slip). slip 1 [] v.taken) (sym now)
@@ -285,15 +285,11 @@ module _ (passes : List (Pass ℕ Slip Global)) (mouths : List (Stealer ℕ Glob
   was_there = get_or-map taken_by passes place pass [] within_passes ∙ ap taken_by (sym is_pass)
 
   pub fetched_none : (number : ℕ) (pushed : List ℕ) (hand : Doings) → SamePass pass pass' → doings number pushed (map deque_of passes) (map taken_by passes) ≡ hand
-      → (view pass' ≡ view pass) × WasEmpty (view pass) → (doings number pushed (map deque_of (set passes place pass')) (map taken_by (set passes place pass')) ≡ hand) × WasEmptyAt hand place
+      → view pass' ≡ view pass → doings number pushed (map deque_of (set passes place pass')) (map taken_by (set passes place pass')) ≡ hand
   fetched_none number pushed hand same is f =
-      let taken : taken_by pass' ≡ taken_by pass = ap (λ (v : Slip). v.taken) f.0 in
+      let taken : taken_by pass' ≡ taken_by pass = ap (λ (v : Slip). v.taken) f in
       let all : map taken_by (set passes place pass') ≡ map taken_by passes = map-set_same taken_by passes place pass' pass (taken ∙ ap taken_by is_pass) in
-      let there : get_or hand.fetched place [] ≡ taken_by pass = ap (λ (d : Doings). get_or d.fetched place []) (sym is) ∙ was_there in
-      let known : view pass ≡ slip 1 [] (get_or hand.fetched place []) = is_taker.2 ∙ ap (λ (xs : List ℕ). slip 1 [] xs) (sym there) in (
-        ap (λ (p : List Deque). doings number pushed p (map taken_by (set passes place pass'))) (pools_after same) ∙ (ap (λ (xs : List (List ℕ)). doings number pushed (map deque_of passes) xs) all ∙ is),
-        subst WasEmpty known f.1,
-      )
+      ap (λ (p : List Deque). doings number pushed p (map taken_by (set passes place pass'))) (pools_after same) ∙ (ap (λ (xs : List (List ℕ)). doings number pushed (map deque_of passes) xs) all ∙ is)
 
   pub fetched_some : (number : ℕ) (pushed : List ℕ) (hand : Doings) → SamePass pass pass' → doings number pushed (map deque_of passes) (map taken_by passes) ≡ hand
       → (x : ℕ) → view pass' ≡ slip (view pass).parts (view pass).put ((view pass).taken ++ x ∷ [])
@@ -303,14 +299,3 @@ module _ (passes : List (Pass ℕ Slip Global)) (mouths : List (Stealer ℕ Glob
       let all : map taken_by (set passes place pass') ≡ set (map taken_by passes) place (get_or (map taken_by passes) place [] ++ x ∷ []) =
       map-set taken_by passes place pass' ∙ ap (λ (xs : List ℕ). set (map taken_by passes) place xs) (taken ∙ ap (λ (xs : List ℕ). xs ++ x ∷ []) (sym was_there)) in
       ap (λ (p : List Deque). doings number pushed p (map taken_by (set passes place pass'))) (pools_after same) ∙ (ap (λ (xs : List (List ℕ)). doings number pushed (map deque_of passes) xs) all ∙ ap (λ (d : Doings). with_fetched d place x) is)
-
--- its own deque was looked at, those behind it, and those before it
-pub empty_all : (count own behind : ℕ) (hand first second : Doings) → count ≡ behind → first ≡ hand → second ≡ hand → WasEmptyAt hand own → ((k : ℕ) → own + 1 ≤ k → k < behind → WasEmptyAt first k)
-    → ((k : ℕ) → 0 ≤ k → k < own → WasEmptyAt second k) → (k : ℕ) → k < count → WasEmptyAt hand k
-empty_all count own behind hand first second many e1 e2 here after before k less = elim (same_or_not k own) [
-  | inl is ↦ subst (WasEmptyAt hand) (sym is) here
-  | inr ne ↦ elim (either_side k own ne) [
-    | inl low ↦ subst (λ (d : Doings). WasEmptyAt d k) e2 (before k (omega arith) low)
-    | inr high ↦ subst (λ (d : Doings). WasEmptyAt d k) e1 (after k high (omega (arith, many, less)))
-  ]
-]

@@ -4,7 +4,7 @@ use Rattle.std.specs.Global.{Global}
 use Rattle.crossbeam_deque.specs.declared.handles.Worker.{Worker}
 use Rattle.crossbeam_deque.specs.Handles.{Pass, view, worker_capacity, worker_deque, worker_flavor, worker_index, worker_view}
 use Rattle.cube_pool.specs.declared.slip.Slip.{Slip}
-use Rattle.cube_pool.specs.Lanes.{slip, whole, WasEmpty, weigh}
+use Rattle.cube_pool.specs.Lanes.{slip, whole, weigh}
 
 -- which deque it is
 abbrev pub Deque : Type 0
@@ -36,10 +36,6 @@ with_pushed hand id = record hand { pushed = hand.pushed ++ id ∷ [] }
 abbrev pub with_fetched : Doings → ℕ → ℕ → Doings
 with_fetched hand k id =
     record hand { fetched = slice_set hand.fetched k (slice_index_or hand.fetched k [] ++ id ∷ []) }
-
--- there was a moment, with this hand having fetched what it has, at which the deque with number k was empty
-abbrev pub WasEmptyAt : Doings → ℕ → Type 0
-WasEmptyAt hand k = WasEmpty (slip 1 [] (slice_index_or hand.fetched k []))
 
 -- 1 for a hand with this number
 abbrev pub one_for : ℕ → Doings → ℕ

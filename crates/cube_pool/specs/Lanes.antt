@@ -32,10 +32,6 @@ Balanced items views =
     × ((h : ℕ → ℕ) → total (λ v. weigh h v.put) views ≡ total (λ v. weigh h v.taken) views + weigh h items)
     × IdleIsEmpty views
 
--- there was a moment, with this pass knowing what it knows, at which the deque held nothing
-abbrev pub WasEmpty : Slip → Type 0
-WasEmpty v = (views : List Slip) × (port : ℕ) × Balanced [] views × (get_elem? views port ≡ some v)
-
 -- what was put is what was taken and what is left, each number as often, and however they are weighed
 abbrev pub IsSettled : List ℕ → List ℕ → List ℕ → Type 0
 IsSettled put taken left = (h : ℕ → ℕ) → weigh h put ≡ weigh h taken + weigh h left

@@ -1,7 +1,7 @@
 //! One deque, its worker's end and the passes of the others.
 ghost use Rattle.std.specs.Prelude.{◌≡◌, ◌<◌, ◌≤◌, ◌+◌, ◌-◌, ℕ, [], ◌∷◌, ◌++◌, List, IfOk, IfErr, OnOk, OnErr, MatchOption, IfSome};
 ghost use Rattle.crossbeam_deque.specs.Handles.{view, IsPassOf, SamePass, SameWorker, worker_capacity, worker_deque, worker_flavor, worker_index, worker_view, stealer_deque, stealer_flavor};
-ghost use Rattle.cube_pool.specs.Lanes.{slip, whole, IsSettled, WasEmpty};
+ghost use Rattle.cube_pool.specs.Lanes.{slip, whole, IsSettled};
 
 use crate::slip::Slip;
 use crossbeam_deque::protocol::{Join, Lesson, Outcome, Protocol, Split};
@@ -36,11 +36,9 @@ struct Takes;
 
 impl Outcome<u32, Slip> for Takes {
     ghost use Rattle.std.specs.Prelude.{◌≡◌, ◌++◌};
-    ghost use Rattle.cube_pool.specs.Lanes.{slip, WasEmpty};
+    ghost use Rattle.cube_pool.specs.Lanes.{slip};
 
     ghost then = { λ v xs w. w ≡ slip v.parts v.put (v.taken ++ xs) };
-
-    ghost empty = { WasEmpty };
 }
 
 struct Ends;
@@ -126,14 +124,14 @@ pub(crate) fn push(lane: &mut Lane, pushes: &mut u32, id: u32) -> Result<(), Ful
     }
 }
 
-// The first number of a deque. None only where it was empty at a moment of this call.
+// The first number of a deque. A steal that finds it empty changes no view, so that nothing can be said of None.
 pub(crate) fn fetch<R: Wait>(rt: &R, mouth: &Mouth, pass: &mut Pass<u32, Slip>) -> Option<u32>
     requires pass { IsPassOf (stealer_deque mouth.now) pass.old }
     requires fifo { stealer_flavor mouth.now ≡ 0 }
     requires parts { 0 < (view pass.old).parts }
     ensures same { SamePass pass.old pass.new }
     ensures fetched { MatchOption result
-        ((view pass.new ≡ view pass.old) × WasEmpty (view pass.old))
+        (view pass.new ≡ view pass.old)
         (λ x. view pass.new ≡ slip (view pass.old).parts (view pass.old).put ((view pass.old).taken ++ x ∷ [])) }
 {
     for _ in rt.forever() {

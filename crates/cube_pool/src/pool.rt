@@ -1,6 +1,6 @@
 //! The pool.
 ghost use Rattle.std.specs.Prelude.{◌≡◌, ◌<◌, ◌≤◌, ℕ, length, IfOk, OnOk, OnErr, IfErr, IsErr, MatchOption, IfNone, ◌↔◌};
-ghost use Rattle.cube_pool.specs.Hands.{AreHandsOf, AreNewcomers, AreSettled, WasEmptyAt, with_fetched, with_pushed};
+ghost use Rattle.cube_pool.specs.Hands.{AreHandsOf, AreNewcomers, AreSettled, with_fetched, with_pushed};
 
 use crate::closing::{drain_all, join_all, part};
 use crate::hand::Hand;
@@ -48,12 +48,13 @@ impl Pool {
         lane::push(&mut hand.lane, &mut hand.pushes, id)
     }
 
-    /// The first number of the hand's own deque, or else of another one. `None` only where each deque was
-    /// empty at a moment of its own in this call.
+    /// The first number of the hand's own deque, or else of another one. `None` comes where each deque was found
+    /// empty at a moment of its own in this call, of which the contract says nothing: an empty deque leaves no trace
+    /// in what a hand has seen.
     pub fn fetch<R: Wait>(&self, rt: &R, hand: &mut Hand) -> Option<u32>
         requires pool { hand.old.pool ≡ self.now }
         ensures { MatchOption result
-            ((hand.new ≡ hand.old) × ((k : ℕ) → k < length self.now → WasEmptyAt hand.old k))
+            (hand.new ≡ hand.old)
             (λ id. (k : ℕ) × (k < length self.now) × (hand.new ≡ with_fetched hand.old k id)) }
     {
         let own = hand.number as usize;
@@ -71,7 +72,7 @@ impl Pool {
         requires pool { hand.old.pool ≡ self.now }
         requires high { high ≤ length self.now }
         ensures { MatchOption result
-            ((hand.new ≡ hand.old) × ((k : ℕ) → low ≤ k → k < high → WasEmptyAt hand.old k))
+            (hand.new ≡ hand.old)
             (λ id. (k : ℕ) × (k < length self.now) × (hand.new ≡ with_fetched hand.old k id)) }
     {
         for place in low..high {
@@ -87,7 +88,7 @@ impl Pool {
         requires pool { hand.old.pool ≡ self.now }
         requires place { place < length self.now }
         ensures { MatchOption result
-            ((hand.new ≡ hand.old) × WasEmptyAt hand.old place)
+            (hand.new ≡ hand.old)
             (λ id. hand.new ≡ with_fetched hand.old place id) }
     {
         lane::fetch(rt, &self.mouths[place], &mut hand.passes[place])

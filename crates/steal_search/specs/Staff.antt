@@ -2,7 +2,7 @@
 use Rattle.std.specs.Prelude.{◌≡◌, ℕ, ◌+◌, ◌<◌, List, length, None, IfSome, slice_index_or}
 use Rattle.stn_core.specs.declared.problem.Problem.{Problem}
 use Rattle.book_lock.specs.Seats.{Place, Sight, IsSameSeat}
-use Rattle.cube_pool.specs.Hands.{Deque, Doings}
+use Rattle.cube_pool.specs.Hands.{Deque}
 use Rattle.steal_search.specs.declared.shared.Worker.{Worker}
 use Rattle.steal_search.specs.declared.dealing.Pace.{Pace}
 
@@ -14,9 +14,11 @@ pub record MayWork (desk : Place) (problem : Problem) (pool : List Deque) (worke
   pub pool_is : worker.hand.pool ≡ pool
   pub pace : IfSome worker.pace (λ (pace : Pace). pace.tools ≡ problem.points)
 
--- the worker's seat is the same, and holds no cube
+-- the worker's seat is the same, and holds no cube; its hand is the same
 abbrev pub IsSameWorker : Worker → Worker → Type 0
-IsSameWorker old new = IsSameSeat old.seat new.seat × (new.seat.cube ≡ None)
+IsSameWorker old new =
+    IsSameSeat old.seat new.seat × (new.seat.cube ≡ None)
+    × (new.hand.pool ≡ old.hand.pool) × (new.hand.number ≡ old.hand.number)
 
 -- the seats of the workers are those of the desk, numbered from 1
 abbrev pub AreSeated : Place → List Worker → Type 0
@@ -30,8 +32,12 @@ abbrev pub AllMayWork : Place → Problem → List Deque → List Worker → Typ
 AllMayWork desk problem pool staff =
     (k : ℕ) (d : Worker) → k < length staff → MayWork desk problem pool (slice_index_or staff k d)
 
-abbrev pub AreOfPool : List Deque → List Doings → Type 0
-AreOfPool pool hands = (k : ℕ) (d : Doings) → k < length hands → (slice_index_or hands k d).pool ≡ pool
+-- the hands of the workers are those of the pool, the first worker's with the greatest number
+abbrev pub AreHanded : List Deque → List Worker → Type 0
+AreHanded pool staff =
+    (k : ℕ) (d : Worker) → k < length staff
+    → ((slice_index_or staff k d).hand.pool ≡ pool)
+    × ((slice_index_or staff k d).hand.number + (k + 1) ≡ length pool)
 
 -- seat 0 of the desk, which no other seat was joined to
 pub record IsFirst (desk : Place) (problem : Problem) (seats : ℕ) (seat : Sight) : Type 0 where

@@ -9,6 +9,6 @@ mod shared;
 mod worker;
 
 pub use book_search::solve_one;
-pub use shared::{Worker, solve_shared};
+pub use shared::{Worker, solve_shared, solve_shared_over};
 pub use worker::work;
 pub use worker_gates::{Gate, HoldSecond, NoGate};

@@ -1,9 +1,10 @@
 //! Workers on threads of their own.
-ghost use Rattle.std.specs.Prelude.{◌≡◌, ◌≤◌, ◌<◌, ◌+◌, ◌^◌, length, vec_len, None, IfOk, OnOk, IfSome};
+ghost use Rattle.std.specs.Prelude.{◌≡◌, ◌≤◌, ◌<◌, ◌+◌, ◌^◌, [], length, vec_len, None, IfOk, OnOk, IfSome};
 ghost use Rattle.book_core.specs.Verdicts.{IsRight};
 ghost use Rattle.book_search.specs.Deliveries.{IsWaiting};
 ghost use Rattle.book_lock.specs.Seats.{AllJoined};
-ghost use Rattle.steal_search.specs.Staff.{AllMayWork, AreOfPool, AreSeated, IsFirst, IsSameWorker, MayWork};
+ghost use Rattle.cube_pool.specs.Hands.{AreInOrder};
+ghost use Rattle.steal_search.specs.Staff.{AllMayWork, AreHanded, AreSeated, IsFirst, IsSameWorker, MayWork};
 
 use crate::dealing::{Pace, deal};
 use crate::worker::go_on;
@@ -94,8 +95,10 @@ fn run_all<R: Threads + Wait + Sync, G: Gate>(
 )
     requires staff { AllMayWork desk.now problem.now pool.now staff.old }
     requires seats { AreSeated desk.now staff.old }
+    requires hands { AreHanded pool.now staff.old }
     requires some { 0 < length staff.old }
     ensures seats { AreSeated desk.now staff.new }
+    ensures hands { AreHanded pool.now staff.new }
     ensures count { length staff.new ≡ length staff.old }
 {
     let count = staff.len();
@@ -117,20 +120,21 @@ fn staff_of(
     desk: &Desk,
     seat: &mut Seat,
     pool: &Pool,
-    hands: Vec<Hand>,
+    hands: &mut Vec<Hand>,
     pace: Pace,
 ) -> Result<Vec<Worker>, AllocError>
     requires seat { IsFirst desk.now problem.now 1 seat.old }
-    requires few { vec_len hands ≤ 64 }
-    requires hands { AreOfPool pool.now hands.items }
+    requires few { vec_len hands.old ≤ 64 }
+    requires hands { AreInOrder pool.now hands.old.items }
     requires tools { pace.tools ≡ problem.now.points }
-    ensures seat { OnOk result (IsFirst desk.now problem.now (vec_len hands + 1) seat.new) }
-    ensures count { IfOk result (λ staff. vec_len staff ≡ vec_len hands) }
+    ensures seat { OnOk result (IsFirst desk.now problem.now (vec_len hands.old + 1) seat.new) }
+    ensures count { IfOk result (λ staff. vec_len staff ≡ vec_len hands.old) }
     ensures seats { IfOk result (λ staff. AreSeated desk.now staff.items) }
     ensures work { IfOk result (λ staff. AllMayWork desk.now problem.now pool.now staff.items) }
+    ensures hands { IfOk result (λ staff. AreHanded pool.now staff.items) }
+    ensures none { OnOk result (hands.new.items ≡ []) }
 {
     let mut first = Some(pace);
-    let mut hands = hands;
     let mut staff = Vec::with_capacity(alloc, hands.len())?;
     'hands: while let Some(hand) = hands.pop() {
         let seat = desk.split_seat(seat)?;
@@ -144,23 +148,36 @@ fn staff_of(
     Ok(staff)
 }
 
-// Seat 0 takes in the workers' seats.
-fn gather(desk: &Desk, problem: &Problem, seat: &mut Seat, staff: Vec<Worker>)
+// Seat 0 takes in the workers' seats, and their hands come together again.
+fn gather(
+    desk: &Desk,
+    problem: &Problem,
+    seat: &mut Seat,
+    pool: &Pool,
+    hands: &mut Vec<Hand>,
+    staff: Vec<Worker>,
+) -> Result<(), AllocError>
     requires seat { IsFirst desk.now problem.now (vec_len staff + 1) seat.old }
     requires seats { AreSeated desk.now staff.items }
-    ensures seat { IsFirst desk.now problem.now (vec_len staff + 1) seat.new }
-    ensures all { AllJoined seat.new.view }
+    requires count { vec_len staff ≡ length pool.now }
+    requires hands { AreHanded pool.now staff.items }
+    requires none { hands.old.items ≡ [] }
+    ensures seat { OnOk result (IsFirst desk.now problem.now (vec_len staff + 1) seat.new) }
+    ensures all { OnOk result (AllJoined seat.new.view) }
+    ensures hands { OnOk result (AreInOrder pool.now hands.new.items) }
 {
     let mut staff = staff;
     'staff: while let Some(worker) = staff.pop() {
         let Worker {
             seat: other,
-            hand: _,
+            hand,
             pace: _,
             number: _,
         } = worker;
         desk.join_seat(seat, other);
+        hands.push(hand)?;
     }
+    Ok(())
 }
 
 // Workers share what is left to do.
@@ -182,8 +199,8 @@ fn share_out<R: Threads + Wait + Sync, G: Gate>(
     ensures all { OnOk result (AllJoined seat.new.view) }
 {
     let calls = Arc::try_clone(&pace.calls)?;
-    let (pool, hands) = Pool::open(alloc, workers)?;
-    let mut staff = staff_of(alloc, problem, desk, seat, &pool, hands, pace)?;
+    let (pool, mut hands) = Pool::open(alloc, workers)?;
+    let mut staff = staff_of(alloc, problem, desk, seat, &pool, &mut hands, pace)?;
     run_all(
         rt,
         alloc,
@@ -195,7 +212,9 @@ fn share_out<R: Threads + Wait + Sync, G: Gate>(
         &calls,
         gate,
     );
-    gather(desk, problem, seat, staff);
+    gather(desk, problem, seat, &pool, &mut hands, staff)?;
+    // What is left there are numbers of cubes that were taken without them.
+    let _ = pool.close(hands);
     Ok(())
 }
 
@@ -262,13 +281,14 @@ fn closed<R: Threads + Wait + Sync, G: Gate>(
     problem: &Problem,
     workers: u32,
     budget: u64,
+    calls: &Arc<Calls>,
     gate: &G,
 ) -> Result<Book, AllocError>
     requires workers { (1 ≤ workers) × (workers ≤ 64) }
     ensures { IfOk result (IsWaiting problem.now) }
 {
     let (desk, mut seat) = Desk::start(alloc, problem.copy()?)?;
-    let mut pace = Pace::new(alloc, problem, budget, &Arc::new(alloc, Calls::new())?)?;
+    let mut pace = Pace::new(alloc, problem, budget, calls)?;
     if begin(
         rt, alloc, problem, &desk, &mut seat, &mut pace, budget, gate,
     )? {
@@ -295,10 +315,28 @@ pub fn solve_shared<R: Threads + Wait + Sync, G: Gate>(
     requires workers { (1 ≤ workers) × (workers ≤ 64) }
     ensures { IfOk result (IsRight problem.now) }
 {
+    let calls = Arc::new(alloc, Calls::new())?;
+    let verdict = solve_shared_over(rt, alloc, problem, workers, budget, &calls, gate)?;
+    Ok(verdict)
+}
+
+/// As `solve_shared`, where the workers share these calls, which no other workers do.
+pub fn solve_shared_over<R: Threads + Wait + Sync, G: Gate>(
+    rt: &R,
+    alloc: Global,
+    problem: &Problem,
+    workers: u32,
+    budget: u64,
+    calls: &Arc<Calls>,
+    gate: &G,
+) -> Result<Verdict, AllocError>
+    requires workers { (1 ≤ workers) × (workers ≤ 64) }
+    ensures { IfOk result (IsRight problem.now) }
+{
     if let Some(verdict) = decide_units(alloc, problem)? {
         return Ok(verdict);
     }
-    let book = closed(rt, alloc, problem, workers, budget, gate)?;
+    let book = closed(rt, alloc, problem, workers, budget, calls, gate)?;
     match book.into_verdict()? {
         Ok(verdict) => Ok(verdict),
         Err(book) => finish(alloc, problem, book, budget),

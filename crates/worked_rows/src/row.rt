@@ -40,6 +40,8 @@ pub struct Row {
     pub fails_anywhere: bool,
     /// Each front of the source is to be tried.
     pub cut_anywhere: bool,
+    /// Two workers are to search at the same time.
+    pub workers_meet: bool,
     pub output: Vec<u8>,
     pub status: u64,
 }
@@ -57,6 +59,7 @@ impl Row {
             pieces: NonZeroUsize::MAX,
             fails_anywhere: false,
             cut_anywhere: false,
+            workers_meet: false,
             output: Vec::new(alloc),
             status: 0,
         })
@@ -86,6 +89,10 @@ impl Row {
             }
             "cut-anywhere" => {
                 self.cut_anywhere = true;
+                Ok(())
+            }
+            "workers-meet" => {
+                self.workers_meet = true;
                 Ok(())
             }
             "status" => {

@@ -7,9 +7,13 @@ use std::alloc::{AllocError, Global};
 use std::str;
 use std::sync::Wait;
 use std::thread::Threads;
+use worker_gates::HoldSecond;
 
 /// The greatest part of an output that is shown where another was to come.
 const SHOWN: usize = 2000;
+
+/// How often a worker that is held looks for the other one before it goes on alone.
+const LOOKS: u64 = 100_000_000;
 
 /// Why not all rows were run.
 #[derive(Clone, Copy, Debug, PartialEq, Eq)]
@@ -93,6 +97,7 @@ fn try_row<R: Threads + Wait + Sync, K: Sink>(
     }
     let reads = &row.failing_reads;
     let writes = &row.failing_writes;
+    let gate = HoldSecond::new(if row.workers_meet { LOOKS } else { 0 });
     let run = run_row(
         rt,
         alloc,
@@ -101,6 +106,7 @@ fn try_row<R: Threads + Wait + Sync, K: Sink>(
         row.pieces,
         reads,
         writes,
+        &gate,
     );
     write_all_of(sink, &row.name)?;
     if !row.is_met(run.status, run.written()) {
@@ -110,16 +116,35 @@ fn try_row<R: Threads + Wait + Sync, K: Sink>(
         write_all_of(sink, shown(run.written()))?;
         return Ok(false);
     }
-    if row.fails_anywhere && !fails_anywhere(rt, alloc, &row) {
-        write_all_of(sink, b": otherwise at a fault\n")?;
-        return Ok(false);
+    match fault_of(rt, alloc, &row, &gate) {
+        Some(fault) => {
+            write_all_of(sink, fault.as_bytes())?;
+            Ok(false)
+        }
+        None => {
+            write_all_of(sink, b": as written\n")?;
+            Ok(true)
+        }
     }
-    if row.cut_anywhere && !is_refused_anywhere(rt, alloc, &row) {
-        write_all_of(sink, b": otherwise for a front of the source\n")?;
-        return Ok(false);
+}
+
+/// What went wrong with a row whose run wrote and answered what stands there, where its workers passed this gate.
+fn fault_of<R: Threads + Wait + Sync>(
+    rt: &R,
+    alloc: Global,
+    row: &Row,
+    gate: &HoldSecond,
+) -> Option<&'static str> {
+    if row.workers_meet && !gate.met() {
+        return Some(": no two workers met\n");
     }
-    write_all_of(sink, b": as written\n")?;
-    Ok(true)
+    if row.fails_anywhere && !fails_anywhere(rt, alloc, row) {
+        return Some(": otherwise at a fault\n");
+    }
+    if row.cut_anywhere && !is_refused_anywhere(rt, alloc, row) {
+        return Some(": otherwise for a front of the source\n");
+    }
+    None
 }
 
 /// The part of an output that is shown.

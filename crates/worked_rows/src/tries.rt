@@ -1,7 +1,7 @@
 //! A row that is run again and again: with each fault in turn, or on each front of its source.
 use crate::row::Row;
 use dtp_io::{MemSink, MemSource};
-use dtp_run::{NoGate, run};
+use dtp_run::{Gate, NoGate, run};
 use std::alloc::Global;
 use std::num::NonZeroUsize;
 use std::sync::Wait;
@@ -26,8 +26,8 @@ impl Run<'_> {
     }
 }
 
-/// Runs a row in pieces of this size, where these reads and writes fail.
-pub fn run_row<'a, R: Threads + Wait + Sync>(
+/// Runs a row in pieces of this size, where these reads and writes fail, and workers pass this gate.
+pub fn run_row<'a, R: Threads + Wait + Sync, G: Gate>(
     rt: &R,
     alloc: Global,
     words: &[String],
@@ -35,10 +35,11 @@ pub fn run_row<'a, R: Threads + Wait + Sync>(
     pieces: NonZeroUsize,
     failing_reads: &[u64],
     failing_writes: &'a [u64],
+    gate: &G,
 ) -> Run<'a> {
     let mut from = MemSource::giving(pieces.get(), source, failing_reads);
     let mut sink = MemSink::taking(alloc, pieces.get(), failing_writes);
-    let status = run(rt, alloc, words, &mut from, &mut sink, &NoGate);
+    let status = run(rt, alloc, words, &mut from, &mut sink, gate);
     Run { status, sink }
 }
 
@@ -60,7 +61,16 @@ fn at_a_read<R: Threads + Wait + Sync>(
     pieces: NonZeroUsize,
     number: u64,
 ) -> Fault {
-    let run = run_row(rt, alloc, &row.words, &row.source, pieces, &[number], &[]);
+    let run = run_row(
+        rt,
+        alloc,
+        &row.words,
+        &row.source,
+        pieces,
+        &[number],
+        &[],
+        &NoGate,
+    );
     if row.is_met(run.status, run.written()) {
         Fault::Missed
     } else if run.status == 3 && run.written().is_empty() {
@@ -79,7 +89,16 @@ fn at_a_write<R: Threads + Wait + Sync>(
     number: u64,
 ) -> Fault {
     let failing = [number];
-    let run = run_row(rt, alloc, &row.words, &row.source, pieces, &[], &failing);
+    let run = run_row(
+        rt,
+        alloc,
+        &row.words,
+        &row.source,
+        pieces,
+        &[],
+        &failing,
+        &NoGate,
+    );
     if row.is_met(run.status, run.written()) {
         Fault::Missed
     } else if run.status == 4 && row.output.starts_with(run.written()) {
@@ -131,7 +150,16 @@ pub fn is_refused_anywhere<R: Threads + Wait + Sync>(rt: &R, alloc: Global, row:
     let source = row.source.as_slice();
     for length in 0..source.len() {
         let front = &source[..length];
-        let run = run_row(rt, alloc, &row.words, front, NonZeroUsize::MAX, &[], &[]);
+        let run = run_row(
+            rt,
+            alloc,
+            &row.words,
+            front,
+            NonZeroUsize::MAX,
+            &[],
+            &[],
+            &NoGate,
+        );
         let is_right = if length + 1 == source.len() {
             row.is_met(run.status, run.written())
         } else {

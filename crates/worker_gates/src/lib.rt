@@ -3,8 +3,10 @@
 #![tactic(auto)]
 
 mod hold;
+mod meeting;
 
 pub use hold::HoldSecond;
+pub use meeting::Meeting;
 
 /// Called by each worker before each delivery, while it has nothing for which another waits.
 pub trait Gate: Sync {
