@@ -2,7 +2,6 @@
 #![tactic(auto)]
 
 mod certified;
-mod laws;
 mod lines;
 mod numbers;
 mod run;

@@ -2,7 +2,7 @@
 ghost use Rattle.std.specs.Prelude.{◌≡◌, IfOk};
 ghost use Rattle.dtp_entry.specs.Written.{WritesOne};
 ghost use Rattle.dtp_bench.specs.Benches.{IsBench, plan_of};
-ghost use Rattle.dtp_bench.specs.code.Outcomes.{lines_text};
+ghost use Rattle.dtp_bench.specs.Outcomes.{lines_text};
 
 use crate::certified::{certified, check_again, verdict_in};
 use crate::lines::{accepted_line, clauses_line, names_line, plan_line, verdict_line};
@@ -38,9 +38,9 @@ fn lines_of<R: Threads + Wait + Sync, G: Gate>(
 {
     let script = instance(alloc, plan.jobs, plan.machines, plan.start, plan.deadline)?;
     let size = counts(alloc, &script)?;
-    let pair = certified(rt, alloc, plan, &script, options, gate)?;
-    let verdict = verdict_in(alloc, plan, &pair.held()[script.len()..])?;
-    check_again(alloc, plan, pair.held())?;
+    let pair = certified(rt, alloc, &script, options, gate)?;
+    let verdict = verdict_in(alloc, &script, &pair.held()[script.len()..])?;
+    check_again(alloc, pair.held())?;
     Ok(Lines {
         plan: plan_line(alloc, plan)?,
         names: names_line(alloc, size.names)?,
@@ -64,8 +64,8 @@ fn write_lines<K: Sink>(lines: &Lines, sink: &mut K) -> Result<(), SessionError>
 /// Makes the job shop's script, certifies it, checks it with its certificate, and writes five lines: the numbers, how many
 /// names and clauses the script has, its verdict, and that the certificate is accepted.
 ///
-/// Script and certificate are held in memory. By the laws of `bench_law` no command of the script is refused, and it is
-/// accepted with its certificate.
+/// Script and certificate are held in memory. That no command of the script is refused, and that it is accepted with its
+/// certificate, are laws of `bench_law`: were it otherwise, the answer would be that of want of memory.
 pub fn bench<R: Threads + Wait + Sync, K: Sink, G: Gate>(
     rt: &R,
     alloc: Global,
