@@ -1,5 +1,5 @@
 pub mod Accepting
 pub mod Deciding
 pub mod Examining
-pub mod Lines
+pub mod WritingLines
 pub mod Writing
