@@ -35,7 +35,7 @@ pub(crate) fn opened(alloc: Global) -> Result<Option<OpenPool>, AllocError> {
 }
 
 /// As `Pool::push`: whether there was a place.
-fn push(pool: &Pool, hand: &mut Hand, id: u32) -> bool
+pub(crate) fn push(pool: &Pool, hand: &mut Hand, id: u32) -> bool
     requires { hand.old.pool ≡ pool.now }
     ensures { IsSameHand hand.old hand.new }
 {
@@ -46,7 +46,7 @@ fn push(pool: &Pool, hand: &mut Hand, id: u32) -> bool
 }
 
 /// As `Pool::fetch`.
-fn fetch<R: Wait>(rt: &R, pool: &Pool, hand: &mut Hand) -> Option<u32>
+pub(crate) fn fetch<R: Wait>(rt: &R, pool: &Pool, hand: &mut Hand) -> Option<u32>
     requires { hand.old.pool ≡ pool.now }
     ensures { IsSameHand hand.old hand.new }
 {
@@ -85,7 +85,7 @@ fn turns<R: Wait>(
 }
 
 /// What is left of the pool: how many numbers, and the first.
-fn left(
+pub(crate) fn left(
     alloc: Global,
     pool: Pool,
     first: Hand,

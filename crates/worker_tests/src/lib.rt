@@ -8,4 +8,6 @@ mod journal;
 #[cfg(test)]
 mod shared;
 #[cfg(test)]
+mod stops;
+#[cfg(test)]
 mod threads;

@@ -1,11 +1,11 @@
-//! Two threads that call `work` on one desk.
+//! Two threads that call `work` on one desk, and meet in the middle of their slices.
 ghost use Rattle.std.specs.Prelude.{◌≡◌, None};
 ghost use Rattle.book_lock.specs.Seats.{IsSameSeat};
 ghost use Rattle.worker_tests.specs.Meeting.{IsSeatOf};
 
 use crate::hands::{OpenPool, opened};
 use crate::journal::{closed, concludes_sat, delivered};
-use crate::shared::four_pairs;
+use crate::shared::{LOOKS, six_pairs};
 use book_core::Book;
 use book_lock::{Desk, Seat};
 use cube_pool::{Hand, Pool};
@@ -14,7 +14,7 @@ use std::sync::{Arc, Wait};
 use std::test::Fail;
 use std::thread;
 use std::thread::Threads;
-use steal_search::{HoldSecond, work};
+use steal_search::{NoGate, work};
 use stn_core::Problem;
 use worker_calls::Calls;
 
@@ -29,7 +29,6 @@ fn run<R: Wait>(
     hand: Hand,
     worker: u32,
     calls: &Arc<Calls>,
-    gate: &HoldSecond,
 ) -> (Seat, bool)
     requires desk { seat.desk ≡ desk.now.id }
     requires problem { seat.view.problem ≡ problem.now }
@@ -41,7 +40,7 @@ fn run<R: Wait>(
     let mut seat = seat;
     let mut hand = hand;
     let ended = work(
-        rt, alloc, problem, desk, &mut seat, pool, &mut hand, worker, 1, calls, gate,
+        rt, alloc, problem, desk, &mut seat, pool, &mut hand, worker, 1, calls, &NoGate,
     );
     let is_ok = ended.is_ok();
     (seat, is_ok)
@@ -57,7 +56,6 @@ fn run_both<R: Threads + Wait + Sync>(
     pool: &Pool,
     hands: (Hand, Hand),
     calls: &Arc<Calls>,
-    gate: &HoldSecond,
 ) -> ((Seat, bool), (Seat, bool))
     requires first { IsSeatOf desk.now problem.now 0 2 seats.0 }
     requires second { IsSeatOf desk.now problem.now 1 0 seats.1 }
@@ -72,15 +70,11 @@ fn run_both<R: Threads + Wait + Sync>(
         move || -> (Seat, bool)
             requires { IsSeatOf desk.now problem.now 0 2 seat × (own.pool ≡ pool.now) }
             ensures { IsSeatOf desk.entry.now problem.entry.now 0 2 result.0 }
-        { run(rt, alloc, problem, desk, seat, pool, own, 0, calls, gate) },
+        { run(rt, alloc, problem, desk, seat, pool, own, 0, calls) },
         move || -> (Seat, bool)
             requires { IsSeatOf desk.now problem.now 1 0 newcomer × (other.pool ≡ pool.now) }
             ensures { IsSeatOf desk.entry.now problem.entry.now 1 0 result.0 }
-        {
-            run(
-                rt, alloc, problem, desk, newcomer, pool, other, 1, calls, gate,
-            )
-        },
+        { run(rt, alloc, problem, desk, newcomer, pool, other, 1, calls) },
     )
 }
 
@@ -90,7 +84,7 @@ fn book_of<R: Threads + Wait + Sync>(
     alloc: Global,
     problem: &Problem,
     opened: OpenPool,
-    gate: &HoldSecond,
+    calls: &Arc<Calls>,
 ) -> Result<(Book, [bool; 2]), AllocError> {
     let OpenPool {
         pool,
@@ -101,8 +95,7 @@ fn book_of<R: Threads + Wait + Sync>(
     let newcomer = desk.split_seat(&mut seat)?;
     let seats = (seat, newcomer);
     let hands = (first, second);
-    let calls = Arc::new(alloc, Calls::new())?;
-    let (one, other) = run_both(rt, alloc, problem, &desk, seats, &pool, hands, &calls, gate);
+    let (one, other) = run_both(rt, alloc, problem, &desk, seats, &pool, hands, calls);
     let book = closed(desk, problem, one.0, other.0);
     Ok((book, [one.1, other.1]))
 }
@@ -111,22 +104,23 @@ fn book_of<R: Threads + Wait + Sync>(
 fn told<R: Threads + Wait + Sync>(
     rt: &R,
     alloc: Global,
-    gate: &HoldSecond,
+    calls: &Arc<Calls>,
 ) -> Result<Option<([bool; 2], [bool; 2], bool)>, AllocError> {
     let Some(opened) = opened(alloc)? else {
         return Ok(None);
     };
-    let problem = four_pairs(alloc)?;
-    let (book, are_ok) = book_of(rt, alloc, &problem, opened, gate)?;
+    let problem = six_pairs(alloc)?;
+    let (book, are_ok) = book_of(rt, alloc, &problem, opened, calls)?;
     let have_delivered = [delivered(&book, 0), delivered(&book, 1)];
     Ok(Some((are_ok, have_delivered, concludes_sat(&book)?)))
 }
 
 #[test]
 fn two_threads_meet(rt: HostRuntime) -> Result<(), Fail> {
-    let gate = HoldSecond::new(100_000_000);
-    let told = told(&rt, rt.alloc(), &gate)?;
+    let alloc = rt.alloc();
+    let calls = Arc::new(alloc, Calls::meeting(LOOKS))?;
+    let told = told(&rt, alloc, &calls)?;
     assert_eq!(rt; told, Some(([true; 2], [true; 2], true)));
-    assert!(rt; gate.met());
+    assert!(rt; calls.met());
     Ok(())
 }
