@@ -1,5 +1,5 @@
 #!/bin/sh
-# Runs the example program, and asserts the values that it prints back into its script: examples/test.sh [PATH OF dtp].
+# Runs the example program, and asserts the values that it prints back into its script; and runs dtp with its output closed: examples/test.sh [PATH OF dtp].
 set -eu
 dtp=${1:-dtp}
 here=$(dirname "$0")
@@ -14,3 +14,7 @@ python3 "$here/schedule.py" "$dtp" | awk '
     /^tea is ready: / { ready = $NF }
     END { exit !(sat && NR == 4 && on == 0 && boils - on >= 4 && ready - boils >= 3 && ready <= 15) }'
 echo "the schedule keeps the plan"
+status=0
+"$dtp" solve < "$here/kitchen.smt2" >&- || status=$?
+[ "$status" = 4 ]
+echo "a closed output is told by status 4"
