@@ -7,16 +7,17 @@ use Rattle.script_walk.specs.Course.{Turn, Outcome, tells, answers, asks, ends, 
 use Rattle.dtp_entry.specs.declared.report.Report.{Report}
 use Rattle.dtp_entry.specs.declared.report.Report.TheVariants.{Verdicts}
 use Rattle.dtp_entry.specs.Entries.{verdict_of}
-use Rattle.dtp_entry.specs.Transcripts.{Output, IsOutput, IsTranscript, lines_with_gaps}
+use Rattle.dtp_entry.specs.Transcripts.{decision_line, Output, IsOutput, IsTranscript, lines_with_gaps}
 
--- The verdicts at a script's check-sats and its status are the same in everything that is written of it, in the transcript
--- and in the certificate.
+-- The verdicts at a script's questions, its status, and the lines that its questions are answered, minimum values among them, are
+-- the same in everything that is written of it, in the transcript and in the certificate.
 abbrev pub OneVerdict : Type 0
 OneVerdict = (script : List ℕ) (r q : Report) (a b : Output) → IsOutput r script a → IsOutput q script b
     → (map verdict_of a.found ≡ map verdict_of b.found) × (a.status ≡ b.status)
+    × (map (decision_line Verdicts) a.found ≡ map (decision_line Verdicts) b.found)
 
 -- What is written in a transcript, and the status, are decided by the script's bytes and the entries that decided its
--- check-sats: which schedule and which refutation is found is all that is free.
+-- questions: which schedule, which refutation and which set of points is found is all that is free.
 abbrev pub OneTranscriptByEntries : Type 0
 OneTranscriptByEntries =
     (script : List ℕ) (a b : Output) → IsOutput Verdicts script a → IsOutput Verdicts script b

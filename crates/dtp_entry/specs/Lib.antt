@@ -1,4 +1,5 @@
 pub mod Reports
+pub mod Bests
 pub mod Entries
 pub mod Laws
 pub mod Transcripts

@@ -1,26 +1,28 @@
 -- What is written of a script: a relation of its bytes, the bytes of the output and the status.
 -- Source: SMT-LIB 2.6, section 4.1 (responses, and the error behavior `immediate-exit`), section 4.2.1 (`exit`) and section
--- 4.2.5 (`check-sat`).
+-- 4.2.5 (`check-sat`). The lines of a minimize are this project's choice.
 use Rattle.std.specs.Prelude.{◌≡◌, ℕ, List, [], ◌∷◌, ◌++◌, map, Bool, true, false, if◌then◌else◌, Option, Some, None}
 use Rattle.std.specs.List.{AllByRecursion}
 use Rattle.smt_sexpr.specs.Tree.{Sexpr, Items}
 use Rattle.smt_script.specs.declared.state.Question.{Question}
 use Rattle.smt_script.specs.declared.state.Notice.{Notice}
 use Rattle.smt_script.specs.declared.state.Notice.TheVariants.{Success, Unsupported, Model, Values, Proof, Inform, Echo}
-use Rattle.smt_script.specs.Commands.{asked_terms, echoed_text}
-use Rattle.smt_script.specs.declared.state.Satisfiability.{Satisfiability}
-use Rattle.smt_script.specs.declared.state.Satisfiability.TheVariants as verdict
+use Rattle.smt_script.specs.Commands.{asked_terms, echoed_text, minimized}
 use Rattle.smt_script.specs.States.{State, levels_of}
-use Rattle.smt_answer.specs.Texts.{verdict_line, success_line, unsupported_line, model_lines, values_line, information_line, echo_line, error_line}
+use Rattle.smt_answer.specs.Texts.{verdict_line, minimum_line, unbounded_line, success_line, unsupported_line, model_lines, values_line, information_line, echo_line, error_line}
 use Rattle.cert_text.specs.declared.entry.Version.{Version}
 use Rattle.cert_text.specs.declared.entry.Entry.{Entry}
-use Rattle.cert_text.specs.declared.entry.Entry.TheVariants.{Sat, Unsat}
+use Rattle.cert_text.specs.declared.entry.Entry.TheVariants.{Sat, Unsat, Best, Unbounded}
 use Rattle.cert_text.specs.Form.{header_sexpr, entry_sexpr, end_sexpr, line_of}
+use Rattle.stn_core.specs.declared.named.NamedValue.{NamedValue}
+use Rattle.clause_form.specs.Restricting.{restricted}
 use Rattle.idl_term.specs.Contexts.{Context, environment, IsSatisfiable}
+use Rattle.idl_term.specs.Scopes.{sorts_of}
 use Rattle.idl_term.specs.Values.{value}
 use Rattle.dtp_entry.specs.declared.report.Report.{Report}
 use Rattle.dtp_entry.specs.declared.report.Report.TheVariants.{Verdicts, Certificate}
 use Rattle.dtp_entry.specs.Reports.{version_of}
+use Rattle.dtp_entry.specs.Bests.{IsBestFor, HasNoBest}
 use Rattle.dtp_entry.specs.Entries.{IsEntryOf, verdict_of}
 use Rattle.script_walk.specs.Course.{start_with, Turn, Outcome, tells, answers, asks, ends, fails, IsCourseOf, status_of, answers_of, IsFit}
 use Rattle.dtp_entry.specs.Written.{IsFront}
@@ -36,28 +38,48 @@ abbrev pub closing : Report → List ℕ
 closing Verdicts = []
 closing (Certificate version) = line_of end_sexpr
 
--- the line of a check-sat, by the entry that decides it
+-- the line of a question, by the entry that decides it
 abbrev pub decision_line : Report → Entry → List ℕ
 decision_line Verdicts (Sat schedule) = verdict_line true
 decision_line Verdicts (Unsat lemmas) = verdict_line false
+decision_line Verdicts (Best m schedule lemmas) = minimum_line m
+decision_line Verdicts (Unbounded values set) = unbounded_line
 decision_line (Certificate version) entry = line_of (entry_sexpr entry)
 
--- what the mode holds: the entry that decided the last check-sat, of which models and proofs can be told
+-- what the mode holds: the entry that decided the last question, of which models and proofs can be told
 abbrev pub Held : Type 0
 Held = Option Entry
 
--- behind a `sat` the mode holds the schedule, and behind an `unsat` the refutation
+-- The schedule of an entry: where it has values of the time points, the one that they give. A refutation has none.
+abbrev pub schedule_in : Context → Entry → Option (List NamedValue)
+schedule_in c (Sat schedule) = Some schedule
+schedule_in c (Unsat lemmas) = None
+schedule_in c (Best m schedule lemmas) = Some schedule
+schedule_in c (Unbounded values set) = Some (restricted (sorts_of c.declared) values)
+
+abbrev pub schedule_held : Context → Held → Option (List NamedValue)
+schedule_held c (Some entry) = schedule_in c entry
+schedule_held c None = None
+
+-- of a schedule, where there is one
+abbrev pub told_of : Option (List NamedValue) → (List NamedValue → List ℕ) → List ℕ
+told_of (Some schedule) text = text schedule
+told_of None text = []
+
+-- behind an `unsat` the mode holds the refutation, and else a schedule
 abbrev pub told_model : Held → State → List ℕ
-told_model (Some (Sat schedule)) s = model_lines s.context.declared schedule
-told_model _ s = []
+told_model held s = told_of (schedule_held s.context held) (λ schedule. model_lines s.context.declared schedule)
 
 abbrev pub told_values : Held → State → Items → List ℕ
-told_values (Some (Sat schedule)) s terms = values_line (value (environment s.context schedule)) terms
-told_values _ s terms = []
+told_values held s terms =
+    told_of (schedule_held s.context held) (λ schedule. values_line (value (environment s.context schedule)) terms)
 
 abbrev pub told_proof : Held → List ℕ
 told_proof (Some (Unsat lemmas)) = line_of (entry_sexpr (Unsat lemmas))
-told_proof _ = []
+told_proof (Some (Sat schedule)) = []
+told_proof (Some (Best m schedule lemmas)) = []
+told_proof (Some (Unbounded values set)) = []
+told_proof None = []
 
 -- what is told of command x, which asks for no decision, in the state behind it; `success` where that is to be printed
 abbrev pub told : Report → Held → State → Sexpr → Notice → List ℕ
@@ -72,19 +94,23 @@ told (Certificate version) held s x notice = []
 
 -- ---- a command
 
--- `sat` is so where some schedule satisfies all the assertions, else `unsat` is
-abbrev pub IsVerdict : Context → Satisfiability → Type 0
-IsVerdict c verdict.Sat = IsSatisfiable c
-IsVerdict c verdict.Unsat = ¬ IsSatisfiable c
+-- What an entry for the question of command x says is so: `sat` where some schedule satisfies all the assertions, `unsat` where
+-- none does, a minimum where it is the term's best value, and `unbounded` where some schedule satisfies the assertions and no
+-- value is best.
+abbrev pub IsSo : Sexpr → Context → Entry → Type 0
+IsSo x c (Sat schedule) = IsSatisfiable c
+IsSo x c (Unsat lemmas) = ¬ IsSatisfiable c
+IsSo x c (Best m schedule lemmas) = IsBestFor c (minimized x) m
+IsSo x c (Unbounded values set) = HasNoBest c (minimized x)
 
--- the entry decides the assertions: it is right, in the version's form, and what it says is so
-pub record Decides (version : Version) (c : Context) (entry : Entry) : Type 0 where
-  pub right : IsEntryOf version c entry
-  pub so : IsVerdict c (verdict_of entry)
+-- the entry decides the question: it is right, in the version's form, and what it says is so
+pub record Decides (version : Version) (question : Question) (x : Sexpr) (c : Context) (entry : Entry) : Type 0 where
+  pub right : IsEntryOf version question x c entry
+  pub so : IsSo x c entry
 
 -- ---- a script
 
--- what is written: the text, the entries that decided the check-sats, in order, and the status
+-- what is written: the text, the entries that decided the questions, in order, and the status
 pub record Output : Type 0 where
   pub text : List ℕ
   pub found : List Entry
@@ -129,7 +155,7 @@ lines_with_gaps turns = map line_with_gaps turns
 
 -- the entry of a question decides it
 abbrev pub DecidesIn : Version → Question → Sexpr → State → Entry → Type 0
-DecidesIn version question x s entry = Decides version s.context entry
+DecidesIn version question x s entry = Decides version question x s.context entry
 
 abbrev pub IsLegal : Report → Turn Entry → Type 0
 IsLegal report t = IsFit (DecidesIn (version_of report)) t
@@ -163,6 +189,6 @@ IsReport report script text status =
 abbrev pub IsTranscript : List ℕ → List ℕ → ℕ → Type 0
 IsTranscript script text status = IsReport Verdicts script text status
 
--- the certificate of a script, of a version: its header, an entry for each check-sat, and the end or the error line
+-- the certificate of a script, of a version: its header, an entry for each question, and the end or the error line
 abbrev pub IsCertificate : Version → List ℕ → List ℕ → ℕ → Type 0
 IsCertificate version script text status = IsReport (Certificate version) script text status

@@ -1,8 +1,8 @@
 //! Laws of the definitions alone.
 ghost use Rattle.dtp_entry.specs.Laws.{OneVerdict, OneTranscriptByEntries, OneTranscriptButGaps, OneTranscript};
 
-/// A script has one list of verdicts and one status, in the transcript and in the certificate. It has one transcript for
-/// the entries that decided its check-sats. All its transcripts have the same lines but for models, values and proofs; and
+/// A script has one list of verdicts, of minimum values among them, and one status, in the transcript and in the certificate.
+/// It has one transcript for the entries that decided its questions. All its transcripts have the same lines but for models, values and proofs; and
 /// where no command that is answered asks for these, it has one transcript at most.
 pub fn one_transcript()
     ensures verdicts { OneVerdict }

@@ -5,6 +5,6 @@ use cert_text::Version;
 pub enum Report {
     /// The transcript: each command's answer.
     Verdicts,
-    /// The certificate, of this version: for each check-sat a schedule or a refutation.
+    /// The certificate, of this version: for each question the entry that decides it.
     Certificate(Version),
 }
