@@ -2,9 +2,11 @@
 #![tactic(auto)]
 
 mod kind;
+mod question;
 mod reader;
 mod walk;
 
 pub use kind::kind_of;
+pub use question::refusal_of;
 pub use reader::{Next, read_next};
 pub use walk::{Event, Walk};

@@ -1,9 +1,9 @@
 //! A script that is walked through, command by command.
-ghost use Rattle.std.specs.Prelude.{◌≡◌, ◌<◌, ◌-◌, ◌^◌, IfOk};
+ghost use Rattle.std.specs.Prelude.{◌≡◌, ◌<◌, ◌≤◌, ◌+◌, ◌-◌, ◌^◌, IfOk};
 ghost use Rattle.smt_sexpr.specs.Tree.{Sexpr};
 ghost use Rattle.smt_sexpr.specs.Table.{Means, HasMeaning};
 ghost use Rattle.smt_script.specs.States.{State as Meaning, start_state, settled};
-ghost use Rattle.script_walk.specs.code.Events.{IsStart, IsReady, Carries, IsEvent, GoesOn};
+ghost use Rattle.script_walk.specs.code.Events.{IsStart, IsReady, Carries, IsEvent, GoesOn, Asks};
 ghost use Rattle.script_walk.specs.code.Standing.{Stands};
 
 use crate::kind::kind_of;
@@ -19,7 +19,8 @@ use std::alloc::{AllocError, Global};
 pub enum Event {
     /// This is to be told of a command.
     Told(SexprId, Notice),
-    /// A command asks this. The walk goes on behind [`Walk::settle`].
+    /// A command asks this. Who answers it may refuse it first ([`crate::refusal_of`]); the walk goes on behind
+    /// [`Walk::settle`].
     Asked(SexprId, Question),
     /// The script ends: by `(exit)`, or with its text.
     Ended,
@@ -36,7 +37,7 @@ pub struct Walk<'a> {
     pub sexprs: Sexprs<'a>,
     /// What the commands have led to.
     pub state: State<'a>,
-    /// The number of the next command, from 1; of a command that is refused, its own.
+    /// The number of the next command, from 1; of a command that is refused, and of a question without an answer, its own.
     pub number: u64,
 }
 
@@ -71,10 +72,7 @@ impl<'a> Walk<'a> {
                 self.number += 1;
                 Ok(Event::Told(id, notice))
             }
-            Ok(Effect::Ask(question)) => {
-                self.number += 1;
-                Ok(Event::Asked(id, question))
-            }
+            Ok(Effect::Ask(question)) => Ok(Event::Asked(id, question)),
             Ok(Effect::Exit) => Ok(Event::Ended),
             Err(ScriptError::Refused(why)) => Ok(Event::Failed(kind_of(why))),
             Err(ScriptError::OutOfMemory) => Err(AllocError),
@@ -87,6 +85,7 @@ impl<'a> Walk<'a> {
         ensures event { IfOk result (λ event. (s : Meaning) → Stands self.old.state s
             → IsEvent self.old self.new s event) }
         ensures ready { IfOk result (λ event. GoesOn event → IsReady self.new) }
+        ensures counted { IfOk result (λ event. Asks event → self.new.number ≤ self.new.lexer.place) }
         ensures forward { IfOk result (λ event. GoesOn event → self.old.lexer.place < self.new.lexer.place) }
         ensures bytes { self.new.lexer.bytes ≡ self.old.lexer.bytes }
     {
@@ -100,12 +99,14 @@ impl<'a> Walk<'a> {
         }
     }
 
-    /// The answer to the question that was asked last. It takes no memory.
+    /// The answer to the question that was asked last, which is counted now. It takes no memory.
     pub fn settle(&mut self, verdict: Satisfiability)
+        requires few { self.old.number < 2 ^ 64 - 1 }
         ensures stands { (s : Meaning) → Stands self.old.state s → Stands self.new.state (settled verdict s) }
-        ensures rest { self.new ≡ record self.old { state = self.new.state } }
+        ensures rest { self.new ≡ record self.old { state = self.new.state; number = self.old.number + 1 } }
     {
         state_law();
         self.state.settle(verdict);
+        self.number += 1;
     }
 }

@@ -27,6 +27,10 @@ abbrev pub verdict_line : Bool → List ℕ
 verdict_line true = codes "sat\n"
 verdict_line false = codes "unsat\n"
 
+-- where nothing is less than what is minimized goes on to be, however far
+abbrev pub unbounded_line : List ℕ
+unbounded_line = codes "unbounded\n"
+
 abbrev pub success_line : List ℕ
 success_line = codes "success\n"
 
@@ -54,6 +58,7 @@ term_text term.String = codes "string"
 abbrev pub command_text : LeftOutCommand → List ℕ
 command_text command.Parameters = codes "parameters"
 command_text command.Sort = codes "sort"
+command_text command.Ite = codes "ite"
 command_text command.DefineFunRec = codes "define-fun-rec"
 command_text command.DefineFunsRec = codes "define-funs-rec"
 command_text command.DefineSort = codes "define-sort"
@@ -84,6 +89,7 @@ refusal_text refused.TooManyLevels = codes "too many levels"
 refusal_text refused.PopBelowTheBottom = codes "pop below the bottom"
 refusal_text refused.NoModel = codes "no model"
 refusal_text refused.NoProof = codes "no proof"
+refusal_text refused.ObjectiveTooLarge = codes "objective too large"
 refusal_text (refused.LeftOut c) = codes "left out: " ++ command_text c
 refusal_text (refused.Term why) = term_refusal_text why
 
@@ -106,6 +112,10 @@ error_line command kind = codes "(error \"command " ++ (decimal command ++ (code
 abbrev pub number_text : ℤ → List ℕ
 number_text (pos n) = decimal n
 number_text (negsuc n) = codes "(- " ++ (decimal (suc n) ++ codes ")")
+
+-- the least value of what is minimized
+abbrev pub minimum_line : ℤ → List ℕ
+minimum_line m = codes "(minimum " ++ (number_text m ++ codes ")\n")
 
 abbrev pub truth_text : Bool → List ℕ
 truth_text true = codes "true"

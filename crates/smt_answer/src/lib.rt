@@ -7,6 +7,7 @@ mod values;
 
 pub use kind::{Kind, kind_of_unreadable};
 pub use text::{
-    echo_text, error_text, info_text, kind_text, success_text, unsupported_text, verdict_text,
+    echo_text, error_text, info_text, kind_text, success_text, unbounded_text, unsupported_text,
+    verdict_text,
 };
-pub use values::{model_text, values_text};
+pub use values::{minimum_text, model_text, values_text};

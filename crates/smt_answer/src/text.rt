@@ -1,7 +1,7 @@
 //! The texts of answers, appended to what is there. After an error what is there is as before.
 ghost use Rattle.std.specs.Prelude.{◌≡◌, ◌++◌, ◌<◌, ◌^◌, codes, take, OnOk, OnErr, IfOk};
 ghost use Rattle.std.specs.Vec.{vec_len};
-ghost use Rattle.smt_answer.specs.Texts.{kind_text, refusal_text, term_refusal_text, term_text, command_text, error_line, verdict_line, success_line, unsupported_line, information_line, echo_line};
+ghost use Rattle.smt_answer.specs.Texts.{kind_text, refusal_text, term_refusal_text, term_text, command_text, error_line, verdict_line, success_line, unsupported_line, unbounded_line, information_line, echo_line};
 ghost use Rattle.smt_script.specs.declared.information.Information.TheVariants.{AssertionStackLevels};
 
 use crate::kind::Kind;
@@ -39,6 +39,7 @@ fn command_text(construct: LeftOutCommand) -> &'static str
     match construct {
         LeftOutCommand::Parameters => "parameters",
         LeftOutCommand::Sort => "sort",
+        LeftOutCommand::Ite => "ite",
         LeftOutCommand::DefineFunRec => "define-fun-rec",
         LeftOutCommand::DefineFunsRec => "define-funs-rec",
         LeftOutCommand::DefineSort => "define-sort",
@@ -79,6 +80,7 @@ fn refusal_text(why: Refusal) -> (&'static str, &'static str)
         Refusal::PopBelowTheBottom => ("pop below the bottom", ""),
         Refusal::NoModel => ("no model", ""),
         Refusal::NoProof => ("no proof", ""),
+        Refusal::ObjectiveTooLarge => ("objective too large", ""),
         Refusal::LeftOut(construct) => ("left out: ", command_text(construct)),
         Refusal::Term(why) => term_refusal_text(why),
     }
@@ -155,6 +157,14 @@ pub fn verdict_text(sat: bool, out: &mut Vec<u8>) -> Result<(), AllocError>
     } else {
         out.push_str(b"unsat\n")
     }
+}
+
+/// Appends `unbounded`.
+pub fn unbounded_text(out: &mut Vec<u8>) -> Result<(), AllocError>
+    ensures ok { OnOk result (out.new.items ≡ out.old.items ++ unbounded_line) }
+    ensures err { OnErr result (out.new.items ≡ out.old.items) }
+{
+    out.push_str(b"unbounded\n")
 }
 
 /// Appends `success`.

@@ -1,4 +1,4 @@
-//! The texts of models and values, appended to what is there. After an error of a public call what is there is as before.
+//! The texts of models, values and least values, appended to what is there. After an error of a public call what is there is as before.
 ghost use Rattle.std.specs.Prelude.{◌≡◌, ◌≤◌, ◌++◌, ◌∷◌, [], length, map, take, drop, OnOk, OnErr};
 ghost use Rattle.std.specs.Vec.{vec_len};
 ghost use Rattle.smt_lex.specs.declared.token.TokenKind.TheVariants.{Symbol};
@@ -12,7 +12,7 @@ ghost use Rattle.idl_term.specs.Contexts.{value_of_named};
 ghost use Rattle.idl_term.specs.Scopes.{sorts_of};
 ghost use Rattle.idl_term.specs.Values.{Value as Meaning};
 ghost use Rattle.smt_script.specs.code.TermValues.{value_shown};
-ghost use Rattle.smt_answer.specs.Texts.{number_text, truth_text, value_text, sort_text, signature_text, definition_line, definition_lines, model_lines, pair_text, pairs_behind, values_line};
+ghost use Rattle.smt_answer.specs.Texts.{number_text, truth_text, value_text, sort_text, signature_text, definition_line, definition_lines, model_lines, minimum_line, pair_text, pairs_behind, values_line};
 ghost use Rattle.smt_answer.specs.code.Answers.{AreAnswers};
 
 use bstr::ByteVec;
@@ -36,6 +36,30 @@ fn write_number(n: Value, out: &mut Vec<u8>) -> Result<(), AllocError>
     out.push_str(b"(- ")?;
     out.push_str(buffer.format(n.unsigned_abs()).as_bytes())?;
     out.push_str(b")")
+}
+
+fn write_minimum(minimum: Value, out: &mut Vec<u8>) -> Result<(), AllocError>
+    ensures ok { OnOk result (out.new.items ≡ out.old.items ++ minimum_line minimum) }
+    ensures front { take (vec_len out.old) out.new.items ≡ out.old.items }
+{
+    out.push_str(b"(minimum ")?;
+    write_number(minimum, out)?;
+    out.push_str(b")\n")
+}
+
+/// Appends the line of a least value.
+pub fn minimum_text(minimum: Value, out: &mut Vec<u8>) -> Result<(), AllocError>
+    ensures ok { OnOk result (out.new.items ≡ out.old.items ++ minimum_line minimum) }
+    ensures err { OnErr result (out.new.items ≡ out.old.items) }
+{
+    let before = out.len();
+    match write_minimum(minimum, out) {
+        Ok(()) => Ok(()),
+        Err(error) => {
+            out.truncate(before);
+            Err(error)
+        }
+    }
 }
 
 fn write_truth(truth: bool, out: &mut Vec<u8>) -> Result<(), AllocError>

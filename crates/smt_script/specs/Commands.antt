@@ -32,6 +32,8 @@ pub data Command : Type 0 where
   pushing : (count : ℕ) → Command
   popping : (count : ℕ) → Command
   checking : Command
+  -- (minimize t)
+  minimizing : (term : Sexpr) → Command
   -- (get-model), (get-proof)
   asking_model : Command
   asking_proof : Command
@@ -74,12 +76,13 @@ changing_command text =
 unfoldable pub asking_command : List ℕ → Option CommandName
 asking_command text =
     if bytes_eq text (codes "check-sat") then Some name.CheckSat
+    else (if bytes_eq text (codes "minimize") then Some name.Minimize
     else (if bytes_eq text (codes "get-model") then Some name.GetModel
     else (if bytes_eq text (codes "get-value") then Some name.GetValue
     else (if bytes_eq text (codes "get-proof") then Some name.GetProof
     else (if bytes_eq text (codes "get-info") then Some name.GetInfo
     else (if bytes_eq text (codes "echo") then Some name.Echo
-    else None)))))
+    else None))))))
 
 abbrev pub or_else : Option CommandName → Option CommandName → Option CommandName
 or_else (Some found) other = Some found
@@ -198,6 +201,11 @@ level_command make none = Ok (make 1)
 level_command make (more n none) = with_count (numeral_of n) make
 level_command make _ = ill_formed
 
+-- t
+abbrev pub minimize_command : Items → Result Command Refusal
+minimize_command (more term none) = Ok (minimizing term)
+minimize_command _ = ill_formed
+
 -- (t ..), with one or more terms
 abbrev pub values_of : Items → Result Command Refusal
 values_of none = ill_formed
@@ -230,6 +238,7 @@ command_by name.Assert arguments = assertion_command arguments
 command_by name.Push arguments = level_command pushing arguments
 command_by name.Pop arguments = level_command popping arguments
 command_by name.CheckSat arguments = alone checking arguments
+command_by name.Minimize arguments = minimize_command arguments
 command_by name.GetModel arguments = alone asking_model arguments
 command_by name.GetValue arguments = values_command arguments
 command_by name.GetProof arguments = alone asking_proof arguments
@@ -269,7 +278,8 @@ is_exiting _ = false
 abbrev pub is_exit : Sexpr → Bool
 is_exit x = is_exiting (command_of x)
 
--- what is asked for, of a command that asks for it, and else nothing: the terms of a `get-value`, and the text of an `echo`
+-- what is asked for, of a command that asks for it, and else nothing: the terms of a `get-value`, the text of an `echo`, and
+-- the term that a `minimize` asks to be least
 abbrev pub terms_in : Result Command Refusal → Items
 terms_in (Ok (asking_values terms)) = terms
 terms_in _ = none
@@ -283,6 +293,13 @@ asked_terms x = terms_in (command_of x)
 
 abbrev pub echoed_text : Sexpr → List ℕ
 echoed_text x = text_in (command_of x)
+
+abbrev pub minimized_in : Result Command Refusal → Option Sexpr
+minimized_in (Ok (minimizing term)) = Some term
+minimized_in _ = None
+
+abbrev pub minimized : Sexpr → Option Sexpr
+minimized x = minimized_in (command_of x)
 
 abbrev pub is_asking : Result Command Refusal → Bool
 is_asking (Ok asking_model) = true

@@ -1,13 +1,16 @@
 -- What holds of the commands and states of every script.
-use Rattle.std.specs.Prelude.{◌≡◌, ◌↔◌, ◌⊎◌, Ok, None, true, false, Bool}
+use Rattle.std.specs.Prelude.{◌≡◌, ◌↔◌, ◌⊎◌, Ok, None, Some, true, false, Bool}
 use Rattle.smt_sexpr.specs.Tree.{Sexpr}
 use Rattle.idl_term.specs.Contexts.{scope_of}
-use Rattle.smt_script.specs.Commands.{is_exit, asked_terms, asks_verdict}
+use Rattle.smt_script.specs.Commands.{is_exit, asked_terms, asks_verdict, minimized}
+use Rattle.smt_script.specs.Objectives.{IsObjectiveOf}
 use Rattle.smt_script.specs.States.{State, start_state, Step, IsMadeState, after, terms_refusal, settled}
 use Rattle.smt_script.specs.declared.state.Effect.{Effect}
-use Rattle.smt_script.specs.declared.state.Effect.TheVariants.{Exit, Tell}
+use Rattle.smt_script.specs.declared.objective.Objective.{Objective}
+use Rattle.smt_script.specs.declared.state.Effect.TheVariants.{Ask, Exit, Tell}
 use Rattle.smt_script.specs.declared.state.Mode.TheVariants as mode
 use Rattle.smt_script.specs.declared.state.Notice.TheVariants.{Model, Values, Proof}
+use Rattle.smt_script.specs.declared.state.Question.TheVariants.{Minimize}
 use Rattle.smt_script.specs.declared.state.Satisfiability.{Satisfiability}
 
 -- What is active came about by declarations, definitions and assertions: at the start, behind each command, and behind
@@ -54,6 +57,12 @@ abbrev pub ProofNeedsUnsat : Type 0
 ProofNeedsUnsat =
     (s : State) (x : Sexpr) (step : Step) → after s x ≡ Ok step → step.effect ≡ Tell Proof
     → step.state.mode ≡ mode.Unsat
+
+-- where the least value of an objective is asked for, the command is a `minimize`, and its term is worth the objective
+abbrev pub MinimizedIsWorth : Type 0
+MinimizedIsWorth =
+    (s : State) (x : Sexpr) (step : Step) (o : Objective) → IsMadeState s → after s x ≡ Ok step → step.effect ≡ Ask (Minimize o)
+    → (t : Sexpr) × (minimized x ≡ Some t) × IsObjectiveOf step.state.context t o
 
 -- these are told of a command that asks for them, and of no other
 abbrev pub AskedIsTold : Type 0

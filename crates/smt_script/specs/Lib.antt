@@ -3,6 +3,7 @@ pub mod Commands
 pub mod Options
 pub mod Informing
 pub mod Attributes
+pub mod Objectives
 pub mod States
 pub mod Laws
 pub use Rattle.smt_sexpr.specs.Tree

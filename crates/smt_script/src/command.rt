@@ -2,7 +2,7 @@
 ghost use Rattle.std.specs.Prelude.{◌≡◌, Ok, ℕ};
 ghost use Rattle.smt_sexpr.specs.Tree.{Sexpr, Items};
 ghost use Rattle.smt_sexpr.specs.Table.{Table, Means, MeansEach, HasMeaning};
-ghost use Rattle.smt_script.specs.Commands.{Command, alone, logic_command, option_command, info_command, constant_command, function_command, definition_command, annotation_in, annotation_command, assertion_command, level_command, values_command, information_command, echo_command, command_by, without_name, command_of};
+ghost use Rattle.smt_script.specs.Commands.{Command, alone, logic_command, option_command, info_command, constant_command, function_command, definition_command, annotation_in, annotation_command, assertion_command, level_command, minimize_command, values_command, information_command, echo_command, command_by, without_name, command_of};
 ghost use Rattle.smt_script.specs.code.Shapes.{SignatureIs, AnnotationIs, CommandIs, LevelsAre, RequestIs, AsksFor};
 ghost use Rattle.smt_sexpr.specs.Shapes.{HaveMeaning};
 
@@ -36,6 +36,8 @@ pub enum Request<'a> {
     Push(Option<u64>),
     Pop(Option<u64>),
     CheckSat,
+    /// A term.
+    Minimize(SexprId),
     Model,
     /// The list of the terms.
     Values(SexprId),
@@ -234,6 +236,16 @@ fn levels(sexprs: &Sexprs, arguments: &[SexprId]) -> Result<Option<u64>, Refusal
     }
 }
 
+/// `(minimize t)`, behind its name.
+fn minimize_command<'a>(arguments: &[SexprId]) -> Result<Request<'a>, Refusal>
+    ensures { (t : Table) → AsksFor t arguments.now minimize_command result }
+{
+    match arguments {
+        [term] => Ok(Request::Minimize(*term)),
+        _ => Err(Refusal::IllFormedCommand),
+    }
+}
+
 /// `(get-value (t ..))`, behind its name.
 fn values_command<'a>(sexprs: &Sexprs<'a>, arguments: &[SexprId]) -> Result<Request<'a>, Refusal>
     requires { HaveMeaning sexprs.now arguments.now }
@@ -305,6 +317,7 @@ fn command_by<'a>(
             Ok(Request::Pop(count))
         }
         CommandName::CheckSat => alone(Request::CheckSat, arguments),
+        CommandName::Minimize => minimize_command(arguments),
         CommandName::GetModel => alone(Request::Model, arguments),
         CommandName::GetValue => values_command(sexprs, arguments),
         CommandName::GetProof => alone(Request::Proof, arguments),

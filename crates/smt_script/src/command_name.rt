@@ -17,6 +17,7 @@ pub enum CommandName {
     Push,
     Pop,
     CheckSat,
+    Minimize,
     GetModel,
     GetValue,
     GetProof,
@@ -78,6 +79,8 @@ fn asking_command(name: &[u8]) -> Option<CommandName>
 {
     if name == b"check-sat".as_slice() {
         Some(CommandName::CheckSat)
+    } else if name == b"minimize".as_slice() {
+        Some(CommandName::Minimize)
     } else if name == b"get-model".as_slice() {
         Some(CommandName::GetModel)
     } else if name == b"get-value".as_slice() {

@@ -1,3 +1,4 @@
+use idl_linear::DifferenceRefusal;
 use idl_term::{TermError, TermRefusal};
 use std::alloc::{AllocError, AllocFailed};
 
@@ -8,6 +9,8 @@ pub enum LeftOutCommand {
     Parameters,
     /// A sort other than Int and Bool.
     Sort,
+    /// A minimized term with more than one case.
+    Ite,
     DefineFunRec,
     DefineFunsRec,
     DefineSort,
@@ -33,6 +36,9 @@ pub enum Refusal {
     NoModel,
     /// The last verdict isn't `unsat`, or something was changed since.
     NoProof,
+    /// What is asked to be least may have no best value within 2^60. No command of a state is refused for this: the question is,
+    /// by whoever makes the problem of the assertions.
+    ObjectiveTooLarge,
     LeftOut(LeftOutCommand),
     Term(TermRefusal),
 }
@@ -77,6 +83,22 @@ impl From<TermError> for ScriptError {
             TermError::OutOfMemory => ScriptError::OutOfMemory,
             TermError::Refused(why) => ScriptError::Refused(Refusal::Term(why)),
         }
+    }
+}
+
+impl From<DifferenceRefusal> for ScriptError {
+    ghost use Rattle.std.specs.Prelude.{◌≡◌};
+    ghost use Rattle.idl_term.specs.Comparing.{refusal_of};
+    ghost use Rattle.smt_script.specs.declared.error.Refusal.TheVariants.{Term};
+    ghost use Rattle.smt_script.specs.declared.error.ScriptError.TheVariants.{Refused};
+
+    ghost from_gives = { λ why e. e ≡ Refused (Term (refusal_of why)) };
+
+    fn from(why: DifferenceRefusal) -> Self {
+        ScriptError::Refused(Refusal::Term(match why {
+            DifferenceRefusal::NotADifference => TermRefusal::NotADifference,
+            DifferenceRefusal::BoundTooLarge => TermRefusal::BoundTooLarge,
+        }))
     }
 }
 

@@ -1,5 +1,5 @@
 //! Laws of the definitions alone.
-ghost use Rattle.smt_script.specs.Laws.{StartMade, StepMade, SettledMade, OnlyExitEnds, ExitIsCarriedOut, ModeIsKept, ModelNeedsSat, ValuesNeedSat, ProofNeedsUnsat, AskedIsTold};
+ghost use Rattle.smt_script.specs.Laws.{StartMade, StepMade, SettledMade, OnlyExitEnds, ExitIsCarriedOut, ModeIsKept, ModelNeedsSat, ValuesNeedSat, ProofNeedsUnsat, AskedIsTold, MinimizedIsWorth};
 
 /// What is active in a state came about by declarations, definitions and assertions: at the start, after each command, and
 /// after each verdict.
@@ -7,6 +7,11 @@ pub fn state_law()
     ensures start { StartMade }
     ensures step { StepMade }
     ensures settled { SettledMade }
+{}
+
+/// The value of a minimized term is the difference of its objective's points, and its constant, on every schedule.
+pub fn objective_law()
+    ensures { MinimizedIsWorth }
 {}
 
 /// The script ends at the first `(exit)`, and at no other command that is carried out.

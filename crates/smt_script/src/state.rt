@@ -12,7 +12,7 @@ ghost use Rattle.smt_script.specs.Commands.{Command};
 ghost use Rattle.smt_script.specs.code.Kept.{StandsFor, Steps, nothing_kept, cut_to};
 ghost use Rattle.smt_script.specs.Options.{option_effect};
 ghost use Rattle.smt_script.specs.code.Shapes.{ValueIs, HasValue, IsSignature, HasSignature, CountIs, CommandIs, Agrees, Carries};
-ghost use Rattle.smt_script.specs.States.{State as Meaning, start_state, after_logic, after_option, sort_of, after_declaration, after_definition, after_assertion, after_naming, after_push, after_pop, with_model, with_proof, telling, after_values, informed_by, after_by, after, settled, IsMadeState};
+ghost use Rattle.smt_script.specs.States.{State as Meaning, start_state, after_logic, after_option, sort_of, after_declaration, after_definition, after_assertion, after_naming, after_push, after_pop, with_model, with_proof, telling, after_minimizing, after_values, informed_by, after_by, after, settled, IsMadeState};
 ghost use Rattle.smt_script.specs.Informing.{information_of};
 ghost use Rattle.smt_script.specs.declared.state.Notice.TheVariants.{Model, Proof};
 ghost use Rattle.smt_script.specs.code.TermValues.{IsAccepted, IsRefused, IsValue};
@@ -25,6 +25,7 @@ use crate::error::{Refusal, ScriptError};
 use crate::information::{Information, information_of};
 use crate::limits::LEVELS_LIMIT;
 use crate::lowering::{lower_formula, lower_of_sort, test_terms};
+use crate::objective::{Objective, objective_in};
 use crate::option::{OptionEffect, option_effect};
 use crate::sorts::signature_sort;
 use crate::taken::{is_taken, refusal_when_full};
@@ -60,6 +61,8 @@ pub enum Notice {
 pub enum Question {
     /// Whether some schedule satisfies all that is asserted.
     CheckSat,
+    /// The least value of a term on all schedules that satisfy it.
+    Minimize(Objective),
 }
 
 /// What a command is to be answered.
@@ -75,7 +78,7 @@ pub enum Effect {
 /// What a command without another answer is answered.
 const SUCCESS: Effect = Effect::Tell(Notice::Success);
 
-/// What the last check-sat was answered, where nothing was changed since (SMT-LIB 2.6, section 4.1.1).
+/// What the last question was answered, where nothing was changed since (SMT-LIB 2.6, section 4.1.1).
 #[derive(Clone, Copy, Debug, PartialEq, Eq)]
 pub enum Mode {
     Nothing,
@@ -375,6 +378,16 @@ impl<'a> State<'a> {
         self.clear(false);
     }
 
+    /// `minimize`: the term is read, and none of its nodes is kept.
+    fn ask_minimum(&mut self, sexprs: &Sexprs<'a>, term: SexprId) -> Result<Effect, ScriptError>
+        requires { HasMeaning sexprs.now term }
+        ensures agrees { Carries (Means sexprs.now term) after_minimizing self.old self.new result }
+        ensures err { OnErr result (self.new ≡ self.old) }
+    {
+        let objective = objective_in(self.alloc, sexprs, term, &self.scope, &mut self.nodes)?;
+        Ok(Effect::Ask(Question::Minimize(objective)))
+    }
+
     /// `get-model`.
     fn ask_model(&self) -> Result<Effect, ScriptError>
         ensures { (s : Meaning) → StandsFor self.now s
@@ -444,6 +457,7 @@ impl<'a> State<'a> {
             Request::Push(count) => self.push(count),
             Request::Pop(count) => self.pop(count),
             Request::CheckSat => Ok(Effect::Ask(Question::CheckSat)),
+            Request::Minimize(term) => self.ask_minimum(sexprs, term),
             Request::Model => self.ask_model(),
             Request::Values(terms) => self.ask_values(sexprs, terms),
             Request::Proof => self.ask_proof(),
@@ -476,7 +490,7 @@ impl<'a> State<'a> {
         Ok(effect)
     }
 
-    /// The verdict of the check-sat that was the last command. It takes no memory.
+    /// What the answer to the question that was the last command says. It takes no memory.
     pub fn settle(&mut self, verdict: Satisfiability)
         ensures { (s : Meaning) → StandsFor self.old s → StandsFor self.new (settled verdict s) }
     {
@@ -556,7 +570,7 @@ impl<'a> State<'a> {
         self.print_success
     }
 
-    /// What the last check-sat was answered, where nothing was changed since.
+    /// What the last question was answered, where nothing was changed since.
     pub fn mode(&self) -> Mode
         ensures { result ≡ self.now.mode }
     {

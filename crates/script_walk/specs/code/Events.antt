@@ -11,7 +11,6 @@ use Rattle.smt_script.specs.declared.error.Refusal.{Refusal}
 use Rattle.smt_script.specs.States.{State, start_state, after}
 use Rattle.smt_answer.specs.declared.kind.Kind.{Kind}
 use Rattle.smt_answer.specs.Kinds.{kind_of, kind_of_unreadable}
-use Rattle.script_walk.specs.Questions.{refusal_of}
 use Rattle.script_walk.specs.code.Standing.{Stands}
 use Rattle.script_walk.specs.declared.reader.Next.{Next}
 use Rattle.script_walk.specs.declared.reader.Next.TheVariants.{Command, End, Unread}
@@ -59,6 +58,11 @@ GoesOn (Told id notice) = Unit {0}
 GoesOn (Asked id question) = Unit {0}
 GoesOn _ = ⊥
 
+-- a question is asked, which is counted when it is answered
+abbrev pub Asks : Event → Type 0
+Asks (Asked id question) = Unit {0}
+Asks _ = ⊥
+
 -- ---- a command
 
 -- command x leads to a state that is kept
@@ -79,8 +83,7 @@ abbrev pub Carries : Walk → Walk → State → Sexpr → Event → Type 0
 Carries v w s x (Told id notice) =
     Means w.sexprs id x × Leads w s x (Tell notice) × (w.number ≡ v.number + 1)
 Carries v w s x (Asked id question) =
-    Means w.sexprs id x
-    × ((h : Leads w s x (Ask question)) × (refusal_of question h.next x ≡ None)) × (w.number ≡ v.number + 1)
+    Means w.sexprs id x × Leads w s x (Ask question) × (w.number ≡ v.number)
 Carries v w s x Ended = Leads w s x Exit × (w.number ≡ v.number)
 Carries v w s x (Failed kind) = Refuses v w s x kind × (w.number ≡ v.number)
 

@@ -15,7 +15,7 @@ use Rattle.idl_term.specs.declared.error.TermRefusal.TheVariants.{WrongSort}
 use Rattle.idl_term.specs.declared.error.TermError.{TermError}
 use Rattle.idl_term.specs.declared.error.TermError.TheVariants as term
 use Rattle.smt_script.specs.Attributes.{Named, unnamed, named}
-use Rattle.smt_script.specs.Commands.{Command, setting_logic, setting_option, informing, declaring, defining, asserting, naming, pushing, popping, checking, asking_model, asking_values, asking_proof, asking_information, echoing, resetting_assertions, resetting, exiting, unsupported, function_command, definition_command}
+use Rattle.smt_script.specs.Commands.{Command, setting_logic, setting_option, informing, declaring, defining, asserting, naming, pushing, popping, checking, minimizing, asking_model, asking_values, asking_proof, asking_information, echoing, resetting_assertions, resetting, exiting, unsupported, function_command, definition_command}
 use Rattle.smt_script.specs.code.Kept.{Kept, StandsFor}
 use Rattle.smt_script.specs.Options
 use Rattle.smt_script.specs.States.{State, Step, is_of_sort}
@@ -23,7 +23,7 @@ use Rattle.smt_script.specs.declared.attribute.Attributes.{Attributes as Attribu
 use Rattle.smt_script.specs.declared.attribute.Awaited.{Awaited}
 use Rattle.smt_script.specs.declared.attribute.Awaited.TheVariants as awaited
 use Rattle.smt_script.specs.declared.command.Request.{Request}
-use Rattle.smt_script.specs.declared.command.Request.TheVariants.{SetLogic, SetOption, SetInfo, Declare, Define, Assert, AssertNamed, Push, Pop, CheckSat, Model, Values, Proof, Information, Echo, ResetAssertions, Reset, Exit, Unsupported}
+use Rattle.smt_script.specs.declared.command.Request.TheVariants.{SetLogic, SetOption, SetInfo, Declare, Define, Assert, AssertNamed, Push, Pop, CheckSat, Minimize, Model, Values, Proof, Information, Echo, ResetAssertions, Reset, Exit, Unsupported}
 use Rattle.smt_script.specs.declared.command.Signature.{Signature}
 use Rattle.smt_script.specs.declared.error.Refusal.{Refusal}
 use Rattle.smt_script.specs.declared.error.Refusal.TheVariants.{IllFormedCommand, LeftOut, Term}
@@ -31,6 +31,7 @@ use Rattle.smt_script.specs.declared.error.LeftOutCommand.TheVariants.{Parameter
 use Rattle.smt_script.specs.declared.error.ScriptError.{ScriptError}
 use Rattle.smt_script.specs.declared.error.ScriptError.TheVariants.{OutOfMemory, Refused}
 use Rattle.smt_script.specs.declared.state.Effect.{Effect}
+use Rattle.smt_script.specs.declared.objective.Objective.{Objective}
 use Rattle.smt_script.specs.declared.option.OptionEffect.{OptionEffect}
 use Rattle.smt_script.specs.declared.option.OptionEffect.TheVariants.{PrintSuccess, Nothing, Unsupported as NotSupported, IllFormed}
 
@@ -159,6 +160,7 @@ CommandIs t (AssertNamed id name) meant = (x : Sexpr) × Means t id x × (meant 
 CommandIs t (Push count) meant = (n : ℕ) × CountIs count n × (meant ≡ Ok (pushing n))
 CommandIs t (Pop count) meant = (n : ℕ) × CountIs count n × (meant ≡ Ok (popping n))
 CommandIs t CheckSat meant = meant ≡ Ok checking
+CommandIs t (Minimize id) meant = (x : Sexpr) × Means t id x × (meant ≡ Ok (minimizing x))
 CommandIs t Model meant = meant ≡ Ok asking_model
 CommandIs t (Values id) meant = (terms : Items) × Means t id (list terms) × (meant ≡ Ok (asking_values terms))
 CommandIs t Proof meant = meant ≡ Ok asking_proof
@@ -222,6 +224,11 @@ abbrev pub FormulaIs : List NodeValue → Result Made Refusal → Result ℕ Scr
 FormulaIs now made (Ok root) = made ≡ Ok (record { nodes = now; is = formula root })
 FormulaIs now made (Err (Refused why)) = made ≡ Err why
 FormulaIs now made (Err OutOfMemory) = Unit {0}
+
+abbrev pub ObjectiveIs : Result Objective Refusal → Result Objective ScriptError → Type 0
+ObjectiveIs found (Ok o) = found ≡ Ok o
+ObjectiveIs found (Err (Refused why)) = found ≡ Err why
+ObjectiveIs found (Err OutOfMemory) = Unit {0}
 
 -- the terms are accepted, or this is the first refusal of one
 abbrev pub IsTested : Option TermRefusal → Result (Unit {0}) ScriptError → Type 0
