@@ -1,18 +1,20 @@
 -- What a script with its certificate comes to: accepted, or the first reason against it. The order of the reasons is this
--- project's own. Sources: SMT-LIB 2.6, section 4.1 (a script), section 4.2.5 (check-sat).
-use Rattle.std.specs.Prelude.{◌≡◌, ◌≢◌, ℕ, ◌+◌, List, [], ◌∷◌, ◌++◌, length, ◌==◌, Bool, true, false, if◌then◌else◌, Option, Some, None, option_map}
+-- project's own. Sources: SMT-LIB 2.6, section 4.1 (a script), section 4.2.5 (check-sat); `minimize` is this project's choice.
+use Rattle.std.specs.Prelude.{◌≡◌, ◌≢◌, ℕ, ◌+◌, List, [], ◌∷◌, ◌++◌, length, ◌==◌, Bool, true, false, if◌then◌else◌, Option, Some, None, option_map, ℤ}
 use Rattle.smt_sexpr.specs.Tree.{Sexpr}
 use Rattle.smt_sexpr.specs.Commands.{ended}
 use Rattle.smt_sexpr.specs.declared.error.SexprRefusal.{SexprRefusal}
 use Rattle.smt_sexpr.specs.Reading.{Spells, Outcomes, finished, refused}
+use Rattle.stn_core.specs.declared.literal.Literal.{Literal}
 use Rattle.stn_core.specs.declared.named.NamedValue.{NamedValue}
 use Rattle.stn_core.specs.declared.named.NamedValue.TheVariants.{Int, Truth}
 use Rattle.cert_text.specs.declared.entry.Version.{Version}
 use Rattle.cert_text.specs.declared.entry.FileEntry.{FileEntry}
-use Rattle.cert_text.specs.declared.entry.FileEntry.TheVariants.{Sat, Unsat}
+use Rattle.cert_text.specs.declared.entry.FileEntry.TheVariants.{Sat, Unsat, Best, Unbounded}
 use Rattle.cert_text.specs.Form.{header_sexpr}
 use Rattle.cert_read.specs.declared.error.CertificateRefusal.TheVariants.{NoHeader}
 use Rattle.cert_read.specs.Certificates.{CertificateOutcome, certificate, no_certificate, ReadsEntries, ReadsCertificate}
+use Rattle.kept_lemmas.specs.declared.item.Item.{Item}
 use Rattle.kept_lemmas.specs.Entries.{Placed, without_items, shelf_of}
 use Rattle.lemma_shelf.specs.ItemFlaws.{items_flaw}
 use Rattle.idl_node.specs.declared.sort.Sort.{Sort}
@@ -20,18 +22,22 @@ use Rattle.idl_node.specs.declared.sort.Sort.TheVariants as sorts
 use Rattle.idl_term.specs.Contexts.{Context, environment}
 use Rattle.idl_term.specs.Scopes.{sorts_of}
 use Rattle.idl_term.specs.Values.{Value, truth, Named, value}
-use Rattle.smt_script.specs.Commands.{is_exit}
+use Rattle.smt_script.specs.Commands.{is_exit, minimized}
+use Rattle.smt_script.specs.declared.objective.Objective.{Objective}
+use Rattle.smt_script.specs.declared.state.Question.{Question}
+use Rattle.smt_script.specs.declared.state.Question.TheVariants.{CheckSat, Minimize}
 use Rattle.smt_script.specs.declared.state.Satisfiability.{Satisfiability}
 use Rattle.smt_script.specs.declared.state.Satisfiability.TheVariants as verdict
 use Rattle.smt_answer.specs.Kinds.{kind_of_unreadable}
 use Rattle.script_walk.specs.Course.{start_with, Turn, Outcome, tells, answers, asks, ends, fails, course}
-use Rattle.dtp_entry.specs.Entries.{points_of, problem_of}
+use Rattle.dtp_entry.specs.Entries.{points_of, problem_of, difference_at, problem_below}
 use Rattle.dtp_check.specs.declared.judgement.EntryFlaw.{EntryFlaw}
-use Rattle.dtp_check.specs.declared.judgement.EntryFlaw.TheVariants.{WrongCount, WrongSort, FalseAssertion, Flawed}
+use Rattle.dtp_check.specs.declared.judgement.EntryFlaw.TheVariants.{WrongKind, WrongCount, WrongSort, FalseAssertion, Flawed}
 use Rattle.dtp_check.specs.declared.judgement.Judgement.{Judgement}
 use Rattle.dtp_check.specs.declared.judgement.Judgement.TheVariants.{Accepted, Script, Certificate, Missing, Entry as BadEntry, Surplus}
 use Rattle.dtp_check.specs.declared.script_part.PartEnd.{PartEnd}
 use Rattle.dtp_check.specs.declared.script_part.PartEnd.TheVariants as part
+use Rattle.dtp_check.specs.MinimizeFlaws.{attained_flaw, range_flaw, unbounded_flaw}
 
 -- ---- the script's part of the source
 
@@ -106,20 +112,54 @@ values_flaw c values =
     (option_map FalseAssertion (first_false (environment c values) 1 c.assertions))
     else Some WrongCount
 
--- an entry where it stands, as later ones may keep its lemmas
-abbrev pub placed : Context → FileEntry → Placed
-placed c (Sat values) = without_items
-placed c (Unsat items) = record { points = points_of c; clauses = problem_of c; items = items }
+-- the items are no refutation of this problem over the entries before
+abbrev pub refutation_flaw : List Placed → Context → List (List Literal) → List Item → Option EntryFlaw
+refutation_flaw before c clauses items = option_map Flawed (items_flaw (shelf_of before) (points_of c) clauses items)
 
--- what is wrong with the entry of a check-sat where these assertions are active, behind these entries
-abbrev pub entry_flaw : List Placed → Context → FileEntry → Option EntryFlaw
-entry_flaw before c (Sat values) = values_flaw c values
-entry_flaw before c (Unsat items) = option_map Flawed (items_flaw (shelf_of before) (points_of c) (problem_of c) items)
+-- the values don't make the assertions true, or don't give the objective of command x the value m, or m isn't within the limits
+abbrev pub least_flaw : Sexpr → Objective → Context → ℤ → List NamedValue → Option EntryFlaw
+least_flaw x o c m values =
+    first_of_two (values_flaw c values)
+    (first_of_two (attained_flaw (environment c values) (minimized x) m) (range_flaw (difference_at o m)))
 
--- what an entry says
+-- an entry of a check-sat alone, and one of a minimize alone
+abbrev pub at_check_sat : Question → Option EntryFlaw → Option EntryFlaw
+at_check_sat CheckSat flaw = flaw
+at_check_sat (Minimize o) flaw = Some WrongKind
+
+abbrev pub at_minimize : Question → (Objective → Option EntryFlaw) → Option EntryFlaw
+at_minimize CheckSat flaw = Some WrongKind
+at_minimize (Minimize o) flaw = flaw o
+
+-- what is wrong with the entry of the question of command x where these assertions are active, behind these entries
+abbrev pub entry_flaw : List Placed → Question → Sexpr → Context → FileEntry → Option EntryFlaw
+entry_flaw before question x c (Sat values) = at_check_sat question (values_flaw c values)
+entry_flaw before question x c (Unsat items) = refutation_flaw before c (problem_of c) items
+entry_flaw before question x c (Best m values items) =
+    at_minimize question (λ o. first_of_two (least_flaw x o c m values) (refutation_flaw before c (problem_below c o m) items))
+entry_flaw before question x c (Unbounded values set) =
+    at_minimize question (λ o. unbounded_flaw o (points_of c) (problem_of c) values set)
+
+-- items where they stand, as later entries may keep their lemmas
+abbrev pub placed_items : Context → List (List Literal) → List Item → Placed
+placed_items c clauses items = record { points = points_of c; clauses = clauses; items = items }
+
+abbrev pub placed_at_minimize : Question → (Objective → Placed) → Placed
+placed_at_minimize CheckSat Stands = without_items
+placed_at_minimize (Minimize o) Stands = Stands o
+
+abbrev pub placed : Question → Context → FileEntry → Placed
+placed question c (Sat values) = without_items
+placed question c (Unsat items) = placed_items c (problem_of c) items
+placed question c (Best m values items) = placed_at_minimize question (λ o. placed_items c (problem_below c o m) items)
+placed question c (Unbounded values set) = without_items
+
+-- what an entry says of the assertions
 abbrev pub told_by : FileEntry → Satisfiability
 told_by (Sat values) = verdict.Sat
 told_by (Unsat items) = verdict.Unsat
+told_by (Best m values items) = verdict.Sat
+told_by (Unbounded values set) = verdict.Sat
 
 -- ---- the whole
 
@@ -137,7 +177,7 @@ judged_entry n (Some flaw) others = BadEntry n flaw
 abbrev pub judged_by : List Placed → Turn FileEntry → Outcome FileEntry → (List Placed → Judgement) → Judgement
 judged_by before t (tells x notice) rest = rest before
 judged_by before t (answers question x entry) rest =
-    judged_entry (length before + 1) (entry_flaw before t.state.context entry) (rest (before ++ placed t.state.context entry ∷ []))
+    judged_entry (length before + 1) (entry_flaw before question x t.state.context entry) (rest (before ++ placed question t.state.context entry ∷ []))
 judged_by before t (asks question x) rest = Missing (length before + 1)
 judged_by before t ends rest = surplus_of (length before + 1) t.before.left
 judged_by before t (fails kind) rest = Script t.before.number kind

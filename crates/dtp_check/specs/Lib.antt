@@ -1,3 +1,4 @@
+pub mod MinimizeFlaws
 pub mod Judged
 pub mod Texts
 pub mod Answered

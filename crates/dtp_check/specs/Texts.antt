@@ -6,7 +6,7 @@ use Rattle.smt_answer.specs.Texts.{kind_text}
 use Rattle.cert_read.specs.declared.error.CertificateRefusal.{CertificateRefusal}
 use Rattle.cert_read.specs.declared.error.CertificateRefusal.TheVariants.{NoHeader, IllFormed, NoEnd, TextAfterEnd}
 use Rattle.dtp_check.specs.declared.judgement.EntryFlaw.{EntryFlaw}
-use Rattle.dtp_check.specs.declared.judgement.EntryFlaw.TheVariants.{WrongCount, WrongSort, FalseAssertion, Flawed}
+use Rattle.dtp_check.specs.declared.judgement.EntryFlaw.TheVariants.{WrongKind, WrongCount, WrongSort, FalseAssertion, NotAttained, OutOfRange, NoSuchPoint as OutsidePoint, NotOfObjective, NotKept, Flawed}
 use Rattle.dtp_check.specs.declared.judgement.Judgement.{Judgement}
 use Rattle.dtp_check.specs.declared.judgement.Judgement.TheVariants.{Accepted, Script, Certificate, Missing, Entry, Surplus}
 
@@ -41,12 +41,20 @@ lemma_line entry lemma step LastLemmaNotEmpty =
 lemma_line entry lemma step kind = step_line entry lemma step (flaw_text kind)
 
 abbrev pub entry_line : ℕ → EntryFlaw → List ℕ
+entry_line entry WrongKind = codes "refused: entry " ++ (decimal entry ++ codes ": wrong kind of entry\n")
 entry_line entry WrongCount = codes "refused: entry " ++ (decimal entry ++ codes ": wrong count of values\n")
 entry_line entry (WrongSort k) =
     codes "refused: entry "
     ++ (decimal entry ++ (codes ": value " ++ (decimal k ++ codes " has the wrong sort\n")))
 entry_line entry (FalseAssertion k) =
     codes "refused: entry " ++ (decimal entry ++ (codes ": assertion " ++ (decimal k ++ codes " is false\n")))
+entry_line entry NotAttained = codes "refused: entry " ++ (decimal entry ++ codes ": value is not attained\n")
+entry_line entry OutOfRange = codes "refused: entry " ++ (decimal entry ++ codes ": value is out of range\n")
+entry_line entry OutsidePoint = codes "refused: entry " ++ (decimal entry ++ codes ": no such point\n")
+entry_line entry NotOfObjective =
+    codes "refused: entry " ++ (decimal entry ++ codes ": set is not of the objective\n")
+entry_line entry (NotKept i) =
+    codes "refused: entry " ++ (decimal entry ++ (codes ": clause " ++ (decimal i ++ codes " is not kept\n")))
 entry_line entry (Flawed flaw) = lemma_line entry flaw.lemma flaw.step flaw.kind
 
 unfoldable pub judgement_line : Judgement → List ℕ

@@ -44,6 +44,8 @@ fn keeps_none(entry: &FileEntry) -> bool
     match entry {
         FileEntry::Sat(_) => true,
         FileEntry::Unsat(items) => are_own(items.as_slice()),
+        FileEntry::Best(_, _, items) => are_own(items.as_slice()),
+        FileEntry::Unbounded(_, _) => true,
     }
 }
 
@@ -148,7 +150,7 @@ impl Earlier {
         }
     }
 
-    /// Goes past an entry that answers sat.
+    /// Goes past an entry without items.
     pub fn skip(&mut self) -> Result<(), AllocError>
         ensures held { OnOk result ((before : List Place) → Holds self.old before
             → Holds self.new (before ++ without_items ∷ [])) }

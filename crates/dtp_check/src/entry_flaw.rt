@@ -1,123 +1,81 @@
 //! What is wrong with an entry.
-ghost use Rattle.std.specs.Prelude.{◌≡◌, ◌<◌, ◌+◌, [], ◌∷◌, ◌++◌, ℕ, List, IfOk, None, length, false, slice_index_or};
-ghost use Rattle.std.specs.List.{AllByRecursion};
+ghost use Rattle.std.specs.Prelude.{◌≡◌, [], ◌∷◌, ◌++◌, List, IfOk, None};
 ghost use Rattle.kept_lemmas.specs.Entries.{Placed as Place};
 ghost use Rattle.cert_text.specs.declared.entry.FileEntry.{FileEntry as Shown};
-ghost use Rattle.idl_node.specs.Tables.{IsTableOver};
-ghost use Rattle.idl_node.specs.Truth.{point_values, truth};
+ghost use Rattle.smt_sexpr.specs.Tree.{Sexpr};
+ghost use Rattle.smt_script.specs.declared.state.Question.TheVariants.{CheckSat, Minimize};
 ghost use Rattle.smt_script.specs.States.{State as Meaning};
 ghost use Rattle.script_walk.specs.code.Standing.{Stands};
+ghost use Rattle.dtp_entry.specs.Entries.{problem_of};
+ghost use Rattle.dtp_check.specs.code.Asked.{IsAsked};
 ghost use Rattle.dtp_check.specs.code.Earlier.{Holds, Suffices};
-ghost use Rattle.dtp_check.specs.Judged.{is_of_sort, first_of_wrong_sort, values_flaw, entry_flaw, placed};
+ghost use Rattle.dtp_check.specs.Judged.{refutation_flaw, entry_flaw, placed_items, placed};
 ghost use Rattle.dtp_check.specs.code.Made.{IsMadeOf};
-ghost use Rattle.dtp_check.specs.code.Roots.{first_unmarked};
 
+use crate::best_entry::best_flaw;
 use crate::earlier::Earlier;
 use crate::judgement::EntryFlaw;
 use crate::made::take_or_make;
+use crate::sat_entry::values_flaw;
+use crate::unbounded_entry::unbounded_flaw;
 use cert_check::CheckError;
 use cert_text::FileEntry;
-use idl_node::{Nodes, Sort, eval};
 use kept_lemmas::Items;
-use smt_script::State;
+use smt_script::{Objective, Question, State};
 use std::alloc::{AllocError, Global};
-use stn_core::{NamedValue, NamedValues, Problem};
+use stn_core::Problem;
 
-fn is_of_sort(sort: Sort, value: NamedValue) -> bool
-    ensures { result ≡ is_of_sort sort value }
-{
-    match (sort, value) {
-        (Sort::Int, NamedValue::Int(_)) => true,
-        (Sort::Bool, NamedValue::Truth(_)) => true,
-        _ => false,
-    }
-}
-
-/// The number of the first value of another sort than its name's.
-fn wrong_sort(sorts: &[Sort], values: &[NamedValue]) -> Option<usize>
-    requires { length values.now ≡ length sorts.now }
-    ensures { result ≡ first_of_wrong_sort 1 sorts.now values.now }
-{
-    for (k, value) in values.iter().enumerate() {
-        if !is_of_sort(sorts[k], *value) {
-            return Some(k + 1);
-        }
-    }
-    None
-}
-
-/// The number, from 1, of the first root whose node isn't marked as true.
-fn first_unmarked(marks: &[bool], roots: &[u32]) -> Option<usize>
-    requires { AllByRecursion (λ r. r < length marks.now) roots.now }
-    ensures { result ≡ first_unmarked marks.now 1 roots.now }
-{
-    for (k, root) in roots.iter().enumerate() {
-        if !marks[*root as usize] {
-            return Some(k + 1);
-        }
-    }
-    None
-}
-
-/// The truth of all nodes, where the names have these values: `eval` of the last one tells that of those before it.
-fn truths(alloc: Global, nodes: &Nodes, values: &NamedValues) -> Result<Vec<bool>, AllocError>
-    requires { IsTableOver (length values.now + 1) nodes.now }
-    ensures room { IfOk result (λ marks. length marks.items ≡ length nodes.now) }
-    ensures each { IfOk result (λ marks. (k : ℕ) → k < length nodes.now
-        → slice_index_or marks.items k false ≡ truth nodes.now (point_values values.now) k) }
-{
-    let mut marks = vec![in alloc; false; nodes.len()]?;
-    if let Some(last) = nodes.len().checked_sub(1) {
-        eval(nodes, last as u32, values, &mut marks);
-    }
-    Ok(marks)
-}
-
-/// What is wrong with the values of a sat entry.
-fn values_flaw(
-    alloc: Global,
-    state: &State,
-    values: &NamedValues,
-) -> Result<Option<EntryFlaw>, AllocError>
-    requires { (s : Meaning) × Stands state.now s }
-    ensures { IfOk result (λ flaw. (s : Meaning) → Stands state.now s
-        → flaw ≡ values_flaw s.context values.now) }
-{
-    idl_term::context_law();
-    let names = state.names();
-    let given = values.as_slice();
-    if given.len() != names.len() {
-        return Ok(Some(EntryFlaw::WrongCount));
-    }
-    match wrong_sort(names.sorts(), given) {
-        Some(k) => return Ok(Some(EntryFlaw::WrongSort(k))),
-        None => {}
-    }
-    let marks = truths(alloc, state.nodes(), values)?;
-    match first_unmarked(&marks, state.roots()) {
-        Some(k) => Ok(Some(EntryFlaw::FalseAssertion(k))),
-        None => Ok(None),
-    }
-}
-
-/// What is wrong with the entry of a check-sat in this state. Where nothing is, it is held for those that come. It takes
-/// time of the order of the entry and the state, and of what it keeps with what that cites; of a refutation without kept
+/// What is wrong with the entry of a question that was asked in this state. Where nothing is, it is held for those that come. It
+/// takes time of the order of the entry and the state, and of what it keeps with what that cites; of a refutation without kept
 /// items, of the order of the entry where the problem was made before.
 pub fn entry_flaw(
+    alloc: Global,
+    state: &State,
+    question: Question,
+    made: &mut Option<Problem>,
+    earlier: &mut Earlier,
+    entry: &FileEntry,
+) -> Result<Option<EntryFlaw>, AllocError>
+    requires asked { (s : Meaning) × (x : Sexpr) × IsAsked state.now question x s }
+    requires made { IsMadeOf state.now made.old }
+    requires suffices { Suffices earlier.old (entry.now ∷ []) }
+    ensures made { IsMadeOf state.now made.new }
+    ensures flaw { IfOk result (λ flaw. (s : Meaning) (x : Sexpr) (before : List Place) → IsAsked state.now question x s
+        → Holds earlier.old before → flaw ≡ entry_flaw before question x s.context entry.now) }
+    ensures held { IfOk result (λ flaw. flaw ≡ None → (s : Meaning) (x : Sexpr) (before : List Place)
+        → IsAsked state.now question x s → Holds earlier.old before
+        → Holds earlier.new (before ++ placed question s.context entry.now ∷ [])) }
+    ensures suffices { (entries : List Shown) → Suffices earlier.old entries → Suffices earlier.new entries }
+{
+    match question {
+        Question::CheckSat => {
+            let flaw = check_sat_flaw(alloc, state, made, earlier, entry)?;
+            Ok(flaw)
+        }
+        Question::Minimize(objective) => {
+            let flaw = minimize_flaw(alloc, state, objective, made, earlier, entry)?;
+            Ok(flaw)
+        }
+    }
+}
+
+/// What is wrong with the entry of a check-sat.
+fn check_sat_flaw(
     alloc: Global,
     state: &State,
     made: &mut Option<Problem>,
     earlier: &mut Earlier,
     entry: &FileEntry,
 ) -> Result<Option<EntryFlaw>, AllocError>
-    requires stands { (s : Meaning) × Stands state.now s }
+    requires asked { (s : Meaning) × (x : Sexpr) × IsAsked state.now CheckSat x s }
     requires made { IsMadeOf state.now made.old }
     requires suffices { Suffices earlier.old (entry.now ∷ []) }
     ensures made { IsMadeOf state.now made.new }
-    ensures flaw { IfOk result (λ flaw. (s : Meaning) (before : List Place) → Stands state.now s
-        → Holds earlier.old before → flaw ≡ entry_flaw before s.context entry.now) }
-    ensures held { IfOk result (λ flaw. flaw ≡ None → (s : Meaning) (before : List Place) → Stands state.now s
-        → Holds earlier.old before → Holds earlier.new (before ++ placed s.context entry.now ∷ [])) }
+    ensures flaw { IfOk result (λ flaw. (s : Meaning) (x : Sexpr) (before : List Place) → IsAsked state.now CheckSat x s
+        → Holds earlier.old before → flaw ≡ entry_flaw before CheckSat x s.context entry.now) }
+    ensures held { IfOk result (λ flaw. flaw ≡ None → (s : Meaning) (x : Sexpr) (before : List Place)
+        → IsAsked state.now CheckSat x s → Holds earlier.old before
+        → Holds earlier.new (before ++ placed CheckSat s.context entry.now ∷ [])) }
     ensures suffices { (entries : List Shown) → Suffices earlier.old entries → Suffices earlier.new entries }
 {
     match entry {
@@ -128,6 +86,46 @@ pub fn entry_flaw(
         }
         FileEntry::Unsat(items) => {
             let flaw = items_flaw(alloc, state, made, earlier, items)?;
+            Ok(flaw)
+        }
+        FileEntry::Best(_, _, _) => Ok(Some(EntryFlaw::WrongKind)),
+        FileEntry::Unbounded(_, _) => Ok(Some(EntryFlaw::WrongKind)),
+    }
+}
+
+/// What is wrong with the entry of a minimize.
+fn minimize_flaw(
+    alloc: Global,
+    state: &State,
+    objective: Objective,
+    made: &mut Option<Problem>,
+    earlier: &mut Earlier,
+    entry: &FileEntry,
+) -> Result<Option<EntryFlaw>, AllocError>
+    requires asked { (s : Meaning) × (x : Sexpr) × IsAsked state.now (Minimize objective) x s }
+    requires made { IsMadeOf state.now made.old }
+    requires suffices { Suffices earlier.old (entry.now ∷ []) }
+    ensures made { IsMadeOf state.now made.new }
+    ensures flaw { IfOk result (λ flaw. (s : Meaning) (x : Sexpr) (before : List Place) → IsAsked state.now (Minimize objective) x s
+        → Holds earlier.old before → flaw ≡ entry_flaw before (Minimize objective) x s.context entry.now) }
+    ensures held { IfOk result (λ flaw. flaw ≡ None → (s : Meaning) (x : Sexpr) (before : List Place)
+        → IsAsked state.now (Minimize objective) x s → Holds earlier.old before
+        → Holds earlier.new (before ++ placed (Minimize objective) s.context entry.now ∷ [])) }
+    ensures suffices { (entries : List Shown) → Suffices earlier.old entries → Suffices earlier.new entries }
+{
+    match entry {
+        FileEntry::Sat(_) => Ok(Some(EntryFlaw::WrongKind)),
+        FileEntry::Unsat(items) => {
+            let flaw = items_flaw(alloc, state, made, earlier, items)?;
+            Ok(flaw)
+        }
+        FileEntry::Best(m, values, items) => {
+            let flaw = best_flaw(alloc, state, objective, made, earlier, *m, values, items)?;
+            Ok(flaw)
+        }
+        FileEntry::Unbounded(values, set) => {
+            let flaw = unbounded_flaw(alloc, state, objective, made, values, set)?;
+            earlier.skip()?;
             Ok(flaw)
         }
     }
@@ -146,9 +144,9 @@ fn items_flaw(
     requires suffices { Suffices earlier.old (Shown.Unsat items.now ∷ []) }
     ensures made { IsMadeOf state.now made.new }
     ensures flaw { IfOk result (λ flaw. (s : Meaning) (before : List Place) → Stands state.now s
-        → Holds earlier.old before → flaw ≡ entry_flaw before s.context (Shown.Unsat items.now)) }
+        → Holds earlier.old before → flaw ≡ refutation_flaw before s.context (problem_of s.context) items.now) }
     ensures held { IfOk result (λ flaw. flaw ≡ None → (s : Meaning) (before : List Place) → Stands state.now s
-        → Holds earlier.old before → Holds earlier.new (before ++ placed s.context (Shown.Unsat items.now) ∷ [])) }
+        → Holds earlier.old before → Holds earlier.new (before ++ placed_items s.context (problem_of s.context) items.now ∷ [])) }
     ensures suffices { (entries : List Shown) → Suffices earlier.old entries → Suffices earlier.new entries }
 {
     let problem = take_or_make(alloc, state, made)?;

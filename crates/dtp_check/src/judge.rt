@@ -4,24 +4,27 @@ ghost use Rattle.smt_sexpr.specs.Tree.{Sexpr};
 ghost use Rattle.smt_sexpr.specs.Table.{Means, HasMeaning};
 ghost use Rattle.cert_text.specs.declared.entry.FileEntry.{FileEntry as Shown};
 ghost use Rattle.smt_script.specs.States.{State as Meaning};
+ghost use Rattle.script_walk.specs.Questions.{refusal_of};
 ghost use Rattle.kept_lemmas.specs.Entries.{Placed};
 ghost use Rattle.script_walk.specs.Course.{Place};
 ghost use Rattle.script_walk.specs.code.Standing.{Stands};
+ghost use Rattle.dtp_check.specs.code.Asked.{IsAsked};
 ghost use Rattle.dtp_check.specs.code.Earlier.{Holds, Suffices};
 ghost use Rattle.dtp_check.specs.declared.script_part.PartEnd.{PartEnd as End};
 ghost use Rattle.dtp_check.specs.Judged.{surplus_of, turns_with, told_by, ScriptPart};
-ghost use Rattle.dtp_check.specs.code.Made.{IsMadeStill, GoesOn as More};
+ghost use Rattle.dtp_check.specs.code.Made.{IsMadeOf, IsMadeStill, GoesOn as More};
 ghost use Rattle.dtp_check.specs.code.Parts.{IsNext, GoesOn, IsReadable};
-ghost use Rattle.dtp_check.specs.code.Turns.{ComesTo, StandsAt, IsCheckTurn, IsJudgedTurn};
+ghost use Rattle.dtp_check.specs.code.Turns.{ComesTo, StandsAt, IsAnswerTurn, IsQuestionTurn, IsJudgedTurn};
 
 use crate::earlier::Earlier;
 use crate::judgement::Judgement;
 use crate::keeps::Keeps;
-use crate::made::let_go_if_changed;
+use crate::made::{let_go_if_changed, take_or_make};
 use crate::script_part::{Next, PartEnd, next_command};
 use cert_text::FileEntry;
-use script_walk::{Event, Walk};
-use smt_script::Satisfiability;
+use script_walk::{Event, Walk, refusal_of};
+use smt_answer::Kind;
+use smt_script::{Question, Satisfiability, State};
 use smt_sexpr::SexprId;
 use std::alloc::{AllocError, Global};
 use stn_core::Problem;
@@ -46,40 +49,69 @@ fn surplus(entries: &[FileEntry], used: usize) -> Judgement
     }
 }
 
-/// What an entry says.
+/// What an entry says of the assertions.
 pub fn told_by(entry: &FileEntry) -> Satisfiability
     ensures { result ≡ told_by entry.now }
 {
     match entry {
         FileEntry::Sat(_) => Satisfiability::Sat,
         FileEntry::Unsat(_) => Satisfiability::Unsat,
+        FileEntry::Best(_, _, _) => Satisfiability::Sat,
+        FileEntry::Unbounded(_, _) => Satisfiability::Sat,
     }
 }
 
-/// A question, with its entry.
-fn judge_check<K: Keeps>(
+/// Why the question isn't taken, if it isn't.
+fn refusal(
+    alloc: Global,
+    state: &State,
+    question: Question,
+    made: &mut Option<Problem>,
+) -> Result<Option<Kind>, AllocError>
+    requires stands { (s : Meaning) × Stands state.now s }
+    requires made { IsMadeOf state.now made.old }
+    ensures made { IsMadeOf state.now made.new }
+    ensures refusal { IfOk result (λ found. (s : Meaning) (x : Sexpr) → Stands state.now s
+        → found ≡ refusal_of question s x) }
+{
+    match question {
+        Question::CheckSat => Ok(None),
+        Question::Minimize(_) => {
+            let problem = take_or_make(alloc, state, made)?;
+            let found = refusal_of(question, &problem);
+            *made = Some(problem);
+            Ok(found)
+        }
+    }
+}
+
+/// A question that is taken, with its entry.
+fn judge_answer<K: Keeps>(
     alloc: Global,
     walk: &mut Walk,
+    question: Question,
     made: &mut Option<Problem>,
     earlier: &mut Earlier,
     entries: &[FileEntry],
     used: usize,
     keeps: &mut K,
 ) -> Result<Progress, AllocError>
-    requires stands { (s : Meaning) × Stands walk.old.state s }
-    requires made { IsMadeStill walk.old.state made.old }
+    requires asked { (s : Meaning) × (x : Sexpr) × IsAsked walk.old.state question x s }
+    requires made { IsMadeOf walk.old.state made.old }
+    requires few { walk.old.number < 2 ^ 64 - 1 }
     requires used { used ≤ length entries.now }
     requires suffices { Suffices earlier.old entries.now }
-    ensures turn { IfOk result (λ progress. (s : Meaning) (before : List Placed) → Stands walk.old.state s
-        → Holds earlier.old before
-        → IsCheckTurn K.leads keeps.old keeps.new s used before entries.now walk.new.state earlier.new progress) }
+    ensures turn { IfOk result (λ progress. (s : Meaning) (x : Sexpr) (before : List Placed)
+        → IsAsked walk.old.state question x s → Holds earlier.old before
+        → IsAnswerTurn K.leads keeps.old keeps.new question x s walk.old.number used before entries.now
+        walk.new.number walk.new.state earlier.new progress) }
     ensures made { IfOk result (λ progress. More progress → IsMadeStill walk.new.state made.new) }
     ensures suffices { Suffices earlier.new entries.now }
-    ensures rest { walk.new ≡ record walk.old { state = walk.new.state } }
+    ensures lexer { walk.new.lexer ≡ walk.old.lexer }
+    ensures sexprs { walk.new.sexprs ≡ walk.old.sexprs }
 {
-    let_go_if_changed(&walk.state, made);
     match entries.get(used) {
-        Some(entry) => match keeps.keep(alloc, &walk.state, made, earlier, entry)? {
+        Some(entry) => match keeps.keep(alloc, &walk.state, question, made, earlier, entry)? {
             Some(flaw) => Ok(Progress::Judged(Judgement::Entry(used + 1, flaw))),
             None => {
                 walk.settle(told_by(entry));
@@ -87,6 +119,43 @@ fn judge_check<K: Keeps>(
             }
         },
         None => Ok(Progress::Judged(Judgement::Missing(used + 1))),
+    }
+}
+
+/// A question, which is refused like a command, or taken.
+fn judge_question<K: Keeps>(
+    alloc: Global,
+    walk: &mut Walk,
+    question: Question,
+    made: &mut Option<Problem>,
+    earlier: &mut Earlier,
+    entries: &[FileEntry],
+    used: usize,
+    keeps: &mut K,
+) -> Result<Progress, AllocError>
+    requires asked { (s : Meaning) × (x : Sexpr) × IsAsked walk.old.state question x s }
+    requires made { IsMadeStill walk.old.state made.old }
+    requires few { walk.old.number < 2 ^ 64 - 1 }
+    requires used { used ≤ length entries.now }
+    requires suffices { Suffices earlier.old entries.now }
+    ensures turn { IfOk result (λ progress. (s : Meaning) (x : Sexpr) (before : List Placed)
+        → IsAsked walk.old.state question x s → Holds earlier.old before
+        → IsQuestionTurn K.leads keeps.old keeps.new question x s walk.old.number used before entries.now
+        walk.new.number walk.new.state earlier.new progress) }
+    ensures made { IfOk result (λ progress. More progress → IsMadeStill walk.new.state made.new) }
+    ensures suffices { Suffices earlier.new entries.now }
+    ensures lexer { walk.new.lexer ≡ walk.old.lexer }
+    ensures sexprs { walk.new.sexprs ≡ walk.old.sexprs }
+{
+    let_go_if_changed(&walk.state, made);
+    match refusal(alloc, &walk.state, question, made)? {
+        Some(kind) => Ok(Progress::Judged(Judgement::Script(walk.number, kind))),
+        None => {
+            let progress = judge_answer(
+                alloc, walk, question, made, earlier, entries, used, keeps,
+            )?;
+            Ok(progress)
+        }
     }
 }
 
@@ -120,8 +189,10 @@ fn judge_command<K: Keeps>(
     smt_script::mode_law();
     match walk.carry_out(id)? {
         Event::Told(_, _) => Ok(Progress::Going(used)),
-        Event::Asked(_, _) => {
-            let progress = judge_check(alloc, walk, made, earlier, entries, used, keeps)?;
+        Event::Asked(_, question) => {
+            let progress = judge_question(
+                alloc, walk, question, made, earlier, entries, used, keeps,
+            )?;
             Ok(progress)
         }
         Event::Ended => Ok(Progress::Judged(surplus(entries, used))),

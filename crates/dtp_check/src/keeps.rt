@@ -1,10 +1,12 @@
 //! What is done with the entries of a certificate that are found right, one after the other.
 ghost use Rattle.std.specs.Prelude.{◌≡◌, [], ◌∷◌, ◌++◌, List, IfOk, None};
 ghost use Rattle.cert_text.specs.declared.entry.FileEntry.{FileEntry as Shown};
+ghost use Rattle.smt_sexpr.specs.Tree.{Sexpr};
 ghost use Rattle.idl_term.specs.Contexts.{Context};
 ghost use Rattle.kept_lemmas.specs.Entries.{Placed as Place};
 ghost use Rattle.smt_script.specs.States.{State as Meaning};
-ghost use Rattle.script_walk.specs.code.Standing.{Stands};
+ghost use Rattle.smt_script.specs.declared.state.Question.{Question as Asked};
+ghost use Rattle.dtp_check.specs.code.Asked.{IsAsked};
 ghost use Rattle.dtp_check.specs.code.Earlier.{Holds, Suffices};
 ghost use Rattle.dtp_check.specs.Judged.{entry_flaw, placed};
 ghost use Rattle.dtp_check.specs.code.Made.{IsMadeOf};
@@ -13,36 +15,38 @@ use crate::earlier::Earlier;
 use crate::entry_flaw::entry_flaw;
 use crate::judgement::EntryFlaw;
 use cert_text::FileEntry;
-use smt_script::State;
+use smt_script::{Question, State};
 use std::alloc::{AllocError, Global};
 use stn_core::Problem;
 
 /// Takes each right entry.
 pub trait Keeps {
-    /// How what is kept before an entry leads to what is kept behind it, where these assertions are active.
-    ghost leads: { Self → Self → Context → Shown → Type 0 };
+    /// How what is kept before an entry leads to what is kept behind it, of the question of a command, where these
+    /// assertions are active.
+    ghost leads: { Self → Self → Asked → Sexpr → Context → Shown → Type 0 };
 
-    /// What is wrong with the entry of a check-sat in this state. Where nothing is, it is kept, and held for those that come.
+    /// What is wrong with the entry of a question that was asked in this state. Where nothing is, it is kept, and held for those that come.
     /// The problem of the state's assertions is given where it was made before, and is held where it is made.
     fn keep(
         &mut self,
         alloc: Global,
         state: &State,
+        question: Question,
         made: &mut Option<Problem>,
         earlier: &mut Earlier,
         entry: &FileEntry,
     ) -> Result<Option<EntryFlaw>, AllocError>
-        requires stands { (s : Meaning) × Stands state.now s }
+        requires asked { (s : Meaning) × (x : Sexpr) × IsAsked state.now question x s }
         requires made { IsMadeOf state.now made.old }
         requires suffices { Suffices earlier.old (entry.now ∷ []) }
         ensures made { IsMadeOf state.now made.new }
-        ensures flaw { IfOk result (λ flaw. (s : Meaning) (before : List Place) → Stands state.now s
-            → Holds earlier.old before → flaw ≡ entry_flaw before s.context entry.now) }
-        ensures held { IfOk result (λ flaw. flaw ≡ None → (s : Meaning) (before : List Place) → Stands state.now s
-            → Holds earlier.old before → Holds earlier.new (before ++ placed s.context entry.now ∷ [])) }
+        ensures flaw { IfOk result (λ flaw. (s : Meaning) (x : Sexpr) (before : List Place) → IsAsked state.now question x s
+            → Holds earlier.old before → flaw ≡ entry_flaw before question x s.context entry.now) }
+        ensures held { IfOk result (λ flaw. flaw ≡ None → (s : Meaning) (x : Sexpr) (before : List Place) → IsAsked state.now question x s
+            → Holds earlier.old before → Holds earlier.new (before ++ placed question s.context entry.now ∷ [])) }
         ensures suffices { (entries : List Shown) → Suffices earlier.old entries → Suffices earlier.new entries }
-        ensures kept { IfOk result (λ flaw. flaw ≡ None → (s : Meaning) (before : List Place) → Stands state.now s
-            → Holds earlier.old before → leads self.old self.new s.context entry.now) };
+        ensures kept { IfOk result (λ flaw. flaw ≡ None → (s : Meaning) (x : Sexpr) (before : List Place) → IsAsked state.now question x s
+            → Holds earlier.old before → leads self.old self.new question x s.context entry.now) };
 }
 
 /// Takes nothing of them.
@@ -50,17 +54,18 @@ pub trait Keeps {
 pub struct KeepsNothing;
 
 impl Keeps for KeepsNothing {
-    ghost leads = { λ _ _ _ _. Unit {0} };
+    ghost leads = { λ _ _ _ _ _ _. Unit {0} };
 
     fn keep(
         &mut self,
         alloc: Global,
         state: &State,
+        question: Question,
         made: &mut Option<Problem>,
         earlier: &mut Earlier,
         entry: &FileEntry,
     ) -> Result<Option<EntryFlaw>, AllocError> {
-        let flaw = entry_flaw(alloc, state, made, earlier, entry)?;
+        let flaw = entry_flaw(alloc, state, question, made, earlier, entry)?;
         Ok(flaw)
     }
 }

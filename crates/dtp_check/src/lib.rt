@@ -1,6 +1,8 @@
 //! Accepts or refuses a script with its certificate.
 #![tactic(auto)]
 
+mod asking;
+mod best_entry;
 mod certificate_behind;
 mod check;
 mod earlier;
@@ -10,9 +12,13 @@ mod judgement;
 mod keeps;
 mod laws;
 mod made;
+mod sat_entry;
 mod script_part;
 mod text;
+mod unbounded_entry;
 
+pub use asking::{with_question, without_question};
+pub use best_entry::least_flaw;
 pub use certificate_behind::{Behind, read_behind};
 pub use check::{Checked, check_pair};
 pub use earlier::Earlier;

@@ -63,6 +63,7 @@ fn entry_line(alloc: Global, entry: usize, flaw: EntryFlaw) -> Result<String, Al
     ensures { IfOk result (λ line. string_bytes line ≡ entry_line entry flaw) }
 {
     match flaw {
+        EntryFlaw::WrongKind => format!(in alloc; "refused: entry {entry}: wrong kind of entry\n"),
         EntryFlaw::WrongCount => format!(in alloc;
             "refused: entry {entry}: wrong count of values\n"
         ),
@@ -71,6 +72,19 @@ fn entry_line(alloc: Global, entry: usize, flaw: EntryFlaw) -> Result<String, Al
         }
         EntryFlaw::FalseAssertion(k) => {
             format!(in alloc; "refused: entry {entry}: assertion {k} is false\n")
+        }
+        EntryFlaw::NotAttained => {
+            format!(in alloc; "refused: entry {entry}: value is not attained\n")
+        }
+        EntryFlaw::OutOfRange => {
+            format!(in alloc; "refused: entry {entry}: value is out of range\n")
+        }
+        EntryFlaw::NoSuchPoint => format!(in alloc; "refused: entry {entry}: no such point\n"),
+        EntryFlaw::NotOfObjective => {
+            format!(in alloc; "refused: entry {entry}: set is not of the objective\n")
+        }
+        EntryFlaw::NotKept(i) => {
+            format!(in alloc; "refused: entry {entry}: clause {i} is not kept\n")
         }
         EntryFlaw::Flawed(flaw) => match flaw.kind {
             FlawKind::LastLemmaNotEmpty => {

@@ -3,7 +3,7 @@
 use Rattle.std.specs.Prelude.{◌≡◌, ◌<◌, ◌-◌, ℕ, List, length, All, Option, Some, None}
 use Rattle.std.specs.List.{AllByRecursion}
 use Rattle.cert_text.specs.declared.entry.FileEntry.{FileEntry}
-use Rattle.cert_text.specs.declared.entry.FileEntry.TheVariants.{Sat, Unsat}
+use Rattle.cert_text.specs.declared.entry.FileEntry.TheVariants.{Sat, Unsat, Best, Unbounded}
 use Rattle.stn_core.specs.declared.literal.Literal.{Literal}
 use Rattle.cert_check.specs.declared.flaw.Flaw.{Flaw}
 use Rattle.cert_check.specs.declared.flaw.CheckError.{CheckError}
@@ -20,6 +20,8 @@ use Rattle.dtp_check.specs.declared.earlier.Earlier.TheVariants.{Unkept, Shelved
 abbrev pub KeepsNone : FileEntry → Type 0
 KeepsNone (Sat values) = Unit {0}
 KeepsNone (Unsat items) = All IsOwn items
+KeepsNone (Best m values items) = All IsOwn items
+KeepsNone (Unbounded values set) = Unit {0}
 
 -- what is held is what these entries state
 abbrev pub Holds : Earlier → List Placed → Type 0

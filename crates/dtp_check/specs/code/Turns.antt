@@ -8,27 +8,30 @@ use Rattle.cert_text.specs.declared.entry.FileEntry.{FileEntry}
 use Rattle.idl_term.specs.Contexts.{Context}
 use Rattle.kept_lemmas.specs.Entries.{Placed}
 use Rattle.smt_script.specs.Commands.{is_exit}
+use Rattle.smt_script.specs.declared.state.Question.{Question}
 use Rattle.smt_script.specs.code.Kept.{Kept}
 use Rattle.smt_script.specs.States.{State, settled}
+use Rattle.smt_answer.specs.declared.kind.Kind.{Kind}
+use Rattle.script_walk.specs.Questions.{refusal_of}
 use Rattle.script_walk.specs.Course.{Place, Turn, Outcome, tells, answers, asks, ends, fails, course}
 use Rattle.script_walk.specs.code.Standing.{Stands}
 use Rattle.dtp_check.specs.declared.judge.Progress.{Progress}
 use Rattle.dtp_check.specs.declared.judge.Progress.TheVariants.{Going, Judged}
 use Rattle.dtp_check.specs.declared.judgement.EntryFlaw.{EntryFlaw}
 use Rattle.dtp_check.specs.declared.judgement.Judgement.{Judgement}
-use Rattle.dtp_check.specs.declared.judgement.Judgement.TheVariants.{Accepted, Missing, Entry as BadEntry}
+use Rattle.dtp_check.specs.declared.judgement.Judgement.TheVariants.{Accepted, Script, Missing, Entry as BadEntry}
 use Rattle.dtp_check.specs.declared.earlier.Earlier.{Earlier}
 use Rattle.dtp_check.specs.code.Earlier.{Holds}
 use Rattle.dtp_check.specs.Judged.{entry_flaw, placed, told_by, judged_turns}
 
--- how one value leads to another at an entry where these assertions are active
+-- how one value leads to another at the entry of the question of a command, where these assertions are active
 abbrev pub Leads : Type 0 → Type 1
-Leads K = K → K → Context → FileEntry → Type 0
+Leads K = K → K → Question → Sexpr → Context → FileEntry → Type 0
 
 -- what the entry of a turn leads to
 abbrev pub KeptBy : {K : Type 0} → Leads K → K → K → State → Outcome FileEntry → (K → Type 0) → Type 0
 KeptBy leads first last s (tells x notice) Rest = Rest first
-KeptBy {K = K} leads first last s (answers question x entry) Rest = (next : K) × leads first next s.context entry × Rest next
+KeptBy {K = K} leads first last s (answers question x entry) Rest = (next : K) × leads first next question x s.context entry × Rest next
 KeptBy leads first last s (asks question x) Rest = ⊥
 KeptBy leads first last s ends Rest = first ≡ last
 KeptBy leads first last s (fails kind) Rest = ⊥
@@ -43,16 +46,25 @@ pub record ComesTo {K : Type 0} (leads : Leads K) (before : List Placed) (first 
   pub judged : judged_turns before turns ≡ judgement
   pub kept : judgement ≡ Accepted → AreKept leads first last turns
 
--- a question in a state, where so many entries were used before, and what is held and kept behind its answer
-abbrev pub IsCheckTurn : {K : Type 0} → Leads K → K → K → State → ℕ → List Placed → List FileEntry → Kept → Earlier → Progress → Type 0
-IsCheckTurn leads first next s used before entries kept later (Going now) =
-    (entry : FileEntry) × (drop used entries ≡ entry ∷ drop now entries) × (entry_flaw before s.context entry ≡ None)
-    × leads first next s.context entry × Stands kept (settled (told_by entry) s)
-    × Holds later (before ++ placed s.context entry ∷ []) × (now ≡ used + 1) × (now ≤ length entries)
-IsCheckTurn leads first next s used before entries kept later (Judged judgement) =
+-- a question that is taken, in a state where so many entries were used before, and what is held and kept behind its answer
+abbrev pub IsAnswerTurn : {K : Type 0} → Leads K → K → K → Question → Sexpr → State → ℕ → ℕ → List Placed → List FileEntry → ℕ → Kept → Earlier → Progress → Type 0
+IsAnswerTurn leads first next question x s number used before entries counted kept later (Going now) =
+    (entry : FileEntry) × (drop used entries ≡ entry ∷ drop now entries)
+    × (entry_flaw before question x s.context entry ≡ None)
+    × leads first next question x s.context entry × Stands kept (settled (told_by entry) s)
+    × Holds later (before ++ placed question s.context entry ∷ []) × (now ≡ used + 1) × (now ≤ length entries)
+    × (counted ≡ number + 1)
+IsAnswerTurn leads first next question x s number used before entries counted kept later (Judged judgement) =
     ((drop used entries ≡ []) × (judgement ≡ Missing (used + 1)))
     ⊎ ((entry : FileEntry) × (flaw : EntryFlaw) × (left : List FileEntry) × (drop used entries ≡ entry ∷ left)
-    × (entry_flaw before s.context entry ≡ Some flaw) × (judgement ≡ BadEntry (used + 1) flaw))
+    × (entry_flaw before question x s.context entry ≡ Some flaw) × (judgement ≡ BadEntry (used + 1) flaw))
+
+-- a question that is taken, or refused like a command
+abbrev pub IsQuestionTurn : {K : Type 0} → Leads K → K → K → Question → Sexpr → State → ℕ → ℕ → List Placed → List FileEntry → ℕ → Kept → Earlier → Progress → Type 0
+IsQuestionTurn leads first next question x s number used before entries counted kept later progress =
+    ((refusal_of question s x ≡ None)
+    × IsAnswerTurn leads first next question x s number used before entries counted kept later progress)
+    ⊎ ((kind : Kind) × (refusal_of question s x ≡ Some kind) × (progress ≡ Judged (Script number kind)))
 
 -- where the judge stands before a command: so many entries were used, those before it are these, and the others are left
 pub record StandsAt (entries : List FileEntry) (number used : ℕ) (kept : Kept) (earlier : Earlier) (place : Place FileEntry) (before : List Placed) : Type 0 where

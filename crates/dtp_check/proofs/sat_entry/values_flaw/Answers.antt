@@ -7,7 +7,7 @@ use Rattle.idl_node.specs.Truth.{truth, point_values}
 use Rattle.dtp_check.specs.declared.judgement.EntryFlaw.TheVariants.{FalseAssertion}
 use Rattle.dtp_check.specs.code.Roots.{first_unmarked}
 use Rattle.dtp_check.proofs.Judging.{counted_by, sorts_by, kept_table_over, roots_within, sorts_judged, values_judged}
-use Rattle.dtp_check.proofs.entry_flaw.values_flaw.Goals as goal
+use Rattle.dtp_check.proofs.sat_entry.values_flaw.Goals as goal
 
 pub returns-in-Some : goal.returns-in-Some
 returns-in-Some c = λ s stands.
