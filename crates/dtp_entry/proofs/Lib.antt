@@ -1,3 +1,4 @@
+pub mod Bests
 pub mod OneTranscript
 pub mod Roots
 pub mod Verdicts

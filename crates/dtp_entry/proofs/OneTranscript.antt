@@ -1,36 +1,39 @@
 -- Whatever is written of a script, its verdicts and its status are the same, and so are the lines of its transcripts but for models,
 -- values and proofs; and a script has one transcript for the entries that decided it.
-use Rattle.std.proofs.Common.{refl, sym, ap, subst, inl, inr, ◌∙◌, ◌≡◌, ◌+◌, ◌⊎◌, ℕ, List, [], ◌∷◌, ◌++◌, map, Bool, true, false, if◌then◌else◌, Option, None, Some, Result, Ok, Err}
+use Rattle.std.proofs.Common.{arith, refl, sym, ap, subst, inl, inr, ◌∙◌, ◌≡◌, ◌+◌, ◌⊎◌, ℕ, List, [], ◌∷◌, ◌++◌, map, Bool, true, false, if◌then◌else◌, Option, None, Some, Result, Ok, Err, ℤ}
 use Rattle.std.specs.List.{AllByRecursion}
+use Rattle.std.proofs.lemmas.Int.{ints}
 use Rattle.smt_sexpr.specs.Tree.{Sexpr}
 use Rattle.smt_sexpr.specs.declared.error.SexprRefusal.{SexprRefusal}
 use Rattle.smt_sexpr.specs.Laws.{OneOutcome}
 use Rattle.smt_sexpr.specs.Reading.{Spells, expression, finished, refused as unreadable}
 use Rattle.smt_sexpr.specs.Commands.{Commands, Ending, ended, stopped, unread, EndsAs}
 use Rattle.cert_text.specs.declared.entry.Entry.{Entry}
-use Rattle.cert_text.specs.declared.entry.Entry.TheVariants.{Sat, Unsat}
-use Rattle.idl_term.specs.Contexts.{Context}
+use Rattle.cert_text.specs.declared.entry.Entry.TheVariants.{Sat, Unsat, Best, Unbounded}
+use Rattle.idl_term.specs.Contexts.{Context, IsSatisfiable}
 use Rattle.smt_answer.specs.declared.kind.Kind.{Kind}
 use Rattle.smt_answer.specs.Kinds.{kind_of, kind_of_unreadable}
-use Rattle.smt_answer.specs.Texts.{error_line}
+use Rattle.smt_answer.specs.Texts.{error_line, minimum_line}
 use Rattle.smt_script.specs.declared.error.Refusal.{Refusal as Why}
 use Rattle.smt_script.specs.declared.state.Effect.{Effect}
 use Rattle.smt_script.specs.declared.state.Effect.TheVariants.{Ask, Exit, Tell}
+use Rattle.smt_script.specs.declared.objective.Objective.{Objective}
 use Rattle.smt_script.specs.declared.state.Question.{Question}
+use Rattle.smt_script.specs.declared.state.Question.TheVariants.{CheckSat, Minimize}
 use Rattle.smt_script.specs.declared.state.Notice.{Notice}
 use Rattle.smt_script.specs.declared.state.Notice.TheVariants.{Success, Unsupported, Model, Values, Proof, Inform, Echo}
 use Rattle.smt_script.specs.declared.state.Satisfiability.{Satisfiability}
-use Rattle.smt_script.specs.declared.state.Satisfiability.TheVariants as verdict
-use Rattle.smt_script.specs.Commands.{asks_verdict}
+use Rattle.smt_script.specs.Commands.{asks_verdict, minimized}
 use Rattle.smt_script.specs.Laws.{AskedIsTold}
 use Rattle.smt_script.specs.States.{State, Step, start_state, after, settled}
 use Rattle.script_walk.specs.Course.{Place, Turn, tells, answers, ends, fails, turn, asked, taken, by_effect, by_command, last_turn, course, status_of, answers_of}
 use Rattle.script_walk.specs.Questions.{refusal_of}
 use Rattle.dtp_entry.specs.declared.report.Report.{Report}
 use Rattle.dtp_entry.specs.declared.report.Report.TheVariants.{Verdicts, Certificate}
-use Rattle.dtp_entry.specs.Entries.{verdict_of}
+use Rattle.dtp_entry.specs.Bests.{IsBestFor, HasNoBest}
+use Rattle.dtp_entry.specs.Entries.{AtCheckSat, AtMinimize, IsRight, verdict_of}
 use Rattle.dtp_entry.specs.Laws.{OneVerdict, OneTranscriptByEntries, OneTranscriptButGaps, AskNone, OneTranscript}
-use Rattle.dtp_entry.specs.Transcripts.{IsVerdict, Held, told, decision_line, opening, closing, piece_by, pieces, is_of_held, tells_held, line_with_gaps, lines_with_gaps, IsLegal, Output, IsOutput}
+use Rattle.dtp_entry.specs.Transcripts.{IsSo, Held, told, decision_line, opening, closing, piece_by, pieces, is_of_held, tells_held, line_with_gaps, lines_with_gaps, IsLegal, Output, IsOutput}
 
 same_refusal : (e f : SexprRefusal) → unreadable e ≡ unreadable f → e ≡ f
 same_refusal e f h = cc
@@ -73,6 +76,7 @@ record Same (r q : Report) (Reason : Type 0) (ts us : List (Turn Entry)) : Type 
   text : Reason → SameText r q (pieces r ts) (pieces q us)
   lines : lines_with_gaps ts ≡ lines_with_gaps us
   verdicts : map verdict_of (answers_of ts) ≡ map verdict_of (answers_of us)
+  said : map (decision_line Verdicts) (answers_of ts) ≡ map (decision_line Verdicts) (answers_of us)
   status : status_of ts ≡ status_of us
 
 -- the reason for the same text from here on: the same entries
@@ -84,18 +88,50 @@ SameAt r q held other ts us = Same r q (Agree held other ts us) ts us
 
 -- ---- the answers
 
--- `sat` and `unsat` exclude each other
-verdict_one : (c : Context) (v w : Satisfiability) → IsVerdict c v → IsVerdict c w → v ≡ w
-verdict_one c verdict.Sat verdict.Sat h k = refl
-verdict_one c verdict.Sat verdict.Unsat h k = absurd (k h)
-verdict_one c verdict.Unsat verdict.Sat h k = absurd (h k)
-verdict_one c verdict.Unsat verdict.Unsat h k = refl
+-- a question is one of the two
+one_kind : (question : Question) (P : Type 0) (Q : Objective → Type 0) → AtCheckSat question P → AtMinimize question Q → ⊥
+one_kind CheckSat P Q h k = k
+one_kind (Minimize o) P Q h k = h
 
-decision_one : (r q : Report) (e f : Entry) → verdict_of e ≡ verdict_of f → SameText r q (decision_line r e) (decision_line q f)
-decision_one Verdicts Verdicts (Sat a) (Sat b) h = refl
-decision_one Verdicts Verdicts (Sat a) (Unsat b) h = absurd cc
-decision_one Verdicts Verdicts (Unsat a) (Sat b) h = absurd cc
-decision_one Verdicts Verdicts (Unsat a) (Unsat b) h = refl
+best_satisfiable : (c : Context) (t : Option Sexpr) (m : ℤ) → IsBestFor c t m → IsSatisfiable c
+best_satisfiable c t m best = (best.schedule, best.satisfies.0, best.satisfies.1)
+
+-- two best values are equal
+best_one : (c : Context) (t : Option Sexpr) (m n : ℤ) → IsBestFor c t m → IsBestFor c t n → m ≡ n
+best_one c t m n a b =
+    let up = a.least b.schedule n b.satisfies b.attained in
+    let down = b.least a.schedule m a.satisfies a.attained in
+    omega (arith, ints, up, down)
+
+-- the same line, and the same verdict
+abbrev SaySame : Entry → Entry → Type 0
+SaySame e f = (verdict_of e ≡ verdict_of f) × (decision_line Verdicts e ≡ decision_line Verdicts f)
+
+-- what two entries for one question say is the same
+module _ (question : Question) (x : Sexpr) (c : Context) where
+  abbrev Shows : Entry → Type 0
+  Shows e = IsRight question x c e × IsSo x c e
+
+  say_same : (e f : Entry) → Shows e → Shows f → SaySame e f
+  say_same (Sat a) (Sat b) h k = (refl, refl)
+  say_same (Sat a) (Unsat b) h k = absurd (k.1 h.1)
+  say_same (Sat a) (Best n b lemmas) h k = absurd (one_kind question _ _ h.0 k.0)
+  say_same (Sat a) (Unbounded b set) h k = absurd (one_kind question _ _ h.0 k.0)
+  say_same (Unsat a) (Sat b) h k = absurd (h.1 k.1)
+  say_same (Unsat a) (Unsat b) h k = (refl, refl)
+  say_same (Unsat a) (Best n b lemmas) h k = absurd (h.1 (best_satisfiable c (minimized x) n k.1))
+  say_same (Unsat a) (Unbounded b set) h k = absurd (h.1 k.1.satisfiable)
+  say_same (Best m a lemmas) (Sat b) h k = absurd (one_kind question _ _ k.0 h.0)
+  say_same (Best m a lemmas) (Unsat b) h k = absurd (k.1 (best_satisfiable c (minimized x) m h.1))
+  say_same (Best m a lemmas) (Best n b others) h k = (refl, ap minimum_line (best_one c (minimized x) m n h.1 k.1))
+  say_same (Best m a lemmas) (Unbounded b set) h k = absurd (k.1.none_best m h.1)
+  say_same (Unbounded a set) (Sat b) h k = absurd (one_kind question _ _ k.0 h.0)
+  say_same (Unbounded a set) (Unsat b) h k = absurd (k.1 h.1.satisfiable)
+  say_same (Unbounded a set) (Best n b lemmas) h k = absurd (h.1.none_best n k.1)
+  say_same (Unbounded a set) (Unbounded b those) h k = (refl, refl)
+
+decision_one : (r q : Report) (e f : Entry) → decision_line Verdicts e ≡ decision_line Verdicts f → SameText r q (decision_line r e) (decision_line q f)
+decision_one Verdicts Verdicts e f h = h
 decision_one Verdicts (Certificate w) e f h = tt
 decision_one (Certificate v) q e f h = tt
 
@@ -154,6 +190,7 @@ module _ (r q : Report) (held other : Held) where
     text = λ agree. text_by r q _ (error_line o.number kind ++ []) _ (error_line o.number kind ++ []) (ap (λ (k : ℕ). error_line k kind ++ []) e) refl (text_refl r q (error_line o.number kind ++ []));
     lines = line_more (Some (error_line p.number kind)) (Some (error_line o.number kind)) [] [] (ap (λ (k : ℕ). Some (error_line k kind)) e) refl;
     verdicts = refl;
+    said = refl;
     status = refl;
   }
 
@@ -171,6 +208,7 @@ module _ (r q : Report) (k : ℕ) (x : Sexpr) (P Q : Place Entry → List (Turn 
             (told_one r q held other s x notice agree.0) (rest.text (agree.0, agree.1));
         lines = line_more (line_with_gaps t) (line_with_gaps u) (lines_with_gaps ts) (lines_with_gaps us) (told_line k held other st s left others x notice) rest.lines;
         verdicts = rest.verdicts;
+        said = rest.said;
         status = rest.status;
       }
 
@@ -189,16 +227,18 @@ module _ (r q : Report) (k : ℕ) (x : Sexpr) (P Q : Place Entry → List (Turn 
   asked_turns held other st s [] others question legal over legal_too over_too = absurd legal.0
   asked_turns held other st s (e ∷ left) [] question legal over legal_too over_too = absurd legal_too.0
   asked_turns held other st s (e ∷ left) (f ∷ others) question legal over legal_too over_too =
-      let v : verdict_of e ≡ verdict_of f = verdict_one s.context (verdict_of e) (verdict_of f) legal.0.so legal_too.0.so in
+      let same : SaySame e f = say_same question x s.context e f (legal.0.right.right, legal.0.so) (legal_too.0.right.right, legal_too.0.so) in
+      let v : verdict_of e ≡ verdict_of f = same.0 in
       let rest = one_settled (Some e) (Some f) s (verdict_of e) (verdict_of f) left others v legal.1 over legal_too.1 over_too in
       let ts = P (place (k + 1) (settled (verdict_of e) s) (Some e) left) in
       let us = Q (place (k + 1) (settled (verdict_of f) s) (Some f) others) in
       record {
         text = λ agree. text_append r q (decision_line r e) (decision_line q f) (pieces r ts) (pieces q us)
-            (decision_one r q e f v) (rest.text (first_entries e f (answers_of ts) (answers_of us) agree.1));
+            (decision_one r q e f same.1) (rest.text (first_entries e f (answers_of ts) (answers_of us) agree.1));
         lines = line_more (Some (decision_line Verdicts e)) (Some (decision_line Verdicts f)) (lines_with_gaps ts) (lines_with_gaps us)
-            (ap (λ (l : List ℕ). Some l) (decision_one Verdicts Verdicts e f v)) rest.lines;
+            (ap (λ (l : List ℕ). Some l) same.1) rest.lines;
         verdicts = ap (λ (w : Satisfiability). w ∷ map verdict_of (answers_of ts)) v ∙ ap (λ (vs : List Satisfiability). verdict_of f ∷ vs) rest.verdicts;
+        said = ap (λ (l : List ℕ). l ∷ map (decision_line Verdicts) (answers_of ts)) same.1 ∙ ap (λ (ls : List (List ℕ)). decision_line Verdicts f ∷ ls) rest.said;
         status = rest.status;
       }
 
@@ -210,7 +250,7 @@ module _ (r q : Report) (k : ℕ) (x : Sexpr) (P Q : Place Entry → List (Turn 
   ends_turns : (held other : Held) (st s : State) (left others : List Entry)
       → OneTurns r q held other (turn (place k st held left) s ends ∷ []) (turn (place k st other others) s ends ∷ [])
   ends_turns held other st s left others legal over legal_too over_too =
-      record { text = λ agree. text_append r q (closing r) (closing q) [] [] (closing_one r q) (text_refl r q []); lines = refl; verdicts = refl; status = refl }
+      record { text = λ agree. text_append r q (closing r) (closing q) [] [] (closing_one r q) (text_refl r q []); lines = refl; verdicts = refl; said = refl; status = refl }
 
   effect_turns : (held other : Held) (st s : State) (left others : List Entry) (effect : Effect)
       → OneTurns r q held other (by_effect verdict_of (place k st held left) s x effect P) (by_effect verdict_of (place k st other others) s x effect Q)
@@ -236,13 +276,14 @@ module _ (one : OneOutcome) (bytes : List ℕ) (r q : Report) where
     text = λ agree. text_by r q _ (error_line k n ++ []) _ (error_line k n ++ []) (ap (λ (kind : Kind). error_line k kind ++ []) e) refl (text_refl r q (error_line k n ++ []));
     lines = line_more (Some (error_line k m)) (Some (error_line k n)) [] [] (ap (λ (kind : Kind). Some (error_line k kind)) e) refl;
     verdicts = refl;
+    said = refl;
     status = refl;
   }
 
   closes_one : (held other : Held) (k : ℕ) (s : State) (left others : List Entry) (at : ℕ) (e f : Ending) → EndsAs bytes at e → EndsAs bytes at f
       → OneTurns r q held other (last_turn (place k s held left) e) (last_turn (place k s other others) f)
   closes_one held other k s left others at ended ended p o legal over legal_too over_too =
-      record { text = λ agree. text_append r q (closing r) (closing q) [] [] (closing_one r q) (text_refl r q []); lines = refl; verdicts = refl; status = refl }
+      record { text = λ agree. text_append r q (closing r) (closing q) [] [] (closing_one r q) (text_refl r q []); lines = refl; verdicts = refl; said = refl; status = refl }
   closes_one held other k s left others at ended (unread why) p o legal over legal_too over_too = absurd (end_no_refusal why (one bytes at finished (unreadable why) p.0 o.0 p.1 o.1).0)
   closes_one held other k s left others at (unread why) ended p o legal over legal_too over_too = absurd (end_no_refusal why (one bytes at finished (unreadable why) o.0 p.0 o.1 p.1).0)
   closes_one held other k s left others at (unread why) (unread because) p o legal over legal_too over_too =
@@ -284,6 +325,7 @@ module _ (one : OneOutcome) (bytes : List ℕ) (r q : Report) where
     text : a.found ≡ b.found → SameText r q a.text b.text
     lines : lines_with_gaps ts ≡ lines_with_gaps us
     verdicts : map verdict_of a.found ≡ map verdict_of b.found
+    said : map (decision_line Verdicts) a.found ≡ map (decision_line Verdicts) b.found
     status : a.status ≡ b.status
 
   same_status : (a b : ℕ) → ◌≡◌ {A = Option ℕ} (Some a) (Some b) → a ≡ b
@@ -315,12 +357,13 @@ module _ (one : OneOutcome) (bytes : List ℕ) (r q : Report) where
           (text_append r q (opening r) (opening q) (pieces r ts) (pieces q us) (opening_one r q) (same_turns.text (refl, used ∙ found ∙ sym used_too)));
       lines = ap (λ (l : List (Turn Entry)). lines_with_gaps l) h.are.are.are ∙ same_turns.lines ∙ sym (ap (λ (l : List (Turn Entry)). lines_with_gaps l) k.are.are.are);
       verdicts = sym (ap (map verdict_of) used) ∙ same_turns.verdicts ∙ ap (map verdict_of) used_too;
+      said = sym (ap (map (decision_line Verdicts)) used) ∙ same_turns.said ∙ ap (map (decision_line Verdicts)) used_too;
       status = same_status a.status b.status
           (sym h.over ∙ ap (λ (l : List (Turn Entry)). status_of l) h.are.are.are ∙ same_turns.status ∙ sym (ap (λ (l : List (Turn Entry)). status_of l) k.are.are.are) ∙ k.over);
     }
 
 pub verdicts_one : OneOutcome → OneVerdict
-verdicts_one one script r q a b h k = let w = output_one one script r q a b h k in (w.verdicts, w.status)
+verdicts_one one script r q a b h k = let w = output_one one script r q a b h k in (w.verdicts, w.status, w.said)
 
 output_is : (a b : Output) → a.text ≡ b.text → a.found ≡ b.found → a.status ≡ b.status → a ≡ b
 output_is a b text found status =

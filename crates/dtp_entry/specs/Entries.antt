@@ -19,7 +19,7 @@ use Rattle.cert_text.specs.declared.entry.Entry.{Entry}
 use Rattle.cert_text.specs.declared.entry.Entry.TheVariants.{Sat, Unsat, Best, Unbounded}
 use Rattle.cert_text.specs.Limits.{EntryFits}
 use Rattle.idl_term.specs.Contexts.{Context}
-use Rattle.smt_script.specs.declared.state.Objective.{Objective}
+use Rattle.smt_script.specs.declared.objective.Objective.{Objective}
 use Rattle.smt_script.specs.declared.state.Question.{Question}
 use Rattle.smt_script.specs.declared.state.Question.TheVariants.{CheckSat, Minimize}
 use Rattle.smt_script.specs.declared.state.Satisfiability.{Satisfiability}
