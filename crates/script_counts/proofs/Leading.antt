@@ -1,17 +1,18 @@
 -- Where a walk without answers leads.
-use Rattle.std.proofs.Common.{arith, refl, sym, subst, ◌≡◌, ◌∙◌, ◌≤◌, ◌+◌, length, ℕ, List, [], ◌∷◌, Some}
+use Rattle.std.proofs.Common.{arith, refl, sym, subst, ◌≡◌, ◌∙◌, ◌≤◌, ◌+◌, length, ℕ, List, [], ◌∷◌, Option, Some, None}
 use Rattle.smt_script.specs.declared.state.Notice.{Notice}
 use Rattle.smt_script.specs.declared.state.Question.{Question}
 use Rattle.smt_script.specs.declared.state.Satisfiability.{Satisfiability}
 use Rattle.smt_script.specs.States.{State, start_state}
 use Rattle.smt_answer.specs.declared.kind.Kind.{Kind}
+use Rattle.script_walk.specs.Questions.{refusal_of}
 use Rattle.script_walk.specs.Course.{Place, start_with, Turn, tells, asks, ends, fails, turn, behind_told, IsCourseOf}
 use Rattle.script_walk.specs.code.Events.{IsStart, IsReady, IsEvent}
 use Rattle.script_walk.specs.code.Standing.{Stands}
 use Rattle.script_walk.specs.declared.walk.Event.{Event}
 use Rattle.script_walk.specs.declared.walk.Event.TheVariants.{Told, Asked, Ended, Failed}
 use Rattle.script_walk.specs.declared.walk.Walk.{Walk}
-use Rattle.script_walk.proofs.Turns.{told_from, unanswered_from, ends_with, fails_with}
+use Rattle.script_walk.proofs.Turns.{told_from, unanswered_from, barred_from, ends_with, fails_with}
 use Rattle.script_counts.specs.Counting.{IsLast, last_state}
 use Rattle.script_counts.specs.code.Walking.{Leads}
 
@@ -66,14 +67,26 @@ module _ (script : List ℕ) (v w : Walk) (h : IsSoFar script v) where
             (subst (λ (b : List ℕ). IsCourseOf says b w.lexer.place (behind_told h.here to.next) turns) bytes are)) last e;
       }
 
+  -- the state is the same whether the question is refused or not
+  asked_last : (id : ℕ) (question : Question) (event : IsEvent v w h.here.state (Asked id question)) (found : Option Kind)
+      → refusal_of question event.carries.1.next event.x ≡ found → IsLast script event.carries.1.next
+  asked_last id question event None e =
+      let to = event.carries.1 in
+      h.leads (turn h.here to.next (asks question event.x) ∷ [])
+      (unanswered_from says v.lexer.bytes v.lexer.place w.lexer.place h.here event.x event.spells to.next question to.leads e h.none)
+      to.next refl
+  asked_last id question event (Some kind) e =
+      let to = event.carries.1 in
+      h.leads (turn h.here to.next (fails kind) ∷ [])
+      (barred_from says v.lexer.bytes v.lexer.place w.lexer.place h.here event.x event.spells to.next question kind to.leads e)
+      to.next refl
+
   pub asked_leads : (id : ℕ) (question : Question) → IsEvent v w h.here.state (Asked id question) → Leads script w
   asked_leads id question event =
-      let to = event.carries.1.0 in record {
+      let to = event.carries.1 in record {
         last = to.next;
         stands = to.stands;
-        is = h.leads (turn h.here to.next (asks question event.x) ∷ [])
-            (unanswered_from says v.lexer.bytes v.lexer.place w.lexer.place h.here event.x event.spells to.next question to.leads event.carries.1.1 h.none)
-            to.next refl;
+        is = asked_last id question event (refusal_of question to.next event.x) refl;
       }
 
   pub ended_leads : IsEvent v w h.here.state Ended → Leads script w

@@ -32,7 +32,7 @@ fn walk_on(walk: &mut Walk) -> Result<(), AllocError>
     }
 }
 
-/// How much the script declares and asserts up to its first check-sat, its first refused command, its `(exit)` or its end,
+/// How much the script declares and asserts up to its first question, its first refused command, its `(exit)` or its end,
 /// whichever comes first. What can't be read ends it too.
 ///
 /// It takes the time and the memory of reading so far and of the clauses.

@@ -1,29 +1,23 @@
 -- What a walk's next command comes to.
-use Rattle.std.proofs.Common.{refl, subst, inr, ◌⊎◌, ◌≡◌, ℕ, ◌+◌, None, Ok, Err}
+use Rattle.std.proofs.Common.{subst, inr, ◌⊎◌, ◌≡◌, ℕ, ◌+◌, Ok, Err}
 use Rattle.smt_sexpr.specs.Tree.{Sexpr}
 use Rattle.smt_sexpr.specs.Table.{Table, Means}
 use Rattle.smt_script.specs.declared.state.Effect.{Effect}
 use Rattle.smt_script.specs.declared.state.Effect.TheVariants.{Ask, Exit, Tell}
 use Rattle.smt_script.specs.declared.state.Notice.{Notice}
 use Rattle.smt_script.specs.declared.state.Question.{Question}
-use Rattle.smt_script.specs.declared.state.Question.TheVariants.{CheckSat}
 use Rattle.smt_script.specs.declared.error.Refusal.{Refusal}
 use Rattle.smt_script.specs.code.Kept.{Steps}
 use Rattle.smt_script.specs.Laws.{StepMade}
 use Rattle.smt_script.specs.States.{State, IsMadeState, after}
 use Rattle.smt_answer.specs.declared.kind.Kind.{Kind}
 use Rattle.smt_answer.specs.Kinds.{kind_of}
-use Rattle.script_walk.specs.Questions.{refusal_of}
 use Rattle.script_walk.specs.code.Events.{IsNext, Leads, Carries, IsCommand, IsEnd}
 use Rattle.script_walk.specs.declared.reader.Next.{Next}
 use Rattle.script_walk.specs.declared.reader.Next.TheVariants.{End}
 use Rattle.script_walk.specs.declared.walk.Event.TheVariants.{Told, Asked, Ended, Failed}
 use Rattle.script_walk.specs.declared.walk.Walk.{Walk}
 use Rattle.script_walk.proofs.Standing.{stands_after}
-
--- no question is refused yet
-never_refused : (question : Question) (s : State) (x : Sexpr) → refusal_of question s x ≡ None
-never_refused CheckSat s x = refl
 
 module _ (law : StepMade) (v w : Walk) (s : State) (x : Sexpr) where
   leads_as : (effect other : Effect) → effect ≡ other → Steps s x effect w.state → IsMadeState s → Leads w s x other
@@ -38,9 +32,8 @@ module _ (law : StepMade) (v w : Walk) (s : State) (x : Sexpr) where
   told_carries id effect notice e means h made number = (means, leads_as effect (Tell notice) e h made, number)
 
   pub asked_carries : (id : ℕ) (effect : Effect) (question : Question) → effect ≡ Ask question → Means w.sexprs id x → Steps s x effect w.state → IsMadeState s
-      → w.number ≡ v.number + 1 → Carries v w s x (Asked id question)
-  asked_carries id effect question e means h made number =
-      let to = leads_as effect (Ask question) e h made in (means, (to, never_refused question to.next x), number)
+      → w.number ≡ v.number → Carries v w s x (Asked id question)
+  asked_carries id effect question e means h made number = (means, leads_as effect (Ask question) e h made, number)
 
   pub exit_carries : (effect : Effect) → effect ≡ Exit → Steps s x effect w.state → IsMadeState s → w.number ≡ v.number → Carries v w s x Ended
   exit_carries effect e h made number = (leads_as effect Exit e h made, number)

@@ -1,5 +1,5 @@
 -- The first turn of a course, and the course of a text from what stands next in it.
-use Rattle.std.proofs.Common.{refl, sym, ap, subst, inl, inr, ◌≡◌, ◌∙◌, ℕ, List, [], ◌∷◌, Option, None, Result, Ok, Err}
+use Rattle.std.proofs.Common.{refl, sym, ap, subst, inl, inr, ◌≡◌, ◌∙◌, ℕ, List, [], ◌∷◌, Option, Some, None, Result, Ok, Err}
 use Rattle.smt_sexpr.specs.Tree.{Sexpr}
 use Rattle.smt_sexpr.specs.Reading.{Spells, Outcomes, finished, refused}
 use Rattle.smt_sexpr.specs.Commands.{Ending, ended, stopped, unread}
@@ -35,6 +35,14 @@ module _ {A : Type 0} (says : A → Satisfiability) (p : Place A) (x : Sexpr) wh
       → (xs : List Sexpr) (ending : Ending)
       → course says p (x ∷ xs) ending ≡ turn p next (tells x notice) ∷ course says (behind_told p next) xs ending
   told_turn next notice e xs ending = by_after (Ok (record { state = next; effect = Tell notice })) e xs ending
+
+  -- a question that is refused
+  pub barred_turn : (next : State) (question : Question) (kind : Kind) → after p.state x ≡ Ok (record { state = next; effect = Ask question })
+      → refusal_of question next x ≡ Some kind → (xs : List Sexpr) (ending : Ending)
+      → course says p (x ∷ xs) ending ≡ turn p next (fails kind) ∷ []
+  barred_turn next question kind e barred xs ending =
+      by_after (Ok (record { state = next; effect = Ask question })) e xs ending
+      ∙ ap (λ (r : Option Kind). taken says p next question x r (λ now. course says now xs ending)) barred
 
   asked_turn : (next : State) (question : Question) → after p.state x ≡ Ok (record { state = next; effect = Ask question })
       → refusal_of question next x ≡ None → (xs : List Sexpr) (ending : Ending)
@@ -117,6 +125,12 @@ module _ {A : Type 0} (says : A → Satisfiability) (bytes : List ℕ) (here mid
       → refusal_of question next x ≡ None → p.left ≡ []
       → IsCourseOf says bytes here p (turn p next (asks question x) ∷ [])
   unanswered_from next question e none nothing = last_from (turn p next (asks question x)) (unanswered_turn says p x next question e none nothing [] stopped)
+
+  pub barred_from : (next : State) (question : Question) (kind : Kind)
+      → after p.state x ≡ Ok (record { state = next; effect = Ask question })
+      → refusal_of question next x ≡ Some kind
+      → IsCourseOf says bytes here p (turn p next (fails kind) ∷ [])
+  barred_from next question kind e barred = last_from (turn p next (fails kind)) (barred_turn says p x next question kind e barred [] stopped)
 
   pub exit_from : (next : State) → after p.state x ≡ Ok (record { state = next; effect = Exit })
       → IsCourseOf says bytes here p (turn p next ends ∷ [])

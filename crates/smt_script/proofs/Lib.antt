@@ -7,3 +7,5 @@ pub mod MadeStates
 pub mod Exiting
 pub mod Modes
 pub mod Testing
+pub mod Asking
+pub mod Minimizing

@@ -16,10 +16,12 @@ use Rattle.idl_term.specs.declared.error.TermRefusal.{TermRefusal}
 use Rattle.smt_script.specs.Commands
 use Rattle.smt_script.specs.Commands.{Command, command_of}
 use Rattle.smt_script.specs.Limits.{levels_limit}
+use Rattle.smt_script.specs.Objectives.{minimized_by}
 use Rattle.smt_script.specs.Options.{OptionEffect, printing_success, no_effect, not_supported, ill_formed_value, option_effect}
-use Rattle.smt_script.specs.States.{State, Step, start_state, carried_out, is_of_sort, is_taken, sort_of, with_model, with_proof, telling, valued_by, terms_refusal, informed_by, after_values, after_logic, after_option, after_declaration, defined_by, after_definition, asserted_by, named_by, after_push, popped, after_pop, after_command, after_by, after, settled, IsMadeState}
+use Rattle.smt_script.specs.States.{State, Step, start_state, carried_out, is_of_sort, is_taken, sort_of, with_model, with_proof, telling, asking_for, valued_by, terms_refusal, informed_by, after_values, after_logic, after_option, after_declaration, defined_by, after_definition, asserted_by, named_by, after_push, popped, after_pop, after_command, after_by, after, settled, IsMadeState}
 use Rattle.smt_script.specs.Informing.{information_of}
 use Rattle.smt_script.specs.declared.information.Information.{Information}
+use Rattle.smt_script.specs.declared.objective.Objective.{Objective}
 use Rattle.smt_script.specs.declared.state.Mode.{Mode}
 use Rattle.smt_script.specs.declared.state.Notice.{Notice}
 use Rattle.smt_script.specs.declared.error.Refusal.{Refusal}
@@ -141,6 +143,10 @@ module _ (s : State) (h : IsMadeState s) where
   proof_made mode.Sat found well = refuses _
   proof_made mode.Nothing found well = refuses _
 
+  asking_made : (found : Result Objective Refusal) → LeadsWell (asking_for s found)
+  asking_made (Ok o) = leads_to s _ h
+  asking_made (Err why) = refuses why
+
   valued_made : (found : Option TermRefusal) → LeadsWell (valued_by s found)
   valued_made (Some why) = refuses _
   valued_made None = leads_to s _ h
@@ -160,6 +166,7 @@ module _ (s : State) (h : IsMadeState s) where
   command_made (Commands.pushing n) = push_made n
   command_made (Commands.popping n) = pop_made n
   command_made Commands.checking = leads_to s _ h
+  command_made (Commands.minimizing t) = asking_made (minimized_by (lowered (scope_of s.context) s.context.nodes t))
   command_made Commands.asking_model = model_made s.mode _ (telling_made _)
   command_made (Commands.asking_values terms) = model_made s.mode _ (valued_made _)
   command_made Commands.asking_proof = proof_made s.mode _ (telling_made _)

@@ -12,12 +12,13 @@ use Rattle.idl_term.specs.Lowered.{lowered}
 use Rattle.idl_term.specs.Scopes.{LoweredTerm, formula, numeric}
 use Rattle.idl_term.specs.declared.error.TermRefusal.{TermRefusal}
 use Rattle.smt_script.specs.Commands
-use Rattle.smt_script.specs.Commands.{Command, command_of, is_exiting, is_exit, terms_in, is_asking, asked_terms, asks_verdict}
+use Rattle.smt_script.specs.Commands.{Command, command_of, is_exiting, is_exit, terms_in, is_asking, asked_terms, asks_verdict, minimized_in, minimized}
 use Rattle.smt_script.specs.Informing.{information_of}
 use Rattle.smt_script.specs.Laws.{OnlyExitEnds, ExitIsCarriedOut, ModeIsKept, ModelNeedsSat, ValuesNeedSat, ProofNeedsUnsat, AskedIsTold}
 use Rattle.smt_script.specs.Limits.{levels_limit}
+use Rattle.smt_script.specs.Objectives.{minimized_by}
 use Rattle.smt_script.specs.Options.{OptionEffect, printing_success, no_effect, not_supported, ill_formed_value, option_effect}
-use Rattle.smt_script.specs.States.{State, Step, with_model, with_proof, telling, valued_by, informed_by, terms_refusal, after_option, is_taken, sort_of, after_declaration, is_of_sort, defined_by, after_definition, asserted_by, named_by, levels_of, after_by, after}
+use Rattle.smt_script.specs.States.{State, Step, with_model, with_proof, telling, asking_for, valued_by, informed_by, terms_refusal, after_option, is_taken, sort_of, after_declaration, is_of_sort, defined_by, after_definition, asserted_by, named_by, levels_of, after_by, after}
 use Rattle.smt_script.specs.declared.error.Refusal.{Refusal}
 use Rattle.smt_script.specs.declared.error.Refusal.TheVariants.{AlreadyDeclared, LogicNotSupported, TooManyNames, TooManyLevels, PopBelowTheBottom}
 use Rattle.smt_script.specs.declared.information.Information.{Information}
@@ -26,6 +27,8 @@ use Rattle.smt_script.specs.declared.state.Effect.TheVariants.{Ask, Exit, Tell}
 use Rattle.smt_script.specs.declared.state.Mode.{Mode}
 use Rattle.smt_script.specs.declared.state.Mode.TheVariants as mode
 use Rattle.smt_script.specs.declared.state.Notice.{Notice}
+use Rattle.smt_script.specs.declared.state.Question.TheVariants.{CheckSat, Minimize}
+use Rattle.smt_script.specs.declared.objective.Objective.{Objective}
 use Rattle.smt_script.specs.declared.state.Notice.TheVariants.{Success, Unsupported, Model, Values, Proof, Inform, Echo}
 
 -- what may be told in a state of this mode, of a command that asks this
@@ -37,7 +40,9 @@ record MayTell (s : State) (command : Command) (notice : Notice) : Type 0 where
 
 abbrev MayAnswer : State → Command → Effect → Type 0
 MayAnswer s command (Tell notice) = MayTell s command notice
-MayAnswer s command (Ask question) = Unit {0}
+MayAnswer s command (Ask CheckSat) = Unit {0}
+MayAnswer s command (Ask (Minimize o)) =
+    (term : Sexpr) × (command ≡ Commands.minimizing term) × (minimized_by (lowered (scope_of s.context) s.context.nodes term) ≡ Ok o)
 MayAnswer s command Exit = is_exiting (Ok command) ≡ true
 
 -- what a step leads to
@@ -144,6 +149,10 @@ values_keep s terms (Some why) e sat = tt
 values_keep s terms None e sat =
     keeps_told s (Commands.asking_values terms) Values (record { model = λ f. absurd cc; values = λ f. (sat, e); proof = λ f. absurd cc; asked = λ f. absurd cc })
 
+minimizing_keeps : (s : State) (term : Sexpr) (found : Result Objective Refusal) → minimized_by (lowered (scope_of s.context) s.context.nodes term) ≡ found → KeepsBy s (Commands.minimizing term) (asking_for s found)
+minimizing_keeps s term (Ok o) e = record { mode = inr (refl, refl); answer = (term, refl, e) }
+minimizing_keeps s term (Err why) e = tt
+
 command_keeps : (s : State) (command : Command) → KeepsBy s command (after_by s (Ok command))
 command_keeps s (Commands.setting_logic logic) = keeps_if s _ (is_symbol (codes "QF_IDL") logic) _ LogicNotSupported (keeps_same s _ s refl refl)
 command_keeps s (Commands.setting_option keyword v) = option_keeps s _ (option_effect keyword v)
@@ -155,6 +164,7 @@ command_keeps s (Commands.naming term name) = naming_keeps s _ term name (lowere
 command_keeps s (Commands.pushing n) = keeps_if s _ (nat_le (levels_of s + n) levels_limit) _ TooManyLevels (keeps_changed s _ _ refl)
 command_keeps s (Commands.popping n) = keeps_if s _ (nat_le n (levels_of s)) _ PopBelowTheBottom (keeps_changed s _ _ refl)
 command_keeps s Commands.checking = record { mode = inr (refl, refl); answer = tt }
+command_keeps s (Commands.minimizing term) = minimizing_keeps s term _ refl
 command_keeps s Commands.asking_model = with_model_keeps s _ s.mode _ (λ e. keeps_told s Commands.asking_model Model (model_told s e))
 command_keeps s (Commands.asking_values terms) = with_model_keeps s _ s.mode _ (λ e. values_keep s terms _ refl e)
 command_keeps s Commands.asking_proof = with_proof_keeps s _ s.mode _ (λ e. keeps_told s Commands.asking_proof Proof (proof_told s e))
@@ -182,6 +192,14 @@ kept s x step e = kept_by s (command_of x) step e
 
 tells : (s : State) (command : Command) (step : Step) (notice : Notice) → Keeps s command step → step.effect ≡ Tell notice → MayTell step.state command notice
 tells s command step notice h e = subst (MayAnswer step.state command) e h.answer
+
+-- the term of a command that asks for the least value of an objective
+pub minimizes : (s : State) (x : Sexpr) (step : Step) (o : Objective) → after s x ≡ Ok step → step.effect ≡ Ask (Minimize o)
+    → (term : Sexpr) × (minimized x ≡ Some term) × (minimized_by (lowered (scope_of step.state.context) step.state.context.nodes term) ≡ Ok o)
+minimizes s x step o e f =
+    let k = kept s x step e in
+    let asks : MayAnswer step.state k.command (Ask (Minimize o)) = subst (MayAnswer step.state k.command) f k.keeps.answer in
+    (asks.0, ap minimized_in (k.is ∙ ap (λ (c : Command). Ok c) asks.1), asks.2)
 
 pub mode_is_kept : ModeIsKept
 mode_is_kept s x step e = (kept s x step e).keeps.mode

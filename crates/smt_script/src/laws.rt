@@ -1,6 +1,9 @@
 //! Laws of the definitions alone.
 ghost use Rattle.smt_script.specs.Laws.{StartMade, StepMade, SettledMade, OnlyExitEnds, ExitIsCarriedOut, ModeIsKept, ModelNeedsSat, ValuesNeedSat, ProofNeedsUnsat, AskedIsTold, MinimizedIsWorth};
 
+use idl_linear::{comparison_law, linear_law};
+use idl_term::{context_law, lowered_law};
+
 /// What is active in a state came about by declarations, definitions and assertions: at the start, after each command, and
 /// after each verdict.
 pub fn state_law()
@@ -12,7 +15,12 @@ pub fn state_law()
 /// The value of a minimized term is the difference of its objective's points, and its constant, on every schedule.
 pub fn objective_law()
     ensures { MinimizedIsWorth }
-{}
+{
+    linear_law();
+    comparison_law();
+    context_law();
+    lowered_law();
+}
 
 /// The script ends at the first `(exit)`, and at no other command that is carried out.
 pub fn exit_law()

@@ -11,7 +11,7 @@ returns-in-Ok-Tell-clause-carries c = λ s x stands means.
 
 pub returns-in-Ok-Ask-clause-carries : goal.returns-in-Ok-Ask-clause-carries
 returns-in-Ok-Ask-clause-carries c = λ s x stands means.
-    let w : Walk = record c.args.self.now { state = c.step.new.self; number = c.args.self.now.number + 1 } in
+    let w : Walk = record c.args.self.now { state = c.step.new.self } in
     asked_carries c.state_law.ensures.step c.args.self.now w s x c.args.id _ c.in-Ok-Ask.question c.in-Ok-Ask.field-0-is means (c.in-Ok-Ask.ensures.ok s x stands.stands means) stands.made refl
 
 pub returns-in-Ok-Exit-clause-carries : goal.returns-in-Ok-Exit-clause-carries
