@@ -36,6 +36,7 @@ use Rattle.smt_script.specs.Objectives.{IsObjectiveOf}
 use Rattle.dtp_entry.specs.Bests.{Satisfies, HasValue, IsBestFor, HasNoBest}
 use Rattle.dtp_entry.specs.Entries.{points_of, problem_of, difference_at, problem_below, IsProblemOf, IsLeast, IsUnbounded, IsRight}
 use Rattle.dtp_entry.specs.Transcripts.{IsSo}
+use Rattle.dtp_entry.specs.code.Asking.{IsAskedBy}
 use Rattle.dtp_entry.proofs.Roots.{roots_true, assertions_true}
 use Rattle.dtp_entry.proofs.Verdicts.{sorts_count, refuted_unsatisfiable}
 
@@ -74,11 +75,6 @@ pub record Laws : Type 0 where
   pub some : PointsGrow
   pub refutes : RefutationLaw
   pub unbounded : UnboundedLaw
-
--- the term that is minimized, and its difference
-abbrev pub IsAskedBy : Question → Sexpr → Context → Type 0
-IsAskedBy CheckSat x c = Unit {0}
-IsAskedBy (Minimize o) x c = (t : Sexpr) × (minimized x ≡ Some t) × IsObjectiveOf c t o
 
 module _ (laws : Laws) (c : Context) (context : IsContext c) where
   -- a solution of the problem is a schedule that satisfies the assertions

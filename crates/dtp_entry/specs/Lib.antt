@@ -15,3 +15,4 @@ pub use Rattle.cert_text.specs.Limits
 pub use Rattle.smt_script.specs.States
 pub use Rattle.smt_answer.specs.Kinds
 pub use Rattle.script_walk.specs.Course
+pub mod code
