@@ -1,10 +1,12 @@
--- The s-expressions of a certificate, which answers the checks of a script one by one, each with values or with a
--- refutation. The format is this project's own, and has two versions:
+-- The s-expressions of a certificate, which answers the questions of a script one by one, each with values, with a
+-- refutation, or with both. The format is this project's own, and has two versions:
 --
 --     (dtp-certificate 1)                     the header of version 1
 --     (dtp-certificate 2)                     of version 2
 --     (sat v ..)                              an entry: the values of the active declared names, in order
 --     (unsat item ..)                         or a refutation
+--     (best m (v ..) item ..)                 or a term's least value, the values of the names, and a refutation of less
+--     (unbounded (w ..) (p ..))               or one value for each time point, and the points that can be lowered
 --     (end)                                   behind the last entry
 --
 --     item     (lemma (literal ..) step ..)   a lemma: its clause and its tree in preorder
@@ -13,6 +15,8 @@
 --              (clash i)                      version 2 alone
 --     literal  (x y c)                        x - y <= c
 --     v        a number, true or false
+--     m, w     a number
+--     p        a numeral
 --
 -- A number is a numeral, or (- n) where it is below 0. Each line holds one s-expression.
 use Rattle.std.specs.Prelude.{ℕ, suc, ◌+◌, ◌==◌, ℤ, pos, negsuc, true, false, if◌then◌else◌, List, [], ◌∷◌, ◌++◌, map, codes}
@@ -33,7 +37,7 @@ use Rattle.kept_lemmas.specs.declared.item.Item.TheVariants.{Own, Keep}
 use Rattle.cert_text.specs.declared.entry.Version.{Version}
 use Rattle.cert_text.specs.declared.entry.Version.TheVariants.{One, Two}
 use Rattle.cert_text.specs.declared.entry.Entry.{Entry}
-use Rattle.cert_text.specs.declared.entry.Entry.TheVariants.{Sat, Unsat}
+use Rattle.cert_text.specs.declared.entry.Entry.TheVariants.{Sat, Unsat, Best, Unbounded}
 use Rattle.cert_text.specs.declared.entry.FileEntry.{FileEntry}
 use Rattle.cert_text.specs.declared.entry.FileEntry.TheVariants as file
 
@@ -84,6 +88,17 @@ value_sexpr (Int n) = number_of_value n
 value_sexpr (Truth true) = symbol (codes "true")
 value_sexpr (Truth false) = symbol (codes "false")
 
+-- the values of the names, in a list
+abbrev pub values_sexpr : List NamedValue → Sexpr
+values_sexpr values = list_of (map value_sexpr values)
+
+-- the values of the time points, in a list
+abbrev pub schedule_sexpr : List ℤ → Sexpr
+schedule_sexpr values = list_of (map number_of_value values)
+
+abbrev pub points_sexpr : List ℕ → Sexpr
+points_sexpr points = list_of (map numeral points)
+
 -- ---- the lines
 
 abbrev pub version_number : Version → ℕ
@@ -96,15 +111,21 @@ header_sexpr version = form (codes "dtp-certificate") (numeral (version_number v
 abbrev pub entry_sexpr : Entry → Sexpr
 entry_sexpr (Sat values) = form (codes "sat") (map value_sexpr values)
 entry_sexpr (Unsat lemmas) = form (codes "unsat") (map lemma_sexpr lemmas)
+entry_sexpr (Best m values lemmas) = form (codes "best") (number_of_value m ∷ values_sexpr values ∷ map lemma_sexpr lemmas)
+entry_sexpr (Unbounded values points) = form (codes "unbounded") (schedule_sexpr values ∷ points_sexpr points ∷ [])
 
 abbrev pub file_entry_sexpr : FileEntry → Sexpr
 file_entry_sexpr (file.Sat values) = form (codes "sat") (map value_sexpr values)
 file_entry_sexpr (file.Unsat items) = form (codes "unsat") (map item_sexpr items)
+file_entry_sexpr (file.Best m values items) = form (codes "best") (number_of_value m ∷ values_sexpr values ∷ map item_sexpr items)
+file_entry_sexpr (file.Unbounded values points) = form (codes "unbounded") (schedule_sexpr values ∷ points_sexpr points ∷ [])
 
--- what decides a check, as an entry that keeps no lemmas
+-- what decides a question, as an entry that keeps no lemmas
 abbrev pub file_entry_of : Entry → FileEntry
 file_entry_of (Sat values) = file.Sat values
 file_entry_of (Unsat lemmas) = file.Unsat (map Own lemmas)
+file_entry_of (Best m values lemmas) = file.Best m values (map Own lemmas)
+file_entry_of (Unbounded values points) = file.Unbounded values points
 
 abbrev pub end_sexpr : Sexpr
 end_sexpr = form (codes "end") []

@@ -1,8 +1,10 @@
--- The numbers that a certificate of a version may have: its points are below a number, the values of names are within a limit of
--- their own, and all other numbers within the limit both ways.
-use Rattle.std.specs.Prelude.{ℕ, ◌<◌, ◌≤◌, ◌^◌, ◌-◌, ℤ, All, unsigned_abs}
+-- The numbers that a certificate of a version may have: its points are below a number, values are within a limit of their own,
+-- and all other numbers within the limit both ways.
+use Rattle.std.specs.Prelude.{ℕ, ◌<◌, ◌≤◌, ◌^◌, ◌-◌, ℤ, List, All, unsigned_abs}
+use Rattle.std.specs.List.Sorted.{IsStrictlyIncreasing}
 use Rattle.stn_core.specs.declared.literal.Literal.{Literal}
 use Rattle.stn_core.specs.declared.named.NamedValue.{NamedValue}
+use Rattle.stn_core.specs.declared.named.NamedValue.TheVariants.{Int}
 use Rattle.stn_core.specs.Named.{IsWithinLimit}
 use Rattle.refute_tree.specs.declared.step.Step.{Step}
 use Rattle.refute_tree.specs.declared.step.Step.TheVariants.{Cycle, Input, Lemma as Earlier, Clash, Either}
@@ -14,7 +16,7 @@ use Rattle.cert_text.specs.declared.entry.Version.TheVariants.{One, Two}
 use Rattle.cert_text.specs.declared.entry.Entry.{Entry}
 use Rattle.cert_text.specs.declared.entry.FileEntry.{FileEntry}
 use Rattle.cert_text.specs.declared.entry.FileEntry.TheVariants as file
-use Rattle.cert_text.specs.declared.entry.Entry.TheVariants.{Sat, Unsat}
+use Rattle.cert_text.specs.declared.entry.Entry.TheVariants.{Sat, Unsat, Best, Unbounded}
 
 -- 2 to the 61
 abbrev pub limit : ℕ
@@ -51,11 +53,23 @@ ItemWithin version points (Keep kept) = OnlyInTwo version ((kept.entry ≤ limit
 abbrev pub ValueFits : NamedValue → Type 0
 ValueFits value = IsWithinLimit value
 
--- ---- what decides a check
+-- the same of a whole number alone
+abbrev pub WholeFits : ℤ → Type 0
+WholeFits n = ValueFits (Int n)
+
+-- one value for each time point, and points that ascend
+pub record UnboundedWithin (points : ℕ) (values : List ℤ) (set : List ℕ) : Type 0 where
+  pub values : All WholeFits values
+  pub below : All (λ (p : ℕ). p < points) set
+  pub ascending : IsStrictlyIncreasing set
+
+-- ---- what decides a question
 
 abbrev pub EntryWithin : Version → ℕ → Entry → Type 0
 EntryWithin version points (Sat values) = All ValueFits values
 EntryWithin version points (Unsat lemmas) = All (LemmaWithin version points) lemmas
+EntryWithin version points (Best m values lemmas) = WholeFits m × All ValueFits values × All (LemmaWithin version points) lemmas
+EntryWithin version points (Unbounded values set) = UnboundedWithin points values set
 
 -- what is written is read again
 abbrev pub EntryFits : Version → Entry → Type 0
@@ -70,6 +84,8 @@ IsPlain version e = EntryWithin version (2 ^ 32 - 1) e
 abbrev pub FileEntryWithin : Version → ℕ → FileEntry → Type 0
 FileEntryWithin version points (file.Sat values) = All ValueFits values
 FileEntryWithin version points (file.Unsat items) = All (ItemWithin version points) items
+FileEntryWithin version points (file.Best m values items) = WholeFits m × All ValueFits values × All (ItemWithin version points) items
+FileEntryWithin version points (file.Unbounded values set) = UnboundedWithin points values set
 
 abbrev pub FileEntryFits : Version → FileEntry → Type 0
 FileEntryFits version e = FileEntryWithin version (2 ^ 32) e

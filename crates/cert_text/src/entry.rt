@@ -4,11 +4,12 @@
 ghost use Rattle.std.specs.Prelude.{◌≡◌, ◌++◌, OnOk, OnErr};
 ghost use Rattle.cert_text.specs.Form.{header_sexpr, end_sexpr, line_of};
 
+use best_values::Points;
 use bstr::ByteVec;
 use kept_lemmas::Items;
 use refute_tree::Refutation;
 use std::alloc::AllocError;
-use stn_core::NamedValues;
+use stn_core::{NamedValues, Schedule, Value};
 
 /// The versions of the format.
 #[derive(Clone, Copy, Debug, PartialEq, Eq)]
@@ -19,22 +20,31 @@ pub enum Version {
     Two,
 }
 
-/// What decides one check of a script.
+/// What decides one question of a script.
 #[derive(Drop)]
 pub enum Entry {
-    /// The check answered sat: one value for each active declared name, in the order of declaration.
+    /// A check answered sat: one value for each active declared name, in the order of declaration.
     Sat(NamedValues),
-    /// The check answered unsat: why there is no solution.
+    /// A question answered unsat: why there is no solution.
     Unsat(Refutation),
+    /// A term's least value: that value, values of the names that give it to the term, and why there is no lesser one.
+    Best(Value, NamedValues, Refutation),
+    /// A term without a least value: one value for each time point, and the points that can be lowered together.
+    Unbounded(Schedule, Points),
 }
 
-/// What a certificate holds for one check of a script.
+/// What a certificate holds for one question of a script.
 #[derive(Drop)]
 pub enum FileEntry {
-    /// The check answered sat: one value for each active declared name, in the order of declaration.
+    /// A check answered sat: one value for each active declared name, in the order of declaration.
     Sat(NamedValues),
-    /// The check answered unsat: why there is no solution, over the entries before it.
+    /// A question answered unsat: why there is no solution, over the entries before it.
     Unsat(Items),
+    /// A term's least value: that value, values of the names that give it to the term, and why there is no lesser one, over
+    /// the entries before it.
+    Best(Value, NamedValues, Items),
+    /// A term without a least value: one value for each time point, and the points that can be lowered together.
+    Unbounded(Schedule, Points),
 }
 
 /// Appends the first line of a certificate of this version, or nothing where memory ends.

@@ -1,4 +1,4 @@
-//! The text of certificates: one line for each check of a script, with its values or its refutation.
+//! The text of certificates: one line for each question of a script, with what decides it.
 //!
 //! `specs/Form.antt` has the format as s-expressions, in both versions, and a line is such an s-expression as `smt_sexpr`
 //! prints it. The laws: each can be written and is read again ([`entry_is_writable`], [`reads_back_entry`]), its text

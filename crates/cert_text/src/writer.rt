@@ -186,6 +186,27 @@ impl Part for Item {
     }
 }
 
+impl Part for Value {
+    ghost use Rattle.cert_text.specs.Form.{number_of_value};
+
+    ghost sexpr = { number_of_value };
+
+    fn write(&self, out: &mut Vec<u8>) -> Result<(), AllocError> {
+        write_number(*self, out)
+    }
+}
+
+/// A time point.
+impl Part for u32 {
+    ghost use Rattle.cert_text.specs.Form.{numeral};
+
+    ghost sexpr = { numeral };
+
+    fn write(&self, out: &mut Vec<u8>) -> Result<(), AllocError> {
+        write_numeral(u128::from(*self), out)
+    }
+}
+
 impl Part for NamedValue {
     ghost use Rattle.cert_text.specs.Form.{value_sexpr};
 
