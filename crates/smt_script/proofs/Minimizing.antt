@@ -1,5 +1,5 @@
 -- What is minimized: the command's term, and what its objective is worth.
-use Rattle.std.proofs.Common.{refl, ap, sym, subst, arith, ◌∙◌, ◌≡◌, ◌<◌, ◌+◌, ℕ, zero, suc, List, [], ◌∷◌, length, Bool, true, Option, Some, None, Result, Ok, Err, ℤ, pos, neg_ℤ, ◌+ℤ◌, ◌-ℤ◌, ◌≤ℤ◌}
+use Rattle.std.proofs.Common.{refl, ap, sym, subst, arith, ◌∙◌, ◌≡◌, ◌<◌, ◌+◌, ℕ, zero, suc, List, [], ◌∷◌, length, Option, Some, None, Result, Ok, Err, ℤ, pos, neg_ℤ, ◌+ℤ◌, ◌-ℤ◌, ◌≤ℤ◌}
 use Rattle.std.specs.List.{AllByRecursion}
 use Rattle.std.proofs.lemmas.Int.{ints}
 use Rattle.std.proofs.lemmas.List.{length-map}
@@ -8,9 +8,8 @@ use Rattle.smt_sexpr.specs.Tree.{Sexpr}
 use Rattle.stn_core.specs.Literal.{value_at}
 use Rattle.stn_core.specs.declared.named.NamedValue.{NamedValue}
 use Rattle.idl_linear.specs.Differences.{difference_of}
-use Rattle.idl_linear.specs.Laws.{DifferenceValue, NumberIsWithin}
-use Rattle.idl_linear.specs.Limits.{number_limit}
-use Rattle.idl_linear.specs.Linear.{LinearValue, number_alone, is_within}
+use Rattle.idl_linear.specs.Laws.{DifferenceValue}
+use Rattle.idl_linear.specs.Linear.{LinearValue, number_alone}
 use Rattle.idl_linear.specs.Values.{linear_value}
 use Rattle.idl_linear.specs.declared.difference.Difference.{Difference}
 use Rattle.idl_linear.specs.declared.error.DifferenceRefusal.{DifferenceRefusal}
@@ -20,6 +19,7 @@ use Rattle.idl_node.specs.declared.sort.Sort.TheVariants as sort
 use Rattle.idl_node.specs.Sorts.{IsIntPoint}
 use Rattle.idl_node.specs.Truth.{point_values}
 use Rattle.idl_scope.specs.Guarded.{CaseValue, plain, plain_linear, unguarded}
+use Rattle.idl_term.proofs.ComparisonNodes.{difference_low, difference_high}
 use Rattle.idl_term.specs.Applied.{Made}
 use Rattle.idl_term.specs.Comparing.{refusal_of}
 use Rattle.idl_term.specs.Contexts.{Context, IsContext, IsScheduleFor, environment, scope_of}
@@ -54,12 +54,12 @@ plain_is (case ∷ other ∷ cases) l e = absurd cc
 record IsCompared (is : LoweredTerm) (o : Objective) : Type 0 where
   linear : LinearValue
   difference : Difference
-  plain : is ≡ numeric (plain linear)
-  compared : difference_of linear (number_alone (pos 0)) ≡ Ok difference
-  objective : objective difference ≡ o
+  without : is ≡ numeric (plain linear)
+  compares : difference_of linear (number_alone (pos 0)) ≡ Ok difference
+  gives : objective difference ≡ o
 
 compared_by : (is : LoweredTerm) (l : LinearValue) (found : Result Difference DifferenceRefusal) (o : Objective) → is ≡ numeric (plain l) → difference_of l (number_alone (pos 0)) ≡ found → objective_by found ≡ Ok o → IsCompared is o
-compared_by is l (Ok d) o p e f = record { linear = l; difference = d; plain = p; compared = e; objective = (let same : objective d ≡ o = cc in same) }
+compared_by is l (Ok d) o p e f = record { linear = l; difference = d; without = p; compares = e; gives = (let same : objective d ≡ o = cc in same) }
 compared_by is l (Err why) o p e f = absurd cc
 
 linear_by : (cases : List CaseValue) (found : Option LinearValue) (o : Objective) → plain_linear cases ≡ found → objective_of_linear found ≡ Ok o → IsCompared (numeric cases) o
@@ -91,7 +91,7 @@ point_within declared p h =
     let count = length-map (λ (d : Declaration). d.sort) declared in
     omega (arith, within, count)
 
-module _ (c : Context) (t : Sexpr) (is : IsContext c) (difference : DifferenceValue) (number : NumberIsWithin) (scope : ContextsHaveScopes) (agrees : NamesAgree) (in_table : LoweredIsMade) (worth : LoweredIsWorth) where
+module _ (c : Context) (t : Sexpr) (is : IsContext c) (difference : DifferenceValue) (scope : ContextsHaveScopes) (agrees : NamesAgree) (in_table : LoweredIsMade) (worth : LoweredIsWorth) where
   module _ (made : Made) (e : lowered (scope_of c) c.nodes t ≡ Ok made) (o : Objective) (h : IsCompared made.is o) where
     abbrev sorts : List Sort
     sorts = sorts_of c.declared
@@ -102,25 +102,23 @@ module _ (c : Context) (t : Sexpr) (is : IsContext c) (difference : DifferenceVa
     linear_for : IsLinearFor sorts h.linear
     linear_for =
         let term : IsTermIn sorts made.nodes (numeric (plain h.linear)) =
-            subst (λ (u : LoweredTerm). IsTermIn sorts made.nodes u) h.plain (in_table (scope_of c) c.nodes t made (scope c is) e).term in
+            subst (λ (u : LoweredTerm). IsTermIn sorts made.nodes u) h.without (in_table (scope_of c) c.nodes t made (scope c is) e).term in
         term.each.0.linear
 
     ends : IsIntPoint sorts d.x × IsIntPoint sorts d.y
-    ends = points-difference (IsIntPoint sorts) h.linear (number_alone (pos 0)) d tt linear_for.points tt h.compared
+    ends = points-difference (IsIntPoint sorts) h.linear (number_alone (pos 0)) d tt linear_for.points tt h.compares
 
     linear_worth : (values : List ℤ) → value_at values 0 ≡ pos 0 → linear_value values h.linear ≡ objective_value values (objective d)
     linear_worth values none =
-        let compared = difference values h.linear (number_alone (pos 0)) d none h.compared in
-        omega (arith, ints, compared)
+        let compared = difference values h.linear (number_alone (pos 0)) d none h.compares in
+        let nothing : linear_value values (number_alone (pos 0)) ≡ pos 0 = refl in
+        omega (arith, ints, compared, nothing)
 
     term_worth : (schedule : List NamedValue) → IsScheduleFor c schedule → value (environment c schedule) t ≡ whole (objective_value (point_values schedule) (objective d))
     term_worth schedule fits =
         worth (scope_of c) c.nodes t made schedule (environment c schedule) (scope c is) fits (agrees c schedule is fits) e
-        ∙ ap (lowered_value made.nodes schedule) h.plain
+        ∙ ap (lowered_value made.nodes schedule) h.without
         ∙ ap whole (linear_worth (point_values schedule) refl)
-
-    within : is_within number_limit d.n ≡ true
-    within = number h.linear (number_alone (pos 0)) d h.compared
 
     objective_worth : IsObjectiveOf c t (objective d)
     objective_worth = record {
@@ -128,13 +126,13 @@ module _ (c : Context) (t : Sexpr) (is : IsContext c) (difference : DifferenceVa
       y_in = ends.1;
       x_below = point_within c.declared d.x ends.0;
       y_below = point_within c.declared d.y ends.1;
-      low = (let w = within in grind (arith, ints, w));
-      high = (let w = within in grind (arith, ints, w));
+      low = (let above = difference_high h.linear (number_alone (pos 0)) d h.compares in omega (arith, ints, above));
+      high = (let below = difference_low h.linear (number_alone (pos 0)) d h.compares in omega (arith, ints, below));
       worth = term_worth;
     }
 
     made_worth : IsObjectiveOf c t o
-    made_worth = subst (λ (p : Objective). IsObjectiveOf c t p) h.objective objective_worth
+    made_worth = subst (λ (p : Objective). IsObjectiveOf c t p) h.gives objective_worth
 
   pub minimized_worth : (o : Objective) → minimized_by (lowered (scope_of c) c.nodes t) ≡ Ok o → IsObjectiveOf c t o
   minimized_worth o f =

@@ -1,5 +1,5 @@
 -- The commands and states of the worked examples.
-use Rattle.std.specs.Prelude.{ℕ, List, [], ◌∷◌, codes, pos}
+use Rattle.std.specs.Prelude.{ℕ, List, [], ◌∷◌, codes, ℤ, pos, Result, Ok}
 use Rattle.smt_lex.specs.Symbols.{symbol_content}
 use Rattle.smt_lex.specs.declared.token.TokenKind.TheVariants.{Keyword}
 use Rattle.smt_sexpr.specs.Tree.{Sexpr, leaf}
@@ -9,7 +9,10 @@ use Rattle.idl_node.specs.declared.sort.Sort.TheVariants as sort
 use Rattle.idl_term.specs.Contexts.{Context, start_context}
 use Rattle.idl_term.specs.Examples.{p, literal}
 use Rattle.idl_term.specs.Scopes.{formula}
-use Rattle.smt_script.specs.States.{State, start_state}
+use Rattle.smt_script.specs.States.{State, Step, start_state}
+use Rattle.smt_script.specs.declared.error.Refusal.{Refusal}
+use Rattle.smt_script.specs.declared.state.Effect.TheVariants.{Ask}
+use Rattle.smt_script.specs.declared.state.Question.TheVariants.{Minimize}
 
 abbrev pub keyword : List ℕ → Sexpr
 keyword text = leaf Keyword text
@@ -28,6 +31,10 @@ declares name sort_name = form (codes "declare-const") (name ∷ symbol sort_nam
 -- (assert (! p ..))
 abbrev pub asserts_p : List Sexpr → Sexpr
 asserts_p attributes = form (codes "assert") (form (codes "!") (p ∷ attributes) ∷ [])
+
+-- (minimize ..)
+abbrev pub minimizes : List Sexpr → Sexpr
+minimizes terms = form (codes "minimize") terms
 
 -- :named name
 abbrev pub named : List ℕ → List Sexpr
@@ -66,3 +73,7 @@ with_levels = record with_p { below = context_p ∷ context_p ∷ [] }
 -- and (assert (! p :named n)) on top
 abbrev pub with_n_on_top : State
 with_n_on_top = record with_n { below = context_p ∷ context_p ∷ [] }
+
+-- the question of x - y + k in the state behind (declare-const x Int)
+abbrev pub minimizing : ℕ → ℕ → ℤ → Result Step Refusal
+minimizing x y k = Ok (record { state = with_x; effect = Ask (Minimize (record { x = x; y = y; k = k })) })

@@ -1,13 +1,13 @@
 //! What the definitions say of small inputs.
-ghost use Rattle.std.specs.Prelude.{◌≡◌, ◌∷◌, [], codes, true, Ok, Err};
+ghost use Rattle.std.specs.Prelude.{◌≡◌, ◌∷◌, [], codes, true, Ok, Err, pos, negsuc};
 ghost use Rattle.idl_term.specs.Contexts.{scope_of};
 ghost use Rattle.idl_term.specs.Examples.{numeral, x, p, z};
 ghost use Rattle.idl_term.specs.Scopes.{is_known};
-ghost use Rattle.idl_term.specs.declared.error.TermRefusal.TheVariants.{UnknownSymbol, WrongSort};
+ghost use Rattle.idl_term.specs.declared.error.TermRefusal.TheVariants.{UnknownSymbol, WrongSort, NotADifference, BoundTooLarge};
 ghost use Rattle.smt_sexpr.specs.Shapes.{symbol, list_of, form};
-ghost use Rattle.smt_script.specs.Examples.{keyword, written, no_parameters, declares, asserts_p, named, with_x, with_p, context_p, context_n, with_n, with_levels, with_n_on_top};
+ghost use Rattle.smt_script.specs.Examples.{keyword, written, no_parameters, declares, asserts_p, named, with_x, with_p, context_p, context_n, with_n, with_levels, with_n_on_top, minimizes, minimizing};
 ghost use Rattle.smt_script.specs.States.{start_state, after, carried_out};
-ghost use Rattle.smt_script.specs.declared.error.LeftOutCommand.TheVariants.{Parameters, Sort, DefineSort};
+ghost use Rattle.smt_script.specs.declared.error.LeftOutCommand.TheVariants.{Parameters, Sort, Ite, DefineSort};
 ghost use Rattle.smt_script.specs.declared.error.Refusal.TheVariants.{UnknownCommand, IllFormedCommand, LogicNotSupported, AlreadyDeclared, TooManyLevels, PopBelowTheBottom, NoModel, LeftOut, Term};
 ghost use Rattle.smt_script.specs.declared.state.Effect.TheVariants.{Ask, Exit, Tell};
 ghost use Rattle.smt_script.specs.declared.state.Question.TheVariants.{CheckSat};
@@ -49,6 +49,27 @@ pub fn worked_names()
     ensures two_names { after with_p
         (asserts_p (keyword (codes ":named") ∷ symbol (codes "n") ∷ named (codes "m")))
         ≡ Err IllFormedCommand }
+{}
+
+/// What a `minimize` asks, where x is the one declared name.
+#[tactic(auto, unfolding(crate::specs::States::after, crate::specs::Commands::command_of, crate::specs::Commands::naming_command, crate::specs::Commands::changing_command, crate::specs::Commands::asking_command, idl_term::specs::Operators::operator_of, idl_term::specs::Operators::connective_of, idl_term::specs::Operators::order_of, idl_term::specs::Operators::sign_of, idl_term::specs::Operators::equality_of, idl_term::specs::Operators::left_out_of, idl_term::specs::Operators::theory_symbols, idl_term::specs::Operators::reserved_words, idl_term::specs::Lowered::lowered, idl_term::specs::Lowered::lowered_leaf, idl_term::specs::Lowered::head_of, idl_term::specs::Lowered::is_let, idl_term::specs::Applied::applied, idl_linear::specs::Differences::difference_of, idl_linear::specs::Linear::sum_of, smt_lex::specs::Numbers::value_from))]
+pub fn worked_objectives()
+    ensures name { after with_x (minimizes (x ∷ [])) ≡ minimizing 1 0 (pos 0) }
+    ensures negative { after with_x (minimizes (form (codes "-") (numeral (codes "3") ∷ x ∷ []) ∷ []))
+        ≡ minimizing 0 1 (pos 3) }
+    ensures less { after with_x (minimizes (form (codes "-") (x ∷ numeral (codes "3") ∷ []) ∷ []))
+        ≡ minimizing 1 0 (negsuc 2) }
+    ensures number { after with_x (minimizes (numeral (codes "5") ∷ [])) ≡ minimizing 0 0 (pos 5) }
+    ensures twice { after with_x (minimizes (form (codes "+") (x ∷ x ∷ []) ∷ [])) ≡ Err (Term NotADifference) }
+    ensures cases { after with_x (minimizes
+        (form (codes "ite") (form (codes "<") (x ∷ numeral (codes "3") ∷ []) ∷ x ∷ numeral (codes "5") ∷ []) ∷ []))
+        ≡ Err (LeftOut Ite) }
+    ensures beyond { after with_x (minimizes (form (codes "+") (x ∷ numeral (codes "1152921504606846977") ∷ []) ∷ []))
+        ≡ Err (Term BoundTooLarge) }
+    ensures formula { after with_p (minimizes (p ∷ [])) ≡ Err (Term WrongSort) }
+    ensures unknown { after with_x (minimizes (z ∷ [])) ≡ Err (Term UnknownSymbol) }
+    ensures no_term { after with_x (minimizes []) ≡ Err IllFormedCommand }
+    ensures two_terms { after with_x (minimizes (x ∷ x ∷ [])) ≡ Err IllFormedCommand }
 {}
 
 /// Options, levels and the other commands.

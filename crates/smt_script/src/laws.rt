@@ -1,7 +1,7 @@
 //! Laws of the definitions alone.
 ghost use Rattle.smt_script.specs.Laws.{StartMade, StepMade, SettledMade, OnlyExitEnds, ExitIsCarriedOut, ModeIsKept, ModelNeedsSat, ValuesNeedSat, ProofNeedsUnsat, AskedIsTold, MinimizedIsWorth};
 
-use idl_linear::{comparison_law, linear_law};
+use idl_linear::linear_law;
 use idl_term::{context_law, lowered_law};
 
 /// What is active in a state came about by declarations, definitions and assertions: at the start, after each command, and
@@ -17,7 +17,6 @@ pub fn objective_law()
     ensures { MinimizedIsWorth }
 {
     linear_law();
-    comparison_law();
     context_law();
     lowered_law();
 }

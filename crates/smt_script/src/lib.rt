@@ -22,7 +22,7 @@ mod value;
 pub use asked::{asked_terms, echoed_text};
 pub use command_name::CommandName;
 pub use error::{LeftOutCommand, Refusal, ScriptError};
-pub use examples::{worked_commands, worked_names};
+pub use examples::{worked_commands, worked_names, worked_objectives};
 pub use exit::is_exit;
 pub use information::Information;
 pub use laws::{exit_law, mode_law, objective_law, state_law};

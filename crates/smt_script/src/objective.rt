@@ -9,7 +9,7 @@ ghost use Rattle.smt_script.specs.Objectives.{objective_of_linear, minimized_by}
 ghost use Rattle.smt_script.specs.code.Shapes.{ObjectiveIs};
 
 use crate::error::{LeftOutCommand, Refusal, ScriptError};
-use idl_linear::{Linear, compare, comparison_law};
+use idl_linear::{Linear, compare};
 use idl_node::Nodes;
 use idl_term::{Cases, Lowered, Scope, TermRefusal, lower};
 use smt_sexpr::{SexprId, Sexprs};
@@ -27,7 +27,6 @@ pub struct Objective {
 fn objective_of(alloc: Global, cases: &Cases) -> Result<Objective, ScriptError>
     ensures { ObjectiveIs (objective_of_linear (plain_linear cases.now)) result }
 {
-    comparison_law();
     match cases.plain_linear() {
         Some(linear) => {
             let difference = compare(linear, &Linear::number(alloc, 0))?;

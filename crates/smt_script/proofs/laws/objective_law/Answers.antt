@@ -9,6 +9,6 @@ returns c = λ s x step o made e f.
     (
       m.0,
       m.1,
-      minimized_worth step.state.context m.0 (step_made s x step made e).context c.linear_law.ensures.difference c.comparison_law.ensures.number c.context_law.ensures.scope c.context_law.ensures.agrees
+      minimized_worth step.state.context m.0 (step_made s x step made e).context c.linear_law.ensures.difference c.context_law.ensures.scope c.context_law.ensures.agrees
       c.lowered_law.ensures.made c.lowered_law.ensures.value o m.2,
     )
