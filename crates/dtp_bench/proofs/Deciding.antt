@@ -1,4 +1,4 @@
--- What a certificate that is read again says: the entries that decided the check-sats of its script.
+-- What a certificate that is read again says: the entries that decided the questions of its script.
 use Rattle.std.proofs.Common.{arith, ◌≡◌, ◌≤◌, ℕ, ◌+◌, List, [], ◌∷◌, ◌++◌, map, Option, Some, None, Result, Ok, Err, refl, sym, ap, ◌∙◌, subst, append_assoc, ◌<◌, length, get_or}
 use Rattle.std.specs.Prelude.{All}
 use Rattle.std.specs.List.{AllByRecursion}
@@ -20,7 +20,7 @@ use Rattle.cert_text.specs.declared.entry.Version.{Version}
 use Rattle.cert_text.specs.declared.entry.Version.TheVariants.{One}
 use Rattle.cert_text.specs.declared.entry.FileEntry.{FileEntry}
 use Rattle.cert_text.specs.declared.entry.Entry.{Entry}
-use Rattle.cert_text.specs.declared.entry.Entry.TheVariants.{Sat, Unsat}
+use Rattle.cert_text.specs.declared.entry.Entry.TheVariants.{Sat, Unsat, Best, Unbounded}
 use Rattle.cert_text.specs.Laws.{OwnText, OwnFits}
 use Rattle.cert_text.specs.Form.{header_sexpr, entry_sexpr, file_entry_sexpr, file_entry_of, end_sexpr, line_of}
 use Rattle.cert_text.specs.Limits.{FileEntryFits}
@@ -115,6 +115,8 @@ one_shown (e ∷ f ∷ rest) entry h = absurd cc
 same_verdict : (entry : Entry) → told_by (file_entry_of entry) ≡ verdict_of entry
 same_verdict (Sat values) = refl
 same_verdict (Unsat lemmas) = refl
+same_verdict (Best m values lemmas) = refl
+same_verdict (Unbounded values set) = refl
 
 -- what is read of it is what was written
 pub decided_by : OwnText → OwnFits → CertificateReadsBack → OneCertificate → (script text : List ℕ) → IsReport (Certificate One) script text 0 → (version : Version) (entry : FileEntry)

@@ -1,5 +1,5 @@
 -- What a right entry says is so.
-use Rattle.std.proofs.Common.{arith, refl, sym, ap, subst, inl, inr, ◌∙◌, ◌≡◌, ◌<◌, ◌≤◌, ◌+◌, ℕ, zero, suc, List, [], ◌∷◌, map, length, Option, Some, None, slice_get, ℤ, ◌+ℤ◌, ◌-ℤ◌, ◌≤ℤ◌}
+use Rattle.std.proofs.Common.{arith, refl, sym, ap, subst, inl, inr, ◌∙◌, ◌≡◌, ◌<◌, ◌≤◌, ◌+◌, ℕ, zero, suc, List, [], ◌∷◌, map, length, Option, Some, None, slice_get, Ok, ℤ, ◌+ℤ◌, ◌-ℤ◌, ◌≤ℤ◌}
 use Rattle.std.specs.List.{AllByRecursion}
 use Rattle.std.proofs.lemmas.Int.{ints}
 use Rattle.std.proofs.lemmas.List.Elements.{All-nil, All-cons, All-append}
@@ -33,8 +33,12 @@ use Rattle.smt_script.specs.declared.state.Question.{Question}
 use Rattle.smt_script.specs.declared.state.Question.TheVariants.{CheckSat, Minimize}
 use Rattle.smt_script.specs.Commands.{minimized}
 use Rattle.smt_script.specs.Objectives.{IsObjectiveOf}
+use Rattle.smt_script.specs.declared.state.Effect.TheVariants.{Ask}
+use Rattle.smt_script.specs.Laws.{StepMade, MinimizedIsWorth}
+use Rattle.smt_script.specs.States.{Step, State, IsMadeState, after}
 use Rattle.dtp_entry.specs.Bests.{Satisfies, HasValue, IsBestFor, HasNoBest}
 use Rattle.dtp_entry.specs.Entries.{points_of, problem_of, difference_at, problem_below, IsProblemOf, IsLeast, IsUnbounded, IsRight}
+use Rattle.dtp_entry.specs.Laws.{RightIsSo}
 use Rattle.dtp_entry.specs.Transcripts.{IsSo}
 use Rattle.dtp_entry.specs.code.Asking.{IsAskedBy}
 use Rattle.dtp_entry.proofs.Roots.{roots_true, assertions_true}
@@ -211,3 +215,12 @@ module _ (laws : Laws) (c : Context) (context : IsContext c) where
   right_is_so (Minimize o) x (Best m schedule lemmas) asked h = least_is_best x asked.0 o asked.1 asked.2 m schedule lemmas h
   right_is_so CheckSat x (Unbounded values set) asked h = absurd h
   right_is_so (Minimize o) x (Unbounded values set) asked h = unbounded_has_none x asked.0 o asked.1 asked.2 values set h
+
+-- of a command that asks the question
+pub asked_by : MinimizedIsWorth → (s : State) (x : Sexpr) (step : Step) (question : Question) → IsMadeState s → after s x ≡ Ok step → step.effect ≡ Ask question → IsAskedBy question x step.state.context
+asked_by worth s x step CheckSat made leads effect = tt
+asked_by worth s x step (Minimize o) made leads effect = worth s x step o made leads effect
+
+pub right_of_command : Laws → MinimizedIsWorth → StepMade → RightIsSo
+right_of_command laws worth made s x step question entry before leads effect right =
+    right_is_so laws step.state.context (made s x step before leads).context question x entry (asked_by worth s x step question before leads effect) right

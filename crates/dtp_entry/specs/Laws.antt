@@ -1,13 +1,25 @@
 -- What holds of what is written of every script.
-use Rattle.std.specs.Prelude.{◌≡◌, ℕ, List, map, false}
+use Rattle.std.specs.Prelude.{◌≡◌, ℕ, List, map, false, Ok}
 use Rattle.std.specs.List.{AllByRecursion}
+use Rattle.smt_sexpr.specs.Tree.{Sexpr}
+use Rattle.smt_script.specs.declared.state.Effect.TheVariants.{Ask}
+use Rattle.smt_script.specs.declared.state.Question.{Question}
 use Rattle.smt_script.specs.Commands.{asks_verdict}
+use Rattle.smt_script.specs.States.{Step, State, IsMadeState, after}
 use Rattle.cert_text.specs.declared.entry.Entry.{Entry}
 use Rattle.script_walk.specs.Course.{Turn, Outcome, tells, answers, asks, ends, fails}
 use Rattle.dtp_entry.specs.declared.report.Report.{Report}
 use Rattle.dtp_entry.specs.declared.report.Report.TheVariants.{Verdicts}
-use Rattle.dtp_entry.specs.Entries.{verdict_of}
-use Rattle.dtp_entry.specs.Transcripts.{decision_line, Output, IsOutput, IsTranscript, lines_with_gaps}
+use Rattle.dtp_entry.specs.Entries.{IsRight, verdict_of}
+use Rattle.dtp_entry.specs.Transcripts.{IsSo, decision_line, Output, IsOutput, IsTranscript, lines_with_gaps}
+
+-- What a right entry says of the assertions and of the term is so: the question is asked by command x in some state that came
+-- about by declarations, definitions and assertions.
+abbrev pub RightIsSo : Type 0
+RightIsSo =
+    (s : State) (x : Sexpr) (step : Step) (question : Question) (entry : Entry)
+    → IsMadeState s → after s x ≡ Ok step → step.effect ≡ Ask question
+    → IsRight question x step.state.context entry → IsSo x step.state.context entry
 
 -- The verdicts at a script's questions, its status, and the lines that its questions are answered, minimum values among them, are
 -- the same in everything that is written of it, in the transcript and in the certificate.

@@ -12,7 +12,7 @@ mod write;
 
 pub use assertions::problem;
 pub use error::SessionError;
-pub use laws::one_transcript;
+pub use laws::{one_transcript, right_is_so};
 pub use report::Report;
 pub use script_walk::kind_of;
 pub use write::write_text;

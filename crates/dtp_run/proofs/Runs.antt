@@ -201,4 +201,4 @@ same_verdicts law line other_line r q script one other m n e h f k =
     let first = reported r line script one m e h in
     let second = reported q other_line script other n f k in
     let same = law script r q (record { text = one; found = first.0; status = m }) (record { text = other; found = second.0; status = n }) first.1 second.1 in
-    (same.1, (first.0, second.0, first.1, second.1, same.0))
+    (same.1, (first.0, second.0, first.1, second.1, same.0, same.2))

@@ -9,7 +9,7 @@ use Rattle.cert_text.specs.declared.entry.Entry.{Entry}
 use Rattle.dtp_entry.specs.declared.report.Report.{Report}
 use Rattle.dtp_entry.specs.declared.report.Report.TheVariants.{Verdicts, Certificate}
 use Rattle.dtp_entry.specs.Entries.{verdict_of}
-use Rattle.dtp_entry.specs.Transcripts.{IsOutput, lines_with_gaps}
+use Rattle.dtp_entry.specs.Transcripts.{decision_line, IsOutput, lines_with_gaps}
 use Rattle.dtp_check.specs.Told.{SaysNothingFalse}
 use Rattle.dtp_check.specs.Whole.{IsWhole}
 use Rattle.dtp_convert.specs.Laws.{IsScriptOf}
@@ -38,7 +38,7 @@ pub record Answers (line : Line) (script text : List ℕ) (code : ℕ) : Type 0 
   pub gives : Gives text old new
   pub well : code ≤ 1
 
--- the text is this report of the script, whose check-sats these entries decided
+-- the text is this report of the script, whose questions these entries decided
 abbrev pub IsReportBy : Report → List ℕ → List ℕ → ℕ → List Entry → Type 0
 IsReportBy report script text status found =
     IsOutput report script (record { text = text; found = found; status = status })
@@ -49,7 +49,7 @@ HasLines script text status lines =
     (found : List Entry) × (h : IsReportBy Verdicts script text status found) × (lines_with_gaps h.turns ≡ lines)
 
 -- Two runs of `solve` on one script, with whatever numbers of workers and slices: their lines are the same in the same places,
--- those of check-sats among them, but for models, values and proofs, and their status is the same.
+-- those of questions among them, but for models, values and proofs, and their status is the same.
 abbrev pub LinesOfOneThread : Type 0
 LinesOfOneThread =
     (few many : Search) (script one other : List ℕ) (m n : ℕ)
@@ -64,15 +64,15 @@ report_of Check = None
 report_of Convert = None
 report_of (Bench shop workers) = None
 
--- Two runs of `solve` or `certify` on one script, with whatever numbers of workers and slices: their verdicts are the same, and
--- so is their status.
+-- Two runs of `solve` or `certify` on one script, with whatever numbers of workers and slices: their verdicts are the same, so are
+-- the lines that their questions are answered, minimum values among them, and so is their status.
 abbrev pub VerdictsOfOneThread : Type 0
 VerdictsOfOneThread =
     (first second : Line) (r q : Report) (script one other : List ℕ) (m n : ℕ)
     → report_of first ≡ Some r → Answers first script one m → report_of second ≡ Some q → Answers second script other n
     → (m ≡ n)
     × ((found : List Entry) × (others : List Entry) × IsReportBy r script one m found × IsReportBy q script other n others
-    × (map verdict_of found ≡ map verdict_of others))
+    × (map verdict_of found ≡ map verdict_of others) × (map (decision_line Verdicts) found ≡ map (decision_line Verdicts) others))
 
 -- ---- certificates
 

@@ -2,8 +2,8 @@
 ghost use Rattle.dtp_run.specs.Laws.{LinesOfOneThread, VerdictsOfOneThread, CertifiedIsNotRefused, ConvertedIsNotRefused, AcceptedSaysNothingFalse};
 
 /// The verdicts are those of one thread: two runs on one script, with whatever numbers of workers and slices, that end without
-/// a fault outside and without want of memory, have the same verdicts and the same status, and transcripts the same lines but
-/// for models, values and proofs.
+/// a fault outside and without want of memory, have the same verdicts, the same minimum values and the same status, and
+/// transcripts the same lines but for models, values and proofs.
 pub fn verdicts_of_one_thread()
     ensures lines { LinesOfOneThread }
     ensures verdicts { VerdictsOfOneThread }
@@ -28,7 +28,7 @@ pub fn converted_is_not_refused()
 }
 
 /// Where a run of `check` ends with status 0, the entries behind the script in its source say what is so at the script's
-/// check-sats, one for each and in order.
+/// questions, one for each and in order.
 pub fn accepted_says_nothing_false()
     ensures { AcceptedSaysNothingFalse }
 {
