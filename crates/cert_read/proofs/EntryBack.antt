@@ -20,7 +20,8 @@ use Rattle.cert_text.specs.declared.entry.Version.TheVariants.{One, Two}
 use Rattle.cert_text.specs.Form.{numeral, bound_sexprs, number_of_value, literal_sexpr, step_sexpr, item_sexpr, value_sexpr}
 use Rattle.smt_sexpr.specs.Shapes.{items_of}
 use Rattle.cert_text.proofs.OneEntry.{numeral_value}
-use Rattle.cert_read.specs.Parts.{limit, limited, numeral_within, index_of, point_of, number_within, number_of, each_of, bound_of, literal_of, step_of, item_of, named_value_of}
+use Rattle.cert_read.specs.Parts.{limit, limited, numeral_within, index_of, point_of, number_within, number_of, whole_of, each_of, bound_of, literal_of, step_of, item_of, named_value_of}
+use Rattle.cert_text.specs.Limits.{WholeFits}
 use Rattle.cert_read.specs.Written.{NumberFits, LiteralWithin, StepWithin, ItemWithin, ValueFits}
 
 -- ---- numbers
@@ -36,7 +37,7 @@ limited_past most n h =
 numeral_back : (most n : ℕ) → n ≤ most → numeral_within most (numeral n) ≡ Some n
 numeral_back most n h = ap (limited most) (numeral_value n) ∙ limited_is most n h
 
-index_back : (n : ℕ) → n ≤ limit → index_of (numeral n) ≡ Some n
+pub index_back : (n : ℕ) → n ≤ limit → index_of (numeral n) ≡ Some n
 index_back n h = numeral_back limit n h
 
 least_is : (n : ℕ) → n < 2 ^ 32 → min n 4294967295 ≡ n
@@ -55,6 +56,9 @@ number_back n h = within_back limit n h
 least_size : (most : ℕ) (n : ℤ) → IsBetween most n → unsigned_abs n ≤ most
 least_size most (pos n) h = omega (arith, ints, h.0, h.1)
 least_size most (negsuc n) h = omega (arith, ints, h.0, h.1)
+
+pub whole_back : (n : ℤ) → WholeFits n → whole_of (number_of_value n) ≡ Some n
+whole_back n h = within_back named_value_limit n (least_size named_value_limit n h)
 
 -- ---- parts
 

@@ -1,4 +1,7 @@
 pub mod EachItem
+pub mod Ascending
+pub mod ObjectiveEntries
+pub mod FirstParts
 pub mod NegativeNumbers
 pub mod HeaderAndEnd
 pub mod ItemByItem

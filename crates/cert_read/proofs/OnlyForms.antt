@@ -34,10 +34,10 @@ use Rattle.cert_read.proofs.NumeralTexts.{text_of_value}
 
 -- ---- options
 
-some_same : {A : Type 0} (x y : A) → ◌≡◌ {A = Option A} (Some x) (Some y) → x ≡ y
+pub some_same : {A : Type 0} (x y : A) → ◌≡◌ {A = Option A} (Some x) (Some y) → x ≡ y
 some_same x y e = cc
 
-none_some : {A : Type 0} (x : A) → ◌≡◌ {A = Option A} None (Some x) → ⊥
+pub none_some : {A : Type 0} (x : A) → ◌≡◌ {A = Option A} None (Some x) → ⊥
 none_some x e = cc
 
 pub mapped : {A B : Type 0} (f : A → B) (o : Option A) (y : B) → option_map f o ≡ Some y → (x : A) × (o ≡ Some x) × (f x ≡ y)
@@ -68,7 +68,7 @@ numeral_only most (leaf Numeral text) n w e =
 numeral_only most (leaf other text) n w e = absurd (none_some n e)
 numeral_only most (list xs) n w e = absurd (none_some n e)
 
-index_only : (x : Sexpr) (n : ℕ) → IsWritable x → index_of x ≡ Some n → (n ≤ limit) × (x ≡ numeral n)
+pub index_only : (x : Sexpr) (n : ℕ) → IsWritable x → index_of x ≡ Some n → (n ≤ limit) × (x ≡ numeral n)
 index_only x n w e = numeral_only limit x n w e
 
 point_only : (x : Sexpr) (n : ℕ) → IsWritable x → point_of x ≡ Some n → (n < 2 ^ 32) × (n < 2 ^ 32 - 1 → x ≡ numeral n)
@@ -108,7 +108,7 @@ negative_form most (list (more head none)) z w e = absurd (none_some z e)
 negative_form most (list (more head (more x none))) z w e = minus_only most head x z w.1.0 e
 negative_form most (list (more head (more x (more y ys)))) z w e = absurd (none_some z e)
 
-within_only : (most : ℕ) (x : Sexpr) (z : ℤ) → IsWritable x → number_within most x ≡ Some z → SizeFits most z × (x ≡ number_of_value z)
+pub within_only : (most : ℕ) (x : Sexpr) (z : ℤ) → IsWritable x → number_within most x ≡ Some z → SizeFits most z × (x ≡ number_of_value z)
 within_only most x z w e = elim (number_from (numeral_within most x) (negative_within most x) z e) [
   | inl h ↦ (let index = numeral_only most x h.0 w h.1 in (subst (SizeFits most) h.2 index.0, index.1 ∙ ap number_of_value h.2))
   | inr h ↦ negative_form most x z w h
@@ -117,7 +117,7 @@ within_only most x z w e = elim (number_from (numeral_within most x) (negative_w
 number_only : (x : Sexpr) (z : ℤ) → IsWritable x → number_of x ≡ Some z → NumberFits z × (x ≡ number_of_value z)
 number_only x z w e = within_only limit x z w e
 
-between : (most : ℕ) (z : ℤ) → SizeFits most z → IsBetween most z
+pub between : (most : ℕ) (z : ℤ) → SizeFits most z → IsBetween most z
 between most (pos n) h = (omega (arith, ints, h), omega (arith, ints, h))
 between most (negsuc n) h = (omega (arith, ints, h), omega (arith, ints, h))
 
@@ -135,7 +135,7 @@ put_parts (Some z) (Some zs) ys e = (z, zs, refl, refl, some_same (z ∷ zs) ys 
 abbrev pub EachOnly : {A : Type 0} → (A → Sexpr) → (A → Type 0) → (A → Type 0) → Items → List A → Type 0
 EachOnly g Fits Plain xs ys = AllByRecursion Fits ys × (AllByRecursion Plain ys → xs ≡ items_of (map g ys))
 
-more_same : (x y : Sexpr) (xs ys : Items) → x ≡ y → xs ≡ ys → more x xs ≡ more y ys
+pub more_same : (x y : Sexpr) (xs ys : Items) → x ≡ y → xs ≡ ys → more x xs ≡ more y ys
 more_same x y xs ys e f = λ i. more (e i) (f i)
 
 each_from : {A : Type 0} (f : Sexpr → Option A) (g : A → Sexpr) (Fits Plain : A → Type 0) → Only f g Fits Plain → (xs : Items) (ys : List A) → AreWritable xs → each_of f xs ≡ Some ys → EachOnly g Fits Plain xs ys

@@ -27,7 +27,7 @@ use Rattle.cert_read.specs.declared.line.Head.{Head}
 use Rattle.cert_read.specs.declared.line.Head.TheVariants as head
 use Rattle.cert_read.specs.declared.error.PartError.{PartError}
 use Rattle.cert_read.specs.declared.error.PartError.TheVariants.{OutOfMemory, IllFormed}
-use Rattle.cert_read.specs.Lines.{IfIllFormed, LineIs, IsClosing, Closed, NeverCloses, IsListOf, LacksList, HasItems, head_of, IsLineOf, IsNoLine}
+use Rattle.cert_read.specs.Lines.{IfIllFormed, LineIs, IsClosing, Closed, NeverCloses, AreLeft, LacksAll, IsListOf, LacksList, HasItems, head_of, IsLineOf, IsNoLine}
 use Rattle.cert_read.proofs.EntryKinds.{entry_by, head_by, by_tests, head_tests}
 use Rattle.cert_read.proofs.HeaderAndEnd.{is_end_line, end_alone}
 use Rattle.cert_read.proofs.ItemByItem.{closed_none, closed_more, closed_forward, never_more}
@@ -37,9 +37,9 @@ use Rattle.cert_read.proofs.ItemByItem.{closed_none, closed_more, closed_forward
 abbrev is_named : Option (List ℕ) → List ℕ → Bool
 is_named o text = option_map_or (λ (name : List ℕ). bytes_eq name text) o false
 
-by_symbol : (version : Version) (xs : Items) (o : Option (List ℕ)) → option_and_then (λ (p : List ℕ × Items). entry_named version p.0 p.1) (option_map (λ (name : List ℕ). (name, xs)) o) ≡ entry_by version (head_by (is_named o (codes "sat")) (is_named o (codes "unsat")) (is_named o (codes "end"))) xs
+by_symbol : (version : Version) (xs : Items) (o : Option (List ℕ)) → option_and_then (λ (p : List ℕ × Items). entry_named version p.0 p.1) (option_map (λ (name : List ℕ). (name, xs)) o) ≡ entry_by version (head_by (is_named o (codes "sat")) (is_named o (codes "unsat")) (is_named o (codes "best")) (is_named o (codes "unbounded")) (is_named o (codes "end"))) xs
 by_symbol version xs None = refl
-by_symbol version xs (Some name) = by_tests version xs (bytes_eq name (codes "sat")) (bytes_eq name (codes "unsat")) (bytes_eq name (codes "end"))
+by_symbol version xs (Some name) = by_tests version xs (bytes_eq name (codes "sat")) (bytes_eq name (codes "unsat")) (bytes_eq name (codes "best")) (bytes_eq name (codes "unbounded")) (bytes_eq name (codes "end"))
 
 entry_is : (version : Version) (x : Sexpr) (xs : Items) → entry_of version (list (more x xs)) ≡ entry_by version (head_of x) xs
 entry_is version x xs = by_symbol version xs (symbol_of x)
@@ -48,7 +48,7 @@ end_head : (x : Sexpr) (xs : Items) → list (more x xs) ≡ end_sexpr → head_
 end_head x xs e = ap (λ (y : Sexpr). head_of (first (parts y))) e
 
 end_named : (x : Sexpr) → head_of x ≡ head.End → is_symbol (codes "end") x ≡ true
-end_named x e = head_tests (is_symbol (codes "sat") x) (is_symbol (codes "unsat") x) (is_symbol (codes "end") x) e
+end_named x e = head_tests (is_symbol (codes "sat") x) (is_symbol (codes "unsat") x) (is_symbol (codes "best") x) (is_symbol (codes "unbounded") x) (is_symbol (codes "end") x) e
 
 -- ---- the list behind its parenthesis
 
@@ -57,6 +57,11 @@ module _ (version : Version) (bytes : List ℕ) (place mid : ℕ) (x : Sexpr) (s
   pub opened : {A : Type 0} (f : Sexpr → Option A) (make : List A → FileEntry) (k : Head) → ((xs : Items) → entry_by version k xs ≡ option_map make (each_of f xs)) → (parts : List A) (after : ℕ) → head_of x ≡ k → IsListOf f bytes mid parts after → IsLineOf version bytes place (Shown (make parts)) after
   opened f make k by parts after h (xs, closed, are) =
       (more x xs, closed_more bytes place mid after x xs s closed, entry_is version x xs ∙ ap (λ (l : Head). entry_by version l xs) h ∙ by xs ∙ ap (option_map make) are)
+
+  -- an entry that the items stand for together
+  pub opened_as : (f : Items → Option FileEntry) (k : Head) → ((xs : Items) → entry_by version k xs ≡ f xs) → (entry : FileEntry) (after : ℕ) → head_of x ≡ k → AreLeft f bytes mid entry after → IsLineOf version bytes place (Shown entry) after
+  opened_as f k by entry after h (xs, closed, is) =
+      (more x xs, closed_more bytes place mid after x xs s closed, entry_is version x xs ∙ ap (λ (l : Head). entry_by version l xs) h ∙ by xs ∙ is)
 
   pub opened_end : (after : ℕ) → head_of x ≡ head.End → Closed bytes mid none after → IsLineOf version bytes place End after
   opened_end after h closed = (more x none, closed_more bytes place mid after x none s closed, is_end_line x (end_named x h))
@@ -72,6 +77,11 @@ module _ (version : Version) (bytes : List ℕ) (place mid : ℕ) (x : Sexpr) (s
   lacking f make k by other IllFormed h (inl never) = inl (never_more bytes place mid x s never)
   lacking f make k by other IllFormed h (inr (xs, after, closed, lacks)) = no_line k xs after h other closed (by xs ∙ ap (option_map make) lacks)
   lacking f make k by other OutOfMemory h lacks = tt
+
+  pub lacking_as : (f : Items → Option FileEntry) (k : Head) → ((xs : Items) → entry_by version k xs ≡ f xs) → k ≢ head.End → (error : PartError) → head_of x ≡ k → IfIllFormed (LacksAll f bytes mid) error → IfIllFormed (IsNoLine version bytes place) error
+  lacking_as f k by other IllFormed h (inl never) = inl (never_more bytes place mid x s never)
+  lacking_as f k by other IllFormed h (inr (xs, after, closed, lacks)) = no_line k xs after h other closed (by xs ∙ lacks)
+  lacking_as f k by other OutOfMemory h lacks = tt
 
   pub not_alone : (error : PartError) → head_of x ≡ head.End → IfIllFormed (HasItems bytes mid) error → IfIllFormed (IsNoLine version bytes place) error
   not_alone IllFormed h (inl never) = inl (never_more bytes place mid x s never)

@@ -1,5 +1,6 @@
 -- What the laws of reading a certificate say.
-use Rattle.std.specs.Prelude.{◌≡◌, ℕ, All, drop, List, ◌++◌, Some}
+use Rattle.std.specs.Prelude.{◌≡◌, ℕ, min, All, drop, map, List, ◌++◌, Some}
+use Rattle.std.specs.List.Sorted.{IsStrictlyIncreasing}
 use Rattle.smt_lex.specs.declared.token.TokenKind.TheVariants.{Numeral}
 use Rattle.smt_lex.specs.Grammar.{IsToken}
 use Rattle.smt_lex.specs.Numbers.{value_of}
@@ -7,8 +8,9 @@ use Rattle.smt_sexpr.specs.Printing.{IsWritable}
 use Rattle.smt_sexpr.specs.Tree.{Sexpr}
 use Rattle.cert_text.specs.declared.entry.Version.{Version}
 use Rattle.cert_text.specs.declared.entry.FileEntry.{FileEntry}
+use Rattle.cert_text.specs.declared.entry.FileEntry.TheVariants.{Sat, Unsat, Best, Unbounded}
 use Rattle.cert_text.specs.Form.{file_entry_sexpr, numeral_text}
-use Rattle.cert_text.specs.Limits.{FileEntryFits, IsPlainFileEntry}
+use Rattle.cert_text.specs.Limits.{WholeFits, FileEntryFits, IsPlainFileEntry}
 use Rattle.cert_read.specs.Certificates.{CertificateOutcome, ReadsCertificate, ReadsEntries, certificate}
 use Rattle.cert_read.specs.Parts.{entry_of}
 use Rattle.cert_read.specs.Written.{IsClosedGap, certificate_text}
@@ -34,10 +36,18 @@ abbrev pub EntryIsItsForm : Type 0
 EntryIsItsForm = (version : Version) (entry : FileEntry)
     → FileEntryFits version entry → entry_of version (file_entry_sexpr entry) ≡ Some entry
 
+-- within the limits; of points, the numerals that are written ascend, and those from the greatest point on are read as it
+abbrev pub IsReadWithin : Version → FileEntry → Type 0
+IsReadWithin version (Sat values) = FileEntryFits version (Sat values)
+IsReadWithin version (Unsat items) = FileEntryFits version (Unsat items)
+IsReadWithin version (Best m values items) = FileEntryFits version (Best m values items)
+IsReadWithin version (Unbounded values set) = All WholeFits values
+    × ((numbers : List ℕ) × IsStrictlyIncreasing numbers × (set ≡ map (λ n. min n 4294967295) numbers))
+
 -- what is read as an entry is within the limits
 abbrev pub ReadEntryFits : Type 0
 ReadEntryFits = (version : Version) (x : Sexpr) (entry : FileEntry)
-    → IsWritable x → entry_of version x ≡ Some entry → FileEntryFits version entry
+    → IsWritable x → entry_of version x ≡ Some entry → IsReadWithin version entry
 
 -- and has the entry's own form, where no point in it is the greatest one
 abbrev pub ReadEntryIsForm : Type 0

@@ -7,7 +7,7 @@ use Rattle.smt_lex.specs.declared.token.LexError.{LexError}
 use Rattle.smt_lex.specs.Grammar.{Reads}
 use Rattle.smt_sexpr.specs.Shapes.{is_symbol}
 use Rattle.smt_sexpr.specs.Table.{Table, Means}
-use Rattle.smt_sexpr.specs.Tree.{Sexpr, Items, list, none}
+use Rattle.smt_sexpr.specs.Tree.{Sexpr, Items, list, none, more}
 use Rattle.smt_sexpr.specs.Reading.{ReadsToken, Spells, SpellsEach, IsInside}
 use Rattle.cert_text.specs.declared.entry.Version.{Version}
 use Rattle.cert_text.specs.Form.{end_sexpr}
@@ -48,17 +48,33 @@ abbrev pub IsNext : Table → List ℕ → ℕ → Option ℕ → ℕ → Type 0
 IsNext t bytes place (Some id) after = (x : Sexpr) × Means t id x × Spells bytes place x after
 IsNext t bytes place None after = IsClosing bytes place after
 
+-- the items that are left stand for this together
+abbrev pub AreLeft : {A : Type 0} → (Items → Option A) → List ℕ → ℕ → A → ℕ → Type 0
+AreLeft f bytes place whole after = (xs : Items) × Closed bytes place xs after × (f xs ≡ Some whole)
+
 -- the items that are left stand for these
 abbrev pub IsListOf : {A : Type 0} → (Sexpr → Option A) → List ℕ → ℕ → List A → ℕ → Type 0
-IsListOf f bytes place parts after = (xs : Items) × Closed bytes place xs after × (each_of f xs ≡ Some parts)
+IsListOf f bytes place parts after = AreLeft (each_of f) bytes place parts after
 
 -- the list has no end, or its items, read to the end, are so
 abbrev pub IsBrokenOr : (Items → Type 0) → List ℕ → ℕ → Type 0
 IsBrokenOr Are bytes place = NeverCloses bytes place ⊎ ((xs : Items) × (after : ℕ) × Closed bytes place xs after × Are xs)
 
+-- the items that are left stand for nothing together
+abbrev pub LacksAll : {A : Type 0} → (Items → Option A) → List ℕ → ℕ → Type 0
+LacksAll f bytes place = IsBrokenOr (λ xs. f xs ≡ None) bytes place
+
 -- one of the items that are left stands for nothing
 abbrev pub LacksList : {A : Type 0} → (Sexpr → Option A) → List ℕ → ℕ → Type 0
-LacksList f bytes place = IsBrokenOr (λ xs. each_of f xs ≡ None) bytes place
+LacksList f bytes place = LacksAll (each_of f) bytes place
+
+-- no item is left, or the first one stands for nothing
+abbrev pub HasNoFirst : {A : Type 0} → (Sexpr → Option A) → Items → Type 0
+HasNoFirst f none = Unit {0}
+HasNoFirst f (more x xs) = f x ≡ None
+
+abbrev pub LacksFirst : {A : Type 0} → (Sexpr → Option A) → List ℕ → ℕ → Type 0
+LacksFirst f bytes place = IsBrokenOr (HasNoFirst f) bytes place
 
 -- there are items left
 abbrev pub HasItems : List ℕ → ℕ → Type 0
@@ -71,8 +87,10 @@ abbrev pub head_of : Sexpr → Head
 head_of x =
     if is_symbol (codes "sat") x then head.Sat
     else (if is_symbol (codes "unsat") x then head.Unsat
+    else (if is_symbol (codes "best") x then head.Best
+    else (if is_symbol (codes "unbounded") x then head.Unbounded
     else (if is_symbol (codes "end") x then head.End
-    else head.Other))
+    else head.Other))))
 
 abbrev pub StandsFor : Version → Items → Line → Type 0
 StandsFor version xs (Shown e) = entry_of version (list xs) ≡ Some e

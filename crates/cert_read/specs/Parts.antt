@@ -1,17 +1,19 @@
 -- What the s-expressions of a certificate stand for, part by part, in each version. The format is this project's own:
 --
---     entry    (sat v ..), (unsat item ..)
+--     entry    (sat v ..), (unsat item ..), (best m (v ..) item ..), (unbounded (w ..) (p ..))
 --     item     (lemma (literal ..) step ..)   a lemma: its clause and its tree in preorder
 --              (keep e j)                     version 2 alone: the item j, from 0, of the earlier entry e, from 1
 --     step     (cycle literal ..), (input i), (lemma j), (either x y c)
 --              (clash i)                      version 2 alone
 --     literal  (x y c)                        x - y <= c
 --     v        a number, true or false
+--     m, w     a number
+--     p        a numeral, above the one before it
 --
--- A number is a numeral, or (- n) with n at least 1. The indices e, i and j and the points x and y are numerals. No number
--- and no numeral goes beyond the limit, which is another one for the values v. What has none of these forms stands for
--- nothing.
-use Rattle.std.specs.Prelude.{ℕ, zero, suc, min, nat_le, ℤ, pos, negsuc, true, false, if◌then◌else◌, List, [], ◌∷◌, codes, Option, Some, None, option_map, option_and_then}
+-- A number is a numeral, or (- n) with n at least 1. The indices e, i and j and the points x, y and p are numerals. No number
+-- and no numeral goes beyond the limit, which is another one for the values v, m and w. What has none of these forms stands
+-- for nothing.
+use Rattle.std.specs.Prelude.{ℕ, zero, suc, min, nat_lt, nat_le, Bool, ◌&&◌, map, ℤ, pos, negsuc, true, false, if◌then◌else◌, List, [], ◌∷◌, codes, Option, Some, None, option_map, option_and_then}
 use Rattle.std.specs.Option.{option_or}
 use Rattle.std.specs.Str.{bytes_eq}
 use Rattle.smt_lex.specs.Numbers.{value_of}
@@ -29,7 +31,7 @@ use Rattle.kept_lemmas.specs.declared.item.Item.TheVariants.{Own, Keep}
 use Rattle.cert_text.specs.declared.entry.Version.{Version}
 use Rattle.cert_text.specs.declared.entry.Version.TheVariants.{One, Two}
 use Rattle.cert_text.specs.declared.entry.FileEntry.{FileEntry}
-use Rattle.cert_text.specs.declared.entry.FileEntry.TheVariants.{Sat, Unsat}
+use Rattle.cert_text.specs.declared.entry.FileEntry.TheVariants.{Sat, Unsat, Best, Unbounded}
 pub use Rattle.cert_text.specs.Limits.{limit}
 use Rattle.stn_core.specs.Limits.{named_value_limit}
 
@@ -66,7 +68,7 @@ number_within most x = option_or (option_map pos (numeral_within most x)) (negat
 abbrev pub number_of : Sexpr → Option ℤ
 number_of x = number_within limit x
 
--- the value of a name of sort Int
+-- the value of a name of sort Int, of a term, and of a time point
 abbrev pub whole_of : Sexpr → Option ℤ
 whole_of x = number_within named_value_limit x
 
@@ -158,11 +160,58 @@ truth_named name =
 abbrev pub named_value_of : Sexpr → Option NamedValue
 named_value_of x = option_or (option_map Int (whole_of x)) (option_and_then truth_named (symbol_of x))
 
+-- the values of the names, in a list
+abbrev pub values_of : Sexpr → Option (List NamedValue)
+values_of (leaf _ _) = None
+values_of (list xs) = each_of named_value_of xs
+
+-- the values of the time points, in a list
+abbrev pub schedule_of : Sexpr → Option (List ℤ)
+schedule_of (leaf _ _) = None
+schedule_of (list xs) = each_of whole_of xs
+
+-- whether each number is above the one before it, and the first above this one
+abbrev pub ascends_from : ℕ → List ℕ → Bool
+ascends_from n [] = true
+ascends_from n (m ∷ ms) = nat_lt n m && ascends_from m ms
+
+abbrev pub ascends : List ℕ → Bool
+ascends [] = true
+ascends (n ∷ ns) = ascends_from n ns
+
+-- numbers that ascend as they are written, as time points
+abbrev pub ascending : List ℕ → Option (List ℕ)
+ascending ns = if ascends ns then Some (map (λ n. min n 4294967295) ns) else None
+
+abbrev pub points_of : Sexpr → Option (List ℕ)
+points_of (leaf _ _) = None
+points_of (list xs) = option_and_then ascending (each_of index_of xs)
+
+abbrev pub best_with : Option ℤ → Option (List NamedValue) → Option (List Item) → Option FileEntry
+best_with (Some m) (Some values) (Some items) = Some (Best m values items)
+best_with _ _ _ = None
+
+-- m, the values of the names, and the items
+abbrev pub best_from : Version → Items → Option FileEntry
+best_from version (more m (more values items)) = best_with (whole_of m) (values_of values) (each_of (item_of version) items)
+best_from version _ = None
+
+abbrev pub unbounded_with : Option (List ℤ) → Option (List ℕ) → Option FileEntry
+unbounded_with (Some values) (Some points) = Some (Unbounded values points)
+unbounded_with _ _ = None
+
+-- the values of the time points, and the points
+abbrev pub unbounded_from : Items → Option FileEntry
+unbounded_from (more values (more points none)) = unbounded_with (schedule_of values) (points_of points)
+unbounded_from _ = None
+
 abbrev pub entry_named : Version → List ℕ → Items → Option FileEntry
 entry_named version name xs =
     if bytes_eq name (codes "sat") then option_map Sat (each_of named_value_of xs)
     else (if bytes_eq name (codes "unsat") then option_map Unsat (each_of (item_of version) xs)
-    else None)
+    else (if bytes_eq name (codes "best") then best_from version xs
+    else (if bytes_eq name (codes "unbounded") then unbounded_from xs
+    else None)))
 
 abbrev pub entry_of : Version → Sexpr → Option FileEntry
 entry_of version x = option_and_then (λ (p : List ℕ × Items). entry_named version p.0 p.1) (headed_of x)

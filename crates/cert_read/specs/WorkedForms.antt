@@ -2,7 +2,7 @@
 use Rattle.std.specs.Prelude.{[], ◌∷◌, codes}
 use Rattle.smt_lex.specs.declared.token.TokenKind.TheVariants.{Numeral}
 use Rattle.smt_sexpr.specs.Tree.{Sexpr, leaf}
-use Rattle.smt_sexpr.specs.Shapes.{list_of, form}
+use Rattle.smt_sexpr.specs.Shapes.{symbol, list_of, form}
 
 abbrev zero : Sexpr
 zero = leaf Numeral (codes "0")
@@ -65,6 +65,26 @@ keep_of_one = form (codes "keep") (two ∷ [])
 -- (unsat (keep 2 0))
 abbrev pub kept_entry_sexpr : Sexpr
 kept_entry_sexpr = form (codes "unsat") (keep_sexpr ∷ [])
+
+-- (best (- 1) (0 true))
+abbrev pub best_sexpr : Sexpr
+best_sexpr = form (codes "best") (below_zero ∷ list_of (zero ∷ symbol (codes "true") ∷ []) ∷ [])
+
+-- (best (- 1))
+abbrev pub best_without_values : Sexpr
+best_without_values = form (codes "best") (below_zero ∷ [])
+
+-- (unbounded (0 0 (- 1)) (1))
+abbrev pub unbounded_sexpr : Sexpr
+unbounded_sexpr = form (codes "unbounded") (list_of (zero ∷ zero ∷ below_zero ∷ []) ∷ list_of (one ∷ []) ∷ [])
+
+-- (unbounded (0) (1 1))
+abbrev pub point_twice : Sexpr
+point_twice = form (codes "unbounded") (list_of (zero ∷ []) ∷ list_of (one ∷ one ∷ []) ∷ [])
+
+-- (unbounded () (0 4294967295 4294967296))
+abbrev pub points_beyond : Sexpr
+points_beyond = form (codes "unbounded") (list_of [] ∷ list_of (zero ∷ leaf Numeral (codes "4294967295") ∷ beyond_points ∷ []) ∷ [])
 
 -- (end 1)
 abbrev pub end_with_more : Sexpr

@@ -1,14 +1,16 @@
 //! Laws of the text: functions that do nothing, and tell their callers' proofs a fact.
-ghost use Rattle.std.specs.Prelude.{◌≡◌, ◌∷◌, [], ◌^◌, map, pos, Some, None};
+ghost use Rattle.std.specs.Prelude.{◌≡◌, ◌∷◌, [], ◌^◌, map, pos, negsuc, true, Some, None};
+ghost use Rattle.stn_core.specs.declared.named.NamedValue.TheVariants.{Int, Truth};
 ghost use Rattle.refute_tree.specs.declared.step.Step.TheVariants.{Clash};
 ghost use Rattle.refute_tree.specs.Examples.{two_orders_refutation};
 ghost use Rattle.kept_lemmas.specs.declared.item.Item.TheVariants.{Own, Keep};
 ghost use Rattle.cert_text.specs.declared.entry.Version.TheVariants.{One, Two};
-ghost use Rattle.cert_text.specs.declared.entry.FileEntry.TheVariants.{Unsat};
+ghost use Rattle.cert_text.specs.declared.entry.FileEntry.TheVariants.{Unsat, Best, Unbounded};
 ghost use Rattle.cert_text.specs.Form.{end_sexpr};
 ghost use Rattle.cert_read.specs.Parts.{index_of, point_of, number_of, whole_of, step_of, item_of, entry_of};
 ghost use Rattle.cert_read.specs.WorkedForms.{two_orders_sexpr, minus_zero, clash_sexpr, clash_of_two, end_with_more};
 ghost use Rattle.cert_read.specs.WorkedForms.{keep_sexpr, keep_of_one, kept_entry_sexpr};
+ghost use Rattle.cert_read.specs.WorkedForms.{best_sexpr, best_without_values, unbounded_sexpr, point_twice, points_beyond};
 ghost use Rattle.cert_read.specs.WorkedForms.{beyond_points, beyond_limit, greatest_value, beyond_values};
 ghost use Rattle.cert_read.specs.Laws.{OneCertificate, OneRest, CertificateReadsBack, EntryIsItsForm};
 ghost use Rattle.cert_read.specs.Laws.{ReadEntryFits, ReadEntryIsForm, TextOfValue, ValueOfText};
@@ -48,6 +50,11 @@ pub fn examples_law()
     ensures keep_in_two { item_of Two keep_sexpr ≡ Some (Keep (record { entry = 2; item = 0 })) }
     ensures keep_of_one { item_of Two keep_of_one ≡ None }
     ensures kept_entry { entry_of Two kept_entry_sexpr ≡ Some (Unsat (Keep (record { entry = 2; item = 0 }) ∷ [])) }
+    ensures best { entry_of One best_sexpr ≡ Some (Best (negsuc 0) (Int (pos 0) ∷ Truth true ∷ []) []) }
+    ensures best_without_values { entry_of One best_without_values ≡ None }
+    ensures unbounded { entry_of One unbounded_sexpr ≡ Some (Unbounded (pos 0 ∷ pos 0 ∷ negsuc 0 ∷ []) (1 ∷ [])) }
+    ensures point_twice { entry_of One point_twice ≡ None }
+    ensures points_beyond { entry_of One points_beyond ≡ Some (Unbounded [] (0 ∷ 4294967295 ∷ 4294967295 ∷ [])) }
     ensures end { entry_of Two end_sexpr ≡ None }
     ensures end_with_more { entry_of Two end_with_more ≡ None }
 {}

@@ -14,6 +14,7 @@ mod certificate;
 mod error;
 mod laws;
 mod line;
+mod lists;
 mod number;
 mod part;
 mod quick;

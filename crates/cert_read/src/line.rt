@@ -4,18 +4,22 @@ ghost use Rattle.std.specs.Prelude.{IfOk, OnOk, IfErr, IfSome, IsNone, IsSome};
 ghost use Rattle.smt_sexpr.specs.Tree.{Sexpr, Items as Several, none};
 ghost use Rattle.smt_sexpr.specs.Table.{Means, HasMeaning};
 ghost use Rattle.cert_read.specs.Certificates.{ErrorSays, RefusesBehind};
+ghost use Rattle.cert_read.specs.Parts.{best_from, unbounded_from};
 ghost use Rattle.cert_read.specs.Lines.{LineIs, IsNext, Closed, NeverCloses, IsListOf, LacksList, HasItems};
+ghost use Rattle.cert_read.specs.Lines.{AreLeft, LacksAll, LacksFirst};
 ghost use Rattle.cert_read.specs.Quick.{ReadsOne, ReadsTo};
 ghost use Rattle.cert_read.specs.Lines.{head_of, IsLineOf, IsNoLine, IfIllFormed};
 
 use crate::error::{CertReadError, CertificateRefusal, PartError};
+use crate::part::Part;
 use crate::quick::Quick;
+use best_values::Points;
 use cert_text::{FileEntry, Version};
 use kept_lemmas::Items;
 use smt_lex::{Lexer, TokenKind};
 use smt_sexpr::{SexprError, SexprId, SexprRefusal, Sexprs};
 use std::alloc::{AllocError, Global};
-use stn_core::NamedValues;
+use stn_core::{NamedValues, Schedule, Value};
 
 /// What stands in place of an entry.
 pub(crate) enum Line {
@@ -28,6 +32,8 @@ pub(crate) enum Line {
 enum Head {
     Sat,
     Unsat,
+    Best,
+    Unbounded,
     End,
     Other,
 }
@@ -40,6 +46,10 @@ fn head_of(table: &Sexprs, id: SexprId) -> Head
         Head::Sat
     } else if table.is_symbol(id, b"unsat") {
         Head::Unsat
+    } else if table.is_symbol(id, b"best") {
+        Head::Best
+    } else if table.is_symbol(id, b"unbounded") {
+        Head::Unbounded
     } else if table.is_symbol(id, b"end") {
         Head::End
     } else {
@@ -160,6 +170,37 @@ fn read_items<T: Quick + Drop>(
     Ok(parts)
 }
 
+/// What the next item of an open list stands for.
+///
+/// A list whose next item stands for nothing is read to its end, since it may have none.
+fn read_part<T: Part + Drop>(
+    alloc: Global,
+    version: Version,
+    table: &mut Sexprs,
+    lexer: &mut Lexer,
+) -> Result<T, PartError>
+    requires fresh { lexer.old.failed ≡ None }
+    requires same { lexer.old.bytes ≡ table.old.bytes }
+    ensures ok { IfOk result (λ part. ReadsOne (T.meant version) lexer.old.bytes lexer.old.place part lexer.new.place) }
+    ensures err { IfErr result (IfIllFormed (LacksFirst (T.meant version) lexer.old.bytes lexer.old.place)) }
+    ensures fresh { OnOk result (lexer.new.failed ≡ None) }
+    ensures lexer_bytes { lexer.new.bytes ≡ lexer.old.bytes }
+    ensures table_bytes { table.new.bytes ≡ table.old.bytes }
+{
+    let id = match next_item(table, lexer)? {
+        None => return Err(PartError::IllFormed),
+        Some(id) => id,
+    };
+    match T::read(alloc, version, table, id) {
+        Ok(part) => Ok(part),
+        Err(PartError::IllFormed) => {
+            skip_items(table, lexer)?;
+            Err(PartError::IllFormed)
+        }
+        Err(PartError::OutOfMemory) => Err(PartError::OutOfMemory),
+    }
+}
+
 /// Reads the end of a list that has no more items.
 fn read_close(table: &mut Sexprs, lexer: &mut Lexer) -> Result<(), PartError>
     requires fresh { lexer.old.failed ≡ None }
@@ -178,6 +219,50 @@ fn read_close(table: &mut Sexprs, lexer: &mut Lexer) -> Result<(), PartError>
             Err(PartError::IllFormed)
         }
     }
+}
+
+/// An entry of a least value, behind its head.
+fn read_best(
+    alloc: Global,
+    version: Version,
+    table: &mut Sexprs,
+    lexer: &mut Lexer,
+) -> Result<FileEntry, PartError>
+    requires fresh { lexer.old.failed ≡ None }
+    requires same { lexer.old.bytes ≡ table.old.bytes }
+    ensures ok { IfOk result (λ entry. AreLeft (best_from version) lexer.old.bytes lexer.old.place entry lexer.new.place) }
+    ensures err { IfErr result (IfIllFormed (LacksAll (best_from version) lexer.old.bytes lexer.old.place)) }
+    ensures fresh { OnOk result (lexer.new.failed ≡ None) }
+    ensures within { OnOk result (lexer.new.place ≤ length lexer.new.bytes) }
+    ensures lexer_bytes { lexer.new.bytes ≡ lexer.old.bytes }
+    ensures table_bytes { table.new.bytes ≡ table.old.bytes }
+{
+    let least: Value = read_part(alloc, version, table, lexer)?;
+    let values: NamedValues = read_part(alloc, version, table, lexer)?;
+    let items = read_items(alloc, version, table, lexer)?;
+    Ok(FileEntry::Best(least, values, Items::new(items)))
+}
+
+/// An entry of a term without a least value, behind its head.
+fn read_unbounded(
+    alloc: Global,
+    version: Version,
+    table: &mut Sexprs,
+    lexer: &mut Lexer,
+) -> Result<FileEntry, PartError>
+    requires fresh { lexer.old.failed ≡ None }
+    requires same { lexer.old.bytes ≡ table.old.bytes }
+    ensures ok { IfOk result (λ entry. AreLeft unbounded_from lexer.old.bytes lexer.old.place entry lexer.new.place) }
+    ensures err { IfErr result (IfIllFormed (LacksAll unbounded_from lexer.old.bytes lexer.old.place)) }
+    ensures fresh { OnOk result (lexer.new.failed ≡ None) }
+    ensures within { OnOk result (lexer.new.place ≤ length lexer.new.bytes) }
+    ensures lexer_bytes { lexer.new.bytes ≡ lexer.old.bytes }
+    ensures table_bytes { table.new.bytes ≡ table.old.bytes }
+{
+    let values: Schedule = read_part(alloc, version, table, lexer)?;
+    let points: Points = read_part(alloc, version, table, lexer)?;
+    read_close(table, lexer)?;
+    Ok(FileEntry::Unbounded(values, points))
 }
 
 /// The entry or the end, behind its opening parenthesis.
@@ -209,6 +294,8 @@ fn read_opened(
             let items = read_items(alloc, version, table, lexer)?;
             Ok(Line::Shown(FileEntry::Unsat(Items::new(items))))
         }
+        Head::Best => Ok(Line::Shown(read_best(alloc, version, table, lexer)?)),
+        Head::Unbounded => Ok(Line::Shown(read_unbounded(alloc, version, table, lexer)?)),
         Head::End => {
             read_close(table, lexer)?;
             Ok(Line::End)

@@ -101,7 +101,7 @@ pub(crate) fn number(table: &Sexprs, id: SexprId) -> Option<i64>
     Some(value as i64)
 }
 
-/// The value of a name of sort Int.
+/// The value of a name of sort Int, of a term, and of a time point.
 pub(crate) fn whole(table: &Sexprs, id: SexprId) -> Option<Value>
     requires { HasMeaning table.now id }
     ensures { (x : Sexpr) → Means table.now id x → result ≡ whole_of x }

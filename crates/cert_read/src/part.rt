@@ -30,7 +30,7 @@ pub(crate) trait Part {
 }
 
 /// What the items of a list stand for.
-fn read_each<T: Part + Drop>(
+pub(crate) fn read_each<T: Part + Drop>(
     alloc: Global,
     version: Version,
     table: &Sexprs,

@@ -1,18 +1,21 @@
 //! Text that waits, and goes out when it is long.
 #![tactic(auto, unfolding(smt_lex::specs::Bytes::is_symbol_byte))]
 
-ghost use Rattle.std.specs.Prelude.{◌≡◌, ◌∷◌, [], ◌++◌, map, OnOk};
+ghost use Rattle.std.specs.Prelude.{◌≡◌, ◌∷◌, [], ◌++◌, map, codes, OnOk};
 ghost use Rattle.smt_sexpr.specs.Printing.{text_of, text_behind};
-ghost use Rattle.smt_sexpr.specs.Shapes.{items_of};
-ghost use Rattle.cert_text.specs.Form.{entry_sexpr, line_of};
+ghost use Rattle.smt_sexpr.specs.Shapes.{items_of, list_of};
+ghost use Rattle.cert_text.specs.declared.entry.Entry.TheVariants.{Best, Unbounded};
+ghost use Rattle.cert_text.specs.Form.{number_of_value, entry_sexpr, line_of};
 ghost use Rattle.dtp_entry.specs.Written.{WritesOne};
-ghost use Rattle.cert_stream.specs.Streams.{Streams, entry_lines, whole_text};
+ghost use Rattle.cert_stream.specs.Streams.{Streams};
 
 use bstr::ByteVec;
-use cert_text::{Entry, Part, Version, write_end, write_header};
+use cert_text::{Entry, Part};
 use dtp_entry::{SessionError, write_text};
 use dtp_io::Sink;
+use refute_tree::Lemma;
 use std::alloc::{AllocError, Global};
+use stn_core::{NamedValue, Value};
 
 /// How long the text is at least that goes out before the entry's end.
 const LONG: usize = 1 << 16;
@@ -72,6 +75,75 @@ fn stream_line<T: Part, K: Sink>(
     Ok(())
 }
 
+// A list of its own.
+fn stream_list<T: Part, K: Sink>(
+    items: &[T],
+    text: &mut Vec<u8>,
+    sink: &mut K,
+) -> Result<(), SessionError>
+    ensures { Streams (text_of (list_of (map (λ x. T.sexpr x) items.now)))
+        text.old.items text.new.items (K.holds sink.old) (K.holds sink.new)
+        (K.faults sink.old) (K.faults sink.new) result }
+{
+    match items.split_first() {
+        None => {
+            text.push_str(b"()")?;
+            Ok(())
+        }
+        Some((first, rest)) => {
+            text.push_str(b"(")?;
+            first.write(text)?;
+            stream_behind(rest, text, sink)
+        }
+    }
+}
+
+// What a line of a least value begins with, up to the list of values.
+fn begin_best(least: Value, text: &mut Vec<u8>) -> Result<(), AllocError>
+    ensures { OnOk result (text.new.items ≡ text.old.items
+        ++ (codes "(best " ++ (text_of (number_of_value least) ++ 32 ∷ []))) }
+{
+    text.push_str(b"(best ")?;
+    least.write(text)?;
+    text.push_str(b" ")
+}
+
+// The line of a least value.
+fn stream_best<K: Sink>(
+    least: Value,
+    values: &[NamedValue],
+    lemmas: &[Lemma],
+    text: &mut Vec<u8>,
+    sink: &mut K,
+) -> Result<(), SessionError>
+    ensures { Streams (line_of (entry_sexpr (Best least values.now lemmas.now)))
+        text.old.items text.new.items (K.holds sink.old) (K.holds sink.new)
+        (K.faults sink.old) (K.faults sink.new) result }
+{
+    begin_best(least, text)?;
+    stream_list(values, text, sink)?;
+    stream_line(b"", lemmas, text, sink)
+}
+
+// The line of a term without a least value.
+fn stream_unbounded<K: Sink>(
+    values: &[Value],
+    points: &[u32],
+    text: &mut Vec<u8>,
+    sink: &mut K,
+) -> Result<(), SessionError>
+    ensures { Streams (line_of (entry_sexpr (Unbounded values.now points.now)))
+        text.old.items text.new.items (K.holds sink.old) (K.holds sink.new)
+        (K.faults sink.old) (K.faults sink.new) result }
+{
+    text.push_str(b"(unbounded ")?;
+    stream_list(values, text, sink)?;
+    text.push_str(b" ")?;
+    stream_list(points, text, sink)?;
+    text.push_str(b")\n")?;
+    Ok(())
+}
+
 fn stream_entry<K: Sink>(
     entry: &Entry,
     text: &mut Vec<u8>,
@@ -84,6 +156,12 @@ fn stream_entry<K: Sink>(
     match entry {
         Entry::Sat(values) => stream_line(b"(sat", values.as_slice(), text, sink),
         Entry::Unsat(refutation) => stream_line(b"(unsat", refutation.as_slice(), text, sink),
+        Entry::Best(least, values, refutation) => {
+            stream_best(*least, values.as_slice(), refutation.as_slice(), text, sink)
+        }
+        Entry::Unbounded(values, points) => {
+            stream_unbounded(values.as_slice(), points.as_slice(), text, sink)
+        }
     }
 }
 
@@ -94,55 +172,6 @@ pub fn write_entry<K: Sink>(alloc: Global, entry: &Entry, sink: &mut K) -> Resul
 {
     let mut text = Vec::new(alloc);
     stream_entry(entry, &mut text, sink)?;
-    write_text(sink, text.as_slice())?;
-    Ok(())
-}
-
-// The lines of entries, one behind the other.
-fn stream_entries<K: Sink>(
-    entries: &[Entry],
-    text: &mut Vec<u8>,
-    sink: &mut K,
-) -> Result<(), SessionError>
-    ensures { Streams (entry_lines entries.now)
-        text.old.items text.new.items (K.holds sink.old) (K.holds sink.new)
-        (K.faults sink.old) (K.faults sink.new) result }
-{
-    for entry in entries {
-        stream_entry(entry, text, sink)?;
-    }
-    Ok(())
-}
-
-// A certificate: its header, the entries, and its end.
-fn stream_certificate<K: Sink>(
-    version: Version,
-    entries: &[Entry],
-    text: &mut Vec<u8>,
-    sink: &mut K,
-) -> Result<(), SessionError>
-    ensures { Streams (whole_text version entries.now)
-        text.old.items text.new.items (K.holds sink.old) (K.holds sink.new)
-        (K.faults sink.old) (K.faults sink.new) result }
-{
-    write_header(version, text)?;
-    stream_entries(entries, text, sink)?;
-    write_end(text)?;
-    Ok(())
-}
-
-/// Writes a whole certificate of the version, in pieces. Without memory for a piece, those before it are written.
-pub fn write_certificate<K: Sink>(
-    alloc: Global,
-    version: Version,
-    entries: &[Entry],
-    sink: &mut K,
-) -> Result<(), SessionError>
-    ensures { WritesOne (λ text. text ≡ whole_text version entries.now) (K.holds sink.old) (K.holds sink.new)
-        (K.faults sink.old) (K.faults sink.new) result }
-{
-    let mut text = Vec::new(alloc);
-    stream_certificate(version, entries, &mut text, sink)?;
     write_text(sink, text.as_slice())?;
     Ok(())
 }

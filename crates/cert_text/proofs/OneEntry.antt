@@ -65,14 +65,17 @@ first_byte x = get_or (leaf_bytes (first (parts x))) 0 0
 abbrev second_byte : Sexpr → ℕ
 second_byte x = get_or (leaf_bytes (first (parts x))) 1 0
 
-numeral_one : (m n : ℕ) → numeral m ≡ numeral n → m ≡ n
+abbrev pub third_byte : Sexpr → ℕ
+third_byte x = get_or (leaf_bytes (first (parts x))) 2 0
+
+pub numeral_one : (m n : ℕ) → numeral m ≡ numeral n → m ≡ n
 numeral_one m n e = sym (numeral_value m) ∙ ap (λ x. value_of (leaf_bytes x)) e ∙ numeral_value n
 
 abbrev count : Items → ℕ
 count none = 0
 count (more x xs) = suc (count xs)
 
-number_one : (m n : ℤ) → number_of_value m ≡ number_of_value n → m ≡ n
+pub number_one : (m n : ℤ) → number_of_value m ≡ number_of_value n → m ≡ n
 number_one (pos m) (pos n) e = ap pos (numeral_one m n e)
 number_one (pos m) (negsuc n) e = absurd (omega (arith, ap (λ x. count (parts x)) e))
 number_one (negsuc m) (pos n) e = absurd (omega (arith, ap (λ x. count (parts x)) e))

@@ -53,7 +53,7 @@ pub each_writable : {A : Type 0} (f : A → Sexpr) → ((x : A) → IsWritable (
 each_writable f h [] = tt
 each_writable f h (x ∷ xs) = (h x, each_writable f h xs)
 
-number_writable : (n : ℤ) → IsWritable (number_of_value n)
+pub number_writable : (n : ℤ) → IsWritable (number_of_value n)
 unfolding is_quoted_byte
 number_writable (pos n) = numeral_writable n
 number_writable (negsuc n) = (refl, (numeral_writable (suc n), tt))

@@ -18,6 +18,11 @@ returns c = record {
   keep_in_two = refl;
   keep_of_one = refl;
   kept_entry = refl;
+  best = refl;
+  best_without_values = refl;
+  unbounded = refl;
+  point_twice = refl;
+  points_beyond = refl;
   end = refl;
   end_with_more = refl;
 }
