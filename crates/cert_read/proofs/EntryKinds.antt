@@ -45,7 +45,7 @@ entry_back version (Best m values items) h =
     (each_back (item_of version) item_sexpr (ItemFits version) (item_back version) items h.2)
 entry_back version (Unbounded values set) h =
     unbounded_is (schedule_sexpr values) (points_sexpr set) values set
-    (each_back whole_of number_of_value WholeFits whole_back values h.values)
+    (each_back whole_of number_of_value WholeFits whole_back values h.all_fit)
     (points_back set h.below h.ascending)
 
 -- ---- what is read has the form that is written

@@ -59,7 +59,7 @@ WholeFits n = ValueFits (Int n)
 
 -- one value for each time point, and points that ascend
 pub record UnboundedWithin (points : ℕ) (values : List ℤ) (set : List ℕ) : Type 0 where
-  pub values : All WholeFits values
+  pub all_fit : All WholeFits values
   pub below : All (λ (p : ℕ). p < points) set
   pub ascending : IsStrictlyIncreasing set
 
