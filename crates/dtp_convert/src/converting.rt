@@ -4,7 +4,7 @@ ghost use Rattle.std.specs.Prelude.{◌≡◌, [], List};
 use crate::entry::shown_entry;
 use cert_text::{Entry, FileEntry};
 use dtp_check::{Earlier, EntryFlaw, Keeps};
-use smt_script::State;
+use smt_script::{Question, State};
 use std::alloc::{AllocError, Global};
 use stn_core::Problem;
 
@@ -28,17 +28,18 @@ impl Converting {
 impl Keeps for Converting {
     ghost use Rattle.dtp_convert.specs.code.Shown.{IsAdded};
 
-    ghost leads = { λ before now c entry. IsAdded before.entries.items now.entries.items c entry };
+    ghost leads = { λ before now question x c entry. IsAdded before.entries.items now.entries.items question x c entry };
 
     fn keep(
         &mut self,
         alloc: Global,
         state: &State,
+        question: Question,
         made: &mut Option<Problem>,
         earlier: &mut Earlier,
         entry: &FileEntry,
     ) -> Result<Option<EntryFlaw>, AllocError> {
-        match shown_entry(alloc, state, made, earlier, entry)? {
+        match shown_entry(alloc, state, question, made, earlier, entry)? {
             Ok(shown) => {
                 self.entries.push(shown)?;
                 Ok(None)

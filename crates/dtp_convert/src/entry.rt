@@ -1,49 +1,33 @@
 //! One entry, as the first version shows it.
-ghost use Rattle.std.specs.Prelude.{◌≡◌, [], ◌∷◌, ◌++◌, List, map, IfOk, IsOk, None, OnOk};
+ghost use Rattle.std.specs.Prelude.{◌≡◌, [], ◌∷◌, ◌++◌, List, IfOk, IsOk, OnOk};
+ghost use Rattle.smt_sexpr.specs.Tree.{Sexpr};
 ghost use Rattle.stn_core.specs.Named.{AreWithinLimit};
-ghost use Rattle.refute_tree.specs.Lengths.{lengthened_lemma};
-ghost use Rattle.cert_text.specs.declared.entry.Version.TheVariants.{One};
+ghost use Rattle.best_values.specs.Widths.{IsWithinLimit};
 ghost use Rattle.cert_text.specs.declared.entry.FileEntry.{FileEntry as Shown};
 ghost use Rattle.kept_lemmas.specs.Entries.{Placed as Place};
+ghost use Rattle.smt_script.specs.declared.state.Question.TheVariants.{Minimize};
 ghost use Rattle.smt_script.specs.States.{State as Meaning};
-ghost use Rattle.script_walk.specs.code.Standing.{Stands};
+ghost use Rattle.dtp_check.specs.code.Asked.{IsAsked, asked_clauses};
 ghost use Rattle.dtp_check.specs.code.Earlier.{Holds, Suffices};
-ghost use Rattle.dtp_check.specs.Judged.{placed};
+ghost use Rattle.dtp_check.specs.Judged.{placed, placed_items};
 ghost use Rattle.dtp_check.specs.code.Made.{IsMadeOf};
-ghost use Rattle.dtp_convert.specs.code.Shown.{IsShown};
+ghost use Rattle.dtp_convert.specs.code.Shown.{AreItemsShown, IsShown};
+ghost use Rattle.dtp_entry.specs.Entries.{points_of};
 
-use crate::fitting::{are_values_within, are_within};
-use cert_check::CheckError;
+use crate::fitting::{are_values_within, is_whole_within};
+use crate::free_set::converted_set;
+use crate::lemmas::shown_lemmas;
+use best_values::Points;
 use cert_text::{Entry, FileEntry};
-use dtp_check::{Earlier, EntryFlaw, Keeps, KeepsNothing, take_or_make};
+use dtp_check::{
+    Earlier, EntryFlaw, Keeps, KeepsNothing, least_flaw, take_or_make, with_question,
+    without_question,
+};
 use kept_lemmas::Items;
-use refute_tree::{Lemma, Refutation, lengthen};
-use smt_script::State;
+use refute_tree::Refutation;
+use smt_script::{Objective, Question, State};
 use std::alloc::{AllocError, Global};
-use stn_core::{NamedValues, Problem};
-
-/// Writes out the clashes of each lemma, and lets the lemma as it was go.
-fn write_out_each(alloc: Global, problem: &Problem, lemmas: &mut [Lemma]) -> Result<(), AllocError>
-    ensures { OnOk result (lemmas.new ≡ map (lengthened_lemma problem.now.clauses) lemmas.old) }
-{
-    for lemma in lemmas.iter_mut() {
-        *lemma = lengthen(alloc, problem, lemma)?;
-    }
-    Ok(())
-}
-
-/// The refutation with each clash written out.
-fn written_out(
-    alloc: Global,
-    problem: &Problem,
-    refutation: Refutation,
-) -> Result<Refutation, AllocError>
-    ensures { IfOk result (λ shown. shown ≡ map (lengthened_lemma problem.now.clauses) refutation) }
-{
-    let mut lemmas = refutation.into_vec();
-    write_out_each(alloc, problem, lemmas.as_mut_slice())?;
-    Ok(Refutation::new(lemmas))
-}
+use stn_core::{NamedValues, Problem, Schedule, Value};
 
 /// The values of an entry.
 fn converted_values(alloc: Global, values: &NamedValues) -> Result<NamedValues, AllocError>
@@ -64,23 +48,25 @@ fn converted_values(alloc: Global, values: &NamedValues) -> Result<NamedValues, 
 fn shown_values(
     alloc: Global,
     state: &State,
+    question: Question,
     made: &mut Option<Problem>,
     earlier: &mut Earlier,
     entry: &FileEntry,
     values: &NamedValues,
 ) -> Result<Result<Entry, EntryFlaw>, AllocError>
     requires entry { entry.now ≡ Shown.Sat values.now }
-    requires stands { (s : Meaning) × Stands state.now s }
+    requires asked { (s : Meaning) × (x : Sexpr) × IsAsked state.now question x s }
     requires made { IsMadeOf state.now made.old }
     requires suffices { Suffices earlier.old (entry.now ∷ []) }
     ensures made { IsMadeOf state.now made.new }
-    ensures shown { IfOk result (λ found. (s : Meaning) (before : List Place) → Stands state.now s
-        → Holds earlier.old before → IsShown before s.context entry.now found) }
-    ensures held { IfOk result (λ found. IsOk found → (s : Meaning) (before : List Place) → Stands state.now s
-        → Holds earlier.old before → Holds earlier.new (before ++ placed s.context entry.now ∷ [])) }
+    ensures shown { IfOk result (λ found. (s : Meaning) (x : Sexpr) (before : List Place) → IsAsked state.now question x s
+        → Holds earlier.old before → IsShown before question x s.context entry.now found) }
+    ensures held { IfOk result (λ found. IsOk found → (s : Meaning) (x : Sexpr) (before : List Place) → IsAsked state.now question x s
+        → Holds earlier.old before → Holds earlier.new (before ++ placed question s.context entry.now ∷ [])) }
     ensures suffices { (entries : List Shown) → Suffices earlier.old entries → Suffices earlier.new entries }
 {
-    match KeepsNothing.keep(alloc, state, made, earlier, entry)? {
+    dtp_entry::right_is_so();
+    match KeepsNothing.keep(alloc, state, question, made, earlier, entry)? {
         Some(flaw) => Ok(Err(flaw)),
         None => {
             let shown = converted_values(alloc, values)?;
@@ -89,68 +75,176 @@ fn shown_values(
     }
 }
 
-/// The items of an entry as lemmas of its own, where nothing is wrong with them.
+/// The items of an unsat entry as lemmas of its own, where nothing is wrong with them.
 fn shown_items(
     alloc: Global,
     state: &State,
+    question: Question,
     made: &mut Option<Problem>,
     earlier: &mut Earlier,
     items: &Items,
 ) -> Result<Result<Entry, EntryFlaw>, AllocError>
-    requires stands { (s : Meaning) × Stands state.now s }
+    requires asked { (s : Meaning) × (x : Sexpr) × IsAsked state.now question x s }
     requires made { IsMadeOf state.now made.old }
     requires suffices { Suffices earlier.old (Shown.Unsat items.now ∷ []) }
     ensures made { IsMadeOf state.now made.new }
-    ensures shown { IfOk result (λ found. (s : Meaning) (before : List Place) → Stands state.now s
-        → Holds earlier.old before → IsShown before s.context (Shown.Unsat items.now) found) }
-    ensures held { IfOk result (λ found. IsOk found → (s : Meaning) (before : List Place) → Stands state.now s
-        → Holds earlier.old before → Holds earlier.new (before ++ placed s.context (Shown.Unsat items.now) ∷ [])) }
+    ensures shown { IfOk result (λ found. (s : Meaning) (x : Sexpr) (before : List Place) → IsAsked state.now question x s
+        → Holds earlier.old before → IsShown before question x s.context (Shown.Unsat items.now) found) }
+    ensures held { IfOk result (λ found. IsOk found → (s : Meaning) (x : Sexpr) (before : List Place) → IsAsked state.now question x s
+        → Holds earlier.old before → Holds earlier.new (before ++ placed question s.context (Shown.Unsat items.now) ∷ [])) }
     ensures suffices { (entries : List Shown) → Suffices earlier.old entries → Suffices earlier.new entries }
 {
-    refute_tree::lengths_law();
-    refute_tree::refutation_law();
-    idl_term::context_law();
+    dtp_entry::right_is_so();
+    let problem = take_or_make(alloc, state, made)?;
+    let found = shown_lemmas(alloc, &problem, earlier, items)?;
+    *made = Some(problem);
+    match found {
+        Ok(lemmas) => Ok(Ok(Entry::Unsat(lemmas))),
+        Err(flaw) => Ok(Err(flaw)),
+    }
+}
+
+/// The items of a best entry as lemmas of its own, where nothing is wrong with them over the problem in which the objective's
+/// difference of points is below this one.
+fn shown_below(
+    alloc: Global,
+    state: &State,
+    objective: Objective,
+    made: &mut Option<Problem>,
+    earlier: &mut Earlier,
+    difference: Value,
+    items: &Items,
+) -> Result<Result<Refutation, EntryFlaw>, AllocError>
+    requires asked { (s : Meaning) × (x : Sexpr) × IsAsked state.now (Minimize objective) x s }
+    requires made { IsMadeOf state.now made.old }
+    requires within { IsWithinLimit difference }
+    requires suffices { Suffices earlier.old (Shown.Unsat items.now ∷ []) }
+    ensures made { IsMadeOf state.now made.new }
+    ensures shown { IfOk result (λ found. (s : Meaning) (x : Sexpr) (before : List Place)
+        → IsAsked state.now (Minimize objective) x s → Holds earlier.old before
+        → AreItemsShown before (points_of s.context) (asked_clauses s.context objective difference) items.now found) }
+    ensures held { IfOk result (λ found. IsOk found → (s : Meaning) (x : Sexpr) (before : List Place)
+        → IsAsked state.now (Minimize objective) x s → Holds earlier.old before
+        → Holds earlier.new (before ++ placed_items s.context (asked_clauses s.context objective difference) items.now ∷ [])) }
+    ensures suffices { (entries : List Shown) → Suffices earlier.old entries → Suffices earlier.new entries }
+{
+    smt_script::objective_law();
     clause_form::clause_form_law();
     let problem = take_or_make(alloc, state, made)?;
-    let refutation = match earlier.lowered(alloc, &problem, items.as_slice()) {
-        Ok(refutation) => refutation,
-        Err(CheckError::Refused(flaw)) => return Ok(Err(EntryFlaw::Flawed(flaw))),
-        Err(CheckError::OutOfMemory) => return Err(AllocError),
+    let asked = with_question(alloc, problem, objective.x, objective.y, difference)?;
+    let found = shown_lemmas(alloc, &asked, earlier, items)?;
+    *made = Some(without_question(asked));
+    Ok(found)
+}
+
+/// The value, the values and the items of a best entry, where nothing is wrong with them.
+fn shown_best(
+    alloc: Global,
+    state: &State,
+    objective: Objective,
+    made: &mut Option<Problem>,
+    earlier: &mut Earlier,
+    m: Value,
+    values: &NamedValues,
+    items: &Items,
+) -> Result<Result<Entry, EntryFlaw>, AllocError>
+    requires asked { (s : Meaning) × (x : Sexpr) × IsAsked state.now (Minimize objective) x s }
+    requires made { IsMadeOf state.now made.old }
+    requires suffices { Suffices earlier.old (Shown.Best m values.now items.now ∷ []) }
+    ensures made { IsMadeOf state.now made.new }
+    ensures shown { IfOk result (λ found. (s : Meaning) (x : Sexpr) (before : List Place) → IsAsked state.now (Minimize objective) x s
+        → Holds earlier.old before → IsShown before (Minimize objective) x s.context (Shown.Best m values.now items.now) found) }
+    ensures held { IfOk result (λ found. IsOk found → (s : Meaning) (x : Sexpr) (before : List Place) → IsAsked state.now (Minimize objective) x s
+        → Holds earlier.old before
+        → Holds earlier.new (before ++ placed (Minimize objective) s.context (Shown.Best m values.now items.now) ∷ [])) }
+    ensures suffices { (entries : List Shown) → Suffices earlier.old entries → Suffices earlier.new entries }
+{
+    dtp_entry::right_is_so();
+    let difference = match least_flaw(alloc, state, objective, m, values)? {
+        Ok(difference) => difference,
+        Err(flaw) => return Ok(Err(flaw)),
     };
-    let shown = written_out(alloc, &problem, refutation)?;
-    *made = Some(problem);
-    // numbers that can be read stay as they are, so this doesn't come
-    if !are_within(shown.as_slice()) {
+    // as with its values below, a value that can be read is within the limit
+    if !is_whole_within(m) {
         return Err(AllocError);
     }
-    Ok(Ok(Entry::Unsat(shown)))
+    let shown = converted_values(alloc, values)?;
+    match shown_below(alloc, state, objective, made, earlier, difference, items)? {
+        Ok(lemmas) => Ok(Ok(Entry::Best(m, shown, lemmas))),
+        Err(flaw) => Ok(Err(flaw)),
+    }
+}
+
+/// The values and the set of an unbounded entry, where nothing is wrong with them.
+fn shown_unbounded(
+    alloc: Global,
+    state: &State,
+    question: Question,
+    made: &mut Option<Problem>,
+    earlier: &mut Earlier,
+    entry: &FileEntry,
+    values: &Schedule,
+    set: &Points,
+) -> Result<Result<Entry, EntryFlaw>, AllocError>
+    requires entry { entry.now ≡ Shown.Unbounded values.now set.now }
+    requires asked { (s : Meaning) × (x : Sexpr) × IsAsked state.now question x s }
+    requires made { IsMadeOf state.now made.old }
+    requires suffices { Suffices earlier.old (entry.now ∷ []) }
+    ensures made { IsMadeOf state.now made.new }
+    ensures shown { IfOk result (λ found. (s : Meaning) (x : Sexpr) (before : List Place) → IsAsked state.now question x s
+        → Holds earlier.old before → IsShown before question x s.context entry.now found) }
+    ensures held { IfOk result (λ found. IsOk found → (s : Meaning) (x : Sexpr) (before : List Place) → IsAsked state.now question x s
+        → Holds earlier.old before → Holds earlier.new (before ++ placed question s.context entry.now ∷ [])) }
+    ensures suffices { (entries : List Shown) → Suffices earlier.old entries → Suffices earlier.new entries }
+{
+    dtp_entry::right_is_so();
+    clause_form::clause_form_law();
+    match KeepsNothing.keep(alloc, state, question, made, earlier, entry)? {
+        Some(flaw) => Ok(Err(flaw)),
+        None => {
+            let shown = converted_set(alloc, values, set)?;
+            Ok(Ok(shown))
+        }
+    }
 }
 
 /// An entry as the first version shows it, or what is wrong with it. Where nothing is, it is held for those that come.
 pub fn shown_entry(
     alloc: Global,
     state: &State,
+    question: Question,
     made: &mut Option<Problem>,
     earlier: &mut Earlier,
     entry: &FileEntry,
 ) -> Result<Result<Entry, EntryFlaw>, AllocError>
-    requires stands { (s : Meaning) × Stands state.now s }
+    requires asked { (s : Meaning) × (x : Sexpr) × IsAsked state.now question x s }
     requires made { IsMadeOf state.now made.old }
     requires suffices { Suffices earlier.old (entry.now ∷ []) }
     ensures made { IsMadeOf state.now made.new }
-    ensures shown { IfOk result (λ found. (s : Meaning) (before : List Place) → Stands state.now s
-        → Holds earlier.old before → IsShown before s.context entry.now found) }
-    ensures held { IfOk result (λ found. IsOk found → (s : Meaning) (before : List Place) → Stands state.now s
-        → Holds earlier.old before → Holds earlier.new (before ++ placed s.context entry.now ∷ [])) }
+    ensures shown { IfOk result (λ found. (s : Meaning) (x : Sexpr) (before : List Place) → IsAsked state.now question x s
+        → Holds earlier.old before → IsShown before question x s.context entry.now found) }
+    ensures held { IfOk result (λ found. IsOk found → (s : Meaning) (x : Sexpr) (before : List Place) → IsAsked state.now question x s
+        → Holds earlier.old before → Holds earlier.new (before ++ placed question s.context entry.now ∷ [])) }
     ensures suffices { (entries : List Shown) → Suffices earlier.old entries → Suffices earlier.new entries }
 {
     match entry {
         FileEntry::Sat(values) => {
-            let found = shown_values(alloc, state, made, earlier, entry, values)?;
+            let found = shown_values(alloc, state, question, made, earlier, entry, values)?;
             Ok(found)
         }
         FileEntry::Unsat(items) => {
-            let found = shown_items(alloc, state, made, earlier, items)?;
+            let found = shown_items(alloc, state, question, made, earlier, items)?;
+            Ok(found)
+        }
+        FileEntry::Best(m, values, items) => match question {
+            Question::CheckSat => Ok(Err(EntryFlaw::WrongKind)),
+            Question::Minimize(objective) => {
+                let found = shown_best(alloc, state, objective, made, earlier, *m, values, items)?;
+                Ok(found)
+            }
+        },
+        FileEntry::Unbounded(values, set) => {
+            let found = shown_unbounded(alloc, state, question, made, earlier, entry, values, set)?;
             Ok(found)
         }
     }

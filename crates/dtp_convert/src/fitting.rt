@@ -3,11 +3,11 @@ ghost use Rattle.std.specs.Prelude.{All, IsTrue, ◌^◌};
 ghost use Rattle.stn_core.specs.Named.{IsWithinLimit, AreWithinLimit};
 ghost use Rattle.refute_tree.specs.Views.{literals_of, step_seen};
 ghost use Rattle.cert_text.specs.declared.entry.Version.TheVariants.{One};
-ghost use Rattle.cert_text.specs.Limits.{LiteralWithin, StepWithin, LemmaWithin};
+ghost use Rattle.cert_text.specs.Limits.{LiteralWithin, StepWithin, LemmaWithin, WholeFits};
 
 use cert_text::NUMBER_LIMIT;
 use refute_tree::{Cycle, Lemma, Reader, StepView};
-use stn_core::{Literal, NAMED_VALUE_LIMIT, NamedValue, negate};
+use stn_core::{Literal, NAMED_VALUE_LIMIT, NamedValue, Value, negate};
 
 fn is_within(literal: Literal) -> bool
     ensures { IsTrue result → LiteralWithin (2 ^ 32) literal }
@@ -69,6 +69,20 @@ fn is_value_within(value: NamedValue) -> bool
         NamedValue::Int(n) => n.unsigned_abs() <= NAMED_VALUE_LIMIT,
         NamedValue::Truth(_) => true,
     }
+}
+
+/// Whether a certificate may have the value of a term, or of a time point.
+pub fn is_whole_within(value: Value) -> bool
+    ensures { IsTrue result → WholeFits value }
+{
+    value.unsigned_abs() <= NAMED_VALUE_LIMIT
+}
+
+/// Whether a certificate may have the values of time points.
+pub fn are_wholes_within(values: &[Value]) -> bool
+    ensures { IsTrue result → All WholeFits values.now }
+{
+    values.iter().all(|value| is_whole_within(*value))
 }
 
 /// Whether a certificate may have the values of names.

@@ -6,7 +6,9 @@ mod convert;
 mod converting;
 mod entry;
 mod fitting;
+mod free_set;
 mod laws;
+mod lemmas;
 mod lines;
 
 pub use convert::convert_pair;

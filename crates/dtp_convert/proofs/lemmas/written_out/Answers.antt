@@ -1,7 +1,7 @@
 use Rattle.std.proofs.Common.{◌≡◌, map, ap, sym, ◌∙◌, length}
 use Rattle.std.proofs.lemmas.List.{length-map, with_items_is}
 use Rattle.refute_tree.specs.Lengths.{lengthened_lemma}
-use Rattle.dtp_convert.proofs.entry.written_out.Goals as goal
+use Rattle.dtp_convert.proofs.lemmas.written_out.Goals as goal
 
 pub returns : goal.returns
 returns c =

@@ -2,7 +2,7 @@ use Rattle.std.proofs.Common.{arith, slice_index_or, slice_set, ap, ◌∙◌}
 use Rattle.std.proofs.lemmas.List.{get_or_default}
 use Rattle.std.proofs.lemmas.List.Edits.{map_over_more}
 use Rattle.refute_tree.specs.Lengths.{lengthened_lemma}
-use Rattle.dtp_convert.proofs.entry.write_out_each.Goals as goal
+use Rattle.dtp_convert.proofs.lemmas.write_out_each.Goals as goal
 
 pub loop-lemma-preserved : goal.loop-lemma-preserved
 loop-lemma-preserved c =
