@@ -5,6 +5,6 @@ pub mod Looping
 pub mod Solving
 pub mod Stepping
 pub mod Transcribing
-pub mod Verdicts
+pub mod Deciding
 pub mod Telling
 pub mod Saying

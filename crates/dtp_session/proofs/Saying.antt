@@ -1,5 +1,5 @@
 -- What is told of a command, by what the session keeps.
-use Rattle.std.proofs.Common.{refl, sym, ap, subst, ◌∙◌, ◌≡◌, ◌<◌, ◌≤◌, ◌+◌, List, ℕ, [], ◌∷◌, ◌++◌, length, drop, get_or, Bool, Some, None, Result, Ok, Err}
+use Rattle.std.proofs.Common.{refl, sym, ap, subst, ◌∙◌, ◌≡◌, ◌<◌, ◌≤◌, ◌+◌, List, ℕ, [], ◌∷◌, ◌++◌, length, drop, get_or, Bool, Option, Some, None, Result, Ok, Err}
 use Rattle.std.proofs.lemmas.List.{drop_all, append-nil}
 use Rattle.smt_sexpr.specs.Tree.{Sexpr, Items, none, more}
 use Rattle.smt_sexpr.specs.Table.{Table, Means, MeansEach}
@@ -7,7 +7,6 @@ use Rattle.smt_sexpr.proofs.Shapes.{next_of, none_of}
 use Rattle.stn_core.specs.declared.named.NamedValue.{NamedValue}
 use Rattle.stn_core.specs.Named.{AreWithinLimit}
 use Rattle.cert_text.specs.declared.entry.Entry.{Entry}
-use Rattle.cert_text.specs.declared.entry.Entry.TheVariants.{Sat, Unsat}
 use Rattle.idl_node.specs.Nodes.{NodeValue}
 use Rattle.idl_node.specs.Truth.{point_values, AreTruths}
 use Rattle.idl_term.specs.Applied.{Made}
@@ -23,19 +22,19 @@ use Rattle.smt_script.specs.code.Kept.{Kept}
 use Rattle.smt_script.specs.States.{State, first_refusal, terms_refusal}
 use Rattle.smt_script.specs.code.TermValues.{value_shown}
 use Rattle.smt_script.specs.declared.information.Information.{Information}
-use Rattle.smt_script.specs.declared.state.Mode.{Mode}
 use Rattle.smt_script.specs.declared.state.Mode.TheVariants as mode
 use Rattle.smt_script.specs.declared.state.Notice.{Notice}
 use Rattle.smt_script.specs.declared.state.Notice.TheVariants as notice
 use Rattle.smt_script.specs.declared.value.TermValue.{TermValue}
 use Rattle.smt_script.proofs.Levels.{levels_count}
 use Rattle.script_walk.specs.code.Standing.{Stands}
-use Rattle.dtp_entry.specs.Transcripts.{Held, told, told_model, told_values}
+use Rattle.dtp_entry.specs.Transcripts.{Held, schedule_held, told_of, told, told_model, told_values}
 use Rattle.dtp_entry.specs.declared.report.Report.TheVariants.{Verdicts}
 use Rattle.dtp_entry.proofs.Verdicts.{sorts_count}
 use Rattle.dtp_session.specs.declared.session.Session.{Session}
-use Rattle.dtp_session.specs.code.Forms.{schedule_of}
-use Rattle.dtp_session.specs.code.Sessions.{ShowsVerdict, Holds}
+use Rattle.dtp_session.specs.code.Forms.{schedule_shown}
+use Rattle.dtp_session.specs.code.Sessions.{Holds}
+use Rattle.dtp_session.proofs.Answering.{held_schedule}
 
 -- ---- information
 
@@ -48,16 +47,12 @@ inform_is held s x n information kept levels old now is stands counted empty e =
 
 -- ---- a schedule that is held
 
-pub shown_schedule : (m : Mode) (c : Context) (held : Held) (marks : List Bool) → m ≡ mode.Sat → ShowsVerdict m c held marks
-    → (schedule : List NamedValue) × (held ≡ Some (Sat schedule)) × IsScheduleFor c schedule × AreWithinLimit schedule × AreTruths c.nodes (point_values schedule) marks
-shown_schedule m c held marks e h = subst (λ (k : Mode). ShowsVerdict k c held marks) e h
+-- the schedule that the code finds is the one that is told
+pub is_schedule : (given : Option (List NamedValue)) (entry : Entry) (a b : List NamedValue) → schedule_shown given entry ≡ Some a → schedule_shown given entry ≡ Some b → a ≡ b
+is_schedule given entry a b e f = let both : Some a ≡ Some b = sym e ∙ f in cc
 
-pub is_schedule : (entry : Entry) (schedule : List NamedValue) → schedule_of entry ≡ Some schedule → entry ≡ Sat schedule
-is_schedule (Sat own) schedule e = cc
-is_schedule (Unsat lemmas) schedule e = absurd (cc)
-
-same_schedule : (a b : List NamedValue) → ◌≡◌ {A = Held} (Some (Sat a)) (Some (Sat b)) → a ≡ b
-same_schedule a b e = cc
+same_entry : (a b : Entry) → ◌≡◌ {A = Held} (Some a) (Some b) → a ≡ b
+same_entry a b e = cc
 
 -- the values that are held are the schedule
 pub record IsShown (c : Context) (values : List NamedValue) (marks : List Bool) : Type 0 where
@@ -65,33 +60,53 @@ pub record IsShown (c : Context) (values : List NamedValue) (marks : List Bool) 
   pub within : AreWithinLimit values
   pub truths : AreTruths c.nodes (point_values values) marks
 
-pub values_shown : (p : Session) (s : State) (values : List NamedValue) → Holds p s → s.mode ≡ mode.Sat → p.held ≡ Some (Sat values) → IsShown s.context values p.marks.items
-values_shown p s values holds sat e =
-    let w = shown_schedule s.mode s.context p.held p.marks.items sat holds.shows in
-    let same : w.0 ≡ values = same_schedule w.0 values (sym w.1 ∙ e) in
-    subst (λ (vs : List NamedValue). IsShown s.context vs p.marks.items) same (record { fits = w.2; within = w.3; truths = w.4 })
+-- it is the one that the entry's schedule is
+pub values_told : (p : Session) (s : State) (found : Entry) (values : List NamedValue) → Holds p s → s.mode ≡ mode.Sat → p.held ≡ Some found → schedule_shown p.given found ≡ Some values
+    → schedule_held s.context p.held ≡ Some values
+values_told p s found values holds sat held e =
+    let w = held_schedule p s holds sat in
+    let same : w.entry ≡ found = same_entry w.entry found (sym w.held ∙ held) in
+    let both : w.schedule ≡ values = is_schedule p.given found w.schedule values (ap (schedule_shown p.given) (sym same) ∙ w.shown) e in
+    ap (schedule_held s.context) w.held ∙ w.is ∙ ap Some both
 
-pub nothing_else : (p : Session) (s : State) → Holds p s → s.mode ≡ mode.Sat → ((values : List NamedValue) → p.held ≡ Some (Sat values) → ⊥) → ⊥
-nothing_else p s holds sat h =
-    let w = shown_schedule s.mode s.context p.held p.marks.items sat holds.shows in
-    h w.0 w.1
+pub values_shown : (p : Session) (s : State) (found : Entry) (values : List NamedValue) → Holds p s → s.mode ≡ mode.Sat → p.held ≡ Some found → schedule_shown p.given found ≡ Some values → IsShown s.context values p.marks.items
+values_shown p s found values holds sat held e =
+    let w = held_schedule p s holds sat in
+    let same : w.entry ≡ found = same_entry w.entry found (sym w.held ∙ held) in
+    let both : w.schedule ≡ values = is_schedule p.given found w.schedule values (ap (schedule_shown p.given) (sym same) ∙ w.shown) e in
+    subst (λ (vs : List NamedValue). IsShown s.context vs p.marks.items) both (record { fits = w.satisfies.0; within = w.within; truths = w.truths })
+
+-- an entry is held, and it has a schedule
+pub entry_held : (p : Session) (s : State) → Holds p s → s.mode ≡ mode.Sat → p.held ≡ None → ⊥
+entry_held p s holds sat none =
+    let w = held_schedule p s holds sat in
+    let both : ◌≡◌ {A = Held} None (Some w.entry) = sym none ∙ w.held in
+    cc
+
+pub schedule_there : (p : Session) (s : State) (found : Entry) → Holds p s → s.mode ≡ mode.Sat → p.held ≡ Some found → schedule_shown p.given found ≡ None → ⊥
+schedule_there p s found holds sat held none =
+    let w = held_schedule p s holds sat in
+    let same : w.entry ≡ found = same_entry w.entry found (sym w.held ∙ held) in
+    let both : ◌≡◌ {A = Option (List NamedValue)} None (Some w.schedule) = sym none ∙ ap (schedule_shown p.given) (sym same) ∙ w.shown in
+    cc
 
 -- as many values as names
 pub values_counted : (kept : Kept) (s : State) (values : List NamedValue) → Stands kept s → IsScheduleFor s.context values → length values ≡ length kept.scope.declared
 values_counted kept s values stands fits =
     values_count _ values fits ∙ sorts_count s.context.declared ∙ ap (λ (scope : Scope). length scope.declared) (sym stands.stands.scope)
 
-pub model_is : (kept : Kept) (held : Held) (s : State) (values : List NamedValue) (names : List Declaration) (old now : List ℕ) → Stands kept s → held ≡ Some (Sat values) → names ≡ kept.scope.declared → old ≡ []
+pub model_is : (kept : Kept) (held : Held) (s : State) (values : List NamedValue) (names : List Declaration) (old now : List ℕ) → Stands kept s → schedule_held s.context held ≡ Some values → names ≡ kept.scope.declared → old ≡ []
     → now ≡ old ++ model_lines names values → now ≡ told_model held s
 model_is kept held s values names old now stands e same empty is =
     let declared : names ≡ s.context.declared = same ∙ ap (λ (scope : Scope). scope.declared) stands.stands.scope in
     is ∙ ap (λ (t : List ℕ). t ++ model_lines names values) empty ∙ ap (λ (ds : List Declaration). model_lines ds values) declared
-    ∙ sym (ap (λ (h : Held). told_model h s) e)
+    ∙ sym (ap (λ (found : Option (List NamedValue)). told_of found (λ schedule. model_lines s.context.declared schedule)) e)
 
-pub values_are : (held : Held) (s : State) (values : List NamedValue) (terms : Items) (old now : List ℕ) → held ≡ Some (Sat values) → old ≡ []
+pub values_are : (held : Held) (s : State) (values : List NamedValue) (terms : Items) (old now : List ℕ) → schedule_held s.context held ≡ Some values → old ≡ []
     → now ≡ old ++ values_line (value (environment s.context values)) terms → now ≡ told_values held s terms
 values_are held s values terms old now e empty is =
-    is ∙ ap (λ (t : List ℕ). t ++ values_line (value (environment s.context values)) terms) empty ∙ sym (ap (λ (h : Held). told_values h s terms) e)
+    is ∙ ap (λ (t : List ℕ). t ++ values_line (value (environment s.context values)) terms) empty
+    ∙ sym (ap (λ (found : Option (List NamedValue)). told_of found (λ schedule. values_line (value (environment s.context schedule)) terms)) e)
 
 -- ---- terms that were tested
 

@@ -1,25 +1,27 @@
 -- From the event of a walk to the piece that answers it.
-use Rattle.std.proofs.Common.{refl, sym, subst, ◌≡◌, ℕ, []}
+use Rattle.std.proofs.Common.{refl, sym, ap, subst, ◌≡◌, ◌≤◌, ℕ, []}
 use Rattle.smt_answer.specs.declared.kind.Kind.{Kind}
 use Rattle.smt_sexpr.specs.Tree.{Sexpr}
 use Rattle.smt_sexpr.specs.Table.{Means}
 use Rattle.smt_script.specs.declared.state.Effect.TheVariants.{Ask, Tell}
 use Rattle.smt_script.specs.declared.state.Notice.{Notice}
 use Rattle.smt_script.specs.declared.state.Question.{Question}
-use Rattle.smt_script.specs.Laws.{ModeIsKept, ModelNeedsSat, ValuesNeedSat, ProofNeedsUnsat}
+use Rattle.smt_script.specs.declared.state.Question.TheVariants.{CheckSat, Minimize}
+use Rattle.smt_script.specs.Laws.{ModeIsKept, ModelNeedsSat, ValuesNeedSat, ProofNeedsUnsat, MinimizedIsWorth}
 use Rattle.smt_script.specs.States.{State, settled}
-use Rattle.script_walk.specs.code.Events.{IsEvent, GoesOn, IsReady as IsWalkReady}
+use Rattle.script_walk.specs.code.Events.{IsEvent, GoesOn, Asks, IsReady as IsWalkReady}
 use Rattle.script_walk.specs.declared.walk.Event.{Event}
 use Rattle.script_walk.specs.declared.walk.Event.TheVariants.{Told as ToldOf, Asked, Ended, Failed}
 use Rattle.script_walk.specs.declared.walk.Walk.{Walk}
 use Rattle.script_walk.proofs.Turns.{ends_with, fails_with}
 use Rattle.dtp_entry.specs.Entries.{verdict_of}
 use Rattle.dtp_session.specs.declared.piece.Piece.{Piece}
-use Rattle.dtp_session.specs.declared.piece.Piece.TheVariants.{Decision, Closing, Error}
+use Rattle.dtp_entry.specs.code.Asking.{IsAskedBy}
+use Rattle.dtp_session.specs.declared.piece.Piece.TheVariants.{Opening, Decision, Proof, Told, Closing, Error}
 use Rattle.dtp_session.specs.declared.session.Session.{Session}
-use Rattle.dtp_session.specs.code.Sessions.{Holds, MayTell, place_of, KeepsReading, Tells, IsChecked, IsNext}
-use Rattle.dtp_session.proofs.Answering.{holds_after, may_after, ready_kept}
-use Rattle.dtp_session.proofs.Transcribing.{closing_next, error_next, told_next, checked_next}
+use Rattle.dtp_session.specs.code.Sessions.{Holds, MayTell, place_of, KeepsReading, KeepsPlace, Tells, IsAnswered, IsGoing, IsNext}
+use Rattle.dtp_session.proofs.Answering.{holds_after, may_after, ready_kept, ready_settled}
+use Rattle.dtp_session.proofs.Transcribing.{closing_next, error_next, told_next, checked_next, barred_next}
 
 module _ (p : Session) (w : Walk) (s : State) (event : Event) (h : IsEvent p.walk w s event) (holds : Holds p s) (kept : ModeIsKept) where
   -- ---- something is told
@@ -48,25 +50,53 @@ module _ (p : Session) (w : Walk) (s : State) (event : Event) (h : IsEvent p.wal
 
   -- ---- a question
 
-  module _ (id : ℕ) (question : Question) (e : event ≡ Asked id question) where
+  module _ (worth : MinimizedIsWorth) (id : ℕ) (question : Question) (e : event ≡ Asked id question) where
     asked_event : IsEvent p.walk w s (Asked id question)
     asked_event = subst (λ (f : Event). IsEvent p.walk w s f) e h
 
-    asked_holds : Holds (record p { walk = w }) asked_event.carries.1.0.next
-    asked_holds = holds_after p w s asked_event.x (Ask question) asked_event.carries.1.0 kept holds
+    asked_holds : Holds (record p { walk = w }) asked_event.carries.1.next
+    asked_holds = holds_after p w s asked_event.x (Ask question) asked_event.carries.1 kept holds
 
-    pub may_check : (s : State) × Holds (record p { walk = w }) s
-    may_check = (asked_event.carries.1.0.next, asked_holds)
+    asked_by : (named : Question) → named ≡ question → IsAskedBy named asked_event.x asked_event.carries.1.next.context
+    asked_by CheckSat same = tt
+    asked_by (Minimize o) same =
+        worth s asked_event.x (record { state = asked_event.carries.1.next; effect = Ask question }) o holds.stands.made asked_event.carries.1.leads (ap Ask (sym same))
 
-    module _ (q : Session) (keeps : KeepsReading (record p { walk = w }) q)
-        (checked : (s : State) → Holds (record p { walk = w }) s → IsChecked q s) where
-      pub checked_step : w.lexer.bytes ≡ p.walk.lexer.bytes → IsNext p q s Decision
-      checked_step bytes = checked_next p q w s bytes keeps id question asked_event (checked asked_event.carries.1.0.next asked_holds)
+    pub may_ask : (s : State) × (x : Sexpr) × Holds (record p { walk = w }) s × IsAskedBy question x s.context
+    may_ask = (asked_event.carries.1.next, asked_event.x, asked_holds, asked_by question refl)
 
-      pub checked_ready : (GoesOn event → IsWalkReady w) → IsWalkReady q.walk
-      checked_ready ready =
-          let now = checked asked_event.carries.1.0.next asked_holds in
-          ready_kept (record p { walk = w }) q (settled (verdict_of now.entry) asked_event.carries.1.0.next) (ready (subst GoesOn (sym e) tt)) keeps now.stands
+    module _ (q : Session) (keeps : KeepsPlace (record p { walk = w }) q) where
+      pub checked_step : w.lexer.bytes ≡ p.walk.lexer.bytes → IsAnswered question asked_event.x (record p { walk = w }) q asked_event.carries.1.next Decision → IsNext p q s Decision
+      checked_step bytes h = checked_next p q w s bytes keeps id question asked_event h.0 h.1
+
+      pub barred_step : w.lexer.bytes ≡ p.walk.lexer.bytes → (kind : Kind) → IsAnswered question asked_event.x (record p { walk = w }) q asked_event.carries.1.next (Error kind) → IsNext p q s (Error kind)
+      barred_step bytes kind h = barred_next p q w s bytes keeps id question kind asked_event h.0 h.1
+
+      answered_by : w.lexer.bytes ≡ p.walk.lexer.bytes → (piece : Piece) → IsAnswered question asked_event.x (record p { walk = w }) q asked_event.carries.1.next piece → IsNext p q s piece
+      answered_by bytes Decision h = checked_step bytes h
+      answered_by bytes (Error kind) h = barred_step bytes kind h
+      answered_by bytes Opening h = absurd h
+      answered_by bytes Proof h = absurd h
+      answered_by bytes Told h = absurd h
+      answered_by bytes Closing h = absurd h
+
+      -- the walk behind an answer
+      ready_answered : (piece : Piece) → IsGoing piece → (GoesOn event → IsWalkReady w) → (Asks event → w.number ≤ w.lexer.place) → IsAnswered question asked_event.x (record p { walk = w }) q asked_event.carries.1.next piece → IsWalkReady q.walk
+      ready_answered Decision going ready counted h =
+          let now = h.1 in
+          ready_settled w q (settled (verdict_of now.entry) asked_event.carries.1.next) (ready (subst GoesOn (sym e) tt)) (counted (subst Asks (sym e) tt)) keeps.lexer keeps.sexprs now.number now.stands
+      ready_answered (Error kind) going ready counted h = absurd going
+      ready_answered Opening going ready counted h = absurd h
+      ready_answered Proof going ready counted h = absurd h
+      ready_answered Told going ready counted h = absurd h
+      ready_answered Closing going ready counted h = absurd going
+
+      module _ (piece : Piece) (answered : (s : State) (x : Sexpr) → Holds (record p { walk = w }) s → IsAskedBy question x s.context → IsAnswered question x (record p { walk = w }) q s piece) where
+        pub asked_step : w.lexer.bytes ≡ p.walk.lexer.bytes → IsNext p q s piece
+        asked_step bytes = answered_by bytes piece (answered asked_event.carries.1.next asked_event.x asked_holds (asked_by question refl))
+
+        pub asked_ready : IsGoing piece → (GoesOn event → IsWalkReady w) → (Asks event → w.number ≤ w.lexer.place) → IsWalkReady q.walk
+        asked_ready going ready counted = ready_answered piece going ready counted (answered asked_event.carries.1.next asked_event.x asked_holds (asked_by question refl))
 
   -- ---- the end
 
@@ -74,4 +104,6 @@ module _ (p : Session) (w : Walk) (s : State) (event : Event) (h : IsEvent p.wal
   ended_step e = closing_next p (record p { walk = w }) s refl (ends_with verdict_of p.walk w (place_of p s []) holds.stands (subst (λ (f : Event). IsEvent p.walk w s f) e h))
 
   pub failed_step : (kind : Kind) → event ≡ Failed kind → IsNext p (record p { walk = w }) s (Error kind)
-  failed_step kind e = error_next p (record p { walk = w }) s refl kind (fails_with verdict_of p.walk w (place_of p s []) holds.stands kind (subst (λ (f : Event). IsEvent p.walk w s f) e h))
+  failed_step kind e =
+      let last = fails_with verdict_of p.walk w (place_of p s []) holds.stands kind (subst (λ (f : Event). IsEvent p.walk w s f) e h) in
+      error_next p (record p { walk = w }) s refl kind last.number last.last last.is

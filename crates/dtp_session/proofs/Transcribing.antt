@@ -1,5 +1,5 @@
 -- From a turn to what is written of the script.
-use Rattle.std.proofs.Common.{refl, sym, ap, subst, ◌∙◌, ◌≡◌, ℕ, ◌+◌, List, [], ◌∷◌, ◌++◌, Some}
+use Rattle.std.proofs.Common.{refl, sym, ap, subst, ◌∙◌, ◌≡◌, ℕ, ◌+◌, List, [], ◌∷◌, ◌++◌, Some, None}
 use Rattle.std.specs.List.{AllByRecursion}
 use Rattle.std.proofs.lemmas.List.{append_assoc, append-nil}
 use Rattle.cert_text.specs.declared.entry.Entry.{Entry}
@@ -9,11 +9,12 @@ use Rattle.smt_answer.specs.Texts.{error_line}
 use Rattle.smt_script.specs.declared.state.Notice.{Notice}
 use Rattle.smt_script.specs.declared.state.Question.{Question}
 use Rattle.smt_script.specs.States.{State, settled}
+use Rattle.script_walk.specs.Questions.{refusal_of}
 use Rattle.script_walk.specs.Course.{Place, Turn, tells, answers, ends, fails, turn, IsCourseOf, status_of, answers_of}
 use Rattle.script_walk.specs.code.Events.{IsEvent}
 use Rattle.script_walk.specs.declared.walk.Event.TheVariants.{Told as ToldOf, Asked}
 use Rattle.script_walk.specs.declared.walk.Walk.{Walk}
-use Rattle.script_walk.proofs.Turns.{IsLast, stopped_from, told_from, answered_from}
+use Rattle.script_walk.proofs.Turns.{IsLast, stopped_from, told_from, answered_from, barred_from}
 use Rattle.dtp_entry.specs.declared.report.Report.{Report}
 use Rattle.dtp_entry.specs.Entries.{verdict_of}
 use Rattle.dtp_entry.specs.Reports.{version_of}
@@ -22,7 +23,7 @@ use Rattle.dtp_entry.specs.Written.{IsFront}
 use Rattle.dtp_session.specs.declared.piece.Piece.{Piece}
 use Rattle.dtp_session.specs.declared.piece.Piece.TheVariants.{Opening, Decision, Proof, Told, Closing, Error}
 use Rattle.dtp_session.specs.declared.session.Session.{Session}
-use Rattle.dtp_session.specs.code.Sessions.{IsText, Holds, place_of, PartFrom, KeepsReading, Tells, IsChecked, IsGoing, GoesOn, Leads, IsNext}
+use Rattle.dtp_session.specs.code.Sessions.{IsText, Holds, place_of, PartFrom, KeepsReading, KeepsPlace, Tells, IsChecked, IsGoing, GoesOn, Leads, IsNext}
 
 -- ---- fronts
 
@@ -71,21 +72,22 @@ module _ (p q : Session) (s : State) (report : q.report ≡ p.report) where
         };
       }
 
-  pub error_next : (kind : Kind) → IsLast verdict_of p.walk q.walk (place_of p s []) (fails kind) → IsNext p q s (Error kind)
-  error_next kind end =
-      let t : Turn Entry = turn (place_of p s []) end.last (fails kind) in
-      let line : error_line q.walk.number kind ≡ error_line p.walk.number kind = ap (λ (k : ℕ). error_line k kind) end.number in
+  pub error_next : (kind : Kind) → q.walk.number ≡ p.walk.number → (last : State) → IsCourseOf verdict_of p.walk.lexer.bytes p.walk.lexer.place (place_of p s []) (turn (place_of p s []) last (fails kind) ∷ [])
+      → IsNext p q s (Error kind)
+  error_next kind number last is_last =
+      let t : Turn Entry = turn (place_of p s []) last (fails kind) in
+      let line : error_line q.walk.number kind ≡ error_line p.walk.number kind = ap (λ (k : ℕ). error_line k kind) number in
       record {
         cut = λ text added is front. record {
           found = [];
           turns = t ∷ [];
-          are = end.is;
+          are = is_last;
           legal = (tt, tt);
           front = front_more added (error_line p.walk.number kind) [] (front_of added text (error_line p.walk.number kind) (is ∙ line) front);
         };
         leads = λ text is. record {
           turns = t ∷ [];
-          are = end.is;
+          are = is_last;
           legal = (tt, tt);
           over = refl;
           used = refl;
@@ -207,17 +209,34 @@ module _ (p q : Session) (w : Walk) (s : State) (bytes : w.lexer.bytes ≡ p.wal
       } in
       going_next p q s w.lexer.place to.next p.held [] (told p.report p.held to.next event.x n) step (is_behind p.held event.carries.2 told_so.held) piece told_so.going told_so.text told_so.stands
 
-  pub checked_next : (id : ℕ) (question : Question) → (event : IsEvent p.walk w s (Asked id question)) → IsChecked q event.carries.1.0.next → IsNext p q s Decision
-  checked_next id question event h =
-      let to = event.carries.1.0 in
-      let decides : Decides (version_of p.report) to.next.context h.entry = subst (λ (r : Report). Decides (version_of r) to.next.context h.entry) keeps.report h.decides in
+module _ (p q : Session) (w : Walk) (s : State) (bytes : w.lexer.bytes ≡ p.walk.lexer.bytes) (keeps : KeepsPlace (record p { walk = w }) q) where
+  pub checked_next : (id : ℕ) (question : Question) → (event : IsEvent p.walk w s (Asked id question)) → refusal_of question event.carries.1.next event.x ≡ None
+      → IsChecked question event.x (record p { walk = w }) q event.carries.1.next → IsNext p q s Decision
+  checked_next id question event free h =
+      let to = event.carries.1 in
+      let decides : Decides (version_of p.report) question event.x to.next.context h.entry = subst (λ (r : Report). Decides (version_of r) question event.x to.next.context h.entry) keeps.report h.decides in
       let step : IsStep p s w.lexer.place (settled (verdict_of h.entry) to.next) (Some h.entry) (h.entry ∷ []) (decision_line p.report h.entry) = record {
         first = λ left. turn (place_of p s (h.entry ∷ left)) to.next (answers question event.x h.entry);
-        are = λ left turns k. answered_from verdict_of p.walk.lexer.bytes p.walk.lexer.place w.lexer.place (place_of p s (h.entry ∷ left)) event.x event.spells to.next question h.entry left to.leads event.carries.1.1 refl turns k;
+        are = λ left turns k. answered_from verdict_of p.walk.lexer.bytes p.walk.lexer.place w.lexer.place (place_of p s (h.entry ∷ left)) event.x event.spells to.next question h.entry left to.leads free refl turns k;
         legal = λ left. decides;
         used = λ left turns. refl;
         status = λ left turns. refl;
         text = λ left turns. refl;
       } in
-      going_next p q s w.lexer.place (settled (verdict_of h.entry) to.next) (Some h.entry) (h.entry ∷ []) (decision_line p.report h.entry) step (is_behind (Some h.entry) event.carries.2 h.held) Decision tt
+      let there : IsBehind p q w.lexer.place (Some h.entry) = record {
+        place = ap (λ (l : Lexing). l.place) keeps.lexer;
+        bytes = ap (λ (l : Lexing). l.bytes) keeps.lexer ∙ bytes;
+        number = h.number ∙ ap (λ (n : ℕ). n + 1) event.carries.2;
+        shows = h.held;
+        report = keeps.report;
+      } in
+      going_next p q s w.lexer.place (settled (verdict_of h.entry) to.next) (Some h.entry) (h.entry ∷ []) (decision_line p.report h.entry) step there Decision tt
       (λ text is. is h.entry h.held ∙ ap (λ (r : Report). decision_line r h.entry) keeps.report) h.stands
+
+  -- a question that is refused ends the script
+  pub barred_next : (id : ℕ) (question : Question) (kind : Kind) → (event : IsEvent p.walk w s (Asked id question)) → refusal_of question event.carries.1.next event.x ≡ Some kind
+      → q.walk.number ≡ w.number → IsNext p q s (Error kind)
+  barred_next id question kind event barred number =
+      let to = event.carries.1 in
+      error_next p q s keeps.report kind (number ∙ event.carries.2) to.next
+      (barred_from verdict_of p.walk.lexer.bytes p.walk.lexer.place w.lexer.place (place_of p s []) event.x event.spells to.next question kind to.leads barred)

@@ -1,8 +1,8 @@
 //! Refutations as a version of certificates shows them.
 ghost use Rattle.std.specs.Prelude.{◌≡◌, map, IfOk, OnOk};
-ghost use Rattle.dtp_session.specs.code.Forms.{formed};
+ghost use Rattle.dtp_session.specs.code.Forms.{formed, shown_in};
 
-use cert_text::Version;
+use cert_text::{Entry, Version};
 use refute_tree::{Lemma, Refutation, lengthen, shorten};
 use std::alloc::{AllocError, Global};
 use stn_core::Problem;
@@ -49,6 +49,29 @@ pub fn in_form(
     let mut lemmas = refutation.into_vec();
     form_each(alloc, version, problem, lemmas.as_mut_slice())?;
     Ok(Refutation::new(lemmas))
+}
+
+/// The entry as a certificate of the version shows it, where this is its problem: of a best value the one with the last
+/// clause.
+pub fn entry_in_form(
+    alloc: Global,
+    version: Version,
+    problem: &Problem,
+    entry: Entry,
+) -> Result<Entry, AllocError>
+    ensures { IfOk result (λ shown. shown ≡ shown_in version problem.now.clauses entry) }
+{
+    match entry {
+        Entry::Unsat(refutation) => {
+            let shown = in_form(alloc, version, problem, refutation)?;
+            Ok(Entry::Unsat(shown))
+        }
+        Entry::Best(minimum, schedule, refutation) => {
+            let shown = in_form(alloc, version, problem, refutation)?;
+            Ok(Entry::Best(minimum, schedule, shown))
+        }
+        other => Ok(other),
+    }
 }
 
 /// The same of lemmas that stay as they are.

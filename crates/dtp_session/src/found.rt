@@ -1,24 +1,27 @@
-//! What decided a check-sat, as it is held until the next one.
-ghost use Rattle.std.specs.Prelude.{◌≡◌, Some, None, map, MatchOption};
+//! What decided a question, as it is held until the next one.
+ghost use Rattle.std.specs.Prelude.{◌≡◌, ◌++◌, ℕ, List, Some, None, MatchOption, OnOk};
+ghost use Rattle.stn_core.specs.declared.named.NamedValue.{NamedValue};
 ghost use Rattle.cert_text.specs.declared.entry.Version.TheVariants.{One};
-ghost use Rattle.cert_text.specs.declared.entry.Entry.TheVariants.{Sat, Unsat};
+ghost use Rattle.cert_text.specs.declared.entry.Entry.TheVariants.{Sat};
 ghost use Rattle.cert_text.specs.Form.{entry_sexpr, line_of};
+ghost use Rattle.dtp_entry.specs.declared.report.Report.TheVariants.{Verdicts};
 ghost use Rattle.dtp_entry.specs.Entries.{verdict_of};
+ghost use Rattle.dtp_entry.specs.Transcripts.{decision_line};
 ghost use Rattle.dtp_entry.specs.Written.{WritesOne};
-ghost use Rattle.dtp_session.specs.code.Forms.{formed, schedule_of};
+ghost use Rattle.dtp_session.specs.code.Forms.{shown_in, schedule_shown};
 
 use crate::form::forms_of;
 use cert_stream::write_entry;
 use cert_text::{Entry, Version};
 use dtp_entry::SessionError;
 use dtp_io::Sink;
-use refute_tree::Refutation;
+use smt_answer::{minimum_text, unbounded_text, verdict_text};
 use smt_script::Satisfiability;
 use std::alloc::{AllocError, Global};
 use std::marker::Model;
 use stn_core::{NamedValues, Problem};
 
-/// The entry of a check-sat. Contracts see the entry as it would be written.
+/// The entry of a question. Contracts see the entry as it would be written.
 #[derive(Drop)]
 pub struct Found {
     entry: Entry,
@@ -47,33 +50,68 @@ impl Found {
         }
     }
 
-    /// A refutation of the problem that is to be written in the first version's form, if at all.
-    pub fn unformed(problem: Problem, refutation: Refutation) -> Self
-        ensures { result ≡ Unsat (map (formed One problem.clauses) refutation) }
+    /// An entry over the problem whose refutation is to be written in the first version's form, if at all.
+    pub fn unformed(problem: Problem, entry: Entry) -> Self
+        ensures { result ≡ shown_in One problem.clauses entry }
     {
         Found {
-            entry: Entry::Unsat(refutation),
+            entry,
             unformed: Some(problem),
         }
     }
 
-    /// What the entry says.
+    /// What the entry says of the assertions.
     pub fn verdict(&self) -> Satisfiability
         ensures { result ≡ verdict_of self.now }
     {
         match &self.entry {
-            Entry::Sat(_) => Satisfiability::Sat,
             Entry::Unsat(_) => Satisfiability::Unsat,
+            Entry::Sat(_) | Entry::Best(_, _, _) | Entry::Unbounded(_, _) => Satisfiability::Sat,
         }
     }
 
-    /// The schedule, where there is one.
-    pub fn schedule(&self) -> Option<&NamedValues>
-        ensures { MatchOption result (schedule_of self.now ≡ None) (λ values. schedule_of self.now ≡ Some values.now) }
+    /// The schedule, where there is one: the entry's own, or the one that its values of the time points give.
+    pub fn schedule<'b>(&'b self, given: &'b Option<NamedValues>) -> Option<&'b NamedValues>
+        ensures { MatchOption result (schedule_shown given.now self.now ≡ None)
+            (λ values. schedule_shown given.now self.now ≡ Some values.now) }
     {
         match &self.entry {
             Entry::Sat(values) => Some(values),
+            Entry::Best(_, values, _) => Some(values),
+            Entry::Unbounded(_, _) => given.as_ref(),
             Entry::Unsat(_) => None,
+        }
+    }
+
+    /// The entry of a check-sat with the same schedule.
+    pub fn satisfying(self, given: Option<NamedValues>) -> Self
+        requires { (schedule : List NamedValue) × (schedule_shown given self ≡ Some schedule) }
+        ensures { (schedule : List NamedValue) → schedule_shown given self ≡ Some schedule → result ≡ Sat schedule }
+    {
+        let Found {
+            entry,
+            unformed: _unformed,
+        } = self;
+        match entry {
+            Entry::Sat(schedule) => Found::shown(Entry::Sat(schedule)),
+            Entry::Best(_, schedule, _) => Found::shown(Entry::Sat(schedule)),
+            Entry::Unbounded(_, _) => match given {
+                Some(schedule) => Found::shown(Entry::Sat(schedule)),
+                None => unreachable!(),
+            },
+            Entry::Unsat(_) => unreachable!(),
+        }
+    }
+
+    /// Appends what a transcript answers.
+    pub fn answer_text(&self, text: &mut Vec<u8>) -> Result<(), AllocError>
+        ensures { OnOk result (text.new.items ≡ text.old.items ++ decision_line Verdicts self.now) }
+    {
+        match &self.entry {
+            Entry::Sat(_) => verdict_text(true, text),
+            Entry::Unsat(_) => verdict_text(false, text),
+            Entry::Best(minimum, _, _) => minimum_text(*minimum, text),
+            Entry::Unbounded(_, _) => unbounded_text(text),
         }
     }
 
@@ -86,6 +124,11 @@ impl Found {
             (Some(problem), Entry::Unsat(refutation)) => {
                 let shown = forms_of(alloc, Version::One, problem, refutation.as_slice())?;
                 write_entry(alloc, &Entry::Unsat(shown), sink)
+            }
+            (Some(problem), Entry::Best(minimum, schedule, refutation)) => {
+                let shown = forms_of(alloc, Version::One, problem, refutation.as_slice())?;
+                let values = NamedValues::new(Vec::from_slice(alloc, schedule.as_slice())?);
+                write_entry(alloc, &Entry::Best(*minimum, values, shown), sink)
             }
             _ => write_entry(alloc, &self.entry, sink),
         }

@@ -6,16 +6,19 @@
 //!
 //! What is written of a script is the relation `IsReport` of `dtp_entry/specs/Transcripts.antt`, and what a call that fails
 //! has written is the relation `IsReportPart` there. A `check-sat` is decided over the clause form of
-//! the assertions by one call of `steal_search::solve_one`, or of `solve_shared` where there is more than one worker.
+//! the assertions by one call of `steal_search::solve_one`, or of `solve_shared` where there is more than one worker; a `minimize`
+//! by one call of `best_bound::best_one`, or of `best_shared`.
 #![tactic(auto)]
 
 mod decision;
 mod form;
 mod found;
+mod minimum;
 mod notices;
 mod options;
 mod piece;
 mod session;
+mod shown;
 mod solve;
 mod wanted;
 

@@ -70,7 +70,7 @@ impl<'a> Session<'a> {
         let Some(found) = &self.held else {
             unreachable!()
         };
-        let Some(values) = found.schedule() else {
+        let Some(values) = found.schedule(&self.given) else {
             unreachable!()
         };
         model_text(self.walk.state.names(), values, &mut self.text)?;
@@ -90,7 +90,7 @@ impl<'a> Session<'a> {
         let Some(found) = &self.held else {
             unreachable!()
         };
-        let Some(values) = found.schedule() else {
+        let Some(values) = found.schedule(&self.given) else {
             unreachable!()
         };
         let walk = &mut self.walk;

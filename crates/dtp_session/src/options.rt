@@ -1,7 +1,7 @@
 //! How a script is to be decided.
 ghost use Rattle.std.specs.Prelude.{◌≤◌};
 
-/// How check-sats are searched.
+/// How questions are searched.
 #[derive(Clone, Copy, Debug, PartialEq, Eq)]
 pub struct SearchOptions {
     /// How many workers search.

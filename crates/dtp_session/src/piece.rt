@@ -11,8 +11,7 @@ use crate::session::Session;
 use cert_text::{write_end, write_header};
 use dtp_entry::{Report, SessionError, write_text};
 use dtp_io::Sink;
-use smt_answer::{Kind, error_text, verdict_text};
-use smt_script::Satisfiability;
+use smt_answer::{Kind, error_text};
 use std::alloc::{AllocError, Global};
 
 /// A piece of what is written of a script.
@@ -20,7 +19,7 @@ use std::alloc::{AllocError, Global};
 pub enum Piece {
     /// What stands before the first command's answer.
     Opening,
-    /// The line of a check-sat, by the entry that is held.
+    /// The line of a question, by the entry that is held.
     Decision,
     /// The line of the entry that is held.
     Proof,
@@ -32,20 +31,17 @@ pub enum Piece {
     Error(Kind),
 }
 
-/// Writes what is answered to a check-sat.
+/// Writes what is answered to a question.
 fn write_verdict<K: Sink>(alloc: Global, found: &Found, sink: &mut K) -> Result<(), SessionError>
     ensures { WritesOne (λ text. text ≡ decision_line Verdicts found.now) (K.holds sink.old) (K.holds sink.new)
         (K.faults sink.old) (K.faults sink.new) result }
 {
     let mut text = Vec::new(alloc);
-    match found.verdict() {
-        Satisfiability::Sat => verdict_text(true, &mut text)?,
-        Satisfiability::Unsat => verdict_text(false, &mut text)?,
-    }
+    found.answer_text(&mut text)?;
     write_text(sink, &text)
 }
 
-/// Writes the line of a check-sat: of a certificate in pieces, and else whole.
+/// Writes the line of a question: of a certificate in pieces, and else whole.
 fn write_line<K: Sink>(
     alloc: Global,
     report: Report,

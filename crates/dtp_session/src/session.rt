@@ -1,29 +1,36 @@
 //! A script that is being answered: the loop of the program.
-ghost use Rattle.std.specs.Prelude.{◌≡◌, ◌≢◌, ◌≤◌, ◌<◌, IfOk, OnOk, OnErr, Err};
+ghost use Rattle.std.specs.Prelude.{◌≡◌, ◌≢◌, ◌≤◌, ◌<◌, ◌-◌, ◌^◌, IfOk, OnOk, OnErr, Err};
 ghost use Rattle.dtp_io.specs.Faults.{Rose};
+ghost use Rattle.smt_sexpr.specs.Tree.{Sexpr};
 ghost use Rattle.smt_script.specs.States.{State as Meaning};
+ghost use Rattle.smt_script.specs.declared.state.Mode.TheVariants as mode;
+ghost use Rattle.smt_script.specs.declared.state.Question.{Question as Asked};
+ghost use Rattle.smt_script.specs.declared.state.Question.TheVariants as asked;
 ghost use Rattle.script_walk.specs.code.Events.{IsReady as IsWalkReady};
 ghost use Rattle.dtp_entry.specs.Reports.{version_of};
 ghost use Rattle.dtp_entry.specs.Transcripts.{IsReport, IsReportPart};
 ghost use Rattle.dtp_entry.specs.Written.{Writes};
-ghost use Rattle.dtp_session.specs.code.Sessions.{Holds, IsReady, IsStart, KeepsReading, KeepsScript, IsChecked, IsGoing, IsNext};
+ghost use Rattle.dtp_entry.specs.code.Asking.{IsAskedBy};
+ghost use Rattle.dtp_session.specs.code.Decisions.{IsTaken};
+ghost use Rattle.dtp_session.specs.code.Sessions.{Holds, IsReady, IsStart, KeepsPlace, KeepsScript, IsChecked, IsAnswered, IsGoing, IsNext};
 ghost use Rattle.dtp_session.specs.Ends.{status_of};
 ghost use Rattle.dtp_session.specs.code.Forms.{version_wanted};
 
-use crate::decision::decide;
+use crate::decision::{Decision, decide};
 use crate::found::Found;
 use crate::options::SearchOptions;
 use crate::piece::Piece;
 use crate::wanted::{Wanted, last_proof};
 use cert_text::Version;
-use dtp_entry::{Report, SessionError};
+use dtp_entry::{Report, SessionError, problem};
 use dtp_io::Sink;
-use script_walk::{Event, Walk};
-use smt_script::{Mode, Question};
+use script_walk::{Event, Walk, refusal_of};
+use smt_script::{Mode, Question, Satisfiability};
 use std::alloc::{AllocError, Global};
 use std::sync::Wait;
 use std::thread::Threads;
 use steal_search::Gate;
+use stn_core::{NamedValues, Problem};
 
 /// A script that is being answered.
 #[derive(Drop)]
@@ -32,12 +39,14 @@ pub struct Session<'a> {
     pub alloc: Global,
     /// What is written of the script.
     pub report: Report,
-    /// How check-sats are searched.
+    /// How questions are searched.
     pub options: SearchOptions,
     /// What is read of the script, and what it has led to.
     pub walk: Walk<'a>,
-    /// What the mode holds: the entry that decided the last check-sat.
+    /// What the mode holds: the entry that decided the last question.
     pub held: Option<Found>,
+    /// Where that entry has values of the time points: the schedule that they give.
+    pub given: Option<NamedValues>,
     /// Behind this place of the script no proof is asked for, where it was looked up.
     pub last_proof: Option<usize>,
     /// The truth of the table's first nodes on a schedule that is held, of as many as values were asked for.
@@ -68,6 +77,7 @@ impl<'a> Session<'a> {
             options,
             walk: Walk::new(alloc, bytes),
             held: None,
+            given: None,
             last_proof: None,
             marks: Vec::new(alloc),
             text: Vec::new(alloc),
@@ -118,56 +128,140 @@ impl<'a> Session<'a> {
         ensures keeps { KeepsScript self.old self.new }
     {
         smt_script::mode_law();
+        smt_script::objective_law();
         match self.walk.next()? {
             Event::Told(id, notice) => {
                 let piece = self.tell(id, notice)?;
                 Ok(piece)
             }
-            Event::Asked(_, Question::CheckSat) => {
-                self.check(rt, gate)?;
-                Ok(Piece::Decision)
+            Event::Asked(_, question) => {
+                let piece = self.ask(rt, gate, question)?;
+                Ok(piece)
             }
             Event::Ended => Ok(Piece::Closing),
             Event::Failed(kind) => Ok(Piece::Error(kind)),
         }
     }
 
-    /// Answers a check-sat. Where nothing was changed since the last one, what is held answers this one too.
-    fn check<R: Threads + Wait + Sync, G: Gate>(
+    /// Answers a question, or says why it isn't taken. Where nothing was changed since the last answer, a check-sat is answered
+    /// by what is held.
+    fn ask<R: Threads + Wait + Sync, G: Gate>(
         &mut self,
         rt: &R,
         gate: &G,
-    ) -> Result<(), AllocError>
-        requires { (s : Meaning) × Holds self.old s }
-        ensures checked { OnOk result ((s : Meaning) → Holds self.old s → IsChecked self.new s) }
-        ensures keeps { KeepsReading self.old self.new }
+        question: Question,
+    ) -> Result<Piece, AllocError>
+        requires holds { (s : Meaning) × (x : Sexpr) × Holds self.old s × IsAskedBy question x s.context }
+        requires few { self.old.walk.number < 2 ^ 64 - 1 }
+        ensures answered { IfOk result (λ piece. (s : Meaning) (x : Sexpr) → Holds self.old s → IsAskedBy question x s.context
+            → IsAnswered question x self.old self.new s piece) }
+        ensures keeps { KeepsPlace self.old self.new }
     {
-        match self.walk.state.mode() {
-            Mode::Nothing => self.decide_anew(rt, gate),
-            Mode::Sat | Mode::Unsat => Ok(()),
+        if let Question::CheckSat = question {
+            match self.walk.state.mode() {
+                Mode::Sat => {
+                    self.satisfy_again();
+                    return Ok(Piece::Decision);
+                }
+                Mode::Unsat => {
+                    self.refute_again();
+                    return Ok(Piece::Decision);
+                }
+                Mode::Nothing => {}
+            }
         }
+        let piece = self.ask_problem(rt, gate, question)?;
+        Ok(piece)
     }
 
-    /// Decides the assertions, and holds what was found in place of what was held before.
+    /// Answers a check-sat by the schedule that is held.
+    fn satisfy_again(&mut self)
+        requires holds { (s : Meaning) × Holds self.old s }
+        requires sat { self.old.walk.state.mode ≡ mode.Sat }
+        requires few { self.old.walk.number < 2 ^ 64 - 1 }
+        ensures checked { (s : Meaning) (x : Sexpr) → Holds self.old s
+            → IsChecked asked.CheckSat x self.old self.new s }
+        ensures keeps { KeepsPlace self.old self.new }
+    {
+        let Some(found) = self.held.take() else {
+            unreachable!()
+        };
+        self.held = Some(found.satisfying(self.given.take()));
+        self.walk.settle(Satisfiability::Sat);
+    }
+
+    /// Answers a question by the refutation that is held.
+    fn refute_again(&mut self)
+        requires holds { (s : Meaning) × Holds self.old s }
+        requires unsat { self.old.walk.state.mode ≡ mode.Unsat }
+        requires few { self.old.walk.number < 2 ^ 64 - 1 }
+        ensures checked { (s : Meaning) (x : Sexpr) (question : Asked) → Holds self.old s
+            → IsChecked question x self.old self.new s }
+        ensures keeps { KeepsPlace self.old self.new }
+    {
+        self.walk.settle(Satisfiability::Unsat);
+    }
+
+    /// Answers a question over the problem of the assertions, which may refuse it. Where a refutation is held, it answers.
+    fn ask_problem<R: Threads + Wait + Sync, G: Gate>(
+        &mut self,
+        rt: &R,
+        gate: &G,
+        question: Question,
+    ) -> Result<Piece, AllocError>
+        requires holds { (s : Meaning) × (x : Sexpr) × Holds self.old s × IsAskedBy question x s.context }
+        requires few { self.old.walk.number < 2 ^ 64 - 1 }
+        ensures answered { IfOk result (λ piece. (s : Meaning) (x : Sexpr) → Holds self.old s → IsAskedBy question x s.context
+            → IsAnswered question x self.old self.new s piece) }
+        ensures keeps { KeepsPlace self.old self.new }
+    {
+        let problem = problem(self.alloc, &self.walk.state)?;
+        if let Some(kind) = refusal_of(question, &problem) {
+            return Ok(Piece::Error(kind));
+        }
+        if let Mode::Unsat = self.walk.state.mode() {
+            self.refute_again();
+            return Ok(Piece::Decision);
+        }
+        self.decide_anew(rt, gate, question, problem)?;
+        Ok(Piece::Decision)
+    }
+
+    /// Decides a question over the problem of the assertions, and holds what was found in place of what was held before.
     fn decide_anew<R: Threads + Wait + Sync, G: Gate>(
         &mut self,
         rt: &R,
         gate: &G,
+        question: Question,
+        problem: Problem,
     ) -> Result<(), AllocError>
-        requires { (s : Meaning) × Holds self.old s }
-        ensures checked { OnOk result ((s : Meaning) → Holds self.old s → IsChecked self.new s) }
-        ensures keeps { KeepsReading self.old self.new }
+        requires holds { (s : Meaning) × (x : Sexpr) × Holds self.old s × IsTaken question x s problem }
+        requires few { self.old.walk.number < 2 ^ 64 - 1 }
+        ensures checked { OnOk result ((s : Meaning) (x : Sexpr) → Holds self.old s → IsTaken question x s problem
+            → IsChecked question x self.old self.new s) }
+        ensures keeps { KeepsPlace self.old self.new }
     {
         self.held = None;
+        self.given = None;
         self.marks.clear();
         let wanted = self.wanted();
-        let found = decide(rt, self.alloc, &self.walk.state, wanted, self.options, gate)?;
+        let Decision { found, given } = decide(
+            rt,
+            self.alloc,
+            &self.walk.state,
+            question,
+            problem,
+            wanted,
+            self.options,
+            gate,
+        )?;
         self.walk.settle(found.verdict());
         self.held = Some(found);
+        self.given = given;
         Ok(())
     }
 
-    /// What the next check-sat is decided for. In a transcript its entry shows where a proof is asked for later.
+    /// What the next question is decided for. In a transcript its entry shows where a proof is asked for later.
     fn wanted(&mut self) -> Wanted
         ensures version { version_wanted result ≡ version_of self.old.report }
         ensures same { self.new ≡ record self.old { last_proof = self.new.last_proof } }

@@ -48,7 +48,7 @@ pub fn solve_script<R: Threads + Wait + Sync, K: Sink, G: Gate>(
     write_report(rt, alloc, bytes, sink, Report::Verdicts, options, gate)
 }
 
-/// Writes the certificate of a script, of this version: a header, for each check-sat a schedule or a refutation, and
+/// Writes the certificate of a script, of this version: a header, for each question the entry that decides it, and
 /// the end, or the first refusal's error line in its place.
 ///
 /// The arguments are those of [`solve_script`].

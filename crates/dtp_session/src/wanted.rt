@@ -1,8 +1,8 @@
-//! What a check-sat is decided for.
+//! What a question is decided for.
 use bstr::ByteSlice;
 use cert_text::Version;
 
-/// What a check-sat is decided for.
+/// What a question is decided for.
 #[derive(Clone, Copy, Debug, PartialEq, Eq)]
 pub enum Wanted {
     /// Its verdict, and the values of its schedule: no proof is asked for behind it.

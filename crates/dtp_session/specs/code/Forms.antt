@@ -6,7 +6,7 @@ use Rattle.refute_tree.specs.Lengths.{lengthened_lemma, shortened_lemma}
 use Rattle.stn_core.specs.declared.named.NamedValue.{NamedValue}
 use Rattle.stn_core.specs.declared.problem.Problem.{Problem}
 use Rattle.cert_text.specs.declared.entry.Entry.{Entry}
-use Rattle.cert_text.specs.declared.entry.Entry.TheVariants.{Sat, Unsat}
+use Rattle.cert_text.specs.declared.entry.Entry.TheVariants.{Sat, Unsat, Best, Unbounded}
 use Rattle.cert_text.specs.declared.entry.Version.{Version}
 use Rattle.cert_text.specs.declared.entry.Version.TheVariants.{One, Two}
 use Rattle.dtp_session.specs.declared.wanted.Wanted.{Wanted}
@@ -22,11 +22,21 @@ abbrev pub version_wanted : Wanted → Version
 version_wanted wanted.Verdict = One
 version_wanted (wanted.Entry version) = version
 
+-- an entry in a version's form, where its lemmas refute a problem with these clauses
+abbrev pub shown_in : Version → List (List Literal) → Entry → Entry
+shown_in version clauses (Sat schedule) = Sat schedule
+shown_in version clauses (Unsat lemmas) = Unsat (map (formed version clauses) lemmas)
+shown_in version clauses (Best m schedule lemmas) = Best m schedule (map (formed version clauses) lemmas)
+shown_in version clauses (Unbounded values set) = Unbounded values set
+
 -- an entry whose lemmas are to be put in the first version's form, as the problem's; else it is as it is
 abbrev pub shown_as : Option Problem → Entry → Entry
-shown_as (Some problem) (Unsat lemmas) = Unsat (map (formed One problem.clauses) lemmas)
-shown_as _ entry = entry
+shown_as (Some problem) entry = shown_in One problem.clauses entry
+shown_as None entry = entry
 
-abbrev pub schedule_of : Entry → Option (List NamedValue)
-schedule_of (Sat schedule) = Some schedule
-schedule_of (Unsat lemmas) = None
+-- the schedule that the code has: an entry's own, or the one that goes with its values of the time points
+abbrev pub schedule_shown : Option (List NamedValue) → Entry → Option (List NamedValue)
+schedule_shown given (Sat schedule) = Some schedule
+schedule_shown given (Unsat lemmas) = None
+schedule_shown given (Best m schedule lemmas) = Some schedule
+schedule_shown given (Unbounded values set) = given

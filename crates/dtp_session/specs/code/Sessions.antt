@@ -1,16 +1,16 @@
 -- A session: what it writes next, and what it goes on to.
 -- These are words of the code's inner contracts, and no part of the meaning.
-use Rattle.std.specs.Prelude.{◌≡◌, ℕ, List, [], ◌++◌, Bool, Some, None}
+use Rattle.std.specs.Prelude.{◌≡◌, ℕ, ◌+◌, List, [], ◌++◌, Bool, Option, Some, None}
 use Rattle.std.specs.List.{AllByRecursion}
 use Rattle.smt_sexpr.specs.Tree.{Sexpr}
 use Rattle.stn_core.specs.declared.named.NamedValue.{NamedValue}
 use Rattle.stn_core.specs.Named.{AreWithinLimit}
 use Rattle.refute_tree.specs.declared.lemma.Lemma.{Lemma}
 use Rattle.idl_node.specs.Truth.{point_values, AreTruths}
-use Rattle.idl_term.specs.Contexts.{Context, IsScheduleFor, scope_of}
+use Rattle.idl_term.specs.Contexts.{Context, scope_of}
 use Rattle.cert_text.specs.declared.entry.Version.{Version}
 use Rattle.cert_text.specs.declared.entry.Entry.{Entry}
-use Rattle.cert_text.specs.declared.entry.Entry.TheVariants.{Sat, Unsat}
+use Rattle.cert_text.specs.declared.entry.Entry.TheVariants.{Unsat}
 use Rattle.cert_text.specs.Form.{entry_sexpr, line_of}
 use Rattle.smt_script.specs.Commands.{asked_terms}
 use Rattle.smt_script.specs.declared.state.Mode.{Mode}
@@ -18,16 +18,18 @@ use Rattle.smt_script.specs.declared.state.Mode.TheVariants as mode
 use Rattle.smt_script.specs.declared.state.Notice.{Notice}
 use Rattle.smt_script.specs.declared.state.Notice.TheVariants as notice
 use Rattle.smt_answer.specs.Texts.{error_line}
-use Rattle.smt_script.specs.declared.state.Satisfiability.{Satisfiability}
-use Rattle.smt_script.specs.declared.state.Satisfiability.TheVariants as verdict
+use Rattle.smt_script.specs.declared.state.Question.{Question}
 use Rattle.smt_script.specs.States.{State, start_state, terms_refusal, settled}
+use Rattle.script_walk.specs.Questions.{refusal_of}
 use Rattle.script_walk.specs.Course.{Place, Turn, IsCourseOf, status_of, answers_of}
 use Rattle.script_walk.specs.code.Events.{IsStart as IsWalkStart, IsReady as IsWalkReady}
+use Rattle.dtp_entry.specs.Bests.{Satisfies}
 use Rattle.dtp_entry.specs.Entries.{verdict_of}
 use Rattle.dtp_entry.specs.Reports.{version_of}
 use Rattle.script_walk.specs.code.Standing.{Stands}
-use Rattle.dtp_entry.specs.Transcripts.{Held, opening, closing, decision_line, told, Decides, Output, pieces, IsLegal}
+use Rattle.dtp_entry.specs.Transcripts.{Held, schedule_in, opening, closing, decision_line, told, Decides, Output, pieces, IsLegal}
 use Rattle.dtp_entry.specs.Written.{IsFront}
+use Rattle.dtp_session.specs.code.Forms.{schedule_shown}
 use Rattle.dtp_session.specs.declared.piece.Piece.{Piece}
 use Rattle.dtp_session.specs.declared.piece.Piece.TheVariants.{Opening, Decision, Proof, Told, Closing, Error}
 use Rattle.dtp_session.specs.declared.session.Session.{Session}
@@ -41,30 +43,33 @@ IsText p Told text = text ≡ p.text.items
 IsText p Closing text = text ≡ closing p.report
 IsText p (Error kind) text = text ≡ error_line p.walk.number kind
 
--- what is held shows the verdict that the mode stands for; marks tell the truth of nodes on a schedule that is held
-abbrev pub ShowsVerdict : Mode → Context → Held → List Bool → Type 0
-ShowsVerdict mode.Nothing c held marks = Unit {0}
-ShowsVerdict mode.Sat c held marks =
-    (schedule : List NamedValue) × (held ≡ Some (Sat schedule)) × IsScheduleFor c schedule
-    × AreWithinLimit schedule × AreTruths c.nodes (point_values schedule) marks
-ShowsVerdict mode.Unsat c held marks = (lemmas : List Lemma) × (held ≡ Some (Unsat lemmas))
+-- a schedule is held that satisfies what is active, and marks tell the truth of nodes on it
+pub record ShowsSchedule (c : Context) (kept : Held) (given : Option (List NamedValue)) (marks : List Bool) : Type 0 where
+  pub entry : Entry
+  pub schedule : List NamedValue
+  pub held : kept ≡ Some entry
+  pub shown : schedule_shown given entry ≡ Some schedule
+  pub is : schedule_in c entry ≡ Some schedule
+  pub satisfies : Satisfies c schedule
+  pub within : AreWithinLimit schedule
+  pub truths : AreTruths c.nodes (point_values schedule) marks
 
--- an entry is held that says so and decides what is active
-abbrev pub IsDecidedSo : Version → Context → Held → Satisfiability → Type 0
-IsDecidedSo version c held says =
-    (entry : Entry) × (held ≡ Some entry) × (verdict_of entry ≡ says) × Decides version c entry
+-- a refutation is held, which answers each question
+pub record ShowsRefutation (version : Version) (c : Context) (kept : Held) : Type 0 where
+  pub lemmas : List Lemma
+  pub held : kept ≡ Some (Unsat lemmas)
+  pub decides : (question : Question) (x : Sexpr) → Decides version question x c (Unsat lemmas)
 
--- where nothing was changed since the last answer, what is held decides what is active
-abbrev pub IsDecided : Version → Mode → Context → Held → Type 0
-IsDecided version mode.Nothing c held = Unit {0}
-IsDecided version mode.Sat c held = IsDecidedSo version c held verdict.Sat
-IsDecided version mode.Unsat c held = IsDecidedSo version c held verdict.Unsat
+-- what is held shows the verdict that the mode stands for
+abbrev pub ShowsVerdict : Version → Mode → Context → Held → Option (List NamedValue) → List Bool → Type 0
+ShowsVerdict version mode.Nothing c held given marks = Unit {0}
+ShowsVerdict version mode.Sat c held given marks = ShowsSchedule c held given marks
+ShowsVerdict version mode.Unsat c held given marks = ShowsRefutation version c held
 
 -- what is kept of the commands stands for the state, and what is held shows its verdict
 pub record Holds (p : Session) (s : State) : Type 0 where
   pub stands : Stands p.walk.state s
-  pub shows : ShowsVerdict s.mode s.context p.held p.marks.items
-  pub decided : IsDecided (version_of p.report) s.mode s.context p.held
+  pub shows : ShowsVerdict (version_of p.report) s.mode s.context p.held p.given p.marks.items
 
 -- what is told in a state may be told there
 pub record MayTell (s : State) (x : Sexpr) (n : Notice) : Type 0 where
@@ -96,6 +101,13 @@ pub record KeepsVerdict (p q : Session) : Type 0 where
   pub reading : KeepsReading p q
   pub state : q.walk.state ≡ p.walk.state
   pub held : q.held ≡ p.held
+  pub given : q.given ≡ p.given
+
+-- nothing was changed but what is held, what the commands have led to and their count
+pub record KeepsPlace (p q : Session) : Type 0 where
+  pub lexer : q.walk.lexer ≡ p.walk.lexer
+  pub sexprs : q.walk.sexprs ≡ p.walk.sexprs
+  pub report : q.report ≡ p.report
 
 -- the script and its report are the same
 pub record KeepsScript (p q : Session) : Type 0 where
@@ -142,12 +154,22 @@ pub record Tells (p q : Session) (s : State) (x : Sexpr) (n : Notice) (piece : P
   pub held : q.held ≡ p.held
   pub text : (text : List ℕ) → IsText q piece text → text ≡ told p.report p.held s x n
 
--- a check-sat was decided in this state
-pub record IsChecked (q : Session) (s : State) : Type 0 where
+-- the question of command x was decided in this state, and counted
+pub record IsChecked (question : Question) (x : Sexpr) (p q : Session) (s : State) : Type 0 where
   pub entry : Entry
-  pub decides : Decides (version_of q.report) s.context entry
+  pub decides : Decides (version_of q.report) question x s.context entry
   pub held : q.held ≡ Some entry
   pub stands : Holds q (settled (verdict_of entry) s)
+  pub number : q.walk.number ≡ p.walk.number + 1
+
+-- the question was decided, or it is refused
+abbrev pub IsAnswered : Question → Sexpr → Session → Session → State → Piece → Type 0
+IsAnswered question x p q s Decision = (refusal_of question s x ≡ None) × IsChecked question x p q s
+IsAnswered question x p q s (Error kind) = (refusal_of question s x ≡ Some kind) × (q.walk.number ≡ p.walk.number)
+IsAnswered question x p q s Opening = ⊥
+IsAnswered question x p q s Proof = ⊥
+IsAnswered question x p q s Told = ⊥
+IsAnswered question x p q s Closing = ⊥
 
 -- ---- a turn
 

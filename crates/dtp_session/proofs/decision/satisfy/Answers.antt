@@ -1,0 +1,70 @@
+use Rattle.std.proofs.Common.{arith, ◌∙◌, ◌≡◌, ◌+◌, refl, sym, ap, subst, List, length, ℤ}
+use Rattle.std.specs.Prelude.{All}
+use Rattle.stn_core.specs.Schedule.{IsInRange}
+use Rattle.stn_core.specs.Solution.{IsSolution}
+use Rattle.clause_form.specs.Restricting.{restricted}
+use Rattle.idl_node.specs.declared.sort.Sort.{Sort}
+use Rattle.idl_term.specs.Scopes.{Scope, sorts_of}
+use Rattle.smt_script.specs.declared.state.Question.TheVariants.{CheckSat}
+use Rattle.dtp_entry.proofs.Bests.{Laws}
+use Rattle.dtp_entry.proofs.Verdicts.{sorts_count}
+use Rattle.dtp_session.specs.code.Forms.{version_wanted}
+use Rattle.dtp_session.proofs.Deciding.{FormLaws, as_found, sat_decision, unsat_decision}
+use Rattle.dtp_session.proofs.decision.satisfy.Goals as goal
+
+pub restrict-requires-clause-some : goal.restrict-requires-clause-some
+restrict-requires-clause-some g c =
+    let s = c.requires.0 in
+    let stands = c.requires.2 in
+    let taken = c.requires.3 in
+    let found : IsSolution c.args.problem c.in-Sat.schedule = as_found _ _ _ c.in-Sat.is c.in_ok-schedule.ensures in
+    let count : length c.as_slice.result.now ≡ c.args.problem.points = ap (λ (values : List ℤ). length values) c.as_slice.ensures ∙ found.count in
+    let names : length c.sorts.result.now ≡ length s.context.declared =
+    ap (λ (sorts : List Sort). length sorts) (c.sorts.ensures ∙ ap sorts_of (c.names.ensures.names ∙ ap (λ (t : Scope). t.declared) stands.stands.scope)) ∙ sorts_count s.context.declared in
+    let some = c.clause_form_law.ensures.some (length s.context.declared + 1) s.context.nodes s.context.roots in
+    let points = taken.is_problem.points in
+    omega (arith, count, names, some, points)
+
+pub restrict-requires-clause-range : goal.restrict-requires-clause-range
+restrict-requires-clause-range g c =
+    let found : IsSolution c.args.problem c.in-Sat.schedule = as_found _ _ _ c.in-Sat.is c.in_ok-schedule.ensures in
+    subst (λ (values : List ℤ). All IsInRange values) (sym c.as_slice.ensures) found.range
+
+pub returns-in_ok-values-in-Sat : goal.returns-in_ok-values-in-Sat
+returns-in_ok-values-in-Sat g c = λ s x stands taken.
+    let found : IsSolution c.args.problem c.in-Sat.schedule = as_found _ _ _ c.in-Sat.is c.in_ok-schedule.ensures in
+    let of_context = c.context_law.ensures in
+    let of_form = c.clause_form_law.ensures in
+    let laws : Laws = record {
+      scope = of_context.scope;
+      roots = of_context.roots;
+      exact = of_context.exact;
+      holds = of_form.holds;
+      schedule = of_form.schedule;
+      some = of_form.some;
+      refutes = c.refutation_law.ensures;
+      unbounded = c.unbounded_law.ensures;
+    } in
+    let names : c.sorts.result.now ≡ sorts_of s.context.declared = c.sorts.ensures ∙ ap sorts_of (c.names.ensures.names ∙ ap (λ (t : Scope). t.declared) stands.stands.scope) in
+    let values : c.in_ok-values-in-Sat.values ≡ restricted (sorts_of s.context.declared) c.in-Sat.schedule =
+    c.in_ok-values-in-Sat.ensures.values ∙ ap (restricted c.sorts.result.now) c.as_slice.ensures ∙ ap (λ (sorts : List Sort). restricted sorts c.in-Sat.schedule) names in
+    sat_decision laws s.context stands.made.context c.args.problem taken.is_problem (version_wanted c.args.wanted) x c.in-Sat.schedule c.in_ok-values-in-Sat.values _ found values c.in_ok-values-in-Sat.ensures.within c.shown-found.ensures
+
+pub returns-in_ok-found-in-Unsat : goal.returns-in_ok-found-in-Unsat
+returns-in_ok-found-in-Unsat g c = λ s x stands taken.
+    let found = as_found _ _ _ c.in-Unsat.is c.in_ok-schedule.ensures in
+    let of_context = c.context_law.ensures in
+    let of_form = c.clause_form_law.ensures in
+    let lengths = c.lengths_law.ensures in
+    let laws : Laws = record {
+      scope = of_context.scope;
+      roots = of_context.roots;
+      exact = of_context.exact;
+      holds = of_form.holds;
+      schedule = of_form.schedule;
+      some = of_form.some;
+      refutes = c.refutation_law.ensures;
+      unbounded = c.unbounded_law.ensures;
+    } in
+    let forms : FormLaws = record { negation = c.negation_kept.ensures; plain = lengths.no_clash; longer = lengths.lengthened; shorter = lengths.shortened } in
+    unsat_decision laws s.context stands.made.context c.args.problem taken.is_problem forms (version_wanted c.args.wanted) CheckSat x c.in-Unsat.refutation c.in_ok-found-in-Unsat.found taken.asked found c.in_ok-found-in-Unsat.ensures

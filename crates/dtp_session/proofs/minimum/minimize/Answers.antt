@@ -1,0 +1,46 @@
+use Rattle.std.proofs.Common.{arith, ◌∙◌, ◌≡◌, ◌+◌, ◌<◌, refl, sym, ap, subst, List, length, ℤ, ℕ}
+use Rattle.std.specs.Prelude.{All}
+use Rattle.stn_core.specs.Schedule.{IsInRange}
+use Rattle.stn_core.specs.declared.problem.Problem.{Problem}
+use Rattle.best_bound.specs.Answers.{IsNothing, IsLeast, IsUnbounded}
+use Rattle.clause_form.specs.Restricting.{restricted}
+use Rattle.idl_node.specs.declared.sort.Sort.{Sort}
+use Rattle.idl_term.specs.Scopes.{Scope, sorts_of}
+use Rattle.smt_script.specs.declared.state.Question.TheVariants.{Minimize}
+use Rattle.dtp_entry.proofs.Bests.{Laws}
+use Rattle.dtp_session.specs.code.Forms.{version_wanted}
+use Rattle.dtp_session.proofs.Deciding.{FormLaws, as_answered, problem_fits, point_in, unsat_decision, least_decision, unbounded_decision}
+use Rattle.dtp_session.proofs.minimum.minimize.Goals as goal
+
+pub search-requires-clause-fits : goal.search-requires-clause-fits
+search-requires-clause-fits g c = λ lifetimes outlives.
+    let taken = c.requires.3 in
+    problem_fits c.args.problem c.requires.0 c.requires.1 c.args.objective taken
+
+pub search-requires-clause-x_in : goal.search-requires-clause-x_in
+search-requires-clause-x_in g c = λ lifetimes outlives.
+    let taken = c.requires.3 in
+    point_in c.clause_form_law.ensures.some c.args.problem c.requires.0.context taken.is_problem c.args.objective.x taken.asked.2.x_below
+
+pub search-requires-clause-y_in : goal.search-requires-clause-y_in
+search-requires-clause-y_in g c = λ lifetimes outlives.
+    let taken = c.requires.3 in
+    point_in c.clause_form_law.ensures.some c.args.problem c.requires.0.context taken.is_problem c.args.objective.y taken.asked.2.y_below
+
+pub restrict-requires-clause-some : goal.restrict-requires-clause-some
+restrict-requires-clause-some g c =
+    let s = c.requires.0 in
+    let stands = c.requires.2 in
+    let taken = c.requires.3 in
+    let found : IsLeast c.args.problem c.args.objective.x c.args.objective.y c.in-Least.values c.in-Least.difference c.in-Least.refutation = as_answered _ _ _ _ _ c.in-Least.is c.in_ok-search.ensures in
+    let count : length c.as_slice.result.now ≡ c.args.problem.points = ap (λ (values : List ℤ). length values) c.as_slice.ensures ∙ found.solution.count in
+    let names : length c.sorts.result.now ≡ length s.context.declared =
+    ap (λ (sorts : List Sort). length sorts) (c.sorts.ensures ∙ ap sorts_of (c.names.ensures.names ∙ ap (λ (t : Scope). t.declared) stands.stands.scope)) ∙ sorts_count s.context.declared in
+    let some = c.clause_form_law.ensures.some (length s.context.declared + 1) s.context.nodes s.context.roots in
+    let points = taken.is_problem.points in
+    omega (arith, count, names, some, points)
+
+pub restrict-requires-clause-range : goal.restrict-requires-clause-range
+restrict-requires-clause-range g c =
+    let found : IsLeast c.args.problem c.args.objective.x c.args.objective.y c.in-Least.values c.in-Least.difference c.in-Least.refutation = as_answered _ _ _ _ _ c.in-Least.is c.in_ok-search.ensures in
+    subst (λ (values : List ℤ). All IsInRange values) (sym c.as_slice.ensures) found.solution.range
