@@ -2,6 +2,7 @@ pub mod EachItem
 pub mod Ascending
 pub mod ObjectiveEntries
 pub mod FirstParts
+pub mod OpenedObjectives
 pub mod NegativeNumbers
 pub mod HeaderAndEnd
 pub mod ItemByItem

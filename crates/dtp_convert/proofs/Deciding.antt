@@ -1,39 +1,46 @@
--- A converted entry decides its check-sat.
-use Rattle.std.proofs.Common.{refl, sym, ap, subst, ◌∙◌, ◌≡◌, ◌+◌, ◌==◌, ◌^◌, ℕ, List, [], ◌∷◌, ◌++◌, length, map, Bool, true, false, Option, Some, None, Result, Ok}
+-- A converted entry decides its question.
+use Rattle.std.proofs.Common.{refl, sym, ap, subst, ◌∙◌, ◌≡◌, ◌+◌, ◌==◌, ◌^◌, ℕ, ◌<◌, List, [], ◌∷◌, ◌++◌, length, Bool, true, false, Option, Some, None, Result, Ok, Err, ℤ}
 use Rattle.std.specs.Prelude.{All, if◌then◌else◌, option_map}
 use Rattle.std.specs.List.{AllByRecursion}
 use Rattle.std.proofs.lemmas.Bool.{eqb-true}
 use Rattle.smt_sexpr.specs.Tree.{Sexpr}
 use Rattle.stn_core.specs.declared.literal.Literal.{Literal}
 use Rattle.stn_core.specs.declared.named.NamedValue.{NamedValue}
+use Rattle.stn_core.specs.declared.problem.Problem.{Problem}
 use Rattle.stn_core.specs.Named.{AreWithinLimit}
+use Rattle.stn_core.specs.Problem.{ClauseHolds, ProblemHolds}
 use Rattle.refute_tree.specs.declared.lemma.Lemma.{Lemma}
-use Rattle.refute_tree.specs.Laws.{RefutationLaw, RefutationStays}
-use Rattle.refute_tree.specs.Lengths.{lengthened_lemma}
-use Rattle.refute_tree.specs.Trees.{IsRefutation}
+use Rattle.best_values.specs.Bests.{ClauseIsKept, IsFreeSet}
+use Rattle.best_values.specs.Widths.{IsWithinLimit}
 use Rattle.cert_text.specs.declared.entry.Version.TheVariants.{One}
 use Rattle.cert_text.specs.declared.entry.Entry.{Entry}
-use Rattle.cert_text.specs.declared.entry.Entry.TheVariants.{Sat, Unsat}
+use Rattle.cert_text.specs.declared.entry.Entry.TheVariants.{Sat, Unsat, Best, Unbounded}
 use Rattle.cert_text.specs.declared.entry.FileEntry.{FileEntry}
-use Rattle.kept_lemmas.specs.Entries.{Placed}
-use Rattle.cert_text.specs.Limits.{LemmaWithin}
-use Rattle.cert_check.specs.declared.flaw.Flaw.{Flaw}
+use Rattle.cert_text.specs.declared.entry.FileEntry.TheVariants as file
+use Rattle.cert_text.specs.Limits.{WholeFits, UnboundedWithin, EntryFits}
 use Rattle.kept_lemmas.specs.declared.item.Item.{Item}
-use Rattle.kept_lemmas.specs.Facts.{Shelf}
-use Rattle.lemma_shelf.specs.ItemFlaws.{items_flaw}
-use Rattle.clause_form.specs.Laws.{ProblemFollows}
-use Rattle.idl_term.specs.Contexts.{Context, IsContext, IsScheduleFor, IsTrueOn, environment}
-use Rattle.idl_term.specs.Laws.{ContextsHaveScopes, RootsAreNodes, RootsAreExact}
+use Rattle.kept_lemmas.specs.Entries.{Placed}
+use Rattle.idl_term.specs.Contexts.{Context, IsScheduleFor, IsTrueOn, environment}
 use Rattle.idl_term.specs.Scopes.{sorts_of}
 use Rattle.idl_term.specs.Values.{Value, whole, truth, nothing, Named, value}
-use Rattle.dtp_entry.specs.Entries.{points_of, problem_of}
+use Rattle.smt_script.specs.code.Kept.{Kept}
+use Rattle.smt_script.specs.declared.objective.Objective.{Objective}
+use Rattle.smt_script.specs.declared.state.Effect.TheVariants.{Ask}
+use Rattle.smt_script.specs.declared.state.Question.{Question}
+use Rattle.smt_script.specs.declared.state.Question.TheVariants.{CheckSat, Minimize}
+use Rattle.smt_script.specs.States.{State}
+use Rattle.dtp_entry.specs.Entries.{points_of, problem_of, difference_at, problem_below, IsProblemOf, IsLeast, IsUnbounded, IsRight}
+use Rattle.dtp_entry.specs.Laws.{RightIsSo}
 use Rattle.dtp_entry.specs.Transcripts.{Decides}
-use Rattle.dtp_entry.proofs.Verdicts.{refuted_unsatisfiable, sorts_count}
+use Rattle.dtp_entry.proofs.Verdicts.{sorts_count}
 use Rattle.dtp_check.specs.declared.judgement.EntryFlaw.{EntryFlaw}
 use Rattle.dtp_check.specs.declared.judgement.EntryFlaw.TheVariants.{WrongCount, WrongSort, FalseAssertion, Flawed}
-use Rattle.dtp_check.specs.Judged.{first_of_wrong_sort, is_true, first_false, first_of_two, values_flaw}
+use Rattle.dtp_check.specs.Judged.{first_of_wrong_sort, is_true, first_false, first_of_two, values_flaw, refutation_flaw, least_flaw, at_check_sat, entry_flaw}
+use Rattle.dtp_check.specs.code.Asked.{IsAsked, IsLeastFound, asked_clauses}
+use Rattle.dtp_check.proofs.FreeSets.{set_right}
 use Rattle.dtp_check.proofs.Judging.{are_of_sorts}
-use Rattle.dtp_convert.specs.code.Shown.{IsAdded, IsShown}
+use Rattle.dtp_check.proofs.Leasts.{none_of_two, least_right}
+use Rattle.dtp_convert.specs.code.Shown.{AreItemsShown, IsAdded, IsShown}
 
 -- ---- values without a flaw
 
@@ -67,35 +74,107 @@ values_right_by c values true e f =
     let none = no_flaws (first_of_wrong_sort 1 (sorts_of c.declared) values) (first_false (environment c values) 1 c.assertions) f in
     (are_of_sorts 1 (sorts_of c.declared) values (eqb-true _ _ e ∙ sym (sorts_count c.declared)) none.0, none_false (environment c values) 1 c.assertions none.1)
 
-pub values_decide : (c : Context) (values shown : List NamedValue) → values_flaw c values ≡ None → shown ≡ values → AreWithinLimit values → Decides One c (Sat shown)
-values_decide c values shown none same within =
-    let w = values_right_by c values (length values == length c.declared) refl none in
-    subst (λ (vs : List NamedValue). Decides One c (Sat vs)) (sym same)
-    (record { right = record { right = w; fits = within; form = tt }; so = (values, w.0, w.1) })
+values_right : (question : Question) (x : Sexpr) (c : Context) (values : List NamedValue) → at_check_sat question (values_flaw c values) ≡ None → IsRight question x c (Sat values)
+values_right CheckSat x c values e = values_right_by c values (length values == length c.declared) refl e
+values_right (Minimize o) x c values e = absurd cc
 
--- ---- items that were written out
+-- ---- items over the problem that the code has
 
--- what is wrong with items over the problem that the code has of the assertions
-pub items_flaw_is : (shelf : Shelf) (points : ℕ) (clauses : List (List Literal)) (c : Context) (items : List Item) (flaw : Option Flaw) → points ≡ points_of c → clauses ≡ problem_of c → items_flaw shelf points clauses items ≡ flaw
-    → option_map Flawed (items_flaw shelf (points_of c) (problem_of c) items) ≡ option_map Flawed flaw
-items_flaw_is shelf points clauses c items flaw e f h =
-    ap (λ (cs : List (List Literal)). option_map Flawed (items_flaw shelf (points_of c) cs items)) (sym f) ∙ ap (λ (n : ℕ). option_map Flawed (items_flaw shelf n clauses items)) (sym e) ∙ ap (option_map Flawed) h
+pub items_over : (before : List Placed) (points p : ℕ) (clauses q : List (List Literal)) (items : List Item) (found : Result (List Lemma) EntryFlaw) → points ≡ p → clauses ≡ q → AreItemsShown before points clauses items found → AreItemsShown before p q items found
+items_over before points p clauses q items found e f h =
+    subst (λ (n : ℕ). AreItemsShown before n q items found) e (subst (λ (cs : List (List Literal)). AreItemsShown before points cs items found) f h)
 
-refuted_as : (points p : ℕ) (clauses q : List (List Literal)) (lemmas : List Lemma) → points ≡ p → clauses ≡ q → IsRefutation points clauses lemmas → IsRefutation p q lemmas
-refuted_as points p clauses q lemmas e f h =
-    subst (λ (n : ℕ). IsRefutation n q lemmas) e (subst (λ (cs : List (List Literal)). IsRefutation points cs lemmas) f h)
+-- ---- values and a set without a flaw
 
-module _ (c : Context) (made : IsContext c) (scope : ContextsHaveScopes) (roots : RootsAreNodes) (exact : RootsAreExact) (holds : ProblemFollows) (refutes : RefutationLaw) (longer : RefutationStays lengthened_lemma) where
-  pub items_decide : (points : ℕ) (clauses : List (List Literal)) (found shown : List Lemma) → points ≡ points_of c → clauses ≡ problem_of c → IsRefutation points clauses found
-      → shown ≡ map (lengthened_lemma clauses) found → All (LemmaWithin One (2 ^ 32)) shown → Decides One c (Unsat shown)
-  items_decide points clauses found shown e f refuted is within =
-      let here = longer (points_of c) (problem_of c) found (refuted_as points (points_of c) clauses (problem_of c) found e f refuted) in
-      let same : shown ≡ map (lengthened_lemma (problem_of c)) found = is ∙ ap (λ (cs : List (List Literal)). map (lengthened_lemma cs) found) f in
-      let good : IsRefutation (points_of c) (problem_of c) shown = subst (λ (ls : List Lemma). IsRefutation (points_of c) (problem_of c) ls) (sym same) here in
-      record { right = record { right = good; fits = within; form = tt }; so = refuted_unsatisfiable c made scope roots exact holds refutes shown good }
+clause_holds : (values : List ℤ) (set : List ℕ) (clause : List Literal) → ClauseIsKept values set clause → ClauseHolds values clause
+clause_holds values set clause (l, there, kept) = (l, there, kept.0)
+
+all_hold : (values : List ℤ) (set : List ℕ) (clauses : List (List Literal)) → All (ClauseIsKept values set) clauses → ProblemHolds values clauses
+all_hold values set clauses all = λ k d lt. clause_holds values set _ (all k d lt)
+
+unbounded_right : (before : List Placed) (question : Question) (x : Sexpr) (c : Context) (values : List ℤ) (set : List ℕ) (problem : Problem) → IsProblemOf c problem → UnboundedWithin (2 ^ 32) values set
+    → entry_flaw before question x c (file.Unbounded values set) ≡ None → IsRight question x c (Unbounded values set)
+unbounded_right before CheckSat x c values set problem is within e = absurd cc
+unbounded_right before (Minimize o) x c values set problem is within e =
+    let right = set_right o (points_of c) (problem_of c) values set e in
+    let kept : All (ClauseIsKept values set) problem.clauses = subst (All (ClauseIsKept values set)) (sym is.clauses) right.kept in
+    let free : IsFreeSet problem o.x o.y values set = record {
+      among = subst (λ (n : ℕ). All (λ (p : ℕ). p < n) set) (sym is.points) right.within;
+      ascending = within.ascending;
+      x_in = right.x_in;
+      y_out = right.y_out;
+      kept = kept;
+    } in
+    record {
+      problem = problem;
+      is_problem = is;
+      model = record { count = right.count ∙ sym is.points; holds = all_hold values set problem.clauses kept };
+      free = free;
+    }
+
+-- ---- what is shown
+
+module _ (law : RightIsSo) (kept : Kept) (question : Question) (x : Sexpr) (s : State) (asked : IsAsked kept question x s) (before : List Placed) where
+  -- a right entry within the limits of the first version decides the question
+  decided : (entry : Entry) → IsRight question x s.context entry → EntryFits One entry → Decides One question x s.context entry
+  decided entry right fits = record {
+    right = record { right = right; fits = fits; form = tt };
+    so = law asked.before x (record { state = s; effect = Ask question }) question entry asked.made asked.asks refl right;
+  }
+
+  pub values_shown : (values shown : List NamedValue) → entry_flaw before question x s.context (file.Sat values) ≡ None → shown ≡ values → AreWithinLimit values → IsShown before question x s.context (file.Sat values) (Ok (Sat shown))
+  values_shown values shown none same within =
+      let done : IsShown before question x s.context (file.Sat values) (Ok (Sat values)) = (none, (decided (Sat values) (values_right question x s.context values none) within, refl, refl)) in
+      subst (λ (vs : List NamedValue). IsShown before question x s.context (file.Sat values) (Ok (Sat vs))) (sym same) done
+
+  pub items_shown : (items : List Item) (lemmas : List Lemma) → AreItemsShown before (points_of s.context) (problem_of s.context) items (Ok lemmas) → IsShown before question x s.context (file.Unsat items) (Ok (Unsat lemmas))
+  items_shown items lemmas h = (
+    ap (option_map Flawed) h.0,
+    (decided (Unsat lemmas) h.1.refutes h.1.within, refl, (lemmas, refl, h.1.stay)),
+  )
+
+  pub set_shown : (values : List ℤ) (set : List ℕ) (shown : Entry) (problem : Problem) → IsProblemOf s.context problem → UnboundedWithin (2 ^ 32) values set
+      → entry_flaw before question x s.context (file.Unbounded values set) ≡ None → shown ≡ Unbounded values set → IsShown before question x s.context (file.Unbounded values set) (Ok shown)
+  set_shown values set shown problem is within none same =
+      let right = unbounded_right before question x s.context values set problem is within none in
+      let done : IsShown before question x s.context (file.Unbounded values set) (Ok (Unbounded values set)) = (none, (decided (Unbounded values set) right within, refl, refl)) in
+      subst (λ (e : Entry). IsShown before question x s.context (file.Unbounded values set) (Ok e)) (sym same) done
+
+module _ (law : RightIsSo) (kept : Kept) (o : Objective) (x : Sexpr) (s : State) (asked : IsAsked kept (Minimize o) x s) (before : List Placed) (m : ℤ) (values : List NamedValue) (items : List Item) where
+  -- a value, or values, with a flaw
+  pub least_flawed : (flaw : EntryFlaw) → IsLeastFound x o s.context m values (Err flaw) → IsShown before (Minimize o) x s.context (file.Best m values items) (Err flaw)
+  least_flawed flaw e = ap (λ (f : Option EntryFlaw). first_of_two f (refutation_flaw before s.context (problem_below s.context o m) items)) e
+
+  module _ (d : ℤ) (least : IsLeastFound x o s.context m values (Ok d)) where
+    below : (found : Result (List Lemma) EntryFlaw) → AreItemsShown before (points_of s.context) (asked_clauses s.context o d) items found → AreItemsShown before (points_of s.context) (problem_below s.context o m) items found
+    below found h = subst (λ (e : ℤ). AreItemsShown before (points_of s.context) (asked_clauses s.context o e) items found) least.1 h
+
+    pub best_flawed : (flaw : EntryFlaw) → AreItemsShown before (points_of s.context) (asked_clauses s.context o d) items (Err flaw) → IsShown before (Minimize o) x s.context (file.Best m values items) (Err flaw)
+    best_flawed flaw h =
+        ap (λ (f : Option EntryFlaw). first_of_two f (refutation_flaw before s.context (problem_below s.context o m) items)) least.0 ∙ below (Err flaw) h
+
+    pub best_shown : (shown : List NamedValue) (lemmas : List Lemma) → AreItemsShown before (points_of s.context) (asked_clauses s.context o d) items (Ok lemmas) → WholeFits m → shown ≡ values → AreWithinLimit values
+        → IsShown before (Minimize o) x s.context (file.Best m values items) (Ok (Best m shown lemmas))
+    best_shown shown lemmas h fits same within =
+        let c = s.context in
+        let here = below (Ok lemmas) h in
+        let none : entry_flaw before (Minimize o) x c (file.Best m values items) ≡ None = none_of_two (least_flaw x o c m values) (refutation_flaw before c (problem_below c o m) items) least.0 (ap (option_map Flawed) here.0) in
+        let found = least_right x o c m values least.0 in
+        let right : IsLeast c x o m values lemmas = record {
+          satisfies = values_right_by c values (length values == length c.declared) refl found.values_none;
+          attained = found.attains;
+          within = found.in_limit;
+          refuted = here.1.refutes;
+        } in
+        let done : IsShown before (Minimize o) x c (file.Best m values items) (Ok (Best m values lemmas)) = (
+          none,
+          (decided law kept (Minimize o) x s asked before (Best m values lemmas) right (fits, within, here.1.within), refl, (lemmas, refl, here.1.stay)),
+        ) in
+        subst (λ (vs : List NamedValue). IsShown before (Minimize o) x c (file.Best m values items) (Ok (Best m vs lemmas))) (sym same) done
 
 -- an entry that was added to those before it
-pub added : (placed : List Placed) (c : Context) (entry : FileEntry) (found : Result Entry EntryFlaw) (shown : Entry) (before now : List Entry) → found ≡ Ok shown → IsShown placed c entry found → now ≡ before ++ shown ∷ [] → IsAdded before now c entry
-added placed c entry found shown before now e h more =
-    let w : IsShown placed c entry (Ok shown) = subst (λ (r : Result Entry EntryFlaw). IsShown placed c entry r) e h in
+pub added : (placed : List Placed) (question : Question) (x : Sexpr) (c : Context) (entry : FileEntry) (found : Result Entry EntryFlaw) (shown : Entry) (before now : List Entry) → found ≡ Ok shown → IsShown placed question x c entry found → now ≡ before ++ shown ∷ []
+    → IsAdded before now question x c entry
+added placed question x c entry found shown before now e h more =
+    let w : IsShown placed question x c entry (Ok shown) = subst (λ (r : Result Entry EntryFlaw). IsShown placed question x c entry r) e h in
     (shown, w.1, more)

@@ -36,7 +36,7 @@ use Rattle.dtp_convert.specs.code.Shown.{IsAdded}
 -- ---- what was kept decides the questions
 
 abbrev pub added_to : Leads Converting
-added_to before now c entry = IsAdded before.entries.items now.entries.items c entry
+added_to before now question x c entry = IsAdded before.entries.items now.entries.items question x c entry
 
 abbrev place_at : ℕ → State → Option Entry → List Entry → Place Entry
 place_at k s held left = record { number = k; state = s; held = held; left = left }

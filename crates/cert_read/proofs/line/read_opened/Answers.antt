@@ -1,9 +1,9 @@
 use Rattle.std.proofs.Common.{refl, ◌∙◌, sym, rules}
 use Rattle.cert_text.specs.declared.entry.FileEntry.TheVariants.{Sat, Unsat}
-use Rattle.cert_read.specs.Parts.{item_of, named_value_of}
+use Rattle.cert_read.specs.Parts.{item_of, named_value_of, best_from, unbounded_from}
 use Rattle.cert_read.specs.declared.line.Head.TheVariants as head
 use Rattle.cert_read.proofs.ItemByItem.{next_some, next_none}
-use Rattle.cert_read.proofs.OpenedLines.{empty_list, opened, opened_end, lacking, not_alone, other_head, no_line_behind}
+use Rattle.cert_read.proofs.OpenedLines.{empty_list, opened, opened_as, opened_end, lacking, lacking_as, not_alone, other_head, no_line_behind}
 use Rattle.cert_read.proofs.line.read_opened.Goals as goal
 
 pub returns-in-None-clause-err : goal.returns-in-None-clause-err
@@ -57,3 +57,27 @@ returns-in_ok-skip_items-in-Other-clause-err c =
     let next = next_some c.next_item.new.table c.args.lexer.now.bytes c.args.lexer.now.place c.next_item.new.lexer.place c.in_ok-next_item.field-0 c.in-Some.id c.in-Some.is c.in_ok-next_item.ensures.next in
     let first = sym (c.head_of.ensures next.0 next.1) ∙ c.in-Other.is in
     other_head c.args.version c.args.lexer.now.bytes c.args.lexer.now.place c.next_item.new.lexer.place next.0 next.2 c.skip_items.new.lexer.place first (rw c.next_item.ensures.lexer_bytes at c.in_ok-skip_items-in-Other.ensures.ok)
+
+pub returns-in_err-read_best-in-Best-clause-err : goal.returns-in_err-read_best-in-Best-clause-err
+returns-in_err-read_best-in-Best-clause-err c =
+    let next = next_some c.next_item.new.table c.args.lexer.now.bytes c.args.lexer.now.place c.next_item.new.lexer.place c.in_ok-next_item.field-0 c.in-Some.id c.in-Some.is c.in_ok-next_item.ensures.next in
+    let first = sym (c.head_of.ensures next.0 next.1) ∙ c.in-Best.is in
+    search (rules, lacking_as c.args.version c.args.lexer.now.bytes c.args.lexer.now.place c.next_item.new.lexer.place next.0 next.2 (best_from c.args.version) head.Best (λ xs. refl) (λ e. absurd cc) _ first (rw c.next_item.ensures.lexer_bytes at c.in_err-read_best-in-Best.ensures.err))
+
+pub returns-in_ok-read_best-in-Best-clause-ok : goal.returns-in_ok-read_best-in-Best-clause-ok
+returns-in_ok-read_best-in-Best-clause-ok c =
+    let next = next_some c.next_item.new.table c.args.lexer.now.bytes c.args.lexer.now.place c.next_item.new.lexer.place c.in_ok-next_item.field-0 c.in-Some.id c.in-Some.is c.in_ok-next_item.ensures.next in
+    let first = sym (c.head_of.ensures next.0 next.1) ∙ c.in-Best.is in
+    opened_as c.args.version c.args.lexer.now.bytes c.args.lexer.now.place c.next_item.new.lexer.place next.0 next.2 (best_from c.args.version) head.Best (λ xs. refl) c.in_ok-read_best-in-Best.field-0 c.read_best.new.lexer.place first (rw c.next_item.ensures.lexer_bytes at c.in_ok-read_best-in-Best.ensures.ok)
+
+pub returns-in_err-read_unbounded-in-Unbounded-clause-err : goal.returns-in_err-read_unbounded-in-Unbounded-clause-err
+returns-in_err-read_unbounded-in-Unbounded-clause-err c =
+    let next = next_some c.next_item.new.table c.args.lexer.now.bytes c.args.lexer.now.place c.next_item.new.lexer.place c.in_ok-next_item.field-0 c.in-Some.id c.in-Some.is c.in_ok-next_item.ensures.next in
+    let first = sym (c.head_of.ensures next.0 next.1) ∙ c.in-Unbounded.is in
+    search (rules, lacking_as c.args.version c.args.lexer.now.bytes c.args.lexer.now.place c.next_item.new.lexer.place next.0 next.2 unbounded_from head.Unbounded (λ xs. refl) (λ e. absurd cc) _ first (rw c.next_item.ensures.lexer_bytes at c.in_err-read_unbounded-in-Unbounded.ensures.err))
+
+pub returns-in_ok-read_unbounded-in-Unbounded-clause-ok : goal.returns-in_ok-read_unbounded-in-Unbounded-clause-ok
+returns-in_ok-read_unbounded-in-Unbounded-clause-ok c =
+    let next = next_some c.next_item.new.table c.args.lexer.now.bytes c.args.lexer.now.place c.next_item.new.lexer.place c.in_ok-next_item.field-0 c.in-Some.id c.in-Some.is c.in_ok-next_item.ensures.next in
+    let first = sym (c.head_of.ensures next.0 next.1) ∙ c.in-Unbounded.is in
+    opened_as c.args.version c.args.lexer.now.bytes c.args.lexer.now.place c.next_item.new.lexer.place next.0 next.2 unbounded_from head.Unbounded (λ xs. refl) c.in_ok-read_unbounded-in-Unbounded.field-0 c.read_unbounded.new.lexer.place first (rw c.next_item.ensures.lexer_bytes at c.in_ok-read_unbounded-in-Unbounded.ensures.ok)
