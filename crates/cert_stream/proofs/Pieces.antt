@@ -1,5 +1,5 @@
 -- Pieces of a text, one behind the other.
-use Rattle.std.proofs.Common.{arith, inr, ◌≡◌, ◌≤◌, ℕ, List, [], ◌++◌, Option, Result, Ok, Err, refl, sym, ap, ◌∙◌, subst, append_assoc}
+use Rattle.std.proofs.Common.{arith, inr, ◌≡◌, ◌≤◌, ℕ, List, [], ◌++◌, Option, Result, Ok, Err, refl, sym, ap, ◌∙◌, subst, append_assoc, append-nil}
 use Rattle.std.specs.Io.KnownBytes.{Appends}
 use Rattle.std.proofs.KnownBytes.{Appends-trans}
 use Rattle.dtp_io.specs.Faults.{Rose}
@@ -86,6 +86,13 @@ module _ {text waited : List ℕ} {before now after : Option (List ℕ)} {faults
           later = omega (arith, h.quiet, s.fault.later);
         };
       }
+
+module _ {text waited : List ℕ} {before now after : Option (List ℕ)} {faults_before faults_now faults_after : ℕ} where
+  -- a call puts all the rest behind it
+  pub goes_last : {waits left : List ℕ} (piece rest : List ℕ) (r : Result (Unit {0}) SessionError) → Goes text rest waited waits before now faults_before faults_now → rest ≡ piece
+      → Streams piece waits left now after faults_now faults_after r → Streams text waited left before after faults_before faults_after r
+  goes_last {waits} {left} piece rest (Ok u) h e s = goes_end [] (goes_called piece rest [] h (e ∙ sym (append-nil piece)) s) left (sym (append-nil left))
+  goes_last {waits} {left} piece rest (Err why) h e s = goes_fails piece rest [] why h (e ∙ sym (append-nil piece)) s
 
 -- in the words of the text
 pub streams_text : {text other waited waits : List ℕ} {before now : Option (List ℕ)} {faults_before faults_now : ℕ} {r : Result (Unit {0}) SessionError} → text ≡ other

@@ -75,6 +75,14 @@ fn stream_line<T: Part, K: Sink>(
     Ok(())
 }
 
+// The first item of a list, behind the list's parenthesis.
+fn begin_list<T: Part>(first: &T, text: &mut Vec<u8>) -> Result<(), AllocError>
+    ensures { OnOk result (text.new.items ≡ text.old.items ++ 40 ∷ text_of (T.sexpr first.now)) }
+{
+    text.push_str(b"(")?;
+    first.write(text)
+}
+
 // A list of its own.
 fn stream_list<T: Part, K: Sink>(
     items: &[T],
@@ -91,8 +99,7 @@ fn stream_list<T: Part, K: Sink>(
             Ok(())
         }
         Some((first, rest)) => {
-            text.push_str(b"(")?;
-            first.write(text)?;
+            begin_list(first, text)?;
             stream_behind(rest, text, sink)
         }
     }

@@ -36,7 +36,9 @@ use Rattle.dtp_entry.proofs.Verdicts.{sorts_count}
 use Rattle.dtp_check.specs.declared.judgement.EntryFlaw.{EntryFlaw}
 use Rattle.dtp_check.specs.declared.judgement.EntryFlaw.TheVariants.{WrongCount, WrongSort, FalseAssertion, Flawed}
 use Rattle.dtp_check.specs.Judged.{first_of_wrong_sort, is_true, first_false, first_of_two, values_flaw, refutation_flaw, least_flaw, at_check_sat, entry_flaw}
+use Rattle.dtp_check.specs.declared.earlier.Earlier.{Earlier}
 use Rattle.dtp_check.specs.code.Asked.{IsAsked, IsLeastFound, asked_clauses}
+use Rattle.dtp_check.specs.code.Earlier.{Holds}
 use Rattle.dtp_check.proofs.FreeSets.{set_right}
 use Rattle.dtp_check.proofs.Judging.{are_of_sorts}
 use Rattle.dtp_check.proofs.Leasts.{none_of_two, least_right}
@@ -83,6 +85,13 @@ values_right (Minimize o) x c values e = absurd cc
 pub items_over : (before : List Placed) (points p : ℕ) (clauses q : List (List Literal)) (items : List Item) (found : Result (List Lemma) EntryFlaw) → points ≡ p → clauses ≡ q → AreItemsShown before points clauses items found → AreItemsShown before p q items found
 items_over before points p clauses q items found e f h =
     subst (λ (n : ℕ). AreItemsShown before n q items found) e (subst (λ (cs : List (List Literal)). AreItemsShown before points cs items found) f h)
+
+-- and what is held of them
+pub held_over : (later : Earlier) (before : List Placed) (points p : ℕ) (clauses q : List (List Literal)) (items : List Item) → points ≡ p → clauses ≡ q
+    → Holds later (before ++ record { points = points; clauses = clauses; items = items } ∷ []) → Holds later (before ++ record { points = p; clauses = q; items = items } ∷ [])
+held_over later before points p clauses q items e f h =
+    let last : ℕ → List (List Literal) → Placed = λ n cs. record { points = n; clauses = cs; items = items } in
+    subst (λ (n : ℕ). Holds later (before ++ last n q ∷ [])) e (subst (λ (cs : List (List Literal)). Holds later (before ++ last points cs ∷ [])) f h)
 
 -- ---- values and a set without a flaw
 

@@ -1,46 +1,27 @@
-use Rattle.std.proofs.Common.{rules, ◌≡◌, ◌∙◌, sym, ap, subst, ◌^◌, List, map, refl, Some, None}
-use Rattle.std.specs.Prelude.{All}
-use Rattle.stn_core.specs.declared.literal.Literal.{Literal}
+use Rattle.std.proofs.Common.{◌≡◌, sym, subst, List, Result, Ok, Err}
+use Rattle.std.specs.Prelude.{IsOk}
 use Rattle.refute_tree.specs.declared.lemma.Lemma.{Lemma}
-use Rattle.refute_tree.specs.Lengths.{lengthened_lemma}
-use Rattle.cert_text.specs.declared.entry.Entry.TheVariants.{Unsat}
-use Rattle.cert_text.specs.declared.entry.Version.TheVariants.{One}
-use Rattle.cert_text.specs.Limits.{LemmaWithin}
-use Rattle.kept_lemmas.specs.declared.item.Item.{Item}
-use Rattle.kept_lemmas.specs.declared.item.Item.TheVariants.{Own}
-use Rattle.kept_lemmas.specs.Entries.{shelf_of, IsOwn}
-use Rattle.cert_check.specs.declared.flaw.CheckError.{CheckError}
-use Rattle.cert_check.specs.declared.flaw.Flaw.{Flaw}
-use Rattle.dtp_check.specs.declared.judgement.EntryFlaw.TheVariants.{Flawed}
-use Rattle.lemma_shelf.specs.ItemFlaws.{items_flaw}
-use Rattle.dtp_check.specs.code.Earlier.{RefusesBy}
-use Rattle.dtp_convert.proofs.Deciding.{items_decide, items_flaw_is}
+use Rattle.dtp_check.specs.declared.judgement.EntryFlaw.{EntryFlaw}
+use Rattle.dtp_convert.specs.code.Shown.{AreItemsShown}
+use Rattle.dtp_convert.proofs.Deciding.{items_over, held_over, items_shown}
 use Rattle.dtp_convert.proofs.entry.shown_items.Goals as goal
 
-pub returns-in-Err-Refused-clause-shown : goal.returns-in-Err-Refused-clause-shown
-returns-in-Err-Refused-clause-shown c = λ s before stands held.
-    let e = c.in_ok-problem.ensures.problem s stands in
+pub returns-in-Ok-clause-shown : goal.returns-in-Ok-clause-shown
+returns-in-Ok-clause-shown c = λ s x before asked held.
     let problem = c.in_ok-problem.problem in
-    let flaw = items_flaw (shelf_of before) problem.points problem.clauses c.as_slice.result.now in
-    let told : flaw ≡ Some c.in-Err-Refused.flaw = subst (λ (error : CheckError). RefusesBy flaw error) c.in-Err-Refused.field-0-is (c.in-Err-Refused.ensures.flaw before held) in
-    let found = subst (λ (items : List Item). items_flaw (shelf_of before) problem.points problem.clauses items ≡ Some c.in-Err-Refused.flaw) c.as_slice.ensures told in
-    items_flaw_is (shelf_of before) problem.points problem.clauses s.context c.args.items.now (Some c.in-Err-Refused.flaw) e.0 e.1 found ∙ ap (λ (f : Flaw). Some (Flawed f)) (sym c.in-Err-Refused.flaw-is)
+    let e = c.in_ok-problem.ensures.problem s asked.stands in
+    let found = subst (λ (r : Result (List Lemma) EntryFlaw). AreItemsShown before problem.points problem.clauses c.args.items.now r) c.in-Ok.is (c.in_ok-found.ensures.shown before held) in
+    items_shown c.right_is_so.ensures c.args.state.now c.args.question x s asked before c.args.items.now c.in-Ok.lemmas (items_over before _ _ _ _ c.args.items.now (Ok c.in-Ok.lemmas) e.0 e.1 found)
 
-pub returns-clause-shown : goal.returns-clause-shown
-returns-clause-shown c = λ s before stands held.
-    let e = c.in_ok-problem.ensures.problem s stands in
-    let laws = c.context_law.ensures in
-    let right = subst (λ (items : List Item). items_flaw (shelf_of before) c.in_ok-problem.problem.points c.in_ok-problem.problem.clauses items ≡ None) c.as_slice.ensures (c.in-Ok.ensures.right (search rules) before held) in
-    let within = subst (λ (lemmas : List Lemma). All (LemmaWithin One (2 ^ 32)) lemmas) c.as_slice-2.ensures (c.are_within.ensures (search rules)) in (
-      items_flaw_is (shelf_of before) c.in_ok-problem.problem.points c.in_ok-problem.problem.clauses s.context c.args.items.now None e.0 e.1 right,
-      (
-        items_decide s.context stands.made.context laws.scope laws.roots laws.exact c.clause_form_law.ensures.holds c.refutation_law.ensures c.lengths_law.ensures.lengthened
-            c.in_ok-problem.problem.points c.in_ok-problem.problem.clauses c.in-Ok.refutation c.in_ok-shown.shown e.0 e.1 c.in-Ok.ensures.refutes c.in_ok-shown.ensures within,
-        refl,
-        (
-          c.in-Ok.refutation,
-          ap Unsat (c.in_ok-shown.ensures ∙ ap (λ (cs : List (List Literal)). map (lengthened_lemma cs) c.in-Ok.refutation) e.1),
-          subst (λ (items : List Item). All IsOwn items → map (λ (lemma : Lemma). Own lemma) c.in-Ok.refutation ≡ items) c.as_slice.ensures c.in-Ok.ensures.own,
-        ),
-      ),
-    )
+pub returns-in-Ok-clause-held : goal.returns-in-Ok-clause-held
+returns-in-Ok-clause-held c = λ ok s x before asked held.
+    let problem = c.in_ok-problem.problem in
+    let e = c.in_ok-problem.ensures.problem s asked.stands in
+    held_over c.shown_lemmas.new.earlier before problem.points _ problem.clauses _ c.args.items.now e.0 e.1 (c.in_ok-found.ensures.held (subst (λ (r : Result (List Lemma) EntryFlaw). IsOk r) (sym c.in-Ok.is) tt) before held)
+
+pub returns-in-Err-clause-shown : goal.returns-in-Err-clause-shown
+returns-in-Err-clause-shown c = λ s x before asked held.
+    let problem = c.in_ok-problem.problem in
+    let e = c.in_ok-problem.ensures.problem s asked.stands in
+    let found = subst (λ (r : Result (List Lemma) EntryFlaw). AreItemsShown before problem.points problem.clauses c.args.items.now r) c.in-Err.is (c.in_ok-found.ensures.shown before held) in
+    items_over before _ _ _ _ c.args.items.now (Err c.in-Err.flaw) e.0 e.1 found
