@@ -1,5 +1,5 @@
 -- The judging of a script, command by command.
-use Rattle.std.proofs.Common.{refl, sym, ap, subst, arith, ◌∙◌, ◌≡◌, ◌≢◌, ◌<◌, ◌≤◌, ◌+◌, ◌==◌, ℕ, zero, suc, List, [], ◌∷◌, ◌++◌, length, length-append, drop, get_or, Bool, true, false, Option, Some, None, Result, Ok, Err, inl, inr}
+use Rattle.std.proofs.Common.{refl, sym, ap, subst, arith, ◌∙◌, ◌≡◌, ◌≢◌, ◌<◌, ◌≤◌, ◌+◌, ◌==◌, ℕ, zero, suc, List, [], ◌∷◌, ◌++◌, length, length-append, drop, get_or, Bool, true, false, Option, Some, None, Result, Ok, Err, inl, inr, ℤ}
 use Rattle.std.specs.Prelude.{if◌then◌else◌, option_map, slice_index_or}
 use Rattle.std.specs.List.{AllByRecursion}
 use Rattle.std.proofs.lemmas.Bool.Decides.{nat_tests}
@@ -11,6 +11,7 @@ use Rattle.stn_core.specs.declared.named.NamedValue.{NamedValue}
 use Rattle.stn_core.specs.declared.named.NamedValue.TheVariants.{Int, Truth}
 use Rattle.stn_core.specs.Literal.{IsOver}
 use Rattle.cert_text.specs.declared.entry.FileEntry.{FileEntry}
+use Rattle.cert_text.specs.declared.entry.FileEntry.TheVariants as file
 use Rattle.idl_node.specs.declared.sort.Sort.{Sort}
 use Rattle.idl_node.specs.declared.sort.Sort.TheVariants as sorts
 use Rattle.idl_node.specs.Nodes.{NodeValue}
@@ -25,7 +26,6 @@ use Rattle.idl_term.specs.Values.{value}
 use Rattle.smt_script.specs.declared.state.Effect.{Effect}
 use Rattle.smt_script.specs.declared.state.Effect.TheVariants.{Ask, Exit, Tell}
 use Rattle.smt_script.specs.declared.state.Question.{Question}
-use Rattle.smt_script.specs.declared.state.Question.TheVariants.{CheckSat}
 use Rattle.smt_script.specs.declared.state.Notice.{Notice}
 use Rattle.smt_script.specs.declared.state.Satisfiability.{Satisfiability}
 use Rattle.smt_script.specs.Commands.{is_exit}
@@ -37,7 +37,8 @@ use Rattle.script_walk.specs.Questions.{refusal_of}
 use Rattle.script_walk.specs.Course.{Place, Turn, turn, ends, behind_told, behind_answer, course}
 use Rattle.script_walk.specs.code.Events.{Leads as Walked, Refuses}
 use Rattle.script_walk.specs.declared.walk.Walk.{Walk}
-use Rattle.script_walk.proofs.Turns.{told_turn, answered_turn, unanswered_turn, exit_turn, refused_turn}
+use Rattle.script_walk.proofs.Turns.{told_turn, answered_turn, unanswered_turn, barred_turn, exit_turn, refused_turn}
+use Rattle.kept_lemmas.specs.declared.item.Item.{Item}
 use Rattle.kept_lemmas.specs.Entries.{Placed}
 use Rattle.script_walk.specs.code.Standing.{Stands}
 use Rattle.smt_script.specs.Laws.{OnlyExitEnds}
@@ -47,7 +48,7 @@ use Rattle.dtp_check.specs.declared.judge.Progress.TheVariants.{Going, Judged}
 use Rattle.dtp_check.specs.declared.earlier.Earlier.{Earlier}
 use Rattle.dtp_check.specs.declared.earlier.Earlier.TheVariants.{Unkept, Shelved}
 use Rattle.dtp_check.specs.code.Earlier.{KeepsNone, Holds, Suffices}
-use Rattle.dtp_check.specs.code.Turns.{Leads, ComesTo, StandsAt, GoesTo, IsCheckTurn, IsJudgedTurn}
+use Rattle.dtp_check.specs.code.Turns.{Leads, ComesTo, StandsAt, GoesTo, IsAnswerTurn, IsQuestionTurn, IsJudgedTurn}
 use Rattle.dtp_check.specs.declared.judgement.EntryFlaw.{EntryFlaw}
 use Rattle.dtp_check.specs.declared.judgement.EntryFlaw.TheVariants.{WrongCount, WrongSort, FalseAssertion}
 use Rattle.dtp_check.specs.declared.judgement.Judgement.{Judgement}
@@ -192,7 +193,7 @@ module _ (kept : Kept) (s : State) (stands : Stands kept s) (values : List Named
       let same = assertion_found s.context values marks there 1 s.context.assertions s.context.roots (exact s.context values stands.made.context fits) (roots s.context stands.made.context) in
       values_flaw_is s.context values found (counted e) none (same ∙ sym (h ∙ ap (first_unmarked marks 1) stands.stands.roots))
 
--- ---- a check-sat
+-- ---- a question
 
 kept_at : (used : ℕ) (entries : List FileEntry) (entry : FileEntry) → AllByRecursion KeepsNone entries → used < length entries → entry ≡ get_or entries used entry → KeepsNone entry
 kept_at used [] entry h within there = absurd (omega (arith, within))
@@ -204,17 +205,23 @@ pub suffices_at : (earlier : Earlier) (used : ℕ) (entries : List FileEntry) (e
 suffices_at Unkept used entries entry h within there = (kept_at used entries entry h within there, tt)
 suffices_at (Shelved shelf) used entries entry h within there = tt
 
+-- of an entry with items as of the items alone
+pub suffices_items : (earlier : Earlier) (m : ℤ) (values : List NamedValue) (items : List Item) → Suffices earlier (file.Best m values items ∷ []) → Suffices earlier (file.Unsat items ∷ [])
+suffices_items Unkept m values items h = h
+suffices_items (Shelved shelf) m values items h = h
+
 -- ---- an answer
 
 left_is : (used : ℕ) (entries : List FileEntry) (entry : FileEntry) → used < length entries → entry ≡ get_or entries used entry → drop used entries ≡ entry ∷ drop (used + 1) entries
 left_is used entries entry within there = drop_more entries used entry within ∙ ap (λ (first : FileEntry). first ∷ drop (used + 1) entries) (sym there)
 
-module _ {K : Type 0} (leads : Leads K) (first next : K) (s : State) (used : ℕ) (before : List Placed) (entries : List FileEntry) (kept : Kept) (later : Earlier) where
+module _ {K : Type 0} (leads : Leads K) (first next : K) (question : Question) (x : Sexpr) (s : State) (number used : ℕ) (before : List Placed) (entries : List FileEntry) (counted : ℕ) (kept : Kept) (later : Earlier) where
   -- an entry without a flaw: the script goes on behind its verdict
-  pub check_right : (entry : FileEntry) (verdict : Satisfiability) (flaw : Option EntryFlaw) → Stands kept (settled verdict s) → verdict ≡ told_by entry
-      → Holds later (before ++ placed s.context entry ∷ []) → leads first next s.context entry → used < length entries → entry ≡ get_or entries used entry → flaw ≡ entry_flaw before s.context entry → flaw ≡ None
-      → IsCheckTurn leads first next s used before entries kept later (Going (used + 1))
-  check_right entry verdict flaw stands e held led within there f none = (
+  pub answer_right : (entry : FileEntry) (verdict : Satisfiability) (flaw : Option EntryFlaw) → Stands kept (settled verdict s) → verdict ≡ told_by entry
+      → Holds later (before ++ placed question s.context entry ∷ []) → leads first next question x s.context entry → used < length entries → entry ≡ get_or entries used entry
+      → flaw ≡ entry_flaw before question x s.context entry → flaw ≡ None → counted ≡ number + 1
+      → IsAnswerTurn leads first next question x s number used before entries counted kept later (Going (used + 1))
+  answer_right entry verdict flaw stands e held led within there f none more = (
     entry,
     left_is used entries entry within there,
     sym f ∙ none,
@@ -223,14 +230,24 @@ module _ {K : Type 0} (leads : Leads K) (first next : K) (s : State) (used : ℕ
     held,
     refl,
     omega arith,
+    more,
   )
 
-  pub check_flawed : (entry : FileEntry) (found : Option EntryFlaw) (flaw : EntryFlaw) → used < length entries → entry ≡ get_or entries used entry → found ≡ entry_flaw before s.context entry → found ≡ Some flaw
-      → IsCheckTurn leads first next s used before entries kept later (Judged (BadEntry (used + 1) flaw))
-  check_flawed entry found flaw within there f is = inr (entry, flaw, drop (used + 1) entries, left_is used entries entry within there, sym f ∙ is, refl)
+  pub answer_flawed : (entry : FileEntry) (found : Option EntryFlaw) (flaw : EntryFlaw) → used < length entries → entry ≡ get_or entries used entry → found ≡ entry_flaw before question x s.context entry → found ≡ Some flaw
+      → IsAnswerTurn leads first next question x s number used before entries counted kept later (Judged (BadEntry (used + 1) flaw))
+  answer_flawed entry found flaw within there f is = inr (entry, flaw, drop (used + 1) entries, left_is used entries entry within there, sym f ∙ is, refl)
 
-  pub check_missing : length entries ≤ used → IsCheckTurn leads first next s used before entries kept later (Judged (Missing (used + 1)))
-  check_missing few = inl (drop_all used entries few, refl)
+  pub answer_missing : length entries ≤ used → IsAnswerTurn leads first next question x s number used before entries counted kept later (Judged (Missing (used + 1)))
+  answer_missing few = inl (drop_all used entries few, refl)
+
+  -- a question that is taken, and one that isn't
+  pub question_taken : (found : Option Kind) (progress : Progress) → found ≡ refusal_of question s x → found ≡ None → IsAnswerTurn leads first next question x s number used before entries counted kept later progress
+      → IsQuestionTurn leads first next question x s number used before entries counted kept later progress
+  question_taken found progress e none turn = inl (sym e ∙ none, turn)
+
+  pub question_barred : (found : Option Kind) (kind : Kind) → found ≡ refusal_of question s x → found ≡ Some kind
+      → IsQuestionTurn leads first next question x s number used before entries counted kept later (Judged (Script number kind))
+  question_barred found kind e is = inr (kind, sym e ∙ is, refl)
 
 -- ---- a command
 
@@ -259,10 +276,6 @@ missing_refused n e = absurd cc
 
 entry_refused : (n : ℕ) (flaw : EntryFlaw) → ◌≡◌ {A = Judgement} (BadEntry n flaw) Accepted → ⊥
 entry_refused n flaw e = absurd cc
-
--- no question of this profile is refused by itself
-pub question_taken : (question : Question) (s : State) (x : Sexpr) → refusal_of question s x ≡ None
-question_taken CheckSat s x = refl
 
 module _ {K : Type 0} (leads : Leads K) (before : List Placed) (first : K) where
   -- the same turns come to the same
@@ -301,38 +314,51 @@ module _ {K : Type 0} (leads : Leads K) (before : List Placed) (first : K) where
           })
 
       -- what is kept behind the answer is `settled`
-      pub check_judged : OnlyExitEnds → (question : Question) (settled : Kept) (later : Earlier) (next : K) (progress : Progress) (h : Walked w p.state x (Ask question)) → refusal_of question h.next x ≡ None → w.number ≡ number + 1
-          → IsCheckTurn leads first next h.next used before entries settled later progress → IsJudgedTurn leads first next p before entries x w.number settled later progress
-      check_judged only question settled later next (Going now) h taken counted (entry, left, none, led, stands, held, one, le) =
-          let s = h.next in
-          let q = behind_answer told_by p s entry (drop now entries) in
-          let sofar = before ++ placed s.context entry ∷ [] in
-          let more = length-append before (placed s.context entry ∷ []) in
-          let count = at.count in
-          record {
-            behind = q;
-            placed = sofar;
-            there = record { numbered = ap (λ (n : ℕ). n + 1) at.numbered ∙ sym counted; stands = stands; held = held; count = omega (arith, more, count, one); left = refl };
-            counted = counted ∙ ap (λ (n : ℕ). n + 1) (sym at.numbered);
-            goes_on = not_exit only p.state x (step_of s (Ask question)) h.leads (ask_apart question);
-            within = le;
-            gives = λ xs judgement last c.
-                comes_as _ _ judgement last (answered_turn told_by p x s question entry (drop now entries) h.leads taken (at.left ∙ left) xs ended) (record {
-                  judged = ap (λ (found : Option EntryFlaw). judged_entry (length before + 1) found (judged_turns sofar (course told_by q xs ended))) none ∙ c.judged;
-                  kept = λ a. (next, led, c.kept a);
-                });
-          }
-      check_judged only question settled later next (Judged judgement) h taken counted (inl (none, is)) = λ xs.
-          comes_as _ _ judgement next (unanswered_turn told_by p x h.next question h.leads taken (at.left ∙ none) xs ended)
-          (record { judged = ap (λ (n : ℕ). Missing (n + 1)) at.count ∙ sym is; kept = λ a. absurd (missing_refused (used + 1) (sym is ∙ a)) })
-      check_judged only question settled later next (Judged judgement) h taken counted (inr (entry, flaw, left, left_is, flawed, is)) = λ xs.
-          let s = h.next in
-          let q = behind_answer told_by p s entry left in
-          let sofar = before ++ placed s.context entry ∷ [] in
-          comes_as _ _ judgement next (answered_turn told_by p x s question entry left h.leads taken (at.left ∙ left_is) xs ended) (record {
-            judged = ap (λ (found : Option EntryFlaw). judged_entry (length before + 1) found (judged_turns sofar (course told_by q xs ended))) flawed ∙ ap (λ (n : ℕ). BadEntry (n + 1) flaw) at.count ∙ sym is;
-            kept = λ a. absurd (entry_refused (used + 1) flaw (sym is ∙ a));
-          })
+      module _ (only : OnlyExitEnds) (question : Question) (counted : ℕ) (settled : Kept) (later : Earlier) (next : K) (h : Walked w p.state x (Ask question)) (same : w.number ≡ number) where
+        answer_judged : (progress : Progress) → refusal_of question h.next x ≡ None → IsAnswerTurn leads first next question x h.next w.number used before entries counted settled later progress
+            → IsJudgedTurn leads first next p before entries x counted settled later progress
+        answer_judged (Going now) taken (entry, left, none, led, stands, held, one, le, counts) =
+            let s = h.next in
+            let q = behind_answer told_by p s entry (drop now entries) in
+            let sofar = before ++ placed question s.context entry ∷ [] in
+            let more = length-append before (placed question s.context entry ∷ []) in
+            let count = at.count in
+            record {
+              behind = q;
+              placed = sofar;
+              there = record { numbered = ap (λ (n : ℕ). n + 1) (at.numbered ∙ sym same) ∙ sym counts; stands = stands; held = held; count = omega (arith, more, count, one); left = refl };
+              counted = counts ∙ ap (λ (n : ℕ). n + 1) (same ∙ sym at.numbered);
+              goes_on = not_exit only p.state x (step_of s (Ask question)) h.leads (ask_apart question);
+              within = le;
+              gives = λ xs judgement last c.
+                  comes_as _ _ judgement last (answered_turn told_by p x s question entry (drop now entries) h.leads taken (at.left ∙ left) xs ended) (record {
+                    judged = ap (λ (found : Option EntryFlaw). judged_entry (length before + 1) found (judged_turns sofar (course told_by q xs ended))) none ∙ c.judged;
+                    kept = λ a. (next, led, c.kept a);
+                  });
+            }
+        answer_judged (Judged judgement) taken (inl (none, is)) = λ xs.
+            comes_as _ _ judgement next (unanswered_turn told_by p x h.next question h.leads taken (at.left ∙ none) xs ended)
+            (record { judged = ap (λ (n : ℕ). Missing (n + 1)) at.count ∙ sym is; kept = λ a. absurd (missing_refused (used + 1) (sym is ∙ a)) })
+        answer_judged (Judged judgement) taken (inr (entry, flaw, left, left_is, flawed, is)) = λ xs.
+            let s = h.next in
+            let q = behind_answer told_by p s entry left in
+            let sofar = before ++ placed question s.context entry ∷ [] in
+            comes_as _ _ judgement next (answered_turn told_by p x s question entry left h.leads taken (at.left ∙ left_is) xs ended) (record {
+              judged = ap (λ (found : Option EntryFlaw). judged_entry (length before + 1) found (judged_turns sofar (course told_by q xs ended))) flawed ∙ ap (λ (n : ℕ). BadEntry (n + 1) flaw) at.count ∙ sym is;
+              kept = λ a. absurd (entry_refused (used + 1) flaw (sym is ∙ a));
+            })
+
+        barred_judged : (kind : Kind) → refusal_of question h.next x ≡ Some kind → (xs : List Sexpr) → ComesTo leads before first (course told_by p (x ∷ xs) ended) (Script w.number kind) next
+        barred_judged kind barred xs =
+            comes_as _ _ (Script w.number kind) next (barred_turn told_by p x h.next question kind h.leads barred xs ended) (record {
+              judged = ap (λ (k : ℕ). Script k kind) (at.numbered ∙ sym same);
+              kept = λ a. absurd (script_refused w.number kind a);
+            })
+
+        pub question_judged : (progress : Progress) → IsQuestionTurn leads first next question x h.next w.number used before entries counted settled later progress → IsJudgedTurn leads first next p before entries x counted settled later progress
+        question_judged progress (inl (taken, turn)) = answer_judged progress taken turn
+        question_judged progress (inr (kind, barred, is)) =
+            subst (λ (t : Progress). IsJudgedTurn leads first next p before entries x counted settled later t) (sym is) (barred_judged kind barred)
 
 pub course_none : (p : Place FileEntry) → course told_by p [] ended ≡ turn p p.state ends ∷ []
 unfolding course

@@ -8,3 +8,5 @@ pub mod WholeExamples
 pub mod Held
 pub mod Lines
 pub mod Making
+pub mod FreeSets
+pub mod Leasts
