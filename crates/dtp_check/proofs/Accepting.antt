@@ -1,5 +1,5 @@
 -- A script with the certificate that was written of it is accepted.
-use Rattle.std.proofs.Common.{refl, sym, ap, subst, arith, ◌∙◌, ◌≡◌, ◌≢◌, ◌≤◌, ◌+◌, ℕ, List, [], ◌∷◌, ◌++◌, length, take, map, drop, Bool, true, false, Option, Some, None, Result, Ok, Err}
+use Rattle.std.proofs.Common.{refl, sym, ap, subst, arith, ◌∙◌, ◌≡◌, ◌≢◌, ◌≤◌, ◌+◌, ℕ, List, [], ◌∷◌, ◌++◌, length, take, map, drop, Bool, true, false, Option, Some, None, Result, Ok, Err, ℤ}
 use Rattle.std.specs.Prelude.{if◌then◌else◌, option_map, All}
 use Rattle.std.specs.List.{AllByRecursion}
 use Rattle.std.proofs.lemmas.List.Elements.{All-nil, All-cons}
@@ -8,13 +8,18 @@ use Rattle.smt_lex.specs.Grammar.{is_gap}
 use Rattle.smt_sexpr.specs.Tree.{Sexpr, Items, leaf, list}
 use Rattle.smt_sexpr.specs.Reading.{Spells, expression, finished, Outcomes}
 use Rattle.smt_sexpr.specs.Commands.{Commands, Ending, ended, stopped, unread, EndsAs}
+use Rattle.stn_core.specs.declared.literal.Literal.{Literal}
+use Rattle.stn_core.specs.declared.named.NamedValue.{NamedValue}
+use Rattle.refute_tree.specs.declared.lemma.Lemma.{Lemma}
+use Rattle.refute_tree.specs.Trees.{IsRefutation}
 use Rattle.cert_text.specs.declared.entry.Version.{Version}
 use Rattle.cert_text.specs.declared.entry.Version.TheVariants.{One, Two}
 use Rattle.cert_text.specs.declared.entry.FileEntry.{FileEntry}
 use Rattle.cert_text.specs.declared.entry.Entry.{Entry}
-use Rattle.cert_text.specs.declared.entry.Entry.TheVariants.{Sat, Unsat}
+use Rattle.cert_text.specs.declared.entry.Entry.TheVariants.{Sat, Unsat, Best, Unbounded}
 use Rattle.cert_text.specs.Form.{header_sexpr, entry_sexpr, file_entry_sexpr, file_entry_of, end_sexpr, line_of}
 use Rattle.cert_text.specs.Limits.{EntryFits}
+use Rattle.kept_lemmas.specs.declared.item.Item.TheVariants.{Own}
 use Rattle.kept_lemmas.specs.Entries.{Placed, shelf_of}
 use Rattle.cert_text.specs.Laws.{OwnText, OwnFits}
 use Rattle.lemma_shelf.specs.Laws.{OwnFlawLaw}
@@ -26,7 +31,9 @@ use Rattle.idl_term.specs.Values.{Named, truth, value}
 use Rattle.smt_script.specs.declared.error.Refusal.{Refusal}
 use Rattle.smt_script.specs.declared.state.Effect.{Effect}
 use Rattle.smt_script.specs.declared.state.Effect.TheVariants.{Ask, Exit, Tell}
+use Rattle.smt_script.specs.declared.objective.Objective.{Objective}
 use Rattle.smt_script.specs.declared.state.Question.{Question}
+use Rattle.smt_script.specs.declared.state.Question.TheVariants.{CheckSat, Minimize}
 use Rattle.smt_script.specs.declared.state.Notice.{Notice}
 use Rattle.smt_script.specs.Commands.{naming_command, changing_command, asking_command, is_unsupported, left_out_of, command_of, is_exit}
 use Rattle.smt_sexpr.specs.Laws.{OneOutcome, ListReadsOn, ListIsWithin}
@@ -40,7 +47,8 @@ use Rattle.script_walk.specs.Course.{Place, start_with, Turn, turn, tells, answe
 use Rattle.script_walk.proofs.Turns.{told_turn, answered_turn, exit_turn}
 use Rattle.dtp_entry.specs.declared.report.Report.TheVariants.{Certificate}
 use Rattle.smt_script.specs.declared.state.Satisfiability.{Satisfiability}
-use Rattle.dtp_entry.specs.Entries.{verdict_of, IsRight, IsEntryOf}
+use Rattle.dtp_entry.specs.Bests.{Satisfies}
+use Rattle.dtp_entry.specs.Entries.{points_of, problem_of, problem_below, verdict_of, IsLeast, IsUnbounded, IsRight, IsEntryOf}
 use Rattle.dtp_entry.specs.Transcripts.{opening, pieces, IsLegal, IsReport}
 use Rattle.dtp_entry.proofs.Verdicts.{sorts_count}
 use Rattle.dtp_check.specs.declared.judgement.EntryFlaw.{EntryFlaw}
@@ -48,11 +56,13 @@ use Rattle.dtp_check.specs.declared.judgement.EntryFlaw.TheVariants.{Flawed}
 use Rattle.dtp_check.specs.declared.judgement.Judgement.TheVariants.{Accepted}
 use Rattle.dtp_check.specs.declared.script_part.PartEnd.{PartEnd}
 use Rattle.dtp_check.specs.declared.script_part.PartEnd.TheVariants as part
-use Rattle.dtp_check.specs.Judged.{EndsPart, ExitEnds, FollowsExit, ScriptPart, IsApart, is_true, first_false, entry_flaw, placed, told_by, judged_entry, judged_turns, IsJudged}
+use Rattle.dtp_check.specs.Judged.{EndsPart, ExitEnds, FollowsExit, ScriptPart, IsApart, is_true, first_false, first_of_two, values_flaw, refutation_flaw, least_flaw, entry_flaw, placed, told_by, judged_entry, judged_turns, IsJudged}
 use Rattle.dtp_check.specs.Laws.{CertifiedIsAccepted}
 use Rattle.dtp_check.specs.Whole.{IsWholeFrom, IsWhole}
 use Rattle.dtp_check.proofs.Reading.{same_sexpr, not_finished}
-use Rattle.dtp_check.proofs.Judging.{none_of_wrong_sort, of_sorts_count, values_flaw_is, course_none, question_taken, not_exit, told_apart, ask_apart, step_of}
+use Rattle.dtp_check.proofs.FreeSets.{IsSetRight, right_set}
+use Rattle.dtp_check.proofs.Leasts.{none_of_two, right_least}
+use Rattle.dtp_check.proofs.Judging.{none_of_wrong_sort, of_sorts_count, values_flaw_is, course_none, not_exit, told_apart, ask_apart, step_of}
 
 -- ---- a right entry has no flaw
 
@@ -62,16 +72,43 @@ none_false env k (t ∷ ts) h =
     let e : is_true (value env t) ≡ true = ap is_true h.0 in
     ap (λ (b : Bool). if b then first_false env (k + 1) ts else Some k) e ∙ none_false env (k + 1) ts h.1
 
-module _ (law : FlawLaw) (own : OwnFlawLaw) (before : List Placed) (c : Context) where
-  pub entry_right : (entry : Entry) → IsRight c entry → entry_flaw before c (file_entry_of entry) ≡ None
-  entry_right (Sat values) (fits, trues) =
-      let count : length values ≡ length c.declared = of_sorts_count (sorts_of c.declared) values fits ∙ sorts_count c.declared in
-      values_flaw_is c values None count (none_of_wrong_sort 1 (sorts_of c.declared) values fits) (none_false (environment c values) 1 c.assertions trues)
-  entry_right (Unsat lemmas) h = ap (option_map Flawed) (own (shelf_of before) _ _ lemmas ∙ (law _ _ lemmas).1 h)
+values_none : (c : Context) (values : List NamedValue) → Satisfies c values → values_flaw c values ≡ None
+values_none c values (fits, trues) =
+    let count : length values ≡ length c.declared = of_sorts_count (sorts_of c.declared) values fits ∙ sorts_count c.declared in
+    values_flaw_is c values None count (none_of_wrong_sort 1 (sorts_of c.declared) values fits) (none_false (environment c values) 1 c.assertions trues)
+
+-- the set of a right entry
+set_of : (c : Context) (o : Objective) (values : List ℤ) (set : List ℕ) → IsUnbounded c o values set → IsSetRight o (points_of c) (problem_of c) values set
+set_of c o values set h =
+    let free = h.free in
+    let here : IsSetRight o h.problem.points h.problem.clauses values set = record { count = h.model.count; within = free.among; x_in = free.x_in; y_out = free.y_out; kept = free.kept } in
+    let at_points : IsSetRight o (points_of c) h.problem.clauses values set = subst (λ (n : ℕ). IsSetRight o n h.problem.clauses values set) h.is_problem.points here in
+    subst (λ (cs : List (List Literal)). IsSetRight o (points_of c) cs values set) h.is_problem.clauses at_points
+
+module _ (law : FlawLaw) (own : OwnFlawLaw) (before : List Placed) (x : Sexpr) (c : Context) where
+  lemmas_right : (clauses : List (List Literal)) (lemmas : List Lemma) → IsRefutation (points_of c) clauses lemmas → refutation_flaw before c clauses (map Own lemmas) ≡ None
+  lemmas_right clauses lemmas h = ap (option_map Flawed) (own (shelf_of before) (points_of c) clauses lemmas ∙ (law (points_of c) clauses lemmas).1 h)
+
+  best_right : (o : Objective) (m : ℤ) (values : List NamedValue) (lemmas : List Lemma) → IsLeast c x o m values lemmas → first_of_two (least_flaw x o c m values) (refutation_flaw before c (problem_below c o m) (map Own lemmas)) ≡ None
+  best_right o m values lemmas h =
+      none_of_two (least_flaw x o c m values) (refutation_flaw before c (problem_below c o m) (map Own lemmas))
+      (right_least x o c m values (record { values_none = values_none c values h.satisfies; attains = h.attained; in_limit = h.within }))
+      (lemmas_right (problem_below c o m) lemmas h.refuted)
+
+  pub entry_right : (question : Question) (entry : Entry) → IsRight question x c entry → entry_flaw before question x c (file_entry_of entry) ≡ None
+  entry_right CheckSat (Sat values) h = values_none c values h
+  entry_right (Minimize o) (Sat values) h = absurd h
+  entry_right question (Unsat lemmas) h = lemmas_right (problem_of c) lemmas h
+  entry_right CheckSat (Best m values lemmas) h = absurd h
+  entry_right (Minimize o) (Best m values lemmas) h = best_right o m values lemmas h
+  entry_right CheckSat (Unbounded values set) h = absurd h
+  entry_right (Minimize o) (Unbounded values set) h = right_set o (points_of c) (problem_of c) values set (set_of c o values set h)
 
 same_verdict : (entry : Entry) → told_by (file_entry_of entry) ≡ verdict_of entry
 same_verdict (Sat values) = refl
 same_verdict (Unsat lemmas) = refl
+same_verdict (Best m values lemmas) = refl
+same_verdict (Unbounded values set) = refl
 
 -- ---- commands that are carried out
 
@@ -198,19 +235,19 @@ module _ (one : OneOutcome) (on : ListReadsOn) (within : ListIsWithin) (flaw : F
       reads = reads_more (step_of next (Tell notice)) e (told_apart notice) next xs turns h;
     }
 
-    split_check : (question : Question) (next : State) → after p.state x ≡ Ok (step_of next (Ask question)) → (xs : List Sexpr) (turns : List (Turn Entry)) (entry : Entry) → IsEntryOf version next.context entry
+    split_check : (question : Question) (next : State) → after p.state x ≡ Ok (step_of next (Ask question)) → refusal_of question next x ≡ None → (xs : List Sexpr) (turns : List (Turn Entry)) (entry : Entry) → IsEntryOf version question x next.context entry
         → IsSplit version script mid (settled (verdict_of entry) next) xs turns → IsSplit version script place p.state (x ∷ xs) (turn p next (answers question x entry) ∷ turns)
-    split_check question next e xs turns entry right h = record {
+    split_check question next e free xs turns entry right h = record {
       text = ap (λ (y : Sexpr). line_of y ++ pieces (Certificate version) turns) (sym (text_is entry)) ∙ ap (λ (t : List ℕ). line_of (file_entry_sexpr (file_entry_of entry)) ++ t) h.text
           ∙ sym (append_assoc (line_of (file_entry_sexpr (file_entry_of entry))) (entries_text (shown_of turns)) (line_of end_sexpr));
       fits = All-cons (FileEntryFits version) (file_entry_of entry) (shown_of turns) (fits_are version entry right.fits) h.fits;
       accepted = λ k held before.
           let shown = file_entry_of entry in
-          let sofar = before ++ placed next.context shown ∷ [] in
+          let sofar = before ++ placed question next.context shown ∷ [] in
           let there : Place FileEntry = record { number = k; state = p.state; held = held; left = shown ∷ shown_of turns } in
           let coming : State → List (Turn FileEntry) = λ s. course told_by (record { number = k + 1; state = s; held = Some shown; left = shown_of turns }) xs ended in
-          ap (judged_turns before) (answered_turn told_by there x next question shown (shown_of turns) e (question_taken question next x) refl xs ended)
-          ∙ ap (λ (f : Option EntryFlaw). judged_entry (length before + 1) f (judged_turns sofar (coming (settled (told_by shown) next)))) (entry_right flaw own before next.context entry right.right)
+          ap (judged_turns before) (answered_turn told_by there x next question shown (shown_of turns) e free refl xs ended)
+          ∙ ap (λ (f : Option EntryFlaw). judged_entry (length before + 1) f (judged_turns sofar (coming (settled (told_by shown) next)))) (entry_right flaw own before x next.context question entry right.right)
           ∙ ap (λ (v : Satisfiability). judged_turns sofar (coming (settled v next))) (same_verdict entry)
           ∙ h.accepted (k + 1) (Some shown) sofar;
       last = h.last;
@@ -251,18 +288,18 @@ module _ (one : OneOutcome) (on : ListReadsOn) (within : ListIsWithin) (flaw : F
       whole_behind : (step : Step) → after p.state x ≡ Ok step → step.effect ≢ Exit → IsWholeFrom script mid ys
       whole_behind step e apart = subst (IsWholeBehind ys) (not_exit only p.state x step e apart) is
 
-      split_asked : (question : Question) (next : State) → after p.state x ≡ Ok (step_of next (Ask question)) → (left : List Entry) → AreLegal (asked verdict_of p next question x left make) → status_of (asked verdict_of p next question x left make) ≡ Some 0
+      split_asked : (question : Question) (next : State) → after p.state x ≡ Ok (step_of next (Ask question)) → refusal_of question next x ≡ None → (left : List Entry) → AreLegal (asked verdict_of p next question x left make) → status_of (asked verdict_of p next question x left make) ≡ Some 0
           → IsSplit version script place p.state (x ∷ xs) (asked verdict_of p next question x left make)
-      split_asked question next e [] legal over = absurd (no_status over)
-      split_asked question next e (entry ∷ left) legal over =
+      split_asked question next e free [] legal over = absurd (no_status over)
+      split_asked question next e free (entry ∷ left) legal over =
           let q = behind_answer verdict_of p next entry left in
           let step = step_of next (Ask question) in
-          split_check question next e xs (make q) entry legal.0.right (rest q legal.1 over (command_within step e) (whole_behind step e (ask_apart question)))
+          split_check question next e free xs (make q) entry legal.0.right (rest q legal.1 over (command_within step e) (whole_behind step e (ask_apart question)))
 
-      split_taken : (question : Question) (next : State) → after p.state x ≡ Ok (step_of next (Ask question)) → (why : Option Kind) → AreLegal (taken verdict_of p next question x why make) → status_of (taken verdict_of p next question x why make) ≡ Some 0
+      split_taken : (question : Question) (next : State) → after p.state x ≡ Ok (step_of next (Ask question)) → (why : Option Kind) → refusal_of question next x ≡ why → AreLegal (taken verdict_of p next question x why make) → status_of (taken verdict_of p next question x why make) ≡ Some 0
           → IsSplit version script place p.state (x ∷ xs) (taken verdict_of p next question x why make)
-      split_taken question next e (Some kind) legal over = absurd (failed_status over)
-      split_taken question next e None legal over = split_asked question next e p.left legal over
+      split_taken question next e (Some kind) f legal over = absurd (failed_status over)
+      split_taken question next e None f legal over = split_asked question next e f p.left legal over
 
       split_effect : (effect : Effect) (next : State) → after p.state x ≡ Ok (step_of next effect) → AreLegal (by_effect verdict_of p next x effect make) → status_of (by_effect verdict_of p next x effect make) ≡ Some 0
           → IsSplit version script place p.state (x ∷ xs) (by_effect verdict_of p next x effect make)
@@ -270,7 +307,7 @@ module _ (one : OneOutcome) (on : ListReadsOn) (within : ListIsWithin) (flaw : F
           let q = behind_told p next in
           let step = step_of next (Tell notice) in
           split_told notice next xs (make q) (rest q legal.1 over (command_within step e) (whole_behind step e (told_apart notice))) e
-      split_effect (Ask question) next e legal over = split_taken question next e (refusal_of question next x) legal over
+      split_effect (Ask question) next e legal over = split_taken question next e (refusal_of question next x) refl legal over
       split_effect Exit next e legal over =
           let step = step_of next Exit in
           let left : (ys ≡ []) × IsClosedGap (drop mid script) = subst (IsWholeBehind ys) ((only p.state x step e).0 refl) is in

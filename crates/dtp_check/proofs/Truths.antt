@@ -43,7 +43,7 @@ use Rattle.script_walk.specs.Course.{Place, start_with, Turn, behind_told, behin
 use Rattle.dtp_entry.specs.Bests.{Satisfies, IsBestFor, HasNoBest}
 use Rattle.dtp_entry.specs.Entries.{points_of, problem_of, problem_below, IsProblemOf, IsUnbounded}
 use Rattle.dtp_entry.specs.code.Asking.{IsAskedBy}
-use Rattle.dtp_entry.proofs.Bests.{Laws, none_less, right_is_so}
+use Rattle.dtp_entry.proofs.Bests.{Laws, none_less, right_is_so, asked_by}
 use Rattle.smt_script.specs.Laws.{StartMade, StepMade, SettledMade, MinimizedIsWorth}
 use Rattle.dtp_entry.proofs.Verdicts.{unsolvable_unsatisfiable, sorts_count}
 use Rattle.dtp_check.specs.declared.judgement.EntryFlaw.{EntryFlaw}
@@ -139,11 +139,6 @@ module _ (c : Context) (context : IsContext c) (scope : ContextsHaveScopes) (roo
   pub unbounded_right : (o : Objective) (values : List ℤ) (set : List ℕ) → unbounded_flaw o (points_of c) (problem_of c) values set ≡ None → (out : List ℕ) × IsUnbounded c o values out
   unbounded_right o values set e = unbounded_by o values set problem_there (set_right o (points_of c) (problem_of c) values set e)
 
--- a question that is asked, as the laws of its entries have it
-asked_by : MinimizedIsWorth → (before s : State) (question : Question) (x : Sexpr) → IsMadeState before → after before x ≡ Ok (record { state = s; effect = Ask question }) → IsAskedBy question x s.context
-asked_by law before s CheckSat x made e = tt
-asked_by law before s (Minimize o) x made e = law before x (record { state = s; effect = Ask (Minimize o) }) o made e refl
-
 module _ (flaws : ItemsFlawLaw) (refutes : ItemsLaw) (goes_on : EntriesGoOn) (laws : Laws) (over : LiteralsAreOver) (few : PointsAreFew) (worth : MinimizedIsWorth) (step_made : StepMade) (settled_made : SettledMade) where
   items_right : (before : List Placed) (c : Context) (clauses : List (List Literal)) (items : List Item) → refutation_flaw before c clauses items ≡ None → AreRight (shelf_of before) (points_of c) clauses items
   items_right before c clauses items e =
@@ -229,7 +224,7 @@ module _ (flaws : ItemsFlawLaw) (refutes : ItemsLaw) (goes_on : EntriesGoOn) (la
     told_effect (Tell notice) s start is made e =
         let told = rest (behind_told p s) before made right e in
         record { fit = (tt, told.fit); over = told.over; used = told.used }
-    told_effect (Ask question) s start is made e = told_taken s question (refusal_of question s x) made (asked_by worth p.state s question x start is) e
+    told_effect (Ask question) s start is made e = told_taken s question (refusal_of question s x) made (asked_by worth p.state x (record { state = s; effect = Ask question }) question start is refl) e
     told_effect Exit s start is made e = record { fit = (tt, tt); over = refl; used = sym (none_left (length before + 1) p.left e) }
 
     told_after : (found : Result Step Refusal) → after p.state x ≡ found → IsMadeState p.state → judged_turns before (by_command told_by p x found make) ≡ Accepted → AreAnswered TellsIn (by_command told_by p x found make) p.left

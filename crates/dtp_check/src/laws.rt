@@ -12,8 +12,9 @@ pub fn one_judgement()
     cert_read::one_certificate();
 }
 
-/// Where a source is accepted, whoever made the certificate, nothing false is: there is one entry for each check-sat, a
-/// sat entry shows that some schedule satisfies the assertions there, and an unsat entry that none does.
+/// Where a source is accepted, whoever made the certificate, nothing false is: there is one entry for each question, a
+/// sat entry shows that some schedule satisfies the assertions there, and an unsat entry that none does; a best entry shows that
+/// its value is the term's best one, and an unbounded entry that there are schedules and no best value.
 pub fn nothing_false_is_accepted()
     ensures { NothingFalseIsAccepted }
 {
@@ -21,7 +22,10 @@ pub fn nothing_false_is_accepted()
     clause_form::clause_form_law();
     kept_lemmas::entries_law();
     lemma_shelf::flaw_law();
+    refute_tree::refutation_law();
+    best_values::unbounded_law();
     smt_script::state_law();
+    smt_script::objective_law();
 }
 
 /// A script is accepted with the certificate, of either version, that was written of it without an error. The script is cut behind its
