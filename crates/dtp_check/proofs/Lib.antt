@@ -10,3 +10,4 @@ pub mod Lines
 pub mod Making
 pub mod FreeSets
 pub mod Leasts
+pub mod Founds
