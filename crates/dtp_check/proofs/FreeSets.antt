@@ -208,24 +208,11 @@ module _ (o : Objective) (points : ℕ) (clauses : List (List Literal)) (values 
       let of : is_of_objective o set ≡ true = both_test (is_among o.x set) (not (is_among o.y set)) (among set o.x h.x_in) (denied_test (is_among o.y set) (not_among set o.y h.y_out)) in
       no_flaw_by (length values == points) are_points (is_of_objective o set) (first_not_kept 0 values set clauses) counted within of (none_found values set 0 clauses h.kept)
 
-  -- what the code finds, test by test
-  pub count_flaw : (length values == points) ≡ false → unbounded_flaw o points clauses values set ≡ Some WrongCount
-  count_flaw e = ap (λ (b : Bool). flaw_by b are_points (is_of_objective o set) (first_not_kept 0 values set clauses)) e
-
-  pub points_flaw : (length values == points) ≡ true → are_points ≡ false → unbounded_flaw o points clauses values set ≡ Some NoSuchPoint
-  points_flaw e f =
-      ap (λ (b : Bool). flaw_by b are_points (is_of_objective o set) (first_not_kept 0 values set clauses)) e
-      ∙ ap (λ (b : Bool). flaw_by true b (is_of_objective o set) (first_not_kept 0 values set clauses)) f
-
-  pub objective_flaw : (length values == points) ≡ true → are_points ≡ true → is_of_objective o set ≡ false → unbounded_flaw o points clauses values set ≡ Some NotOfObjective
-  objective_flaw e f g =
-      ap (λ (b : Bool). flaw_by b are_points (is_of_objective o set) (first_not_kept 0 values set clauses)) e
-      ∙ ap (λ (b : Bool). flaw_by true b (is_of_objective o set) (first_not_kept 0 values set clauses)) f
-      ∙ ap (λ (b : Bool). flaw_by true true b (first_not_kept 0 values set clauses)) g
-
-  pub kept_flaw : (found : Option ℕ) → (length values == points) ≡ true → are_points ≡ true → is_of_objective o set ≡ true → first_not_kept 0 values set clauses ≡ found → unbounded_flaw o points clauses values set ≡ option_map NotKept found
+  -- what the code finds where the count and the points are right
+  pub kept_flaw : (found : Option ℕ) → length values ≡ points → are_points ≡ true → is_of_objective o set ≡ true → first_not_kept 0 values set clauses ≡ found → unbounded_flaw o points clauses values set ≡ option_map NotKept found
   kept_flaw found e f g h =
-      ap (λ (b : Bool). flaw_by b are_points (is_of_objective o set) (first_not_kept 0 values set clauses)) e
+      let counted : (length values == points) ≡ true = grind (arith, nat_tests) in
+      ap (λ (b : Bool). flaw_by b are_points (is_of_objective o set) (first_not_kept 0 values set clauses)) counted
       ∙ ap (λ (b : Bool). flaw_by true b (is_of_objective o set) (first_not_kept 0 values set clauses)) f
       ∙ ap (λ (b : Bool). flaw_by true true b (first_not_kept 0 values set clauses)) g
       ∙ ap (option_map NotKept) h

@@ -1,10 +1,12 @@
 -- What is wrong with the value and the values of a best entry, and what they show where nothing is.
-use Rattle.std.proofs.Common.{refl, sym, ap, subst, arith, inl, inr, ◌⊎◌, ◌∙◌, ◌≡◌, ◌≤◌, ℕ, List, [], ◌∷◌, length, Bool, true, false, Option, Some, None, Result, Ok, Err, ℤ, pos, negsuc, ◌+ℤ◌, ◌-ℤ◌, w64, FitsSigned}
+use Rattle.std.proofs.Common.{refl, sym, ap, subst, arith, ◌∙◌, ◌≡◌, ◌≤◌, ℕ, List, Bool, true, false, Option, Some, None, Result, Ok, Err, ℤ, pos, negsuc, nat_eq, FitsSigned, to_z, of_z}
 use Rattle.std.specs.Int.{w128}
 use Rattle.std.specs.Prelude.{◌↔◌, IsTrue, MatchOption, nat_le, unsigned_abs, if◌then◌else◌}
 use Rattle.std.specs.Ordering.{int_eq}
 use Rattle.std.proofs.lemmas.Bool.Decides.{nat_tests, Decides-int_eq, same_from_decides}
+use Rattle.std.proofs.lemmas.Bool.{eqb-true}
 use Rattle.std.proofs.lemmas.Int.{ints}
+use Rattle.std.proofs.Math.Facts.{to_z-of_z}
 use Rattle.smt_sexpr.specs.Tree.{Sexpr}
 use Rattle.stn_core.specs.declared.named.NamedValue.{NamedValue}
 use Rattle.best_values.specs.Widths.{objective_limit, IsWithinLimit}
@@ -24,43 +26,18 @@ use Rattle.dtp_check.specs.code.Asked.{IsLeastFound}
 
 -- ---- sums
 
--- a number that is equal to the sum passes the test where the sum does
-pub sum_test : (s v m : ℤ) → s ≡ v → (IsTrue (int_eq s m) ↔ (v ≡ m))
-sum_test s v m e = (λ t. sym e ∙ (Decides-int_eq s m).0 t, λ h. (Decides-int_eq s m).1 (e ∙ h))
+same_number : (n : ℕ) → nat_eq n n ≡ true
+same_number n = grind (arith, nat_tests)
 
-pub no_sum : (v m : ℤ) → (v ≡ m → ⊥) → (IsTrue false ↔ (v ≡ m))
-no_sum v m none = (λ t. absurd cc, λ h. absurd (none h))
+-- two `Value`s are compared by their bits
+pub sum_is : (v s m : ℤ) → FitsSigned w128 s → FitsSigned w128 m → s ≡ v → (IsTrue (nat_eq (of_z w128 s) (of_z w128 m)) ↔ (v ≡ m))
+sum_is v s m fs fm e = (
+  λ t. sym e ∙ (sym (to_z-of_z fs) ∙ ap (to_z w128) (eqb-true (of_z w128 s) (of_z w128 m) t) ∙ to_z-of_z fm),
+  λ h. ap (λ (z : ℤ). nat_eq (of_z w128 z) (of_z w128 m)) (e ∙ h) ∙ same_number (of_z w128 m),
+)
 
--- where the whole is a `Value`, the first two or the first and the last are
-either_fits : (x y k m : ℤ) → FitsSigned w128 x → FitsSigned w128 y → FitsSigned w64 k → FitsSigned w128 m → ((x -ℤ y) +ℤ k) ≡ m → FitsSigned w128 (x -ℤ y) ⊎ FitsSigned w128 (x +ℤ k)
-either_fits (pos a) (pos b) k m fx fy fk fm e = inl (omega (arith, ints))
-either_fits (pos a) (negsuc b) (pos c) m fx fy fk fm e = inl (omega (arith, ints))
-either_fits (pos a) (negsuc b) (negsuc c) m fx fy fk fm e = inr (omega (arith, ints))
-either_fits (negsuc a) (negsuc b) k m fx fy fk fm e = inl (omega (arith, ints))
-either_fits (negsuc a) (pos b) (pos c) m fx fy fk fm e = inr (omega (arith, ints))
-either_fits (negsuc a) (pos b) (negsuc c) m fx fy fk fm e = inl (omega (arith, ints))
-
-module _ (x y k m : ℤ) (fm : FitsSigned w128 m) where
-  pub sum_of_rest : (rest sum : ℤ) → rest ≡ x -ℤ y → sum ≡ rest +ℤ k → (IsTrue (int_eq sum m) ↔ (((x -ℤ y) +ℤ k) ≡ m))
-  sum_of_rest rest sum e f = sum_test sum ((x -ℤ y) +ℤ k) m (f ∙ ap (λ (r : ℤ). r +ℤ k) e)
-
-  pub no_sum_of_rest : (rest : ℤ) → rest ≡ x -ℤ y → (FitsSigned w128 (rest +ℤ k) → ⊥) → (IsTrue false ↔ (((x -ℤ y) +ℤ k) ≡ m))
-  no_sum_of_rest rest e none =
-      no_sum ((x -ℤ y) +ℤ k) m (λ h. none (subst (λ (s : ℤ). FitsSigned w128 s) (sym (ap (λ (r : ℤ). r +ℤ k) e ∙ h)) fm))
-
-  pub rest_of_sum : (sum rest : ℤ) → sum ≡ x +ℤ k → rest ≡ sum -ℤ y → (IsTrue (int_eq rest m) ↔ (((x -ℤ y) +ℤ k) ≡ m))
-  rest_of_sum sum rest e f = sum_test rest ((x -ℤ y) +ℤ k) m (omega (arith, ints))
-
-  pub no_rest_of_sum : (sum : ℤ) → sum ≡ x +ℤ k → (FitsSigned w128 (sum -ℤ y) → ⊥) → (IsTrue false ↔ (((x -ℤ y) +ℤ k) ≡ m))
-  no_rest_of_sum sum e none =
-      no_sum ((x -ℤ y) +ℤ k) m (λ h. (let same : m ≡ sum -ℤ y = omega (arith, ints) in none (subst (λ (s : ℤ). FitsSigned w128 s) same fm)))
-
-  pub no_sum_at_all : FitsSigned w128 x → FitsSigned w128 y → FitsSigned w64 k → (FitsSigned w128 (x -ℤ y) → ⊥) → (FitsSigned w128 (x +ℤ k) → ⊥) → (IsTrue false ↔ (((x -ℤ y) +ℤ k) ≡ m))
-  no_sum_at_all fx fy fk first second =
-      no_sum ((x -ℤ y) +ℤ k) m (λ h. elim (either_fits x y k m fx fy fk fm h) [
-        | inl a ↦ first a
-        | inr b ↦ second b
-      ])
+pub no_sum : (v w m : ℤ) → FitsSigned w128 m → w ≡ v → (FitsSigned w128 w → ⊥) → (IsTrue false ↔ (v ≡ m))
+no_sum v w m fm e none = (λ t. absurd cc, λ h. absurd (none (subst (λ (z : ℤ). FitsSigned w128 z) (sym (e ∙ h)) fm)))
 
 -- ---- the range
 
