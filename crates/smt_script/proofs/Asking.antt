@@ -1,5 +1,5 @@
 -- What a `minimize` asks, by what is kept.
-use Rattle.std.proofs.Common.{ap, sym, subst, ◌∙◌, ◌≡◌, List, Option, Some, None, Result, Ok, Err, pos}
+use Rattle.std.proofs.Common.{ap, sym, subst, ◌∙◌, ◌≡◌, List, Option, Some, Result, Ok, Err, pos}
 use Rattle.smt_sexpr.specs.Tree.{Sexpr}
 use Rattle.idl_linear.specs.Differences.{difference_of}
 use Rattle.idl_linear.specs.Linear.{LinearValue, number_alone}

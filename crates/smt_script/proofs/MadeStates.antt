@@ -18,7 +18,7 @@ use Rattle.smt_script.specs.Commands.{Command, command_of}
 use Rattle.smt_script.specs.Limits.{levels_limit}
 use Rattle.smt_script.specs.Objectives.{minimized_by}
 use Rattle.smt_script.specs.Options.{OptionEffect, printing_success, no_effect, not_supported, ill_formed_value, option_effect}
-use Rattle.smt_script.specs.States.{State, Step, start_state, carried_out, is_of_sort, is_taken, sort_of, with_model, with_proof, telling, asking_for, valued_by, terms_refusal, informed_by, after_values, after_logic, after_option, after_declaration, defined_by, after_definition, asserted_by, named_by, after_push, popped, after_pop, after_command, after_by, after, settled, IsMadeState}
+use Rattle.smt_script.specs.States.{State, Step, start_state, carried_out, is_of_sort, is_taken, sort_of, with_model, with_proof, telling, asking_for, valued_by, informed_by, after_logic, after_option, after_declaration, defined_by, after_definition, asserted_by, named_by, after_push, popped, after_pop, after_command, after_by, after, settled, IsMadeState}
 use Rattle.smt_script.specs.Informing.{information_of}
 use Rattle.smt_script.specs.declared.information.Information.{Information}
 use Rattle.smt_script.specs.declared.objective.Objective.{Objective}

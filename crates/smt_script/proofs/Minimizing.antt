@@ -1,6 +1,5 @@
 -- What is minimized: the command's term, and what its objective is worth.
-use Rattle.std.proofs.Common.{refl, ap, sym, subst, arith, ◌∙◌, ◌≡◌, ◌<◌, ◌+◌, ℕ, zero, suc, List, [], ◌∷◌, length, Option, Some, None, Result, Ok, Err, ℤ, pos, neg_ℤ, ◌+ℤ◌, ◌-ℤ◌, ◌≤ℤ◌}
-use Rattle.std.specs.List.{AllByRecursion}
+use Rattle.std.proofs.Common.{refl, ap, subst, arith, ◌∙◌, ◌≡◌, ◌<◌, ◌+◌, ℕ, zero, suc, List, [], ◌∷◌, length, Option, Some, None, Result, Ok, Err, ℤ, pos}
 use Rattle.std.proofs.lemmas.Int.{ints}
 use Rattle.std.proofs.lemmas.List.{length-map}
 use Rattle.std.proofs.lemmas.Option.{slice_get_within}
@@ -21,7 +20,6 @@ use Rattle.idl_node.specs.Truth.{point_values}
 use Rattle.idl_scope.specs.Guarded.{CaseValue, plain, plain_linear, unguarded}
 use Rattle.idl_term.proofs.ComparisonNodes.{difference_low, difference_high}
 use Rattle.idl_term.specs.Applied.{Made}
-use Rattle.idl_term.specs.Comparing.{refusal_of}
 use Rattle.idl_term.specs.Contexts.{Context, IsContext, IsScheduleFor, environment, scope_of}
 use Rattle.idl_term.specs.Laws.{LoweredIsMade, LoweredIsWorth, ContextsHaveScopes, NamesAgree}
 use Rattle.idl_term.specs.Lowered.{lowered}
@@ -30,8 +28,6 @@ use Rattle.idl_term.specs.Scopes.{LoweredTerm, formula, numeric, Declaration, so
 use Rattle.idl_term.specs.Values.{whole, value}
 use Rattle.idl_term.specs.declared.error.TermRefusal.{TermRefusal}
 use Rattle.smt_script.specs.Objectives.{objective, objective_by, objective_of_linear, objective_of, minimized_by, objective_value, IsObjectiveOf}
-use Rattle.smt_script.specs.declared.error.Refusal.{Refusal}
-use Rattle.smt_script.specs.declared.error.Refusal.TheVariants.{Term}
 use Rattle.smt_script.specs.declared.objective.Objective.{Objective}
 
 -- ---- what a term without conditions is made into
@@ -88,7 +84,7 @@ int_point_within sorts (suc k) h = let within : k < length sorts = slice_get_wit
 point_within : (declared : List Declaration) (p : ℕ) → IsIntPoint (sorts_of declared) p → p < length declared + 1
 point_within declared p h =
     let within = int_point_within (sorts_of declared) p h in
-    let count = length-map (λ (d : Declaration). d.sort) declared in
+    let count = length-map declared (λ (d : Declaration). d.sort) in
     omega (arith, within, count)
 
 module _ (c : Context) (t : Sexpr) (is : IsContext c) (difference : DifferenceValue) (scope : ContextsHaveScopes) (agrees : NamesAgree) (in_table : LoweredIsMade) (worth : LoweredIsWorth) where
@@ -102,7 +98,7 @@ module _ (c : Context) (t : Sexpr) (is : IsContext c) (difference : DifferenceVa
     linear_for : IsLinearFor sorts h.linear
     linear_for =
         let term : IsTermIn sorts made.nodes (numeric (plain h.linear)) =
-            subst (λ (u : LoweredTerm). IsTermIn sorts made.nodes u) h.without (in_table (scope_of c) c.nodes t made (scope c is) e).term in
+        subst (λ (u : LoweredTerm). IsTermIn sorts made.nodes u) h.without (in_table (scope_of c) c.nodes t made (scope c is) e).term in
         term.each.0.linear
 
     ends : IsIntPoint sorts d.x × IsIntPoint sorts d.y

@@ -1,7 +1,7 @@
 -- What a command leads to: it leaves the mode and what it stands for as they are, or sets the mode to none; what it may
 -- tell; and it ends the script where it is `(exit)`, and nowhere else.
 use Rattle.std.proofs.Common.{refl, sym, ap, subst, inl, inr, ◌∙◌, ◌≡◌, ◌≢◌, ◌+◌, ◌⊎◌, ℕ, List, length, Bool, true, false, Option, Some, None, Result, Ok, Err}
-use Rattle.std.specs.Prelude.{◌↔◌, if◌then◌else◌, nat_le, nat_lt, codes}
+use Rattle.std.specs.Prelude.{if◌then◌else◌, nat_le, nat_lt, codes}
 use Rattle.smt_sexpr.specs.Tree.{Sexpr, Items, none, more}
 use Rattle.smt_sexpr.specs.Shapes.{is_symbol}
 use Rattle.idl_node.specs.declared.sort.Sort.{Sort}

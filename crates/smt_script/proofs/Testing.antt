@@ -2,7 +2,7 @@
 use Rattle.std.proofs.Common.{refl, sym, ap, subst, ◌∙◌, arith, ◌≡◌, ◌<◌, ◌≤◌, ◌+◌, ◌++◌, ℕ, ℤ, List, [], length, take, drop, get_or, get_or-take, Bool, false, Option, Some, None, Result, Ok, Err}
 use Rattle.std.specs.Prelude.{option_map}
 use Rattle.std.proofs.lemmas.List.{length-take, take-append-drop}
-use Rattle.smt_sexpr.specs.Tree.{Sexpr, Items, none, more}
+use Rattle.smt_sexpr.specs.Tree.{Sexpr, Items, more}
 use Rattle.smt_sexpr.specs.Table.{Table, Means, MeansEach}
 use Rattle.smt_sexpr.proofs.Shapes.{next_of, none_of}
 use Rattle.idl_node.specs.Laws.{TruthStays}

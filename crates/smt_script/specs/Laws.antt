@@ -1,11 +1,10 @@
 -- What holds of the commands and states of every script.
-use Rattle.std.specs.Prelude.{◌≡◌, ◌↔◌, ◌⊎◌, Ok, None, Some, true, false, Bool}
+use Rattle.std.specs.Prelude.{◌≡◌, ◌↔◌, ◌⊎◌, Ok, None, Some, true, false}
 use Rattle.smt_sexpr.specs.Tree.{Sexpr}
 use Rattle.idl_term.specs.Contexts.{scope_of}
 use Rattle.smt_script.specs.Commands.{is_exit, asked_terms, asks_verdict, minimized}
 use Rattle.smt_script.specs.Objectives.{IsObjectiveOf}
 use Rattle.smt_script.specs.States.{State, start_state, Step, IsMadeState, after, terms_refusal, settled}
-use Rattle.smt_script.specs.declared.state.Effect.{Effect}
 use Rattle.smt_script.specs.declared.objective.Objective.{Objective}
 use Rattle.smt_script.specs.declared.state.Effect.TheVariants.{Ask, Exit, Tell}
 use Rattle.smt_script.specs.declared.state.Mode.TheVariants as mode

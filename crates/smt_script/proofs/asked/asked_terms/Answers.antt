@@ -1,4 +1,4 @@
-use Rattle.std.proofs.Common.{sym, subst, ap, Ok, Result}
+use Rattle.std.proofs.Common.{sym, subst, ap}
 use Rattle.smt_sexpr.specs.Tree.{Items}
 use Rattle.smt_sexpr.specs.Table.{MeansEach}
 use Rattle.smt_script.specs.Commands.{terms_in, command_of}

@@ -1,5 +1,4 @@
 use Rattle.std.proofs.Common.{subst}
-use Rattle.smt_sexpr.specs.Tree.{Sexpr}
 use Rattle.smt_sexpr.specs.Table.{Means}
 use Rattle.smt_sexpr.proofs.Shapes.{one_of, listed}
 use Rattle.smt_script.proofs.Arguments.{values_is, some_of}

@@ -1,11 +1,8 @@
-use Rattle.std.proofs.Common.{arith, sym, ap, subst, ◌∙◌, ◌≡◌, ◌<◌, length, take, List, Result}
+use Rattle.std.proofs.Common.{arith, sym, ap, ◌∙◌, ◌≡◌, length, take}
 use Rattle.std.proofs.lemmas.Result.{err_from_is_err_and}
 use Rattle.std.proofs.lemmas.List.{drop_all}
 use Rattle.smt_sexpr.proofs.Shapes.{next_of}
-use Rattle.idl_node.specs.Nodes.{NodeValue}
-use Rattle.smt_script.specs.States.{terms_refusal}
-use Rattle.smt_script.specs.code.Shapes.{IsTested}
-use Rattle.smt_script.proofs.Testing.{IsTestedTo, tested_none, tested_more, tested_error, tested_all}
+use Rattle.smt_script.proofs.Testing.{tested_more, tested_error, tested_all}
 use Rattle.smt_script.proofs.lowering.test_terms.Goals as goal
 
 pub lower-requires-clause-meaning : goal.lower-requires-clause-meaning

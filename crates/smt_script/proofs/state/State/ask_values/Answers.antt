@@ -1,7 +1,6 @@
-use Rattle.std.proofs.Common.{arith, sym, ap, subst, ◌∙◌, ◌≡◌}
+use Rattle.std.proofs.Common.{sym, subst}
 use Rattle.std.proofs.lemmas.Result.{err_from_is_err_and}
 use Rattle.smt_script.specs.code.Kept.{Kept, StandsFor}
-use Rattle.smt_script.specs.declared.state.Mode.TheVariants as mode
 use Rattle.smt_script.proofs.Testing.{values_told, values_refused}
 use Rattle.smt_script.proofs.state.State.ask_values.Goals as goal
 

@@ -1,4 +1,4 @@
-use Rattle.std.proofs.Common.{sym, ap, subst, ◌∙◌, ◌+◌, ℕ, List, length, take}
+use Rattle.std.proofs.Common.{sym, ap, subst, ◌∙◌, ◌+◌, ℕ, length, take}
 use Rattle.idl_node.specs.Truth.{point_values, AreTruths}
 use Rattle.idl_term.proofs.Evaluating.{table_valued}
 use Rattle.smt_script.proofs.Testing.{truths_grown, truths_cut}
