@@ -22,7 +22,7 @@ pub enum Heard {
     GoesOn(Descent),
 }
 
-fn least(best: Incumbent, refutation: Refutation) -> Best
+pub(crate) fn least(best: Incumbent, refutation: Refutation) -> Best
     requires { IsWithinLimit best.value }
     ensures { result ≡ Least best.schedule best.value refutation }
 {

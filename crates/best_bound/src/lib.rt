@@ -8,6 +8,7 @@
 #![tactic(auto)]
 
 mod answer;
+mod asking;
 mod hearing;
 mod one;
 mod shared;

@@ -1,14 +1,17 @@
 //! The best value by one worker.
-ghost use Rattle.std.specs.Prelude.{◌<◌, IfOk};
+ghost use Rattle.std.specs.Prelude.{◌<◌, IfOk, IfSome};
 ghost use Rattle.stn_core.specs.Solution.{IsSolution};
 ghost use Rattle.best_values.specs.Widths.{Fits};
+ghost use Rattle.kept_search.specs.Kept.{IsSearchOf};
 ghost use Rattle.best_bound.specs.Answers.{IsBestAnswer};
 
 use crate::answer::Best;
+use crate::asking::{Asked, begin, ask};
 use crate::hearing::{Heard, hear, unbounded};
 use better_schedules::Descent;
 use book_core::Verdict;
 use book_search::solve_one;
+use kept_search::KeptSearch;
 use std::alloc::{AllocError, Global};
 use stn_core::{Problem, Schedule};
 
@@ -16,6 +19,7 @@ use stn_core::{Problem, Schedule};
 fn descend(
     alloc: Global,
     problem: &Problem,
+    search: Option<KeptSearch>,
     first: Schedule,
     x: u32,
     y: u32,
@@ -24,13 +28,23 @@ fn descend(
     requires fits { Fits problem.now }
     requires x_in { x < problem.now.points }
     requires y_in { y < problem.now.points }
+    requires search { IfSome search (IsSearchOf problem.now) }
     requires solution { IsSolution problem.now first }
     ensures { IfOk result (IsBestAnswer problem.now x y) }
 {
+    let mut search = search;
     let mut descent = Descent::begin(alloc, problem, first, x, y)?;
     'questions: while let Some(question) = descent.ask(alloc, problem, x, y)? {
-        let verdict = solve_one(alloc, &question.problem, budget)?;
-        match hear(alloc, problem, descent, &question, verdict, x, y)? {
+        let turn = ask(alloc, problem, search, descent, question, x, y, budget, u64::MAX)?;
+        search = turn.search;
+        let heard = match turn.asked {
+            Asked::Heard(heard) => heard,
+            Asked::Open(same, open) => {
+                let verdict = solve_one(alloc, &open.problem, budget)?;
+                hear(alloc, problem, same, &open, verdict, x, y)?
+            }
+        };
+        match heard {
             Heard::Ended(best) => return Ok(best),
             Heard::GoesOn(next) => descent = next,
         }
@@ -42,8 +56,9 @@ fn descend(
 /// The least value of x - y where the problem holds, with a schedule that has it and a refutation of any less; or a
 /// schedule and the points that can be lowered without end; or a refutation of the problem.
 ///
-/// It returns: each schedule that is found has a smaller value than the one before, each refutation raises the bound below
-/// which nothing is asked for, and no value that can be best is below the problem's span. The one error is want of memory.
+/// One search takes all questions, and keeps its lemmas from one to the next. It returns: each schedule that is found has a
+/// smaller value than the one before, each refutation raises the bound below which nothing is asked for, and no value that
+/// can be best is below the problem's span. The one error is want of memory.
 pub fn best_one(
     alloc: Global,
     problem: &Problem,
@@ -56,10 +71,15 @@ pub fn best_one(
     requires y_in { y < problem.now.points }
     ensures { IfOk result (IsBestAnswer problem.now x y) }
 {
-    match solve_one(alloc, problem, budget)? {
+    let begun = begin(alloc, problem, budget, u64::MAX)?;
+    let verdict = match begun.verdict {
+        Some(verdict) => verdict,
+        None => solve_one(alloc, problem, budget)?,
+    };
+    match verdict {
         Verdict::Unsat(refutation) => Ok(Best::Nothing(refutation)),
         Verdict::Sat(schedule) => {
-            let best = descend(alloc, problem, schedule, x, y, budget)?;
+            let best = descend(alloc, problem, begun.search, schedule, x, y, budget)?;
             Ok(best)
         }
     }

@@ -82,6 +82,29 @@ impl Descent {
         }))
     }
 
+    /// The question for anything less than the best schedule's value.
+    pub fn last(
+        &self,
+        alloc: Global,
+        problem: &Problem,
+        x: u32,
+        y: u32,
+    ) -> Result<Question, AllocError>
+        requires fits { Fits problem.now }
+        requires x_in { x < problem.now.points }
+        requires y_in { y < problem.now.points }
+        requires descent { IsDescent problem.now x y self.now }
+        requires near { neg_ℤ (span problem.now) ≤ℤ self.now.incumbent.value }
+        ensures { IfOk result (λ question. IsQuestion problem.now x y self.now question × (question.bound.value ≡ self.now.incumbent.value)) }
+    {
+        let bound = Bound { value: self.incumbent.value };
+        let asked = question(alloc, problem, x, y, bound.value)?;
+        Ok(Question {
+            bound,
+            problem: asked,
+        })
+    }
+
     /// Whether it was asked for anything less than the best schedule's value.
     pub fn is_last(&self, question: &Question) -> bool
         ensures { IsTrue result ↔ (question.now.bound.value ≡ self.now.incumbent.value) }

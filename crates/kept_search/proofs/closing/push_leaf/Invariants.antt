@@ -1,0 +1,6 @@
+use Rattle.std.proofs.Common.{◌≡◌, ◌++◌, take}
+use Rattle.book_core.specs.Closing.{leaf_steps}
+use Rattle.kept_search.proofs.closing.push_leaf.Given as goal
+
+abbrev pub invariant-loop-literal : goal.invariant-loop-literal
+invariant-loop-literal l = l.steps ≡ l.fn.steps ++ leaf_steps l.j (take l.literal-index l.clause)
