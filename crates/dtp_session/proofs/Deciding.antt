@@ -44,7 +44,7 @@ use Rattle.smt_script.specs.States.{State}
 use Rattle.smt_answer.specs.declared.kind.Kind.{Kind}
 use Rattle.smt_script.specs.Commands.{minimized}
 use Rattle.dtp_entry.specs.Bests.{Satisfies, HasValue}
-use Rattle.dtp_entry.specs.Entries.{points_of, problem_of, difference_at, problem_below, IsProblemOf, IsShort, IsInForm}
+use Rattle.dtp_entry.specs.Entries.{points_of, problem_of, difference_at, problem_below, IsProblemOf, IsLeast, IsUnbounded, IsShort, IsInForm}
 use Rattle.dtp_entry.specs.Transcripts.{Decides, schedule_in}
 use Rattle.dtp_entry.specs.code.Asking.{IsAskedBy}
 use Rattle.dtp_entry.proofs.Bests.{Laws, solution_schedule, value_restricted, right_is_so}
@@ -241,7 +241,7 @@ module _ (laws : Laws) (c : Context) (context : IsContext c) where
           let clauses = question_is difference question s.asks.clauses in
           let satisfies = solution_satisfies values schedule h.solution e in
           let value = value_restricted laws c context x asked.0 o asked.1 asked.2 values m (h.solution.count ∙ is.points) (solution_satisfies values (restricted (sorts_of c.declared) values) h.solution refl).0 (ap (λ (d : ℤ). d +ℤ o.k) h.attained) in
-          let right = record {
+          let right : IsLeast c x o m schedule entry = record {
             satisfies = satisfies;
             attained = subst (λ (named : List NamedValue). HasValue c named (minimized x) m) (sym e) value;
             within = subst (λ (d : ℤ). IsWithinLimit d) (sym (back difference o.k)) h.within;
@@ -275,7 +275,7 @@ module _ (laws : Laws) (c : Context) (context : IsContext c) where
           → IsDecision version (Minimize o) x c (decision found (Some schedule))
       unbounded_decision version values set schedule found h e within is_found =
           let few = problem.few in
-          let right = record {
+          let right : IsUnbounded c o values set = record {
             problem = problem;
             is_problem = is;
             model = record { count = h.solution.count; holds = h.solution.holds };

@@ -73,7 +73,8 @@ fn least(
     )?;
     let lemmas = kept(alloc, wanted, &asked, refutation)?;
     let minimum = Value::from(difference) + Value::from(objective.k);
-    found(alloc, wanted, asked, Entry::Best(minimum, schedule, lemmas))
+    let shown = found(alloc, wanted, asked, Entry::Best(minimum, schedule, lemmas))?;
+    Ok(shown)
 }
 
 /// Decides a minimize: the least value with a schedule that has it and a refutation of any less; or values of the points and
