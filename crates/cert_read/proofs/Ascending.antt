@@ -1,5 +1,5 @@
 -- Numerals that ascend, and the points that they are read as.
-use Rattle.std.proofs.Common.{◌≡◌, ◌∙◌, refl, sym, ap, arith, ℕ, zero, suc, ◌+◌, ◌-◌, ◌<◌, ◌^◌, Bool, true, false, true≢false, List, [], ◌∷◌, map, length, get_or}
+use Rattle.std.proofs.Common.{◌≡◌, ◌∙◌, refl, sym, ap, subst, arith, ℕ, zero, suc, ◌+◌, ◌-◌, ◌<◌, ◌^◌, Bool, true, false, true≢false, List, [], ◌∷◌, map, length, get_or}
 use Rattle.std.specs.Prelude.{All, min, nat_lt, ◌&&◌}
 use Rattle.std.specs.List.{AllByRecursion}
 use Rattle.std.specs.List.Sorted.{IsStrictlyIncreasing}
@@ -16,9 +16,11 @@ both_pass : (p q : Bool) → (p && q) ≡ true → (p ≡ true) × (q ≡ true)
 both_pass true q h = (refl, h)
 both_pass false q h = absurd (true≢false (sym h))
 
--- the last of a list has none behind it
+-- a place further
 at_shift : (n m k : ℕ) (ms : List ℕ) → (get_or (m ∷ ms) k 0 < get_or (m ∷ ms) (k + 1) 0) → get_or (n ∷ m ∷ ms) (suc k) 0 < get_or (n ∷ m ∷ ms) (suc k + 1) 0
-at_shift n m k ms h = h
+at_shift n m k ms h =
+    let e : suc k + 1 ≡ suc (k + 1) = omega arith in
+    subst (λ (j : ℕ). get_or (m ∷ ms) k 0 < get_or (n ∷ m ∷ ms) j 0) (sym e) h
 
 up : (n : ℕ) (ms : List ℕ) → ascends_from n ms ≡ true → IsStrictlyIncreasing (n ∷ ms)
 up n [] h k lt = absurd (omega (arith, lt))
@@ -26,11 +28,13 @@ up n (m ∷ ms) h zero lt = ltb-true n m (both_pass (nat_lt n m) (ascends_from m
 up n (m ∷ ms) h (suc k) lt = at_shift n m k ms (up m ms (both_pass (nat_lt n m) (ascends_from m ms) h).1 k (omega (arith, lt)))
 
 pub ascends_up : (ns : List ℕ) → ascends ns ≡ true → IsStrictlyIncreasing ns
-ascends_up [] h k lt = absurd (omega (arith, lt))
+ascends_up [] h = λ k lt. absurd (omega (arith, lt))
 ascends_up (n ∷ ns) h = up n ns h
 
 at_back : (n m k : ℕ) (ms : List ℕ) → get_or (n ∷ m ∷ ms) (suc k) 0 < get_or (n ∷ m ∷ ms) (suc k + 1) 0 → get_or (m ∷ ms) k 0 < get_or (m ∷ ms) (k + 1) 0
-at_back n m k ms h = h
+at_back n m k ms h =
+    let e : suc k + 1 ≡ suc (k + 1) = omega arith in
+    subst (λ (j : ℕ). get_or (m ∷ ms) k 0 < get_or (n ∷ m ∷ ms) j 0) e h
 
 passes : (n : ℕ) (ms : List ℕ) → IsStrictlyIncreasing (n ∷ ms) → ascends_from n ms ≡ true
 passes n [] h = refl

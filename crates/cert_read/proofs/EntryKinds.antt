@@ -85,11 +85,13 @@ points_only (list xs) set w e =
     let c = chained ascending (each_of index_of xs) set e in
     let t = tested (ascends c.0) (Some (map nearest c.0)) set c.2 in
     let same : map nearest c.0 ≡ set = some_same (map nearest c.0) set t.1 in
-    let h = each_only index_of numeral (λ (n : ℕ). n ≤ limit) (λ (n : ℕ). n ≤ limit) index_form xs c.0 w c.1 in
-    ((c.0, ascends_up c.0 t.0, sym same), λ plain. (
-      let below : All (λ (p : ℕ). p < 2 ^ 32 - 1) (map nearest c.0) = subst (All (λ (p : ℕ). p < 2 ^ 32 - 1)) (sym same) plain in
-      ap list (h.1 h.0) ∙ ap points_sexpr (sym (points_plain c.0 below) ∙ same)
-    ))
+    let h = each_only index_of numeral (λ (n : ℕ). n ≤ limit) (λ (n : ℕ). n ≤ limit) index_form xs c.0 w c.1 in (
+      (c.0, ascends_up c.0 t.0, sym same),
+      λ plain. (
+          let below : All (λ (p : ℕ). p < 2 ^ 32 - 1) (map nearest c.0) = subst (All (λ (p : ℕ). p < 2 ^ 32 - 1)) (sym same) plain in
+          ap list (h.1 h.0) ∙ ap points_sexpr (sym (points_plain c.0 below) ∙ same)
+          ),
+    )
 
 -- ---- the parts of an entry of a least value, and of one of a term that has none
 

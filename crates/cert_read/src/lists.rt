@@ -8,7 +8,7 @@ use crate::part::{Part, read_each};
 use best_values::Points;
 use cert_text::Version;
 use smt_sexpr::{SexprId, Sexprs};
-use std::alloc::Global;
+use std::alloc::{AllocError, Global};
 use stn_core::{NamedValues, Schedule, Value};
 
 impl Part for Value {
@@ -94,7 +94,7 @@ fn ascend(numbers: &[usize]) -> bool
 }
 
 /// The points with these numbers; the greatest one stands for all beyond it.
-fn points_with(alloc: Global, numbers: &[usize]) -> Result<Vec<u32>, PartError>
+fn points_with(alloc: Global, numbers: &[usize]) -> Result<Vec<u32>, AllocError>
     ensures { IfOk result (λ points. points.items ≡ map (λ n. min n 4294967295) numbers.now) }
 {
     let mut points = Vec::with_capacity(alloc, numbers.len())?;

@@ -12,8 +12,8 @@ returns-in-None-clause-err g c =
     first_missing c.args.lexer.now.bytes (g.T.Part.meant c.args.version) c.args.lexer.now.place c.next_item.new.lexer.place
     (next_none c.next_item.new.table c.args.lexer.now.bytes c.args.lexer.now.place c.next_item.new.lexer.place c.in_ok-next_item.field-0 c.in-None.is c.in_ok-next_item.ensures.next)
 
-pub returns-in-Some-Ok-clause-ok : goal.returns-in-Some-Ok-clause-ok
-returns-in-Some-Ok-clause-ok g c =
+pub returns-in-Ok-clause-ok : goal.returns-in-Ok-clause-ok
+returns-in-Ok-clause-ok g c =
     let next = next_some c.next_item.new.table c.args.lexer.now.bytes c.args.lexer.now.place c.next_item.new.lexer.place c.in_ok-next_item.field-0 c.in-Some.id c.in-Some.is c.in_ok-next_item.ensures.next in
     (next.0, next.2, c.in-Ok.ensures.ok next.0 next.1)
 
@@ -22,8 +22,8 @@ returns-in_err-skip_items-in-Err-IllFormed-clause-err g c =
     let next = next_some c.next_item.new.table c.args.lexer.now.bytes c.args.lexer.now.place c.next_item.new.lexer.place c.in_ok-next_item.field-0 c.in-Some.id c.in-Some.is c.in_ok-next_item.ensures.next in
     search (rules, first_breaks_behind c.args.lexer.now.bytes (g.T.Part.meant c.args.version) c.args.lexer.now.place c.next_item.new.lexer.place next.0 _ next.2 (rw c.next_item.ensures.lexer_bytes at c.in_err-skip_items-in-Err-IllFormed.ensures.err))
 
-pub returns-in-Err-IllFormed-clause-err : goal.returns-in-Err-IllFormed-clause-err
-returns-in-Err-IllFormed-clause-err g c =
+pub returns-in_ok-skip_items-in-Err-IllFormed-clause-err : goal.returns-in_ok-skip_items-in-Err-IllFormed-clause-err
+returns-in_ok-skip_items-in-Err-IllFormed-clause-err g c =
     let next = next_some c.next_item.new.table c.args.lexer.now.bytes c.args.lexer.now.place c.next_item.new.lexer.place c.in_ok-next_item.field-0 c.in-Some.id c.in-Some.is c.in_ok-next_item.ensures.next in
     let nothing = lacks_any (g.T.Part.meant c.args.version next.0) c.in-Err-IllFormed.field-0 c.in-Err-IllFormed.field-0-is (c.in-Err-IllFormed.ensures.err next.0 next.1) in
     first_lacks c.args.lexer.now.bytes (g.T.Part.meant c.args.version) c.args.lexer.now.place c.next_item.new.lexer.place c.skip_items.new.lexer.place next.0 next.2 nothing
