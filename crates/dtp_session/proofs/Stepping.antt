@@ -1,5 +1,5 @@
 -- From the event of a walk to the piece that answers it.
-use Rattle.std.proofs.Common.{refl, sym, ap, subst, ◌≡◌, ◌≤◌, ℕ, []}
+use Rattle.std.proofs.Common.{arith, refl, sym, ap, subst, ◌≡◌, ◌≤◌, ◌<◌, ◌-◌, ◌^◌, ℕ, []}
 use Rattle.smt_answer.specs.declared.kind.Kind.{Kind}
 use Rattle.smt_sexpr.specs.Tree.{Sexpr}
 use Rattle.smt_sexpr.specs.Table.{Means}
@@ -64,6 +64,14 @@ module _ (p : Session) (w : Walk) (s : State) (event : Event) (h : IsEvent p.wal
 
     pub may_ask : (s : State) × (x : Sexpr) × Holds (record p { walk = w }) s × IsAskedBy question x s.context
     may_ask = (asked_event.carries.1.next, asked_event.x, asked_holds, asked_by question refl)
+
+    pub few_asked : (GoesOn event → IsWalkReady w) → (Asks event → w.number ≤ w.lexer.place) → w.number < 2 ^ 64 - 1
+    few_asked ready counted =
+        let there = ready (subst GoesOn (sym e) tt) in
+        let within = there.within in
+        let few = there.few in
+        let count = counted (subst Asks (sym e) tt) in
+        omega (arith, within, few, count)
 
     module _ (q : Session) (keeps : KeepsPlace (record p { walk = w }) q) where
       pub checked_step : w.lexer.bytes ≡ p.walk.lexer.bytes → IsAnswered question asked_event.x (record p { walk = w }) q asked_event.carries.1.next Decision → IsNext p q s Decision
