@@ -1,7 +1,8 @@
 //! Questions to a search that is kept from one to the next.
 ghost use Rattle.std.specs.Prelude.{◌≡◌, ◌<◌, ◌≤ℤ◌, neg_ℤ, [], ◌∷◌, IfOk, IfSome};
 ghost use Rattle.stn_core.specs.Literal.{IsOver};
-ghost use Rattle.best_values.specs.Widths.{Fits};
+ghost use Rattle.best_values.specs.Questions.{below};
+ghost use Rattle.best_values.specs.Widths.{Fits, IsWithinLimit};
 ghost use Rattle.better_schedules.specs.Descents.{IsDescent, IsQuestion};
 ghost use Rattle.kept_search.specs.Kept.{IsSearchOf};
 ghost use Rattle.best_bound.specs.Askings.{IsTurn, IsBegun};
@@ -13,7 +14,7 @@ use book_core::Verdict;
 use book_search::decide_units;
 use kept_search::{KeptSearch, Reply};
 use std::alloc::{AllocError, Global};
-use stn_core::Problem;
+use stn_core::{Literal, Problem};
 
 /// How many slices a question gets whose bound lies below the best schedule's value. Then it is asked for anything better at
 /// all: to refute far below that value can be as hard as at the least one.
@@ -94,6 +95,14 @@ fn ready(
     }
 }
 
+// The literal that the question's last clause has.
+fn literal_of(question: &Question, x: u32, y: u32) -> Literal
+    requires { IsWithinLimit question.now.bound.value }
+    ensures { result ≡ below x y question.now.bound.value }
+{
+    below(x, y, question.bound.value)
+}
+
 // Asks the search, which assumes that the objective is below the question's bound, for up to so many slices.
 fn ask_kept(
     alloc: Global,
@@ -111,9 +120,9 @@ fn ask_kept(
     requires search { IsSearchOf problem.now search }
     requires descent { IsDescent problem.now x y descent }
     requires question { IsQuestion problem.now x y descent question }
-    ensures { IfOk result (IsTurn problem.now x y descent question) }
+    ensures { IfOk result (IsTurn problem.now x y descent) }
 {
-    let literal = below(x, y, question.bound.value);
+    let literal = literal_of(&question, x, y);
     match search.under(alloc, problem, [literal].as_slice(), slices)? {
         Reply::Holds(schedule) => {
             let next = descent.improved(alloc, problem, schedule, x, y)?;
@@ -123,19 +132,24 @@ fn ask_kept(
             })
         }
         Reply::Denied(j) => {
-            if !descent.is_last(&question) {
-                let next = descent.raised(question.bound);
+            if descent.is_last(&question) {
+                let refutation = search.refutation_with(
+                    alloc,
+                    problem,
+                    &question.problem,
+                    literal,
+                    j,
+                )?;
+                let best = least(descent.incumbent, refutation);
                 return Ok(Turn {
-                    asked: Asked::Heard(Heard::GoesOn(next)),
-                    search: Some(search),
+                    asked: Asked::Heard(Heard::Ended(best)),
+                    search: None,
                 });
             }
-            let refutation =
-                search.refutation_with(alloc, problem, &question.problem, literal, j)?;
-            let best = least(descent.incumbent, refutation);
+            let next = descent.raised(question.bound);
             Ok(Turn {
-                asked: Asked::Heard(Heard::Ended(best)),
-                search: None,
+                asked: Asked::Heard(Heard::GoesOn(next)),
+                search: Some(search),
             })
         }
         Reply::Open => Ok(Turn {

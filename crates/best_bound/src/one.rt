@@ -6,7 +6,7 @@ ghost use Rattle.kept_search.specs.Kept.{IsSearchOf};
 ghost use Rattle.best_bound.specs.Answers.{IsBestAnswer};
 
 use crate::answer::Best;
-use crate::asking::{Asked, begin, ask};
+use crate::asking::{Asked, Begun, Turn, ask, begin};
 use crate::hearing::{Heard, hear, unbounded};
 use better_schedules::Descent;
 use book_core::Verdict;
@@ -35,9 +35,23 @@ fn descend(
     let mut search = search;
     let mut descent = Descent::begin(alloc, problem, first, x, y)?;
     'questions: while let Some(question) = descent.ask(alloc, problem, x, y)? {
-        let turn = ask(alloc, problem, search, descent, question, x, y, budget, u64::MAX)?;
-        search = turn.search;
-        let heard = match turn.asked {
+        let turn = ask(
+            alloc,
+            problem,
+            search,
+            descent,
+            question,
+            x,
+            y,
+            budget,
+            u64::MAX,
+        )?;
+        let Turn {
+            asked,
+            search: kept,
+        } = turn;
+        search = kept;
+        let heard = match asked {
             Asked::Heard(heard) => heard,
             Asked::Open(same, open) => {
                 let verdict = solve_one(alloc, &open.problem, budget)?;
@@ -72,14 +86,15 @@ pub fn best_one(
     ensures { IfOk result (IsBestAnswer problem.now x y) }
 {
     let begun = begin(alloc, problem, budget, u64::MAX)?;
-    let verdict = match begun.verdict {
+    let Begun { verdict, search } = begun;
+    let verdict = match verdict {
         Some(verdict) => verdict,
         None => solve_one(alloc, problem, budget)?,
     };
     match verdict {
         Verdict::Unsat(refutation) => Ok(Best::Nothing(refutation)),
         Verdict::Sat(schedule) => {
-            let best = descend(alloc, problem, begun.search, schedule, x, y, budget)?;
+            let best = descend(alloc, problem, search, schedule, x, y, budget)?;
             Ok(best)
         }
     }

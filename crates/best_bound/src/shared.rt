@@ -6,7 +6,7 @@ ghost use Rattle.kept_search.specs.Kept.{IsSearchOf};
 ghost use Rattle.best_bound.specs.Answers.{IsBestAnswer};
 
 use crate::answer::Best;
-use crate::asking::{Asked, ask, begin};
+use crate::asking::{Asked, Begun, Turn, ask, begin};
 use crate::hearing::{Heard, hear, unbounded};
 use better_schedules::Descent;
 use book_core::Verdict;
@@ -44,9 +44,23 @@ fn descend<R: Threads + Wait + Sync, G: Gate>(
     let mut search = search;
     let mut descent = Descent::begin(alloc, problem, first, x, y)?;
     'questions: while let Some(question) = descent.ask(alloc, problem, x, y)? {
-        let turn = ask(alloc, problem, search, descent, question, x, y, budget, SLICES_ALONE)?;
-        search = turn.search;
-        let heard = match turn.asked {
+        let turn = ask(
+            alloc,
+            problem,
+            search,
+            descent,
+            question,
+            x,
+            y,
+            budget,
+            SLICES_ALONE,
+        )?;
+        let Turn {
+            asked,
+            search: kept,
+        } = turn;
+        search = kept;
+        let heard = match asked {
             Asked::Heard(heard) => heard,
             Asked::Open(same, open) => {
                 let verdict = solve_shared(rt, alloc, &open.problem, workers, budget, gate)?;
@@ -83,15 +97,17 @@ pub fn best_shared<R: Threads + Wait + Sync, G: Gate>(
     ensures { IfOk result (IsBestAnswer problem.now x y) }
 {
     let begun = begin(alloc, problem, budget, SLICES_ALONE)?;
-    let verdict = match begun.verdict {
+    let Begun { verdict, search } = begun;
+    let verdict = match verdict {
         Some(verdict) => verdict,
         None => solve_shared(rt, alloc, problem, workers, budget, gate)?,
     };
     match verdict {
         Verdict::Unsat(refutation) => Ok(Best::Nothing(refutation)),
         Verdict::Sat(schedule) => {
-            let search = begun.search;
-            let best = descend(rt, alloc, problem, search, schedule, x, y, workers, budget, gate)?;
+            let best = descend(
+                rt, alloc, problem, search, schedule, x, y, workers, budget, gate,
+            )?;
             Ok(best)
         }
     }

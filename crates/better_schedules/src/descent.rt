@@ -97,7 +97,9 @@ impl Descent {
         requires near { neg_ℤ (span problem.now) ≤ℤ self.now.incumbent.value }
         ensures { IfOk result (λ question. IsQuestion problem.now x y self.now question × (question.bound.value ≡ self.now.incumbent.value)) }
     {
-        let bound = Bound { value: self.incumbent.value };
+        let bound = Bound {
+            value: self.incumbent.value,
+        };
         let asked = question(alloc, problem, x, y, bound.value)?;
         Ok(Question {
             bound,
