@@ -1,19 +1,14 @@
 -- What the code finds of a best entry.
-use Rattle.std.proofs.Common.{refl, sym, ap, subst, arith, inl, inr, ◌∙◌, ◌≡◌, ◌<◌, ◌+◌, ℕ, List, [], ◌∷◌, ◌++◌, length, Bool, true, false, Option, Some, None, Result, Ok, Err, ℤ, ◌+ℤ◌, ◌-ℤ◌}
+use Rattle.std.proofs.Common.{refl, sym, ap, subst, arith, inl, inr, ◌∙◌, ◌≡◌, ◌<◌, ◌+◌, ℕ, List, [], ◌∷◌, ◌++◌, length, Bool, true, false, Option, Some, None, Result, Ok, Err, ℤ, ◌+ℤ◌, ◌-ℤ◌, to_z, of_z}
+use Rattle.std.specs.Int.{w128}
 use Rattle.std.specs.Prelude.{◌↔◌, IsTrue, MatchOption, if◌then◌else◌}
 use Rattle.smt_sexpr.specs.Tree.{Sexpr}
 use Rattle.stn_core.specs.declared.literal.Literal.{Literal}
 use Rattle.stn_core.specs.declared.named.NamedValue.{NamedValue}
-use Rattle.stn_core.specs.declared.problem.Problem.{Problem}
 use Rattle.stn_core.specs.Literal.{value_at}
-use Rattle.best_values.specs.Questions.{below, Asks}
 use Rattle.best_values.specs.Widths.{IsWithinLimit}
-use Rattle.cert_check.specs.declared.flaw.CheckError.{CheckError}
-use Rattle.cert_check.specs.Flaws.{TellsFlaw}
 use Rattle.kept_lemmas.specs.declared.item.Item.{Item}
-use Rattle.kept_lemmas.specs.Entries.{Placed, shelf_of}
-use Rattle.kept_lemmas.specs.Facts.{Shelf}
-use Rattle.lemma_shelf.specs.ItemFlaws.{items_flaw}
+use Rattle.kept_lemmas.specs.Entries.{Placed}
 use Rattle.clause_form.specs.Laws.{PointsGrow}
 use Rattle.idl_node.specs.Truth.{point_values}
 use Rattle.idl_term.specs.Contexts.{Context, IsScheduleFor, environment}
@@ -26,7 +21,7 @@ use Rattle.smt_script.specs.declared.state.Question.TheVariants.{Minimize}
 use Rattle.smt_script.specs.Laws.{MinimizedIsWorth}
 use Rattle.smt_script.specs.Objectives.{IsObjectiveOf}
 use Rattle.smt_script.specs.States.{State}
-use Rattle.dtp_entry.specs.Entries.{points_of, problem_of, difference_at, problem_below}
+use Rattle.dtp_entry.specs.Entries.{points_of, problem_below}
 use Rattle.dtp_entry.proofs.Verdicts.{sorts_count}
 use Rattle.dtp_check.specs.declared.judgement.EntryFlaw.{EntryFlaw}
 use Rattle.dtp_check.specs.declared.judgement.EntryFlaw.TheVariants.{NotAttained, OutOfRange}
@@ -35,9 +30,8 @@ use Rattle.dtp_check.specs.Judged.{first_of_two, values_flaw, refutation_flaw, l
 use Rattle.dtp_check.specs.declared.earlier.Earlier.{Earlier}
 use Rattle.dtp_check.specs.code.Asked.{IsAsked, IsLeastFound, asked_clauses}
 use Rattle.dtp_check.specs.code.Earlier.{Holds}
-use Rattle.dtp_check.specs.code.Made.{IsProblemOf}
 use Rattle.dtp_check.proofs.Judging.{of_sorts_count}
-use Rattle.dtp_check.proofs.Leasts.{attained_test, values_wrong, value_wrong, range_wrong, least_found}
+use Rattle.dtp_check.proofs.Leasts.{attained_test, values_wrong, value_wrong, range_wrong, least_found, read_back}
 use Rattle.dtp_check.proofs.Truths.{values_right}
 
 -- ---- the value and the values
@@ -100,58 +94,33 @@ module _ (worth : MinimizedIsWorth) (kept : Kept) (x : Sexpr) (o : Objective) (s
             let w : IsDifference (Some n) = subst IsDifference there h in
             least_found x o s.context m values n (sym e ∙ none) (attained is) w.0 w.1 w.2
 
--- ---- the items
-
--- the problem with the last clause
-module _ (kept : Kept) (s : State) (o : Objective) (d : ℤ) (problem asked : Problem) (is : (problem.points ≡ points_of s.context) × (problem.clauses ≡ problem_of s.context)) (asks : Asks problem o.x o.y d asked) where
-  points_asked : asked.points ≡ points_of s.context
-  points_asked = asks.points ∙ is.0
-
-  clauses_asked : asked.clauses ≡ asked_clauses s.context o d
-  clauses_asked = asks.clauses ∙ ap (λ (cs : List (List Literal)). cs ++ (below o.x o.y d ∷ []) ∷ []) is.1
-
-  pub flaw_asked : (shelf : Shelf) (items : List Item) (r : Result (Unit {0}) CheckError) → TellsFlaw (items_flaw shelf asked.points asked.clauses items) r → TellsFlaw (items_flaw shelf (points_of s.context) (asked_clauses s.context o d) items) r
-  flaw_asked shelf items r h =
-      subst (λ (cs : List (List Literal)). TellsFlaw (items_flaw shelf (points_of s.context) cs items) r) clauses_asked
-      (subst (λ (n : ℕ). TellsFlaw (items_flaw shelf n asked.clauses items) r) points_asked h)
-
-  pub held_asked : (earlier : Earlier) (before : List Placed) (items : List Item) → Holds earlier (before ++ record { points = asked.points; clauses = asked.clauses; items = items } ∷ []) → Holds earlier (before ++ placed_items s.context (asked_clauses s.context o d) items ∷ [])
-  held_asked earlier before items h =
-      subst (λ (cs : List (List Literal)). Holds earlier (before ++ placed_items s.context cs items ∷ [])) clauses_asked
-      (subst (λ (n : ℕ). Holds earlier (before ++ record { points = n; clauses = asked.clauses; items = items } ∷ [])) points_asked h)
-
--- what is given back is the problem again
-pub given_back : (kept : Kept) (o : Objective) (d : ℤ) (problem asked back : Problem) → IsProblemOf kept problem → Asks problem o.x o.y d asked → back.points ≡ asked.points
-    → ((clauses : List (List Literal)) (last : List Literal) → asked.clauses ≡ clauses ++ last ∷ [] → back.clauses ≡ clauses) → IsProblemOf kept back
-given_back kept o d problem asked back is asks points clauses s stands =
-    let was = is s stands in
-    (points ∙ asks.points ∙ was.0, clauses problem.clauses (below o.x o.y d ∷ []) asks.clauses ∙ was.1)
-
 -- ---- both
 
-module _ (before : List Placed) (x : Sexpr) (o : Objective) (c : Context) (m : ℤ) (values : List NamedValue) (items : List Item) (found : Result ℤ EntryFlaw) (is : IsLeastFound x o c m values found) where
+-- the code reads the value m and the difference d from their bits
+module _ (before : List Placed) (x : Sexpr) (o : Objective) (c : Context) (m n : ℤ) (same : n ≡ m) (values : List NamedValue) (items : List Item) (found : Result ℤ EntryFlaw) (is : IsLeastFound x o c n values found) where
   abbrev refuted : Option EntryFlaw
   refuted = refutation_flaw before c (problem_below c o m) items
 
+  found_as : (r : Result ℤ EntryFlaw) → found ≡ r → IsLeastFound x o c m values r
+  found_as r e = subst (λ (q : Result ℤ EntryFlaw). IsLeastFound x o c m values q) e (subst (λ (k : ℤ). IsLeastFound x o c k values found) same is)
+
   pub best_wrong : (flaw : EntryFlaw) → found ≡ Err flaw → Some flaw ≡ first_of_two (least_flaw x o c m values) refuted
-  best_wrong flaw e =
-      let w : IsLeastFound x o c m values (Err flaw) = subst (λ (r : Result ℤ EntryFlaw). IsLeastFound x o c m values r) e is in
-      sym (ap (λ (f : Option EntryFlaw). first_of_two f refuted) w)
+  best_wrong flaw e = sym (ap (λ (f : Option EntryFlaw). first_of_two f refuted) (found_as (Err flaw) e))
 
   module _ (d : ℤ) (e : found ≡ Ok d) where
     least_is : IsLeastFound x o c m values (Ok d)
-    least_is = subst (λ (r : Result ℤ EntryFlaw). IsLeastFound x o c m values r) e is
+    least_is = found_as (Ok d) e
 
-    pub within : IsWithinLimit d
-    within = least_is.2
+    pub within : IsWithinLimit (to_z w128 (of_z w128 d))
+    within = let w = least_is.2 in subst IsWithinLimit (sym (read_back d w)) w
 
-    same_clauses : asked_clauses c o d ≡ problem_below c o m
-    same_clauses = ap (asked_clauses c o) least_is.1
+    same_clauses : asked_clauses c o (to_z w128 (of_z w128 d)) ≡ problem_below c o m
+    same_clauses = ap (asked_clauses c o) (read_back d least_is.2 ∙ least_is.1)
 
-    pub best_items : (flaw : Option EntryFlaw) → flaw ≡ refutation_flaw before c (asked_clauses c o d) items → flaw ≡ first_of_two (least_flaw x o c m values) refuted
+    pub best_items : (flaw : Option EntryFlaw) → flaw ≡ refutation_flaw before c (asked_clauses c o (to_z w128 (of_z w128 d))) items → flaw ≡ first_of_two (least_flaw x o c m values) refuted
     best_items flaw f =
         f ∙ ap (λ (cs : List (List Literal)). refutation_flaw before c cs items) same_clauses
         ∙ sym (ap (λ (g : Option EntryFlaw). first_of_two g refuted) least_is.0)
 
-    pub best_held : (earlier : Earlier) → Holds earlier (before ++ placed_items c (asked_clauses c o d) items ∷ []) → Holds earlier (before ++ placed_items c (problem_below c o m) items ∷ [])
+    pub best_held : (earlier : Earlier) → Holds earlier (before ++ placed_items c (asked_clauses c o (to_z w128 (of_z w128 d))) items ∷ []) → Holds earlier (before ++ placed_items c (problem_below c o m) items ∷ [])
     best_held earlier h = subst (λ (cs : List (List Literal)). Holds earlier (before ++ placed_items c cs items ∷ [])) same_clauses h

@@ -63,6 +63,14 @@ pub too_far : (d : ℤ) → (FitsSigned w128 d → ⊥) → unsigned_abs d ≤ o
 too_far (pos n) none le = none (omega (arith, ints))
 too_far (negsuc n) none le = none (omega (arith, ints))
 
+-- a value within it is the same read back from its bits
+fits_within : (d : ℤ) → IsWithinLimit d → FitsSigned w128 d
+fits_within (pos n) h = let high = h.high in omega (arith, ints)
+fits_within (negsuc n) h = let low = h.low in omega (arith, ints)
+
+pub read_back : (d : ℤ) → IsWithinLimit d → to_z w128 (of_z w128 d) ≡ d
+read_back d h = to_z-of_z (fits_within d h)
+
 range_is_by : (d : ℤ) (b : Bool) → nat_le (unsigned_abs d) objective_limit ≡ b → (if b then None else Some OutOfRange) ≡ None → IsWithinLimit d
 range_is_by d true e f = let le : unsigned_abs d ≤ objective_limit = grind (arith, nat_tests) in within_by d le
 range_is_by d false e f = absurd cc

@@ -61,11 +61,11 @@ fn is_attained(objective: Objective, values: &[NamedValue], m: Value) -> bool
 }
 
 /// The value of the objective's difference of points where the objective has the value m, if that is within the limit.
-fn difference(m: Value, k: i64) -> Option<Value>
-    ensures { MatchOption result (range_flaw (m -ℤ k) ≡ Some OutOfRange)
-        (λ d. (range_flaw (m -ℤ k) ≡ None) × (d ≡ m -ℤ k) × IsWithinLimit d) }
+fn difference(objective: Objective, m: Value) -> Option<Value>
+    ensures { MatchOption result (range_flaw (m -ℤ objective.k) ≡ Some OutOfRange)
+        (λ d. (range_flaw (m -ℤ objective.k) ≡ None) × (d ≡ m -ℤ objective.k) × IsWithinLimit d) }
 {
-    match m.checked_sub(Value::from(k)) {
+    match m.checked_sub(Value::from(objective.k)) {
         Some(d) => {
             if d.unsigned_abs() <= u128::from(OBJECTIVE_LIMIT) {
                 Some(d)
@@ -98,7 +98,7 @@ pub fn least_flaw(
     if !is_attained(objective, values.as_slice(), m) {
         return Ok(Err(EntryFlaw::NotAttained));
     }
-    match difference(m, objective.k) {
+    match difference(objective, m) {
         Some(d) => Ok(Ok(d)),
         None => Ok(Err(EntryFlaw::OutOfRange)),
     }

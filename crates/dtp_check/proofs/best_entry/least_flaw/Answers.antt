@@ -1,3 +1,4 @@
+use Rattle.std.proofs.lemmas.Int.{to_z-of_z}
 use Rattle.dtp_check.proofs.Founds.{x_there, y_there, values_found, value_found, range_found, difference_found}
 use Rattle.dtp_check.proofs.best_entry.least_flaw.Goals as goal
 
@@ -18,14 +19,14 @@ is_attained-requires-clause-y c =
 pub returns-then-not-is_attained : goal.returns-then-not-is_attained
 returns-then-not-is_attained c = λ s x asked.
     value_found c.objective_law.ensures c.args.state.now x c.args.objective s asked c.args.values.now c.args.m _ (c.in_ok-flaw.ensures s asked.stands) c.in-None.is c.as_slice.result.now c.as_slice.ensures
-    c.is_attained.result c.is_attained.ensures c.if-not-is_attained.true
+    c.is_attained.result (simp (to_z-of_z c.ranges.m) at c.is_attained.ensures) c.if-not-is_attained.true
 
 pub returns-in-Some-difference : goal.returns-in-Some-difference
 returns-in-Some-difference c = λ s x asked.
     difference_found c.objective_law.ensures c.args.state.now x c.args.objective s asked c.args.values.now c.args.m _ (c.in_ok-flaw.ensures s asked.stands) c.in-None.is c.as_slice.result.now c.as_slice.ensures
-    c.is_attained.result c.is_attained.ensures c.if-not-is_attained.false c.difference.result c.in-Some-difference.d c.in-Some-difference.is c.difference.ensures
+    c.is_attained.result (simp (to_z-of_z c.ranges.m) at c.is_attained.ensures) c.if-not-is_attained.false c.difference.result c.in-Some-difference.d c.in-Some-difference.is (simp (to_z-of_z c.ranges.m) at c.difference.ensures)
 
-pub returns : goal.returns
-returns c = λ s x asked.
+pub returns-in-None-difference : goal.returns-in-None-difference
+returns-in-None-difference c = λ s x asked.
     range_found c.objective_law.ensures c.args.state.now x c.args.objective s asked c.args.values.now c.args.m _ (c.in_ok-flaw.ensures s asked.stands) c.in-None.is c.as_slice.result.now c.as_slice.ensures
-    c.is_attained.result c.is_attained.ensures c.if-not-is_attained.false c.difference.result c.in-None-difference.is c.difference.ensures
+    c.is_attained.result (simp (to_z-of_z c.ranges.m) at c.is_attained.ensures) c.if-not-is_attained.false c.difference.result c.in-None-difference.is (simp (to_z-of_z c.ranges.m) at c.difference.ensures)
