@@ -89,10 +89,10 @@ module _ (worth : MinimizedIsWorth) (kept : Kept) (x : Sexpr) (o : Objective) (s
         pub range_found : b ≡ true → (d : Option ℤ) → d ≡ None → IsDifference d → IsLeastFound x o s.context m values (Err OutOfRange)
         range_found is d none_there h = range_wrong x o s.context m values (sym e ∙ none) (attained is) (subst IsDifference none_there h)
 
-        pub difference_found : b ≡ true → (d : Option ℤ) (n : ℤ) → d ≡ Some n → IsDifference d → IsLeastFound x o s.context m values (Ok n)
+        pub difference_found : b ≡ true → (d : Option ℤ) (n : ℤ) → d ≡ Some n → IsDifference d → IsLeastFound x o s.context m values (Ok (to_z w128 (of_z w128 n)))
         difference_found is d n there h =
             let w : IsDifference (Some n) = subst IsDifference there h in
-            least_found x o s.context m values n (sym e ∙ none) (attained is) w.0 w.1 w.2
+            subst (λ (z : ℤ). IsLeastFound x o s.context m values (Ok z)) (sym (read_back n w.2)) (least_found x o s.context m values n (sym e ∙ none) (attained is) w.0 w.1 w.2)
 
 -- ---- both
 

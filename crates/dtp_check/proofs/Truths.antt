@@ -128,13 +128,15 @@ module _ (c : Context) (context : IsContext c) (scope : ContextsHaveScopes) (roo
   unbounded_by o values set (problem, is) right =
       let at_points : IsSetRight o problem.points (problem_of c) values set = subst (λ (n : ℕ). IsSetRight o n (problem_of c) values set) (sym is.points) right in
       let here : IsSetRight o problem.points problem.clauses values set = subst (λ (cs : List (List Literal)). IsSetRight o problem.points cs values set) (sym is.clauses) at_points in
-      let free = free_set problem o values set here in
-      (free.0, record {
-        problem = problem;
-        is_problem = is;
-        model = record { count = here.count; holds = λ k d lt. clause_holds values set (get_or problem.clauses k d) (here.kept k d lt) };
-        free = free.1;
-      })
+      let free = free_set problem o values set here in (
+        free.0,
+        record {
+          problem = problem;
+          is_problem = is;
+          model = record { count = here.count; holds = λ k d lt. clause_holds values set (get_or problem.clauses k d) (here.kept k d lt) };
+          free = free.1;
+        },
+      )
 
   pub unbounded_right : (o : Objective) (values : List ℤ) (set : List ℕ) → unbounded_flaw o (points_of c) (problem_of c) values set ≡ None → (out : List ℕ) × IsUnbounded c o values out
   unbounded_right o values set e = unbounded_by o values set problem_there (set_right o (points_of c) (problem_of c) values set e)

@@ -1,3 +1,4 @@
+use Rattle.std.proofs.Common.{[]}
 use Rattle.std.proofs.Math.Facts.{to_z-of_z}
 use Rattle.dtp_check.proofs.Founds.{best_wrong, within, best_items, best_held}
 use Rattle.dtp_check.proofs.best_entry.best_flaw.Goals as goal

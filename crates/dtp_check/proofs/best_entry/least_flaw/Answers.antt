@@ -1,4 +1,4 @@
-use Rattle.std.proofs.lemmas.Int.{to_z-of_z}
+use Rattle.std.proofs.Math.Facts.{to_z-of_z}
 use Rattle.dtp_check.proofs.Founds.{x_there, y_there, values_found, value_found, range_found, difference_found}
 use Rattle.dtp_check.proofs.best_entry.least_flaw.Goals as goal
 
