@@ -1,2 +1,2 @@
-pub mod Deciding
+pub mod FirstLine
 pub mod Writing

@@ -2,6 +2,7 @@
 #![tactic(auto)]
 
 mod certified;
+mod laws;
 mod lines;
 mod numbers;
 mod run;

@@ -38,9 +38,9 @@ fn lines_of<R: Threads + Wait + Sync, G: Gate>(
 {
     let script = instance(alloc, plan.jobs, plan.machines, plan.start, plan.deadline)?;
     let size = counts(alloc, &script)?;
-    let pair = certified(rt, alloc, &script, options, gate)?;
-    let verdict = verdict_in(alloc, &script, &pair.held()[script.len()..])?;
-    check_again(alloc, pair.held())?;
+    let pair = certified(rt, alloc, plan, &script, options, gate)?;
+    let verdict = verdict_in(alloc, plan, &pair.held()[script.len()..])?;
+    check_again(alloc, plan, pair.held())?;
     Ok(Lines {
         plan: plan_line(alloc, plan)?,
         names: names_line(alloc, size.names)?,
@@ -64,8 +64,8 @@ fn write_lines<K: Sink>(lines: &Lines, sink: &mut K) -> Result<(), SessionError>
 /// Makes the job shop's script, certifies it, checks it with its certificate, and writes five lines: the numbers, how many
 /// names and clauses the script has, its verdict, and that the certificate is accepted.
 ///
-/// Script and certificate are held in memory. That no command of the script is refused, and that it is accepted with its
-/// certificate, are laws of `bench_law`: were it otherwise, the answer would be that of want of memory.
+/// Script and certificate are held in memory. By the laws of `bench_law` no command of the script is refused, and it is
+/// accepted with its certificate.
 pub fn bench<R: Threads + Wait + Sync, K: Sink, G: Gate>(
     rt: &R,
     alloc: Global,
