@@ -16,6 +16,7 @@ import os
 import random
 import resource
 import shutil
+import signal
 import subprocess
 import sys
 import tempfile
@@ -145,13 +146,17 @@ def run(words, text, limit):
     with tempfile.TemporaryFile("w+") as source:
         source.write(text)
         source.seek(0)
+        # in a session of its own, so that what it starts ends with it
+        child = subprocess.Popen(words, stdin=source, stdout=subprocess.PIPE, stderr=subprocess.DEVNULL, text=True, start_new_session=True)
         try:
-            done = subprocess.run(words, stdin=source, capture_output=True, text=True, timeout=limit, check=False)
+            printed, _ = child.communicate(timeout=limit)
         except subprocess.TimeoutExpired:
+            os.killpg(child.pid, signal.SIGKILL)
+            child.communicate()
             return None
     after = resource.getrusage(resource.RUSAGE_CHILDREN)
     used = after.ru_utime + after.ru_stime - before.ru_utime - before.ru_stime
-    return done.stdout, used, time.time() - begun
+    return printed, used, time.time() - begun
 
 
 def value_of(text):
