@@ -36,7 +36,7 @@ use Rattle.dtp_session.specs.declared.piece.Piece.{Piece}
 use Rattle.dtp_session.specs.declared.piece.Piece.TheVariants.{Proof, Told}
 use Rattle.dtp_session.specs.declared.session.Session.{Session}
 use Rattle.dtp_session.specs.code.Decisions.{IsDecision}
-use Rattle.dtp_session.specs.code.Sessions.{ShowsSchedule, ShowsRefutation, ShowsVerdict, Holds, MayTell, KeepsReading, KeepsVerdict, Tells}
+use Rattle.dtp_session.specs.code.Sessions.{ShowsSchedule, ShowsRefutation, ShowsVerdict, Holds, MayTell, KeepsReading, KeepsVerdict, Tells, IsChecked}
 
 -- ---- behind a command
 
@@ -144,6 +144,45 @@ holds_decision q s version question x found e decided stands held given marks = 
   stands = stands;
   shows = rw (e, held, given, marks, settled_context (verdict_of found.found) s) (decision_shows version question x s.context found decided s);
 }
+
+-- a question that was decided anew
+pub decided_anew : (p q : Session) (s : State) (version : Version) (question : Question) (x : Sexpr) (found : Decision) → version ≡ version_of q.report → IsDecision version question x s.context found
+    → Stands q.walk.state (settled (verdict_of found.found) s) → q.held ≡ Some found.found → q.given ≡ found.given → q.marks.items ≡ [] → q.walk.number ≡ p.walk.number + 1 → IsChecked question x p q s
+decided_anew p q s version question x found e decided stands held given marks number = record {
+  entry = found.found;
+  decides = subst (λ (v : Version). Decides v question x s.context found.found) e decided.decides;
+  held = held;
+  stands = holds_decision q s version question x found (sym e) decided stands held given marks;
+  number = number;
+}
+
+-- and one that the refutation answers that is held
+pub refuted_again : (p q : Session) (s : State) (question : Question) (x : Sexpr) → Holds p s → p.walk.state.mode ≡ mode.Unsat → Stands q.walk.state (settled verdict.Unsat s) → q.held ≡ p.held → q.report ≡ p.report
+    → q.walk.number ≡ p.walk.number + 1 → IsChecked question x p q s
+refuted_again p q s question x holds unsat stands held report number =
+    let w = held_refutation p s holds (mode_is p s mode.Unsat holds unsat) in
+    let decides : (other : Question) (y : Sexpr) → Decides (version_of q.report) other y s.context (Unsat w.lemmas) = λ other y. subst (λ (r : Report). Decides (version_of r) other y s.context (Unsat w.lemmas)) (sym report) (w.decides other y) in
+    record {
+      entry = Unsat w.lemmas;
+      decides = decides question x;
+      held = held ∙ w.held;
+      stands = record { stands = stands; shows = record { lemmas = w.lemmas; held = held ∙ w.held; decides = decides } };
+      number = number;
+    }
+
+-- a walk that was only told of is as ready as before
+pub ready_kept : (p q : Session) (s : State) → IsWalkReady p.walk → KeepsReading p q → Holds q s → IsWalkReady q.walk
+ready_kept p q s ready keeps holds =
+    let walk : Walk = record p.walk { state = q.walk.state } in
+    let there : IsWalkReady walk = record {
+      fresh = ready.fresh;
+      same = ready.same;
+      within = ready.within;
+      counted = ready.counted;
+      few = ready.few;
+      stands = (s, holds.stands);
+    } in
+    rw (keeps.lexer, keeps.sexprs, keeps.number) there
 
 -- a walk whose question was answered
 pub ready_settled : (w : Walk) (q : Session) (s : State) → IsWalkReady w → w.number ≤ w.lexer.place → q.walk.lexer ≡ w.lexer → q.walk.sexprs ≡ w.sexprs → q.walk.number ≡ w.number + 1 → Holds q s → IsWalkReady q.walk

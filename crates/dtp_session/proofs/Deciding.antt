@@ -23,7 +23,7 @@ use Rattle.refute_tree.specs.Trees.{IsRefutation}
 use Rattle.book_core.specs.declared.verdict.Verdict.{Verdict}
 use Rattle.book_core.specs.Verdicts.{IsRight}
 use Rattle.best_values.specs.Bests.{objective}
-use Rattle.best_values.specs.Questions.{below}
+use Rattle.best_values.specs.Questions.{below, Asks}
 use Rattle.best_values.specs.Widths.{width_of, objective_limit, Fits, IsWithinLimit}
 use Rattle.best_bound.specs.declared.answer.Best.{Best as Answer}
 use Rattle.best_bound.specs.Answers as answer
@@ -126,6 +126,17 @@ module _ (laws : FormLaws) (problem : Problem) (found : List Lemma) (h : IsRefut
       let count : length (shown version) ≤ limit = omega (arith, length-map found (formed version problem.clauses), few_lemmas) in
       refutation_within version problem.points laws.negation few_points problem.clauses few_clauses problem.over (shown version) count
       (shown_stays version) (shown_over version) (shown_formed version)
+
+-- the entry of a least value, by the numbers as the code has them
+pub least_shown : (version : Version) (problem question : Problem) (o : Objective) (schedule : List NamedValue) (d e m : ℤ) (lemmas kept : List Lemma) (found : Entry) → Asks problem o.x o.y e question → e ≡ d → IsKeptOf question.clauses lemmas kept
+    → found ≡ Best m schedule (map (formed version question.clauses) kept) → m ≡ d +ℤ o.k → IsShownLeast version problem o schedule d lemmas found
+least_shown version problem question o schedule d e m lemmas kept found asks same is_kept shown sum = record {
+  question = question;
+  asks = subst (λ (z : ℤ). Asks problem o.x o.y z question) same asks;
+  kept = kept;
+  is_kept = is_kept;
+  shown = shown ∙ ap (λ (z : ℤ). Best z schedule (map (formed version question.clauses) kept)) sum;
+}
 
 -- ---- decisions
 

@@ -78,16 +78,16 @@ values_shown p s found values holds sat held e =
 
 -- an entry is held, and it has a schedule
 pub entry_held : (p : Session) (s : State) → Holds p s → s.mode ≡ mode.Sat → p.held ≡ None → ⊥
-entry_held p s holds sat none =
+entry_held p s holds sat gone =
     let w = held_schedule p s holds sat in
-    let both : ◌≡◌ {A = Held} None (Some w.entry) = sym none ∙ w.held in
+    let both : ◌≡◌ {A = Held} None (Some w.entry) = sym gone ∙ w.held in
     cc
 
 pub schedule_there : (p : Session) (s : State) (found : Entry) → Holds p s → s.mode ≡ mode.Sat → p.held ≡ Some found → schedule_shown p.given found ≡ None → ⊥
-schedule_there p s found holds sat held none =
+schedule_there p s found holds sat held gone =
     let w = held_schedule p s holds sat in
     let same : w.entry ≡ found = same_entry w.entry found (sym w.held ∙ held) in
-    let both : ◌≡◌ {A = Option (List NamedValue)} None (Some w.schedule) = sym none ∙ ap (schedule_shown p.given) (sym same) ∙ w.shown in
+    let both : ◌≡◌ {A = Option (List NamedValue)} None (Some w.schedule) = sym gone ∙ ap (schedule_shown p.given) (sym same) ∙ w.shown in
     cc
 
 -- as many values as names

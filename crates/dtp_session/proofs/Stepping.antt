@@ -74,10 +74,10 @@ module _ (p : Session) (w : Walk) (s : State) (event : Event) (h : IsEvent p.wal
         omega (arith, within, few, count)
 
     module _ (q : Session) (keeps : KeepsPlace (record p { walk = w }) q) where
-      pub checked_step : w.lexer.bytes ≡ p.walk.lexer.bytes → IsAnswered question asked_event.x (record p { walk = w }) q asked_event.carries.1.next Decision → IsNext p q s Decision
+      checked_step : w.lexer.bytes ≡ p.walk.lexer.bytes → IsAnswered question asked_event.x (record p { walk = w }) q asked_event.carries.1.next Decision → IsNext p q s Decision
       checked_step bytes h = checked_next p q w s bytes keeps id question asked_event h.0 h.1
 
-      pub barred_step : w.lexer.bytes ≡ p.walk.lexer.bytes → (kind : Kind) → IsAnswered question asked_event.x (record p { walk = w }) q asked_event.carries.1.next (Error kind) → IsNext p q s (Error kind)
+      barred_step : w.lexer.bytes ≡ p.walk.lexer.bytes → (kind : Kind) → IsAnswered question asked_event.x (record p { walk = w }) q asked_event.carries.1.next (Error kind) → IsNext p q s (Error kind)
       barred_step bytes kind h = barred_next p q w s bytes keeps id question kind asked_event h.0 h.1
 
       answered_by : w.lexer.bytes ≡ p.walk.lexer.bytes → (piece : Piece) → IsAnswered question asked_event.x (record p { walk = w }) q asked_event.carries.1.next piece → IsNext p q s piece

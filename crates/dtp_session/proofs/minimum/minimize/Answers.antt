@@ -1,5 +1,6 @@
-use Rattle.std.proofs.Common.{arith, ◌∙◌, ◌≡◌, ◌+◌, ◌<◌, refl, sym, ap, subst, List, length, ℤ, ℕ}
+use Rattle.std.proofs.Common.{arith, ◌∙◌, ◌≡◌, ◌+◌, ◌<◌, refl, sym, ap, subst, List, length, ℤ, w64, to_z, of_z}
 use Rattle.std.specs.Prelude.{All}
+use Rattle.std.proofs.lemmas.Int.{ints}
 use Rattle.stn_core.specs.Schedule.{IsInRange}
 use Rattle.stn_core.specs.declared.problem.Problem.{Problem}
 use Rattle.best_bound.specs.Answers.{IsNothing, IsLeast, IsUnbounded}
@@ -10,6 +11,7 @@ use Rattle.smt_script.specs.declared.state.Question.TheVariants.{Minimize}
 use Rattle.dtp_entry.proofs.Bests.{Laws}
 use Rattle.dtp_entry.proofs.Verdicts.{sorts_count}
 use Rattle.dtp_session.specs.code.Forms.{version_wanted}
+use Rattle.dtp_session.specs.code.Decisions.{IsShownLeast}
 use Rattle.dtp_session.proofs.Deciding.{FormLaws, as_answered, problem_fits, point_in, unsat_decision, least_decision, unbounded_decision}
 use Rattle.dtp_session.proofs.minimum.minimize.Goals as goal
 
@@ -46,23 +48,23 @@ restrict-requires-clause-range g c =
     let found : IsLeast c.args.problem c.args.objective.x c.args.objective.y c.in-Least.values c.in-Least.difference c.in-Least.refutation = as_answered _ _ _ _ _ c.in-Least.is c.in_ok-refutation.ensures in
     subst (λ (values : List ℤ). All IsInRange values) (sym c.as_slice.ensures) found.solution.range
 
-pub restrict-requires-clause-some-2 : goal.restrict-requires-clause-some-2
-restrict-requires-clause-some-2 g c =
+pub restrict-requires-in-Unbounded-clause-some : goal.restrict-requires-in-Unbounded-clause-some
+restrict-requires-in-Unbounded-clause-some g c =
     let s = c.requires.0 in
     let stands = c.requires.2 in
     let taken = c.requires.3 in
     let found : IsUnbounded c.args.problem c.args.objective.x c.args.objective.y c.in-Unbounded.values c.in-Unbounded.set = as_answered _ _ _ _ _ c.in-Unbounded.is c.in_ok-refutation.ensures in
-    let count : length c.as_slice.result.now ≡ c.args.problem.points = ap (λ (values : List ℤ). length values) c.as_slice.ensures ∙ found.solution.count in
-    let names : length c.sorts.result.now ≡ length s.context.declared =
-    ap (λ (sorts : List Sort). length sorts) (c.sorts.ensures ∙ ap sorts_of (c.names.ensures.names ∙ ap (λ (t : Scope). t.declared) stands.stands.scope)) ∙ sorts_count s.context.declared in
+    let count : length c.as_slice-in-Unbounded.result.now ≡ c.args.problem.points = ap (λ (values : List ℤ). length values) c.as_slice-in-Unbounded.ensures ∙ found.solution.count in
+    let names : length c.sorts-in-Unbounded.result.now ≡ length s.context.declared =
+    ap (λ (sorts : List Sort). length sorts) (c.sorts-in-Unbounded.ensures ∙ ap sorts_of (c.names-in-Unbounded.ensures.names ∙ ap (λ (t : Scope). t.declared) stands.stands.scope)) ∙ sorts_count s.context.declared in
     let some = c.clause_form_law.ensures.some (length s.context.declared + 1) s.context.nodes s.context.roots in
     let points = taken.is_problem.points in
     omega (arith, count, names, some, points)
 
-pub restrict-requires-clause-range-2 : goal.restrict-requires-clause-range-2
-restrict-requires-clause-range-2 g c =
+pub restrict-requires-in-Unbounded-clause-range : goal.restrict-requires-in-Unbounded-clause-range
+restrict-requires-in-Unbounded-clause-range g c =
     let found : IsUnbounded c.args.problem c.args.objective.x c.args.objective.y c.in-Unbounded.values c.in-Unbounded.set = as_answered _ _ _ _ _ c.in-Unbounded.is c.in_ok-refutation.ensures in
-    subst (λ (values : List ℤ). All IsInRange values) (sym c.as_slice.ensures) found.solution.range
+    subst (λ (values : List ℤ). All IsInRange values) (sym c.as_slice-in-Unbounded.ensures) found.solution.range
 
 pub returns-in_ok-found-in-Nothing : goal.returns-in_ok-found-in-Nothing
 returns-in_ok-found-in-Nothing g c = λ s x stands taken.
@@ -103,8 +105,12 @@ returns-in_ok-found-in-Least g c = λ s x stands taken.
     let names : c.sorts.result.now ≡ sorts_of s.context.declared = c.sorts.ensures ∙ ap sorts_of (c.names.ensures.names ∙ ap (λ (t : Scope). t.declared) stands.stands.scope) in
     let values : c.in_ok-schedule-in-Least.schedule ≡ restricted (sorts_of s.context.declared) c.in-Least.values =
     c.in_ok-schedule-in-Least.ensures.values ∙ ap (restricted c.sorts.result.now) c.as_slice.ensures ∙ ap (λ (sorts : List Sort). restricted sorts c.in-Least.values) names in
+    let low = found.within.low in
+    let high = found.within.high in
+    let same : to_z w64 (of_z w64 c.in-Least.difference) ≡ c.in-Least.difference = grind (arith, ints, low, high) in
     least_decision laws s.context stands.made.context c.args.problem taken.is_problem c.args.objective x taken.asked forms (version_wanted c.args.wanted) c.in-Least.values c.in_ok-schedule-in-Least.schedule c.in-Least.difference c.in-Least.refutation
-    c.in_ok-found-in-Least.found found values c.in_ok-schedule-in-Least.ensures.within c.in_ok-found-in-Least.ensures
+    c.in_ok-found-in-Least.found found values c.in_ok-schedule-in-Least.ensures.within
+    (subst (λ (d : ℤ). IsShownLeast (version_wanted c.args.wanted) c.args.problem c.args.objective c.in_ok-schedule-in-Least.schedule d c.in-Least.refutation c.in_ok-found-in-Least.found) same c.in_ok-found-in-Least.ensures)
 
 pub returns-in_ok-schedule-in-Unbounded : goal.returns-in_ok-schedule-in-Unbounded
 returns-in_ok-schedule-in-Unbounded g c = λ s x stands taken.
@@ -121,8 +127,8 @@ returns-in_ok-schedule-in-Unbounded g c = λ s x stands taken.
       refutes = c.refutation_law.ensures;
       unbounded = c.unbounded_law.ensures;
     } in
-    let names : c.sorts.result.now ≡ sorts_of s.context.declared = c.sorts.ensures ∙ ap sorts_of (c.names.ensures.names ∙ ap (λ (t : Scope). t.declared) stands.stands.scope) in
+    let names : c.sorts-in-Unbounded.result.now ≡ sorts_of s.context.declared = c.sorts-in-Unbounded.ensures ∙ ap sorts_of (c.names-in-Unbounded.ensures.names ∙ ap (λ (t : Scope). t.declared) stands.stands.scope) in
     let values : c.in_ok-schedule-in-Unbounded.schedule ≡ restricted (sorts_of s.context.declared) c.in-Unbounded.values =
-    c.in_ok-schedule-in-Unbounded.ensures.values ∙ ap (restricted c.sorts.result.now) c.as_slice.ensures ∙ ap (λ (sorts : List Sort). restricted sorts c.in-Unbounded.values) names in
+    c.in_ok-schedule-in-Unbounded.ensures.values ∙ ap (restricted c.sorts-in-Unbounded.result.now) c.as_slice-in-Unbounded.ensures ∙ ap (λ (sorts : List Sort). restricted sorts c.in-Unbounded.values) names in
     unbounded_decision laws s.context stands.made.context c.args.problem taken.is_problem c.args.objective x taken.asked (version_wanted c.args.wanted) c.in-Unbounded.values c.in-Unbounded.set c.in_ok-schedule-in-Unbounded.schedule
     _ found values c.in_ok-schedule-in-Unbounded.ensures.within c.shown-found.ensures
