@@ -10,7 +10,6 @@ use Rattle.stn_core.specs.declared.literal.Literal.{Literal}
 use Rattle.stn_core.specs.declared.named.NamedValue.{NamedValue}
 use Rattle.stn_core.specs.declared.problem.Problem.{Problem}
 use Rattle.stn_core.specs.Laws.{NegationKept}
-use Rattle.stn_core.specs.Literal.{IsOver}
 use Rattle.stn_core.specs.Named.{AreWithinLimit}
 use Rattle.stn_core.specs.Problem.{ProblemHolds}
 use Rattle.stn_core.specs.Schedule.{IsInRange}
@@ -22,7 +21,6 @@ use Rattle.refute_tree.specs.Lengths.{lengthened_lemma, shortened_lemma}
 use Rattle.refute_tree.specs.Trees.{IsRefutation}
 use Rattle.book_core.specs.declared.verdict.Verdict.{Verdict}
 use Rattle.book_core.specs.Verdicts.{IsRight}
-use Rattle.best_values.specs.Bests.{objective}
 use Rattle.best_values.specs.Questions.{below, Asks}
 use Rattle.best_values.specs.Widths.{width_of, objective_limit, Fits, IsWithinLimit}
 use Rattle.best_bound.specs.declared.answer.Best.{Best as Answer}
@@ -44,7 +42,7 @@ use Rattle.smt_script.specs.States.{State}
 use Rattle.smt_answer.specs.declared.kind.Kind.{Kind}
 use Rattle.smt_script.specs.Commands.{minimized}
 use Rattle.dtp_entry.specs.Bests.{Satisfies, HasValue}
-use Rattle.dtp_entry.specs.Entries.{points_of, problem_of, difference_at, problem_below, IsProblemOf, IsLeast, IsUnbounded, IsShort, IsInForm}
+use Rattle.dtp_entry.specs.Entries.{points_of, problem_of, problem_below, IsProblemOf, IsLeast, IsUnbounded, IsShort, IsInForm}
 use Rattle.dtp_entry.specs.Transcripts.{Decides, schedule_in}
 use Rattle.dtp_entry.specs.code.Asking.{IsAskedBy}
 use Rattle.dtp_entry.proofs.Bests.{Laws, solution_schedule, value_restricted, right_is_so}

@@ -1,4 +1,4 @@
-use Rattle.std.proofs.Common.{arith, ◌∙◌, ◌≡◌, ◌+◌, refl, sym, ap, subst, List, length, ℤ}
+use Rattle.std.proofs.Common.{arith, ◌∙◌, ◌≡◌, ◌+◌, sym, ap, subst, List, length, ℤ}
 use Rattle.std.specs.Prelude.{All}
 use Rattle.stn_core.specs.Schedule.{IsInRange}
 use Rattle.stn_core.specs.Solution.{IsSolution}

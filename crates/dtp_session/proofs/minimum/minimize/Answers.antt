@@ -1,8 +1,7 @@
-use Rattle.std.proofs.Common.{arith, ◌∙◌, ◌≡◌, ◌+◌, ◌<◌, refl, sym, ap, subst, List, length, ℤ, w64, to_z, of_z}
+use Rattle.std.proofs.Common.{arith, ◌∙◌, ◌≡◌, ◌+◌, sym, ap, subst, List, length, ℤ, w64, to_z, of_z}
 use Rattle.std.specs.Prelude.{All}
 use Rattle.std.proofs.lemmas.Int.{ints}
 use Rattle.stn_core.specs.Schedule.{IsInRange}
-use Rattle.stn_core.specs.declared.problem.Problem.{Problem}
 use Rattle.best_bound.specs.Answers.{IsNothing, IsLeast, IsUnbounded}
 use Rattle.clause_form.specs.Restricting.{restricted}
 use Rattle.idl_node.specs.declared.sort.Sort.{Sort}

@@ -1,6 +1,6 @@
 use Rattle.std.proofs.Common.{rules, refl, sym, ap, ◌∙◌, length, List}
 use Rattle.idl_term.specs.Scopes.{Declaration}
-use Rattle.dtp_session.proofs.Saying.{values_shown, values_told, values_counted, model_is, entry_held, schedule_there}
+use Rattle.dtp_session.proofs.Saying.{values_shown, values_counted}
 use Rattle.dtp_session.proofs.session.Session.tell_model.Goals as goal
 
 pub model_text-requires : goal.model_text-requires
