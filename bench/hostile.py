@@ -23,7 +23,7 @@ MEMORY = 400 << 20
 KINDS = (
     r"bad byte|unclosed string|unclosed quoted symbol|leading zero|unclosed list|stray close|unknown command|ill-formed command|"
     r"logic not supported|already declared|too many names|too many levels|pop below the bottom|no model|no proof|unknown symbol|ill-formed term|too many cases|"
-    r"wrong count of arguments|wrong sort|not a difference|bound too large|too large|left out: [!-~]+?"
+    r"wrong count of arguments|wrong sort|not a difference|bound too large|objective too large|too large|left out: [!-~]+?"
 )
 ERROR = re.compile(rb'\(error "command [1-9][0-9]*: (' + KINDS.encode() + rb')"\)\n\Z')
 FLAWS = (
@@ -34,7 +34,7 @@ CHECKED = re.compile(
         r"accepted\n\Z|refused: (script: command [1-9][0-9]*: (" + KINDS + r")|"
         r"certificate: (no header|entry [1-9][0-9]* is ill-formed|no end|text after the end)|"
         r"entry [1-9][0-9]*: (missing|surplus|wrong kind of entry|wrong count of values|value [1-9][0-9]* has the wrong sort|"
-        r"assertion [1-9][0-9]* is false|last lemma not empty|lemma [0-9]+: step [0-9]+: (" + FLAWS + r")))\n\Z"
+        r"assertion [1-9][0-9]* is false|value is not attained|value is out of range|no such point|set is not of the objective|clause [0-9]+ is not kept|last lemma not empty|lemma [0-9]+: step [0-9]+: (" + FLAWS + r")))\n\Z"
     ).encode()
 )
 KEPT = b"""(declare-const p Bool) (assert (not p)) (push 1) (assert p) (check-sat) (pop 1) (assert p) (check-sat) (check-sat)
