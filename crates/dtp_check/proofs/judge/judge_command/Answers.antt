@@ -29,14 +29,14 @@ judge_question-requires-clause-asked g c =
     let x = c.requires.meaning in
     let v = c.args.walk.now in
     let w = c.carry_out.new.self in
-    let h = asks v w at.0.state x.0 c.in-Asked.field-0 c.in-Asked.field-1 _ c.in-Asked.is (c.in_ok-carry_out.ensures.carries at.0.state x.0 at.2.stands x.1) in
-    (h.0.next, x.0, asked_by v w at.0.state x.0 c.in-Asked.field-1 at.2.stands h.0)
+    let h = asks v w at.0.state x.0 c.in-Asked.field-0 c.in-Asked.question _ c.in-Asked.is (c.in_ok-carry_out.ensures.carries at.0.state x.0 at.2.stands x.1) in
+    (h.0.next, x.0, asked_by v w at.0.state x.0 c.in-Asked.question at.2.stands h.0)
 
 pub judge_question-requires-clause-few : goal.judge_question-requires-clause-few
 judge_question-requires-clause-few g c =
     let at = c.requires.stands in
     let x = c.requires.meaning in
-    let h = asks c.args.walk.now c.carry_out.new.self at.0.state x.0 c.in-Asked.field-0 c.in-Asked.field-1 _ c.in-Asked.is (c.in_ok-carry_out.ensures.carries at.0.state x.0 at.2.stands x.1) in
+    let h = asks c.args.walk.now c.carry_out.new.self at.0.state x.0 c.in-Asked.field-0 c.in-Asked.question _ c.in-Asked.is (c.in_ok-carry_out.ensures.carries at.0.state x.0 at.2.stands x.1) in
     let same = h.1 in
     let few = c.requires.few in
     omega (arith, same, few)
@@ -52,7 +52,7 @@ returns-in_ok-progress-in-Asked-clause-turn g c = λ p before x at means.
     let v = c.args.walk.now in
     let w = c.carry_out.new.self in
     let later = c.judge_question.new.walk in
-    let question = c.in-Asked.field-1 in
+    let question = c.in-Asked.question in
     let h = asks v w p.state x c.in-Asked.field-0 question _ c.in-Asked.is (c.in_ok-carry_out.ensures.carries p.state x at.stands means) in
     question_judged g.K.Keeps.leads before c.args.keeps.now c.args.entries.now v.number c.args.used v.state c.args.earlier.now p at w x c.exit_law.ensures.alone question later.number later.state c.judge_question.new.earlier c.judge_question.new.keeps h.0 h.1 c.in_ok-progress-in-Asked.progress
     (c.in_ok-progress-in-Asked.ensures.turn h.0.next x before (asked_by v w p.state x question at.stands h.0) at.held)
@@ -75,8 +75,8 @@ judge_question-requires-clause-made g c =
     let x = c.requires.meaning in
     let v = c.args.walk.now in
     let w = c.carry_out.new.self in
-    let h = asks v w at.0.state x.0 c.in-Asked.field-0 c.in-Asked.field-1 _ c.in-Asked.is (c.in_ok-carry_out.ensures.carries at.0.state x.0 at.2.stands x.1) in
-    made_after c.mode_law.ensures.kept v w at.0.state x.0 (Ask c.in-Asked.field-1) c.args.made.now at.2.stands h.0 c.requires.made
+    let h = asks v w at.0.state x.0 c.in-Asked.field-0 c.in-Asked.question _ c.in-Asked.is (c.in_ok-carry_out.ensures.carries at.0.state x.0 at.2.stands x.1) in
+    made_after c.mode_law.ensures.kept v w at.0.state x.0 (Ask c.in-Asked.question) c.args.made.now at.2.stands h.0 c.requires.made
 
 pub returns-in-Told-clause-made : goal.returns-in-Told-clause-made
 returns-in-Told-clause-made g c = λ more.
