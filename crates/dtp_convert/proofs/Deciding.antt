@@ -1,5 +1,5 @@
 -- A converted entry decides its question.
-use Rattle.std.proofs.Common.{refl, sym, ap, subst, ◌∙◌, ◌≡◌, ◌+◌, ◌==◌, ◌^◌, ℕ, ◌<◌, List, [], ◌∷◌, ◌++◌, length, Bool, true, false, Option, Some, None, Result, Ok, Err, ℤ}
+use Rattle.std.proofs.Common.{arith, refl, sym, ap, subst, ◌∙◌, ◌≡◌, ◌+◌, ◌==◌, ◌^◌, ℕ, ◌<◌, List, [], ◌∷◌, ◌++◌, length, Bool, true, false, Option, Some, None, Result, Ok, Err, ℤ}
 use Rattle.std.specs.Prelude.{All, if◌then◌else◌, option_map}
 use Rattle.std.specs.List.{AllByRecursion}
 use Rattle.std.proofs.lemmas.Bool.{eqb-true}
@@ -20,6 +20,7 @@ use Rattle.cert_text.specs.declared.entry.FileEntry.TheVariants as file
 use Rattle.cert_text.specs.Limits.{WholeFits, UnboundedWithin, EntryFits}
 use Rattle.kept_lemmas.specs.declared.item.Item.{Item}
 use Rattle.kept_lemmas.specs.Entries.{Placed}
+use Rattle.clause_form.specs.Laws.{PointsGrow}
 use Rattle.idl_term.specs.Contexts.{Context, IsScheduleFor, IsTrueOn, environment}
 use Rattle.idl_term.specs.Scopes.{sorts_of}
 use Rattle.idl_term.specs.Values.{Value, whole, truth, nothing, Named, value}
@@ -28,6 +29,7 @@ use Rattle.smt_script.specs.declared.objective.Objective.{Objective}
 use Rattle.smt_script.specs.declared.state.Effect.TheVariants.{Ask}
 use Rattle.smt_script.specs.declared.state.Question.{Question}
 use Rattle.smt_script.specs.declared.state.Question.TheVariants.{CheckSat, Minimize}
+use Rattle.smt_script.specs.Laws.{MinimizedIsWorth}
 use Rattle.smt_script.specs.States.{State}
 use Rattle.dtp_entry.specs.Entries.{points_of, problem_of, difference_at, problem_below, IsProblemOf, IsLeast, IsUnbounded, IsRight}
 use Rattle.dtp_entry.specs.Laws.{RightIsSo}
@@ -180,6 +182,15 @@ module _ (law : RightIsSo) (kept : Kept) (o : Objective) (x : Sexpr) (s : State)
           (decided law kept (Minimize o) x s asked before (Best m values lemmas) right (fits, within, here.1.within), refl, (lemmas, refl, here.1.stay)),
         ) in
         subst (λ (vs : List NamedValue). IsShown before (Minimize o) x c (file.Best m values items) (Ok (Best m vs lemmas))) (sym same) done
+
+-- the points of an objective that was asked are points of the problem
+pub points_below : PointsGrow → MinimizedIsWorth → (kept : Kept) (o : Objective) (x : Sexpr) (s : State) → IsAsked kept (Minimize o) x s → (points : ℕ) → points ≡ points_of s.context → (o.x < points) × (o.y < points)
+points_below grow worth kept o x s asked points e =
+    let found = worth asked.before x (record { state = s; effect = Ask (Minimize o) }) o asked.made asked.asks refl in
+    let some = grow (length s.context.declared + 1) s.context.nodes s.context.roots in
+    let first = found.2.x_below in
+    let second = found.2.y_below in
+    (omega (arith, e, some, first), omega (arith, e, some, second))
 
 -- an entry that was added to those before it
 pub added : (placed : List Placed) (question : Question) (x : Sexpr) (c : Context) (entry : FileEntry) (found : Result Entry EntryFlaw) (shown : Entry) (before now : List Entry) → found ≡ Ok shown → IsShown placed question x c entry found → now ≡ before ++ shown ∷ []

@@ -198,10 +198,11 @@ fn shown_unbounded(
     ensures suffices { (entries : List Shown) → Suffices earlier.old entries → Suffices earlier.new entries }
 {
     dtp_entry::right_is_so();
-    clause_form::clause_form_law();
     match KeepsNothing.keep(alloc, state, question, made, earlier, entry)? {
         Some(flaw) => Ok(Err(flaw)),
         None => {
+            let problem = take_or_make(alloc, state, made)?;
+            *made = Some(problem);
             let shown = converted_set(alloc, values, set)?;
             Ok(Ok(shown))
         }

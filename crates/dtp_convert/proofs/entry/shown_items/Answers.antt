@@ -1,4 +1,4 @@
-use Rattle.std.proofs.Common.{◌≡◌, sym, subst, List, Result, Ok, Err}
+use Rattle.std.proofs.Common.{refl, sym, subst, List, Result, Ok, Err}
 use Rattle.std.specs.Prelude.{IsOk}
 use Rattle.refute_tree.specs.declared.lemma.Lemma.{Lemma}
 use Rattle.dtp_check.specs.declared.judgement.EntryFlaw.{EntryFlaw}
@@ -17,7 +17,7 @@ pub returns-in-Ok-clause-held : goal.returns-in-Ok-clause-held
 returns-in-Ok-clause-held c = λ ok s x before asked held.
     let problem = c.in_ok-problem.problem in
     let e = c.in_ok-problem.ensures.problem s asked.stands in
-    held_over c.shown_lemmas.new.earlier before problem.points _ problem.clauses _ c.args.items.now e.0 e.1 (c.in_ok-found.ensures.held (subst (λ (r : Result (List Lemma) EntryFlaw). IsOk r) (sym c.in-Ok.is) tt) before held)
+    held_over c.shown_lemmas.new.earlier before problem.points _ problem.clauses _ c.args.items.now e.0 e.1 (c.in_ok-found.ensures.held (subst (λ (r : Result (List Lemma) EntryFlaw). IsOk r) (sym c.in-Ok.is) refl) before held)
 
 pub returns-in-Err-clause-shown : goal.returns-in-Err-clause-shown
 returns-in-Err-clause-shown c = λ s x before asked held.

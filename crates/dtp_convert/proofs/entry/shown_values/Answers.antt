@@ -16,3 +16,6 @@ returns-in_ok-shown-in-None-clause-shown c = λ s x before asked held.
     let flaw = subst (λ (entry : FileEntry). entry_flaw before c.args.question x s.context entry ≡ None) c.requires.entry none in
     subst (λ (entry : FileEntry). IsShown before c.args.question x s.context entry (Ok (Sat c.in_ok-shown-in-None.shown))) (sym c.requires.entry)
     (values_shown c.right_is_so.ensures c.args.state.now c.args.question x s asked before c.args.values.now c.in_ok-shown-in-None.shown flaw c.in_ok-shown-in-None.ensures.same c.in_ok-shown-in-None.ensures.within)
+
+pub returns-in_ok-shown-in-None-clause-held : goal.returns-in_ok-shown-in-None-clause-held
+returns-in_ok-shown-in-None-clause-held c = λ ok s x before asked held. c.in_ok-flaw.ensures.held c.in-None.is s x before asked held
