@@ -198,3 +198,15 @@ pub added : (placed : List Placed) (question : Question) (x : Sexpr) (c : Contex
 added placed question x c entry found shown before now e h more =
     let w : IsShown placed question x c entry (Ok shown) = subst (λ (r : Result Entry EntryFlaw). IsShown placed question x c entry r) e h in
     (shown, w.1, more)
+
+-- what is wrong with an entry, by what it came to
+module _ (placed : List Placed) (question : Question) (x : Sexpr) (c : Context) (entry : FileEntry) (found : Result Entry EntryFlaw) (h : IsShown placed question x c entry found) where
+  pub without_flaw : (shown : Entry) → found ≡ Ok shown → None ≡ entry_flaw placed question x c entry
+  without_flaw shown e =
+      let w : IsShown placed question x c entry (Ok shown) = subst (λ (r : Result Entry EntryFlaw). IsShown placed question x c entry r) e h in
+      sym w.0
+
+  pub with_flaw : (flaw : EntryFlaw) → found ≡ Err flaw → Some flaw ≡ entry_flaw placed question x c entry
+  with_flaw flaw e =
+      let w : IsShown placed question x c entry (Err flaw) = subst (λ (r : Result Entry EntryFlaw). IsShown placed question x c entry r) e h in
+      sym w
