@@ -27,7 +27,7 @@ use Rattle.dtp_entry.specs.Transcripts.{DecidesIn, opening, pieces}
 use Rattle.dtp_check.specs.declared.script_part.PartEnd.{PartEnd}
 use Rattle.dtp_check.specs.Judged.{ScriptPart, CertificateBehind, told_by, turns_with}
 use Rattle.dtp_check.specs.code.Turns.{Leads, KeptBy, AreKept}
-use Rattle.dtp_check.proofs.Judging.{question_taken, step_of}
+use Rattle.dtp_check.proofs.Judging.{step_of}
 use Rattle.dtp_convert.specs.declared.converting.Converting.{Converting}
 use Rattle.dtp_convert.specs.Converted.{IsConverted}
 use Rattle.dtp_convert.specs.Turns.{turns_of, AreConverted, ShowsBy, AreShown}
@@ -55,9 +55,9 @@ decided_as q xs turns e h = subst (λ (ts : List (Turn Entry)). AreAnswered (Dec
 
 module _ (last : Converting) (p : Place FileEntry) (x : Sexpr) (xs : List Sexpr) (make : Place FileEntry → List (Turn FileEntry))
     (rest : (q : Place FileEntry) (now : Converting) → AreKept added_to now last (make q) → IsFound q.state xs now.entries.items last.entries.items) (first : Converting) where
-  found_asked : (s : State) (question : Question) → after p.state x ≡ Ok (step_of s (Ask question)) → (left : List FileEntry) → AreKept added_to first last (asked told_by p s question x left make) → IsFound p.state (x ∷ xs) first.entries.items last.entries.items
-  found_asked s question e [] h = absurd h
-  found_asked s question e (entry ∷ left) (next, (shown, (decides, same, stays), now), follows) =
+  found_asked : (s : State) (question : Question) → after p.state x ≡ Ok (step_of s (Ask question)) → refusal_of question s x ≡ None → (left : List FileEntry) → AreKept added_to first last (asked told_by p s question x left make) → IsFound p.state (x ∷ xs) first.entries.items last.entries.items
+  found_asked s question e free [] h = absurd h
+  found_asked s question e free (entry ∷ left) (next, (shown, (decides, same, stays), now), follows) =
       let w = rest (behind_answer told_by p s entry left) next follows in
       record {
         found = shown ∷ w.found;
@@ -67,13 +67,13 @@ module _ (last : Converting) (p : Place FileEntry) (x : Sexpr) (xs : List Sexpr)
             let r = behind_answer verdict_of q s shown w.found in
             let there : Decided r xs = subst (λ (v : Satisfiability). Decided (place_at (k + 1) (settled v s) (Some shown) w.found) xs) (sym same) (w.decided (k + 1) (Some shown)) in
             decided_as q (x ∷ xs) (turn q s (answers question x shown) ∷ course verdict_of r xs ended)
-            (answered_turn verdict_of q x s question shown w.found e (question_taken question s x) refl xs ended)
+            (answered_turn verdict_of q x s question shown w.found e free refl xs ended)
             (record { fit = (decides, there.fit); over = there.over; used = ap (λ (es : List Entry). shown ∷ es) there.used });
       }
 
-  found_taken : (s : State) (question : Question) → after p.state x ≡ Ok (step_of s (Ask question)) → (why : Option Kind) → AreKept added_to first last (taken told_by p s question x why make) → IsFound p.state (x ∷ xs) first.entries.items last.entries.items
-  found_taken s question e (Some kind) h = absurd h
-  found_taken s question e None h = found_asked s question e p.left h
+  found_taken : (s : State) (question : Question) → after p.state x ≡ Ok (step_of s (Ask question)) → (why : Option Kind) → refusal_of question s x ≡ why → AreKept added_to first last (taken told_by p s question x why make) → IsFound p.state (x ∷ xs) first.entries.items last.entries.items
+  found_taken s question e (Some kind) free h = absurd h
+  found_taken s question e None free h = found_asked s question e free p.left h
 
   found_effect : (effect : Effect) (s : State) → after p.state x ≡ Ok (step_of s effect) → AreKept added_to first last (by_effect told_by p s x effect make) → IsFound p.state (x ∷ xs) first.entries.items last.entries.items
   found_effect (Tell notice) s e h =
@@ -87,7 +87,7 @@ module _ (last : Converting) (p : Place FileEntry) (x : Sexpr) (xs : List Sexpr)
             decided_as q (x ∷ xs) (turn q s (tells x notice) ∷ course verdict_of (behind_told q s) xs ended) (told_turn verdict_of q x s notice e xs ended)
             (record { fit = (tt, there.fit); over = there.over; used = there.used });
       }
-  found_effect (Ask question) s e h = found_taken s question e (refusal_of question s x) h
+  found_effect (Ask question) s e h = found_taken s question e (refusal_of question s x) refl h
   found_effect Exit s e h = record {
     found = [];
     added = ap (λ (k : Converting). k.entries.items) (sym h) ∙ sym (append-nil first.entries.items);
