@@ -11,7 +11,6 @@ use Rattle.stn_core.specs.Named.{AreWithinLimit}
 use Rattle.stn_core.specs.Problem.{ClauseHolds, ProblemHolds}
 use Rattle.refute_tree.specs.declared.lemma.Lemma.{Lemma}
 use Rattle.best_values.specs.Bests.{ClauseIsKept, IsFreeSet}
-use Rattle.best_values.specs.Widths.{IsWithinLimit}
 use Rattle.cert_text.specs.declared.entry.Version.TheVariants.{One}
 use Rattle.cert_text.specs.declared.entry.Entry.{Entry}
 use Rattle.cert_text.specs.declared.entry.Entry.TheVariants.{Sat, Unsat, Best, Unbounded}
@@ -31,7 +30,7 @@ use Rattle.smt_script.specs.declared.state.Question.{Question}
 use Rattle.smt_script.specs.declared.state.Question.TheVariants.{CheckSat, Minimize}
 use Rattle.smt_script.specs.Laws.{MinimizedIsWorth}
 use Rattle.smt_script.specs.States.{State}
-use Rattle.dtp_entry.specs.Entries.{points_of, problem_of, difference_at, problem_below, IsProblemOf, IsLeast, IsUnbounded, IsRight}
+use Rattle.dtp_entry.specs.Entries.{points_of, problem_of, problem_below, IsProblemOf, IsLeast, IsRight}
 use Rattle.dtp_entry.specs.Laws.{RightIsSo}
 use Rattle.dtp_entry.specs.Transcripts.{Decides}
 use Rattle.dtp_entry.proofs.Verdicts.{sorts_count}

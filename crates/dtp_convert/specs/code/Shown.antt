@@ -1,5 +1,5 @@
 -- One entry that is converted.
-use Rattle.std.specs.Prelude.{◌≡◌, ◌^◌, ℕ, List, [], ◌∷◌, ◌++◌, All, Option, Some, None, option_map, Result, Ok, Err}
+use Rattle.std.specs.Prelude.{◌≡◌, ◌^◌, ℕ, List, [], ◌∷◌, ◌++◌, All, Some, None, option_map, Result, Ok, Err}
 use Rattle.smt_sexpr.specs.Tree.{Sexpr}
 use Rattle.stn_core.specs.declared.literal.Literal.{Literal}
 use Rattle.refute_tree.specs.declared.lemma.Lemma.{Lemma}
