@@ -8,7 +8,7 @@ use Rattle.refute_tree.specs.Batches.{LemmaIsOver}
 use Rattle.best_values.specs.Questions.{Asks, clauses_below}
 use Rattle.best_values.specs.Widths.{IsWithinLimit}
 use Rattle.better_schedules.specs.declared.incumbent.Incumbent.{Incumbent}
-use Rattle.better_schedules.specs.Incumbents.{IsIncumbent}
+use Rattle.better_schedules.specs.code.Incumbents.{IsIncumbent}
 use Rattle.best_bound.specs.Answers.{IsLeast}
 
 pub least_is : (problem asked : Problem) (x y : ℕ) (best : Incumbent) (bound : ℤ) (lemmas : List Lemma) → IsIncumbent problem x y best → IsWithinLimit best.value → Asks problem x y bound asked → bound ≡ best.value → IsRefutation asked.points asked.clauses lemmas → All (LemmaIsOver asked.points) lemmas → IsLeast problem x y best.schedule best.value lemmas

@@ -15,13 +15,13 @@ use Rattle.best_values.specs.Questions.{below, Asks}
 use Rattle.best_values.specs.Widths.{Fits, IsWithinLimit}
 use Rattle.better_schedules.specs.declared.descent.Descent.{Descent}
 use Rattle.better_schedules.specs.declared.descent.Question.{Question}
-use Rattle.better_schedules.specs.Descents.{IsDescent, IsQuestion}
+use Rattle.better_schedules.specs.code.Descents.{IsDescent, IsQuestion}
 use Rattle.better_schedules.proofs.Descending.{middle_within}
 use Rattle.best_bound.specs.declared.asking.Asked.{Asked}
 use Rattle.best_bound.specs.declared.asking.Asked.TheVariants as asked
 use Rattle.best_bound.specs.declared.hearing.Heard.{Heard}
-use Rattle.best_bound.specs.Hearings.{IsHeard}
-use Rattle.best_bound.specs.Askings.{IsAsked}
+use Rattle.best_bound.specs.code.Hearings.{IsHeard}
+use Rattle.best_bound.specs.code.Askings.{IsAsked}
 use Rattle.kept_search.specs.Searches.{Searched}
 use Rattle.kept_search.specs.Kept.{IsSearchOf, IsNext, HasClauseMore}
 use Rattle.kept_search.specs.declared.reply.Reply.{Reply}

@@ -1,5 +1,4 @@
 pub mod Answers
-pub mod Hearings
-pub mod Askings
 pub use Rattle.best_values.specs.Bests
 pub use Rattle.best_values.specs.Widths
+pub mod code

@@ -3,9 +3,9 @@ ghost use Rattle.std.specs.Prelude.{◌≡◌, ◌<◌, ◌≤ℤ◌, neg_ℤ, [
 ghost use Rattle.stn_core.specs.Literal.{IsOver};
 ghost use Rattle.best_values.specs.Questions.{below};
 ghost use Rattle.best_values.specs.Widths.{Fits, IsWithinLimit};
-ghost use Rattle.better_schedules.specs.Descents.{IsDescent, IsQuestion};
+ghost use Rattle.better_schedules.specs.code.Descents.{IsDescent, IsQuestion};
 ghost use Rattle.kept_search.specs.Kept.{IsSearchOf};
-ghost use Rattle.best_bound.specs.Askings.{IsTurn, IsBegun};
+ghost use Rattle.best_bound.specs.code.Askings.{IsTurn, IsBegun};
 
 use crate::hearing::{Heard, hear, least};
 use best_values::below;

@@ -2,10 +2,10 @@
 ghost use Rattle.std.specs.Prelude.{◌≡◌, ◌<◌, IfOk};
 ghost use Rattle.book_core.specs.Verdicts.{IsRight};
 ghost use Rattle.best_values.specs.Widths.{Fits, IsWithinLimit};
-ghost use Rattle.better_schedules.specs.Descents.{IsDescent, IsTooLow, IsQuestion};
+ghost use Rattle.better_schedules.specs.code.Descents.{IsDescent, IsTooLow, IsQuestion};
 ghost use Rattle.best_bound.specs.declared.answer.Best.TheVariants.{Least};
 ghost use Rattle.best_bound.specs.Answers.{IsBestAnswer};
-ghost use Rattle.best_bound.specs.Hearings.{IsHeard};
+ghost use Rattle.best_bound.specs.code.Hearings.{IsHeard};
 
 use crate::answer::Best;
 use best_values::Points;

@@ -18,7 +18,7 @@ use Rattle.stn_core.specs.Solution.{IsSolution}
 use Rattle.best_values.specs.Widths.{width_of}
 use Rattle.better_schedules.specs.Near.{AreNear}
 use Rattle.better_schedules.specs.Laws.{NearLaw, WidthLaw}
-use Rattle.better_schedules.specs.Choices.{IsTrueOf, IsChoice, IsFlat}
+use Rattle.better_schedules.specs.code.Choices.{IsTrueOf, IsChoice, IsFlat}
 
 -- none of a clause's literals holds
 pub none_true : (values : List ℤ) (clause : List Literal) (n : ℕ) → length clause ≤ n → ((k : ℕ) → k < n → Holds values (literal_at clause k) → ⊥) → ClauseHolds values clause → ⊥

@@ -11,9 +11,9 @@ use Rattle.best_values.specs.Bests.{objective}
 use Rattle.better_schedules.specs.declared.incumbent.Incumbent.{Incumbent}
 use Rattle.better_schedules.specs.declared.descent.Descent.{Descent}
 use Rattle.better_schedules.specs.Near.{span}
-use Rattle.better_schedules.specs.Choices.{IsFlat}
-use Rattle.better_schedules.specs.Incumbents.{IsIncumbent, IsNoWorse, IsOpening}
-use Rattle.better_schedules.specs.Descents.{IsFloor, IsMiddle, IsDescent, IsTooLow, LeadsOn, rank, left_to_ask}
+use Rattle.better_schedules.specs.code.Choices.{IsFlat}
+use Rattle.better_schedules.specs.code.Incumbents.{IsIncumbent, IsNoWorse, IsOpening}
+use Rattle.better_schedules.specs.code.Descents.{IsFloor, IsMiddle, IsDescent, IsTooLow, LeadsOn, rank, left_to_ask}
 
 -- a smaller value has a smaller rank
 rank_less : (a b : ℤ) → a <ℤ b → pos 0 ≤ℤ b → rank a < rank b

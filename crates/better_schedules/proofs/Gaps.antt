@@ -13,7 +13,7 @@ use Rattle.stn_core.specs.Problem.{ClauseHolds, ProblemHolds}
 use Rattle.best_values.specs.Widths.{width_of}
 use Rattle.best_values.specs.Bests.{objective, IsCut, ClauseIsKept, IsFreeSet}
 use Rattle.better_schedules.specs.Near.{span}
-use Rattle.better_schedules.specs.Heights.{IsHeight, AreHeights, IsApart, IsSetUpTo}
+use Rattle.better_schedules.specs.code.Heights.{IsHeight, AreHeights, IsApart, IsSetUpTo}
 use Rattle.better_schedules.proofs.Widths.{bound-le-width}
 
 -- heights that come before the gap, and those from it on

@@ -1,9 +1,6 @@
-pub mod Heights
 pub mod Near
-pub mod Choices
-pub mod Incumbents
-pub mod Descents
 pub mod Laws
 pub use Rattle.best_values.specs.Bests
 pub use Rattle.best_values.specs.Widths
 pub use Rattle.best_values.specs.Questions
+pub mod code

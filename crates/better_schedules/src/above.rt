@@ -2,7 +2,7 @@
 ghost use Rattle.std.specs.Prelude.{◌<◌, length, IfOk, All};
 ghost use Rattle.stn_core.specs.Literal.{value_at};
 ghost use Rattle.stn_core.specs.Schedule.{IsInRange};
-ghost use Rattle.better_schedules.specs.Heights.{IsHeight, AreHeights};
+ghost use Rattle.better_schedules.specs.code.Heights.{IsHeight, AreHeights};
 
 use std::alloc::{AllocError, Global};
 use stn_core::Value;

@@ -2,7 +2,7 @@
 ghost use Rattle.std.specs.Prelude.{◌≤◌, ◌*◌, IfOk, length, All};
 ghost use Rattle.std.specs.List.Sorted.{IsNonDecreasing};
 ghost use Rattle.stn_core.specs.Limits.{points_limit};
-ghost use Rattle.better_schedules.specs.Heights.{IsApart};
+ghost use Rattle.better_schedules.specs.code.Heights.{IsApart};
 
 use std::alloc::{AllocError, Global};
 

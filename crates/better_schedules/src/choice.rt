@@ -2,7 +2,7 @@
 ghost use Rattle.std.specs.Prelude.{◌≡◌, length, All, Contains, IfOk, IfSome, IfNone};
 ghost use Rattle.stn_core.specs.Literal.{Holds, IsOver};
 ghost use Rattle.stn_core.specs.Problem.{ClauseHolds, ProblemHolds};
-ghost use Rattle.better_schedules.specs.Choices.{IsTrueOf, IsChoice};
+ghost use Rattle.better_schedules.specs.code.Choices.{IsTrueOf, IsChoice};
 
 use std::alloc::{AllocError, Global};
 use stn_core::{Clause, Literal, Value, holds};

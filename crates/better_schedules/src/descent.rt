@@ -5,7 +5,7 @@ ghost use Rattle.stn_core.specs.declared.problem.Problem.{Problem};
 ghost use Rattle.best_values.specs.Bests.{objective, IsFreeSet};
 ghost use Rattle.best_values.specs.Widths.{Fits};
 ghost use Rattle.better_schedules.specs.Near.{span};
-ghost use Rattle.better_schedules.specs.Descents.{IsDescent, IsMiddle, IsTooLow, IsQuestion, LeadsOn};
+ghost use Rattle.better_schedules.specs.code.Descents.{IsDescent, IsMiddle, IsTooLow, IsQuestion, LeadsOn};
 
 use crate::incumbent::{Incumbent, improved, opened};
 use crate::lower_bound::{Bound, floored, is_near, middle};

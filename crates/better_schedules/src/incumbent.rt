@@ -3,7 +3,7 @@ ghost use Rattle.std.specs.Prelude.{◌≡◌, ◌<◌, IfOk, length, All};
 ghost use Rattle.stn_core.specs.Schedule.{IsInRange};
 ghost use Rattle.stn_core.specs.Solution.{IsSolution};
 ghost use Rattle.best_values.specs.Bests.{objective};
-ghost use Rattle.better_schedules.specs.Incumbents.{IsIncumbent, IsOpening, IsNoWorse};
+ghost use Rattle.better_schedules.specs.code.Incumbents.{IsIncumbent, IsOpening, IsNoWorse};
 
 use crate::tight::{flattened, tightened};
 use std::alloc::{AllocError, Global};

@@ -2,7 +2,7 @@
 ghost use Rattle.std.specs.Prelude.{◌≡◌, ◌↔◌, IsTrue, neg_ℤ, ◌≤ℤ◌};
 ghost use Rattle.best_values.specs.Widths.{Fits};
 ghost use Rattle.better_schedules.specs.Near.{span};
-ghost use Rattle.better_schedules.specs.Descents.{IsFloor, IsMiddle};
+ghost use Rattle.better_schedules.specs.code.Descents.{IsFloor, IsMiddle};
 
 use crate::incumbent::Incumbent;
 use best_values::width;

@@ -2,7 +2,7 @@
 ghost use Rattle.std.specs.Prelude.{◌≤◌, IfOk, length};
 ghost use Rattle.std.specs.List.Sorted.{IsStrictlyIncreasing};
 ghost use Rattle.stn_core.specs.Limits.{points_limit};
-ghost use Rattle.better_schedules.specs.Heights.{IsSetUpTo};
+ghost use Rattle.better_schedules.specs.code.Heights.{IsSetUpTo};
 
 use std::alloc::{AllocError, Global};
 

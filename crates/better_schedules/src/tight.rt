@@ -3,7 +3,7 @@ ghost use Rattle.std.specs.Prelude.{◌≡◌, ◌<◌, length, All, IfOk, IfSom
 ghost use Rattle.stn_core.specs.Literal.{IsOver};
 ghost use Rattle.stn_core.specs.Problem.{ProblemHolds};
 ghost use Rattle.stn_core.specs.Solution.{IsSolution};
-ghost use Rattle.better_schedules.specs.Choices.{IsFlat};
+ghost use Rattle.better_schedules.specs.code.Choices.{IsFlat};
 
 use crate::choice::choice;
 use std::alloc::{AllocError, Global};

@@ -14,11 +14,11 @@ use Rattle.refute_tree.specs.Trees.{Tree, Forest, IsDenied, leaf, cases, none, m
 use Rattle.refute_tree.specs.Batches.{NamesOver}
 use Rattle.refute_tree.proofs.Kept.{tree_assuming_more, AreIn}
 use Rattle.cover_tree.specs.Covers.{Cubes, IsCover, opening, changes, divides, cube_at}
-use Rattle.cover_tree.specs.Branches.{AreBranches}
+use Rattle.cover_tree.specs.code.Branches.{AreBranches}
 use Rattle.cover_tree.proofs.Parts.{as_long, all_but_last}
 use Rattle.cover_tree.proofs.Branching.{branches, cube_kept, length_divided}
 use Rattle.book_core.specs.Facts.{AreShut}
-use Rattle.book_core.specs.Closing.{AreOver, two_cycle, leaf_steps, SplitWritten, LeafWritten, Written, writing}
+use Rattle.book_core.specs.code.Closing.{AreOver, two_cycle, leaf_steps, SplitWritten, LeafWritten, Written, writing}
 
 -- the root has no literals
 root_cube : (c : Cubes) → IsCover c → (cube_at c 0 ≡ []) × (0 < length c.nodes)

@@ -24,7 +24,7 @@ use Rattle.stn_core.specs.Solution.{IsSolution, IsAtom}
 use Rattle.book_core.specs.Runs.{IsKept}
 use Rattle.book_core.specs.Facts.{AreShut, IsSound}
 use Rattle.book_core.specs.Verdicts.{IsRight, EndsEmpty, last_lemma, ended_by}
-use Rattle.book_core.specs.Closing.{AreOver}
+use Rattle.book_core.specs.code.Closing.{AreOver}
 use Rattle.book_core.proofs.Sound.{sound, negation_twice}
 
 pub kept_sound : (problem : Problem) (events : List Event) (s : State) (halves : Option (ℕ × ℕ)) (room : ℕ) → IsKept problem events s halves room → IsSound problem s

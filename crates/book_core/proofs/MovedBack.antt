@@ -11,7 +11,7 @@ use Rattle.refute_tree.specs.declared.lemma.Lemma.{Lemma}
 use Rattle.refute_tree.specs.Limits.{lemmas_limit}
 use Rattle.refute_tree.specs.Moves.{moved_number, moved_step}
 use Rattle.refute_tree.specs.Batches.{LemmaBatch, moved, moved_lemma, RefersBelow, LemmaRefersBelow}
-use Rattle.book_core.specs.Handed.{handed_in, IsMovable}
+use Rattle.book_core.specs.code.Handed.{handed_in, IsMovable}
 
 number_low : (seen base j : ℕ) → j < seen → moved_number seen base j ≡ j
 number_low seen base j lt = let t : nat_lt j seen ≡ true = grind (arith, nat_tests) in ap (λ (b : Bool). if b then j else (j - seen) + base) t

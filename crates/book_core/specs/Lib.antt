@@ -4,13 +4,11 @@ pub mod Facts
 pub mod Ends
 pub mod Verdicts
 pub mod Shared
-pub mod Prepared
-pub mod Handed
 pub mod Halves
 pub mod Deliveries
-pub mod Closing
 pub use Rattle.refute_tree.specs.Trees
 pub use Rattle.refute_tree.specs.Batches
 pub use Rattle.refute_tree.specs.Moves
 pub use Rattle.cover_tree.specs.Covers
 pub use Rattle.cover_tree.specs.Partition
+pub mod code

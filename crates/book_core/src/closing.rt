@@ -3,7 +3,7 @@ ghost use Rattle.std.specs.Prelude.{◌≡◌, ◌<◌, ◌++◌, length, IfOk, 
 ghost use Rattle.refute_tree.specs.Batches.{NamesOver};
 ghost use Rattle.cover_tree.specs.Covers.{IsCover, NoneFree, NoneHeld};
 ghost use Rattle.book_core.specs.Facts.{AreShut};
-ghost use Rattle.book_core.specs.Closing.{AreOver, AreClosing, leaf_steps, Written, writing};
+ghost use Rattle.book_core.specs.code.Closing.{AreOver, AreClosing, leaf_steps, Written, writing};
 ghost use Rattle.book_core.specs.Shared.{clauses_of};
 
 use cover_tree::{Cover, Node};

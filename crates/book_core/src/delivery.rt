@@ -26,7 +26,7 @@ pub struct Delivery {
 
 impl Model for Delivery {
     ghost use Rattle.std.specs.Prelude.{◌≡◌};
-    ghost use Rattle.book_core.specs.Prepared.{given_schedule};
+    ghost use Rattle.book_core.specs.code.Prepared.{given_schedule};
     ghost use Rattle.book_core.specs.Deliveries.{Handing, handing};
 
     ghost Value = { Handing };

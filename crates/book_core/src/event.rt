@@ -1,5 +1,5 @@
 ghost use Rattle.std.specs.Prelude.{◌≡◌, IfOk};
-ghost use Rattle.book_core.specs.Prepared.{given_schedule};
+ghost use Rattle.book_core.specs.code.Prepared.{given_schedule};
 
 use crate::handed::HandedBatch;
 use std::alloc::AllocError;

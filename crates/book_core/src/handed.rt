@@ -1,6 +1,6 @@
 //! A batch in the journal.
 ghost use Rattle.std.specs.Prelude.{◌≡◌, IfOk};
-ghost use Rattle.book_core.specs.Handed.{handed_in, IsMovable};
+ghost use Rattle.book_core.specs.code.Handed.{handed_in, IsMovable};
 ghost use Rattle.book_core.specs.Shared.{lemmas_of};
 
 use crate::refutation::copies;
@@ -20,7 +20,7 @@ pub struct HandedBatch {
 
 impl Model for HandedBatch {
     ghost use Rattle.refute_tree.specs.Batches.{LemmaBatch};
-    ghost use Rattle.book_core.specs.Handed.{handed_in, IsMovable};
+    ghost use Rattle.book_core.specs.code.Handed.{handed_in, IsMovable};
     ghost use Rattle.book_core.specs.Shared.{lemmas_of};
 
     ghost Value = { LemmaBatch };

@@ -8,7 +8,7 @@ ghost use Rattle.cover_tree.specs.Covers.{node_at};
 ghost use Rattle.book_core.specs.declared.event.Outcome.TheVariants.{Shut};
 ghost use Rattle.book_core.specs.Books.{cover_delivered, found_delivered};
 ghost use Rattle.book_core.specs.Shared.{lemmas_of};
-ghost use Rattle.book_core.specs.Prepared.{given_schedule};
+ghost use Rattle.book_core.specs.code.Prepared.{given_schedule};
 ghost use Rattle.book_core.specs.Halves.{halves_made};
 
 use crate::event::Outcome;

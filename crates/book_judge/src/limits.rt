@@ -1,7 +1,7 @@
 //! Whether literals are within the limits.
 ghost use Rattle.std.specs.Prelude.{◌↔◌, IsTrue, All};
 ghost use Rattle.stn_core.specs.Literal.{IsOver};
-ghost use Rattle.refute_tree.specs.Views.{step_seen};
+ghost use Rattle.refute_tree.specs.code.Views.{step_seen};
 ghost use Rattle.refute_tree.specs.Batches.{NamesOver, LemmaIsOver};
 
 use refute_tree::{Lemma, StepView, Steps};

@@ -25,7 +25,7 @@ use Rattle.book_lock.specs.declared.cube.Dealt.{Dealt}
 use Rattle.book_lock.specs.declared.cube.Dealt.TheVariants.{Done as TakingDone, Idle as TakingIdle, Cube as TakingHeld}
 use Rattle.book_lock.specs.SeatEvents.{IsDue, held_after, is_idle, events_by, HasNews, HasNewsFor}
 use Rattle.book_lock.specs.Seats.{IsCubeOfSeat, IsCubeNear, id_of, DealtAs}
-use Rattle.book_lock.specs.Looks.{dealt_of, cube_of, waits_of, Looked}
+use Rattle.book_lock.specs.code.Looks.{dealt_of, cube_of, waits_of, Looked}
 use Rattle.book_lock.proofs.Journals.{replayed_more, events_append}
 use Rattle.book_lock.proofs.Fronts.{prefix_length}
 

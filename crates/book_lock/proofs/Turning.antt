@@ -22,7 +22,7 @@ use Rattle.book_lock.specs.declared.cube.Cube.{Cube}
 use Rattle.book_lock.specs.SeatEvents.{seat_of, held_after, held_from, IsDue, IsOrderlyFrom, is_idle, ended_idle, events_by, HasNews, HasNewsFor}
 use Rattle.book_lock.specs.Rules.{Mine, entered, Entered, Seen, telling, resting}
 use Rattle.book_lock.specs.declared.cube.Dealt.{Dealt}
-use Rattle.book_lock.specs.Looks.{waits_of, Looked}
+use Rattle.book_lock.specs.code.Looks.{waits_of, Looked}
 use Rattle.book_lock.specs.Seats.{counted, newcomer, merged, longer, TakesNear, IsCubeNear, DealtAs, Sight, sight, IsCubeOfSeat, WasTaken, IsSeated, Called, Ends, id_of}
 use Rattle.book_lock.proofs.Holding.{still_held, lemmas_prefix}
 use Rattle.book_lock.proofs.Fronts.{prefix_self, prefix_trans}

@@ -1,10 +1,10 @@
 pub mod SeatEvents
 pub mod Rules
 pub mod Seats
-pub mod Looks
 pub use Rattle.refute_tree.specs.Trees
 pub use Rattle.refute_tree.specs.Batches
 pub use Rattle.cover_tree.specs.Covers
 pub use Rattle.book_core.specs.Books
 pub use Rattle.book_core.specs.Facts
 pub use Rattle.book_core.specs.Runs
+pub mod code

@@ -4,7 +4,7 @@ ghost use mathlib.Core.List.{IsPrefix};
 ghost use Rattle.book_core.specs.Shared.{lemmas_of};
 ghost use Rattle.book_core.specs.Runs.{state_of, Answers, IsNear};
 ghost use Rattle.book_lock.specs.SeatEvents.{HasNews, is_idle};
-ghost use Rattle.book_lock.specs.Looks.{dealt_of, cube_of, waits_of, Looked};
+ghost use Rattle.book_lock.specs.code.Looks.{dealt_of, cube_of, waits_of, Looked};
 ghost use Rattle.book_lock.specs.Seats.{IsCubeNear};
 
 use crate::cube::{Cube, Dealt};

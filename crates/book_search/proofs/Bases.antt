@@ -19,7 +19,7 @@ use Rattle.refute_tree.specs.declared.step.Step.{Step}
 use Rattle.refute_tree.specs.declared.step.Step.TheVariants.{Cycle}
 use Rattle.stn_core.specs.Literal.{IsOver, same_literal}
 use Rattle.refute_tree.specs.Trees.{Tree, leaf, cases, none, more}
-use Rattle.book_search.specs.Base.{Base, IsBase, with_unit, number_of, steps_of, unit_steps, cycle_steps}
+use Rattle.book_search.specs.code.Base.{Base, IsBase, with_unit, number_of, steps_of, unit_steps, cycle_steps}
 
 and_both : (a b : Bool) → (a && b) ≡ true → (a ≡ true) × (b ≡ true)
 and_both true true e = (refl, refl)

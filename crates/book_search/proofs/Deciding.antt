@@ -17,7 +17,7 @@ use Rattle.book_core.specs.declared.verdict.Verdict.TheVariants.{Unsat}
 use Rattle.stn_core.specs.Solution.{IsSolution}
 use Rattle.book_core.specs.Verdicts.{IsRight, last_lemma}
 use Rattle.book_core.proofs.Concluding.{closed_refutation}
-use Rattle.book_search.specs.Base.{Base, IsBase, BaseIsOver, steps_of, unit_steps, cycle_steps}
+use Rattle.book_search.specs.code.Base.{Base, IsBase, BaseIsOver, steps_of, unit_steps, cycle_steps}
 use Rattle.book_search.proofs.Bases.{leaf_closes}
 
 pub units_over : (problem : Problem) (given : List (List Literal)) (base : Base) (shown : List Literal) → given ≡ problem.clauses → BaseIsOver given base → shown ≡ base.literals → All (IsOver problem.points) shown

@@ -24,7 +24,7 @@ use Rattle.book_core.proofs.Concluding.{shared_clauses, cubes_over}
 use Rattle.book_core.specs.Books.{State, IsJustified, IsShutBy, IsDecidable, IsUndecided, Fits}
 use Rattle.stn_core.specs.Solution.{IsSolution}
 use Rattle.book_core.proofs.Sound.{negation_twice}
-use Rattle.book_search.specs.Deliveries.{Delivers}
+use Rattle.book_search.specs.code.Deliveries.{Delivers}
 
 take_all : {A : Type 0} (n : ℕ) (xs : List A) → n ≡ length xs → take n xs ≡ xs
 take_all zero [] e = refl

@@ -20,7 +20,7 @@ use Rattle.book_core.specs.Books.{State, IsDone, IsHeldBy, IsJustifiedIn, after,
 use Rattle.book_core.specs.Runs.{Ledger, IsRun, state_of, with_event, Records, Answers}
 use Rattle.book_core.specs.Ends.{EndsLaw, left_to_do, left_in}
 use Rattle.book_core.proofs.Runs.{state_next}
-use Rattle.book_search.specs.Deliveries.{IsWaiting, IsDelivered}
+use Rattle.book_search.specs.code.Deliveries.{IsWaiting, IsDelivered}
 
 -- no other leaf is Held
 abbrev pub OnlyHeld : Cubes → ℕ → Type 0

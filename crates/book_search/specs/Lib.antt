@@ -1,5 +1,4 @@
-pub mod Base
-pub mod Deliveries
 pub use Rattle.book_core.specs.Books
 pub use Rattle.book_core.specs.Runs
 pub use Rattle.book_core.specs.Verdicts
+pub mod code

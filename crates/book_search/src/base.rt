@@ -1,7 +1,7 @@
 //! What the clauses of one literal decide by themselves.
 ghost use Rattle.std.specs.Prelude.{◌≡◌, ◌++◌, IfOk, IfSome, OnOk};
 ghost use Rattle.book_core.specs.Verdicts.{IsRight};
-ghost use Rattle.book_search.specs.Base.{steps_of, cycle_steps};
+ghost use Rattle.book_search.specs.code.Base.{steps_of, cycle_steps};
 
 use crate::clauses::all_hold;
 use crate::units::Units;

@@ -1,6 +1,6 @@
 //! What a slice found, as a delivery.
 ghost use Rattle.std.specs.Prelude.{IfOk};
-ghost use Rattle.book_search.specs.Deliveries.{Delivers};
+ghost use Rattle.book_search.specs.code.Deliveries.{Delivers};
 
 use book_core::Outcome;
 use branch_search::Slice;

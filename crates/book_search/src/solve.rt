@@ -5,7 +5,7 @@ ghost use Rattle.book_core.specs.Books.{IsHeldBy};
 ghost use Rattle.book_core.specs.Runs.{state_of};
 ghost use Rattle.book_core.specs.Ends.{left_in};
 ghost use Rattle.book_core.specs.Verdicts.{IsRight};
-ghost use Rattle.book_search.specs.Deliveries.{IsDelivered, IsWaiting, Advances};
+ghost use Rattle.book_search.specs.code.Deliveries.{IsDelivered, IsWaiting, Advances};
 
 use crate::base::decide_units;
 use crate::pacing::Pacing;

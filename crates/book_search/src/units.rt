@@ -1,6 +1,6 @@
 //! The literals of unit clauses.
 ghost use Rattle.std.specs.Prelude.{◌≡◌, ◌∷◌, [], IfOk, OnOk, IfSome};
-ghost use Rattle.book_search.specs.Base.{IsBase, BaseIsOver, with_unit, number_of};
+ghost use Rattle.book_search.specs.code.Base.{IsBase, BaseIsOver, with_unit, number_of};
 
 use indexmap::IndexSet;
 use std::alloc::{AllocError, Global};
@@ -17,7 +17,7 @@ pub struct Units {
 
 impl Model for Units {
     ghost use Rattle.std.specs.Prelude.{◌≡◌, length};
-    ghost use Rattle.book_search.specs.Base.{Base};
+    ghost use Rattle.book_search.specs.code.Base.{Base};
 
     ghost Value = { Base };
 

@@ -1,6 +1,6 @@
 //! A batch that is moved behind more lemmas.
 ghost use Rattle.std.specs.Prelude.{IsTrue, All};
-ghost use Rattle.refute_tree.specs.Views.{step_seen};
+ghost use Rattle.refute_tree.specs.code.Views.{step_seen};
 ghost use Rattle.refute_tree.specs.Batches.{RefersBelow, LemmaRefersBelow};
 
 use refute_tree::{Batch, Lemma, StepView, Steps};

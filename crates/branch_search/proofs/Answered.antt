@@ -14,9 +14,9 @@ use Rattle.branch_search.specs.declared.answer.Slice.{Slice}
 use Rattle.branch_search.specs.declared.answer.Slice.TheVariants.{Model as AsModel, Refuted as AsRefuted, Split as AsSplit}
 use Rattle.branch_search.specs.Slices.{Question, AreProved, Excludes, IsBatch, IsSlice, HasSpent}
 use Rattle.stn_core.specs.Limits.{adds_limit}
-use Rattle.branch_search.specs.Turns.{AreFound}
-use Rattle.branch_search.specs.Divisions.{IsDivision, excluding}
-use Rattle.branch_search.specs.Deliveries.{IsLeft, IsOfKind}
+use Rattle.branch_search.specs.code.Turns.{AreFound}
+use Rattle.branch_search.specs.code.Divisions.{IsDivision, excluding}
+use Rattle.branch_search.specs.code.Deliveries.{IsLeft, IsOfKind}
 
 pub found_model : (q : Question) (own : List Lemma) (found : Found) (schedule : List ℤ) → found ≡ FoundModel schedule → AreFound q own found → IsDivision q own (Model schedule)
 found_model q own found schedule e h = subst (AreFound q own) e h

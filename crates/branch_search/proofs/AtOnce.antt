@@ -9,8 +9,8 @@ use Rattle.net_batch.specs.Batches.{IsLonger, IsBatchAdded}
 use Rattle.conflict_analysis.specs.declared.entry.Entry.{Entry}
 use Rattle.conflict_analysis.specs.declared.entry.Level.{Level}
 use Rattle.conflict_analysis.specs.declared.entry.Conflict.TheVariants.{Cycle as OfCycle}
-use Rattle.conflict_analysis.specs.Trails.{no_literal, on_trail, AreOver, Stands}
-use Rattle.branch_search.specs.Search.{start_of, in_net_of, AllStand, IsSearch, IsStuckSearch}
+use Rattle.conflict_analysis.specs.code.Trails.{no_literal, on_trail, AreOver, Stands}
+use Rattle.branch_search.specs.code.Search.{start_of, in_net_of, AllStand, IsSearch, IsStuckSearch}
 use Rattle.branch_search.specs.Slices.{Question}
 use Rattle.branch_search.proofs.Proposals.{stands_at}
 

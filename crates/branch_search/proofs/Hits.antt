@@ -9,9 +9,9 @@ use Rattle.refute_tree.specs.declared.lemma.Lemma.{Lemma}
 use Rattle.conflict_analysis.specs.declared.entry.Reason.TheVariants.{Cycle as ByCycle}
 use Rattle.conflict_analysis.specs.declared.entry.Entry.{Entry}
 use Rattle.conflict_analysis.specs.declared.entry.Level.{Level}
-use Rattle.conflict_analysis.specs.Trails.{no_literal, on_trail, IsByCycle, Stands}
-use Rattle.branch_search.specs.Hits.{IsOnPath}
-use Rattle.branch_search.specs.Search.{IsSearch}
+use Rattle.conflict_analysis.specs.code.Trails.{no_literal, on_trail, IsByCycle, Stands}
+use Rattle.branch_search.specs.code.Hits.{IsOnPath}
+use Rattle.branch_search.specs.code.Search.{IsSearch}
 use Rattle.branch_search.specs.Slices.{Question}
 use Rattle.branch_search.proofs.States.{state_pushed}
 

@@ -8,7 +8,7 @@ use Rattle.std.proofs.lemmas.List.Elements.{All-more, All-same, All-from_get_or}
 use Rattle.std.proofs.lemmas.Option.{slice_get-get_or}
 use Rattle.stn_core.specs.declared.literal.Literal.{Literal}
 use Rattle.stn_core.specs.Problem.{ClauseHolds, ProblemHolds}
-use Rattle.branch_search.specs.Clauses.{IsNotEmpty, clause_at, IsFalseAt, HoldBetween, IsNext}
+use Rattle.branch_search.specs.code.Clauses.{IsNotEmpty, clause_at, IsFalseAt, HoldBetween, IsNext}
 
 pub All-whole_of : {X : Type 0} (P : X → Type 0) (items xs : List X) (i : ℕ) → items ≡ xs → length items ≤ i → All P (take i xs) → All P xs
 All-whole_of P items xs i same le all = All-same P xs (take i xs) (sym (take_all i xs (let n : length items ≡ length xs = ap length same in omega arith))) all

@@ -10,9 +10,9 @@ use Rattle.conflict_analysis.specs.declared.entry.Level.{Level}
 use Rattle.conflict_analysis.specs.declared.entry.Conflict.{Conflict}
 use Rattle.branch_search.specs.declared.propagate.Tried.{Tried}
 use Rattle.branch_search.specs.declared.propagate.Tried.TheVariants.{Pushed, Nothing, Stuck}
-use Rattle.conflict_analysis.specs.Trails.{IsReason, IsTrail, IsFirst, IsDenial, entry_at, on_trail}
+use Rattle.conflict_analysis.specs.code.Trails.{IsReason, IsTrail, IsFirst, IsDenial, entry_at, on_trail}
 use Rattle.conflict_analysis.specs.Proved.{IsClauseOver, IsProved}
-use Rattle.branch_search.specs.Search.{all_lemmas, start_of, in_net_of, IsSearch, IsStuckSearch, IsSearchLearned, AreExcluding, IsSearchTried, IsSearchAfter}
+use Rattle.branch_search.specs.code.Search.{all_lemmas, start_of, in_net_of, IsSearch, IsStuckSearch, IsSearchLearned, AreExcluding, IsSearchTried, IsSearchAfter}
 use Rattle.branch_search.specs.Slices.{Question}
 use Rattle.branch_search.proofs.States.{lemma_last, state_learned, state_cut}
 

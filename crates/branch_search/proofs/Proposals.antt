@@ -11,8 +11,8 @@ use Rattle.conflict_analysis.specs.declared.entry.Reason.TheVariants.{Given, Dec
 use Rattle.conflict_analysis.specs.declared.entry.Entry.{Entry}
 use Rattle.conflict_analysis.specs.declared.entry.Level.{Level}
 use Rattle.conflict_analysis.specs.declared.entry.Conflict.TheVariants.{Clause as OfClause, Cycle as OfCycle}
-use Rattle.conflict_analysis.specs.Trails.{on_trail, pair_cycle, IsByClause, IsConflict, Stands}
-use Rattle.branch_search.specs.Search.{all_lemmas, IsSearch, IsStuckSearch, IsWeaker}
+use Rattle.conflict_analysis.specs.code.Trails.{on_trail, pair_cycle, IsByClause, IsConflict, Stands}
+use Rattle.branch_search.specs.code.Search.{all_lemmas, IsSearch, IsStuckSearch, IsWeaker}
 use Rattle.branch_search.specs.Slices.{Question}
 use Rattle.branch_search.proofs.States.{state_pushed, state_begun, entry_last}
 

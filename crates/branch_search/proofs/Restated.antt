@@ -13,10 +13,10 @@ use Rattle.conflict_analysis.specs.declared.entry.Entry.{Entry}
 use Rattle.conflict_analysis.specs.declared.entry.Level.{Level}
 use Rattle.conflict_analysis.specs.declared.entry.Conflict.{Conflict}
 use Rattle.conflict_analysis.specs.declared.entry.Conflict.TheVariants.{Clause as OfClause, Cycle as OfCycle}
-use Rattle.conflict_analysis.specs.Trails.{no_literal, source_clause, IsByClause, IsByCycle, pair_cycle, entry_at, on_trail, Stands, IsReason, IsTrail, AreOver, IsConflict}
+use Rattle.conflict_analysis.specs.code.Trails.{no_literal, source_clause, IsByClause, IsByCycle, pair_cycle, entry_at, on_trail, Stands, IsReason, IsTrail, AreOver, IsConflict}
 use Rattle.conflict_analysis.specs.Proved.{IsProved}
-use Rattle.branch_search.specs.Roots.{denial_of}
-use Rattle.branch_search.specs.Search.{all_lemmas, AllStand, in_net_of, start_of, IsSearch}
+use Rattle.branch_search.specs.code.Roots.{denial_of}
+use Rattle.branch_search.specs.code.Search.{all_lemmas, AllStand, in_net_of, start_of, IsSearch}
 use Rattle.branch_search.specs.Slices.{Question}
 use Rattle.branch_search.proofs.States.{length_part, reason_moved, state_learned}
 

@@ -22,14 +22,14 @@ use Rattle.conflict_analysis.specs.declared.entry.Source.TheVariants.{Input as O
 use Rattle.conflict_analysis.specs.declared.entry.Conflict.TheVariants.{Clause as OfClause}
 use Rattle.branch_search.specs.declared.divide.Live.{Live}
 use Rattle.branch_search.specs.declared.divide.Live.TheVariants.{At}
-use Rattle.conflict_analysis.specs.Trails.{no_literal, IsByCycle, Stands}
-use Rattle.conflict_analysis.specs.Denials.{AreDenied}
-use Rattle.branch_search.specs.Clauses.{IsFalseAt}
+use Rattle.conflict_analysis.specs.code.Trails.{no_literal, IsByCycle, Stands}
+use Rattle.conflict_analysis.specs.code.Denials.{AreDenied}
+use Rattle.branch_search.specs.code.Clauses.{IsFalseAt}
 use Rattle.conflict_analysis.specs.Proved.{IsClauseOver}
-use Rattle.branch_search.specs.Search.{all_lemmas, IsSearch, IsStuckSearch, IsSearchSettled}
+use Rattle.branch_search.specs.code.Search.{all_lemmas, IsSearch, IsStuckSearch, IsSearchSettled}
 use Rattle.branch_search.specs.Slices.{Question, AreProved, IsSplit}
 use Rattle.stn_core.specs.Solution.{IsSolution}
-use Rattle.branch_search.specs.Divisions.{IsLive, IsLiveAt, IsSearchLiveness, HasLive, AreSearchLive, Divides}
+use Rattle.branch_search.specs.code.Divisions.{IsLive, IsLiveAt, IsSearchLiveness, HasLive, AreSearchLive, Divides}
 use Rattle.conflict_analysis.proofs.Shut.{negation_twice}
 use Rattle.branch_search.proofs.States.{state_pushed, stands_grown, stands_last}
 use Rattle.conflict_analysis.proofs.Denied.{denied_all}

@@ -21,9 +21,9 @@ use Rattle.conflict_analysis.specs.declared.entry.Reason.TheVariants.{Given, Dec
 use Rattle.conflict_analysis.specs.declared.entry.Entry.{Entry}
 use Rattle.conflict_analysis.specs.declared.entry.Level.{Level}
 use Rattle.conflict_analysis.specs.declared.entry.Conflict.TheVariants.{Cycle as OfCycle}
-use Rattle.conflict_analysis.specs.Trails.{no_literal, source_clause, IsKnown, IsByCycle, pair_cycle, entry_at, on_trail, Stands, IsReason, IsTrail, AreOver}
+use Rattle.conflict_analysis.specs.code.Trails.{no_literal, source_clause, IsKnown, IsByCycle, pair_cycle, entry_at, on_trail, Stands, IsReason, IsTrail, AreOver}
 use Rattle.conflict_analysis.specs.Proved.{IsClauseOver, IsProved}
-use Rattle.branch_search.specs.Search.{all_lemmas, level_at, start_of, in_net_of, AllStand, IsLevel, IsSearch, IsStuckSearch}
+use Rattle.branch_search.specs.code.Search.{all_lemmas, level_at, start_of, in_net_of, AllStand, IsLevel, IsSearch, IsStuckSearch}
 use Rattle.branch_search.specs.Slices.{Question, AreProved}
 
 -- a list and its part agree on the entries of the part

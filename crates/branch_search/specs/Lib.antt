@@ -1,11 +1,4 @@
 pub mod Slices
-pub mod Search
-pub mod Hits
-pub mod Turns
-pub mod Divisions
-pub mod Deliveries
-pub mod Clauses
-pub mod Roots
 pub use Rattle.stn_core.specs.Limits
 pub use Rattle.stn_core.specs.Literal
 pub use Rattle.stn_core.specs.Problem
@@ -13,5 +6,6 @@ pub use Rattle.stn_core.specs.Schedule
 pub use Rattle.stn_core.specs.Solution
 pub use Rattle.stn_core.specs.Net
 pub use Rattle.refute_tree.specs.Trees
-pub use Rattle.conflict_analysis.specs.Trails
+pub use Rattle.conflict_analysis.specs.code.Trails
 pub use Rattle.conflict_analysis.specs.Proved
+pub mod code

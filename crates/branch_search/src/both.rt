@@ -12,7 +12,7 @@ pub struct Both<'a, E: Earlier> {
 }
 
 impl<'a, E: Earlier> Earlier for Both<'a, E> {
-    ghost use Rattle.branch_search.specs.Search.{all_lemmas};
+    ghost use Rattle.branch_search.specs.code.Search.{all_lemmas};
 
     ghost clauses = { λ b. all_lemmas (E.clauses b.handed.now) b.own.now };
 

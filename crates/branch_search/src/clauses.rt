@@ -3,7 +3,7 @@ ghost use Rattle.std.specs.Prelude.{◌≡◌, ◌<◌, ◌≤◌, ℕ, [], leng
 ghost use Rattle.std.specs.Prelude.{Some, slice_get};
 ghost use Rattle.stn_core.specs.Literal.{IsOver};
 ghost use Rattle.stn_core.specs.Problem.{ClauseHolds, ProblemHolds};
-ghost use Rattle.branch_search.specs.Clauses.{HoldBetween, IsFalse, IsFalseAt, IsNext, IsNotEmpty};
+ghost use Rattle.branch_search.specs.code.Clauses.{HoldBetween, IsFalse, IsFalseAt, IsNext, IsNotEmpty};
 
 use stn_core::{Clause, Value, holds};
 

@@ -2,7 +2,7 @@
 ghost use Rattle.std.specs.Prelude.{◌≡◌, ◌<◌, ◌≤◌, ◌+◌, ◌^◌, [], length, map, true, min, Some, slice_get};
 ghost use Rattle.std.specs.Prelude.{IfOk, OnOk};
 ghost use Rattle.refute_tree.specs.Trees.{stated};
-ghost use Rattle.branch_search.specs.Search.{IsState, IsStuck, IsLearned, IsSettled, IsExcluded};
+ghost use Rattle.branch_search.specs.code.Search.{IsState, IsStuck, IsLearned, IsSettled, IsExcluded};
 ghost use Rattle.branch_search.specs.Slices.{question_of};
 
 use crate::both::Both;

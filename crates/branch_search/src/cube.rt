@@ -1,7 +1,7 @@
 //! How a slice begins: the cube, and the clauses of one literal.
 ghost use Rattle.std.specs.Prelude.{◌≡◌, ◌<◌, ◌≤◌, ◌+◌, ◌^◌, [], All, length, min, IfOk, OnOk};
 ghost use Rattle.stn_core.specs.Literal.{IsOver};
-ghost use Rattle.branch_search.specs.Search.{IsState, IsAfter, IsTried, IsEntered};
+ghost use Rattle.branch_search.specs.code.Search.{IsState, IsAfter, IsTried, IsEntered};
 ghost use Rattle.branch_search.specs.Slices.{question_of};
 ghost use Rattle.stn_core.specs.Limits.{adds_limit};
 

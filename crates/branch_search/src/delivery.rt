@@ -1,8 +1,8 @@
 //! What a slice delivers: of its lemmas those that the search hasn't forgotten, and those that these cite.
 ghost use Rattle.std.specs.Prelude.{◌≡◌, ◌<◌, ◌+◌, ◌^◌, ℕ, length, Some, true, false, slice_index_or, IfOk};
 ghost use Rattle.branch_search.specs.Slices.{question_of, IsSlice};
-ghost use Rattle.branch_search.specs.Divisions.{IsDivision, excluding};
-ghost use Rattle.branch_search.specs.Deliveries.{IsLeft, IsOfKind};
+ghost use Rattle.branch_search.specs.code.Divisions.{IsDivision, excluding};
+ghost use Rattle.branch_search.specs.code.Deliveries.{IsLeft, IsOfKind};
 
 use crate::answer::Slice;
 use crate::divide::Division;

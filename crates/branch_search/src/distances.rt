@@ -1,9 +1,9 @@
 //! What follows from the trail's literals by distances between points, each with a negative cycle that shows
 //! it. The distances have no contract: each cycle is tested before it is a reason.
 ghost use Rattle.std.specs.Prelude.{◌≡◌, ◌<◌, ◌≤◌, All, length, IfOk, IfSome, OnOk};
-ghost use Rattle.conflict_analysis.specs.Trails.{Stands, IsByCycle};
-ghost use Rattle.branch_search.specs.Hits.{IsOnPath};
-ghost use Rattle.branch_search.specs.Search.{IsState};
+ghost use Rattle.conflict_analysis.specs.code.Trails.{Stands, IsByCycle};
+ghost use Rattle.branch_search.specs.code.Hits.{IsOnPath};
+ghost use Rattle.branch_search.specs.code.Search.{IsState};
 ghost use Rattle.branch_search.specs.Slices.{question_of};
 ghost use Rattle.stn_core.specs.Literal.{negation_of};
 

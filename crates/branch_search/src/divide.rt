@@ -5,10 +5,10 @@ ghost use Rattle.std.specs.Prelude.{IfSome};
 ghost use Rattle.stn_core.specs.Literal.{IsOver, negation_of};
 ghost use Rattle.stn_core.specs.Net.{IsConsistent};
 ghost use Rattle.conflict_analysis.specs.declared.entry.Reason.TheVariants.{Cycle as ByCycle};
-ghost use Rattle.branch_search.specs.Search.{IsState};
+ghost use Rattle.branch_search.specs.code.Search.{IsState};
 ghost use Rattle.branch_search.specs.Slices.{question_of};
 ghost use Rattle.stn_core.specs.Limits.{adds_limit};
-ghost use Rattle.branch_search.specs.Divisions.{IsLiveAt, IsLiveness, AreLive, IsDivision, Divides};
+ghost use Rattle.branch_search.specs.code.Divisions.{IsLiveAt, IsLiveness, AreLive, IsDivision, Divides};
 ghost use Rattle.stn_core.specs.Solution.{IsAtom};
 
 use crate::clauses::false_clause;

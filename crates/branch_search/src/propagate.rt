@@ -1,6 +1,6 @@
 //! What follows from the trail's literals, by ladders, clauses, the net and distances.
 ghost use Rattle.std.specs.Prelude.{◌≡◌, ◌<◌, ◌≤◌, ◌+◌, ◌^◌, length, true, min, IfOk, OnOk};
-ghost use Rattle.branch_search.specs.Search.{IsState, IsAfter, IsTried, IsWeaker};
+ghost use Rattle.branch_search.specs.code.Search.{IsState, IsAfter, IsTried, IsWeaker};
 ghost use Rattle.branch_search.specs.Slices.{question_of};
 ghost use Rattle.stn_core.specs.Limits.{adds_limit};
 

@@ -1,8 +1,8 @@
 //! Lemmas for what holds without a decision, so that a learned lemma doesn't write its reasons again: each is
 //! made once, when a conflict first rests on the literal, and is then the literal's reason.
 ghost use Rattle.std.specs.Prelude.{◌≡◌, ◌<◌, ◌^◌, length, IfOk, OnOk};
-ghost use Rattle.branch_search.specs.Roots.{denial_of};
-ghost use Rattle.branch_search.specs.Search.{IsState};
+ghost use Rattle.branch_search.specs.code.Roots.{denial_of};
+ghost use Rattle.branch_search.specs.code.Search.{IsState};
 ghost use Rattle.branch_search.specs.Slices.{question_of};
 
 use crate::both::Both;

@@ -1,9 +1,9 @@
 //! The turns of a search.
 ghost use Rattle.std.specs.Prelude.{◌≡◌, ◌<◌, ◌≤◌, ◌+◌, ◌^◌, [], length, min, IfOk, IfSome, OnOk};
-ghost use Rattle.branch_search.specs.Search.{IsState, IsStuck, IsSettled};
+ghost use Rattle.branch_search.specs.code.Search.{IsState, IsStuck, IsSettled};
 ghost use Rattle.branch_search.specs.Slices.{question_of};
 ghost use Rattle.stn_core.specs.Limits.{adds_limit};
-ghost use Rattle.branch_search.specs.Turns.{IsTurn, IsFound};
+ghost use Rattle.branch_search.specs.code.Turns.{IsTurn, IsFound};
 ghost use Rattle.stn_core.specs.Solution.{IsSolution};
 
 use crate::model::try_model;

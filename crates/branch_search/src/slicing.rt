@@ -2,11 +2,11 @@
 ghost use Rattle.std.specs.Prelude.{◌≡◌, ◌<◌, ◌≤◌, ◌+◌, ◌^◌, [], All, length, min, IfOk, OnOk};
 ghost use Rattle.stn_core.specs.Literal.{IsOver};
 ghost use Rattle.conflict_analysis.specs.Proved.{IsClauseOver};
-ghost use Rattle.branch_search.specs.Search.{IsState};
+ghost use Rattle.branch_search.specs.code.Search.{IsState};
 ghost use Rattle.branch_search.specs.Slices.{question_of, AreProved, IsSlice, HasSpent};
 ghost use Rattle.stn_core.specs.Limits.{adds_limit};
-ghost use Rattle.branch_search.specs.Turns.{IsFound};
-ghost use Rattle.branch_search.specs.Divisions.{IsDivision};
+ghost use Rattle.branch_search.specs.code.Turns.{IsFound};
+ghost use Rattle.branch_search.specs.code.Divisions.{IsDivision};
 
 use crate::answer::Slice;
 use crate::divide::Division;

@@ -1,10 +1,10 @@
 //! The trail of a search, beside a net that has some of its literals, and the lemmas learned so far.
 ghost use Rattle.std.specs.Prelude.{◌≡◌, ◌<◌, ◌≤◌, ◌+◌, ◌++◌, ◌∷◌, [], List, length, take, min, true, OnOk};
 ghost use Rattle.std.specs.Prelude.{IfOk};
-ghost use Rattle.conflict_analysis.specs.Trails.{on_trail, Stands};
-ghost use Rattle.branch_search.specs.Search.{level_at, start_of, in_net_of, IsState, IsAfter};
+ghost use Rattle.conflict_analysis.specs.code.Trails.{on_trail, Stands};
+ghost use Rattle.branch_search.specs.code.Search.{level_at, start_of, in_net_of, IsState, IsAfter};
 ghost use Rattle.branch_search.specs.Slices.{question_of};
-ghost use Rattle.branch_search.specs.Search.{IsNetAfter};
+ghost use Rattle.branch_search.specs.code.Search.{IsNetAfter};
 ghost use Rattle.stn_core.specs.Limits.{adds_limit};
 
 use crate::hearing::Hearing;

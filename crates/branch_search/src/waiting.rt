@@ -1,7 +1,7 @@
 //! Many literals of the trail into the net at once, as at a search's start: in the order of the trail a long
 //! chain might lower its points again with each literal.
 ghost use Rattle.std.specs.Prelude.{◌≡◌, ◌≤◌, length, min, IfOk, OnOk};
-ghost use Rattle.branch_search.specs.Search.{IsState, IsAfter, AllStand};
+ghost use Rattle.branch_search.specs.code.Search.{IsState, IsAfter, AllStand};
 ghost use Rattle.branch_search.specs.Slices.{question_of};
 ghost use Rattle.stn_core.specs.Limits.{adds_limit};
 

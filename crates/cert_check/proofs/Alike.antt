@@ -13,7 +13,7 @@ use Rattle.cert_check.specs.declared.flaw.FlawKind.TheVariants.{NoSuchPoint, Not
 use Rattle.stn_core.specs.Literal.{same_literal}
 use Rattle.cert_check.specs.Tests.{is_assumed, is_on_points, is_negative_cycle}
 use Rattle.cert_check.specs.Flaws.{cases_of, cases_in, opened_by_clash, opened, flaw_at, after_step, steps_flaw}
-use Rattle.cert_check.specs.Walks.{with_literal, IsAlike, AreAlike}
+use Rattle.cert_check.specs.code.Walks.{with_literal, IsAlike, AreAlike}
 use Rattle.stn_core.proofs.SameLiteral.{same_literal_decides}
 use Rattle.cert_check.proofs.Reading.{leaf_opened}
 

@@ -7,7 +7,7 @@ use Rattle.stn_core.specs.Literal.{negation_of}
 use Rattle.cert_check.specs.declared.walk.Frame.{Frame}
 use Rattle.cert_check.specs.Tests.{is_assumed}
 use Rattle.cert_check.specs.Flaws.{cases_of}
-use Rattle.cert_check.specs.Walks.{with_literal, clause_in, IsAlike, AreAlike, cases_after, waiting, IsStack}
+use Rattle.cert_check.specs.code.Walks.{with_literal, clause_in, IsAlike, AreAlike, cases_after, waiting, IsStack}
 use Rattle.cert_check.proofs.Alike.{with_literal_alike, AreAlike-itself, AreAlike-trans, AreAlike-append, cases_alike}
 
 IsStack-low : (low high : ℕ) (frames : List Frame) → IsStack low frames high → low ≤ high

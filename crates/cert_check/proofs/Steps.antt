@@ -8,7 +8,7 @@ use Rattle.cert_check.specs.declared.flaw.FlawKind.{FlawKind}
 use Rattle.cert_check.specs.declared.flaw.FlawKind.TheVariants.{StepsMissing, StepsLeftOver}
 use Rattle.cert_check.specs.declared.walk.Frame.{Frame}
 use Rattle.cert_check.specs.Flaws.{flaw_at, after_step, opened, steps_flaw}
-use Rattle.cert_check.specs.Walks.{waiting, open_cases, AreAlike, LeavesOpen}
+use Rattle.cert_check.specs.code.Walks.{waiting, open_cases, AreAlike, LeavesOpen}
 use Rattle.cert_check.proofs.Alike.{same_flaw}
 
 module _ (points : ℕ) (clauses earlier : List (List Literal)) where

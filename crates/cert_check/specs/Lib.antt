@@ -4,9 +4,9 @@ pub mod FirstFlaws
 pub mod Laws
 pub mod FlawExamples
 pub mod Schedules
-pub mod Walks
 pub use Rattle.stn_core.specs.Literal
 pub use Rattle.stn_core.specs.Cycle
 pub use Rattle.stn_core.specs.Problem
 pub use Rattle.refute_tree.specs.Trees
 pub use Rattle.refute_tree.specs.Examples
+pub mod code

@@ -1,6 +1,6 @@
 ghost use Rattle.std.specs.Prelude.{◌≡◌, [], length, take, OnOk, OnErr};
 ghost use Rattle.cert_check.specs.Tests.{is_assumed};
-ghost use Rattle.cert_check.specs.Walks.{with_literal};
+ghost use Rattle.cert_check.specs.code.Walks.{with_literal};
 
 use indexmap::IndexSet;
 use std::alloc::{AllocFailed, Global};

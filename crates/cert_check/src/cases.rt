@@ -1,11 +1,11 @@
 ghost use Rattle.std.specs.Prelude.{◌≡◌, ◌<◌, [], length, map, slice_get, Some, None, Ok, Err, IfOk, OnOk, IfErr};
 ghost use Rattle.std.specs.List.{list_all};
 ghost use Rattle.stn_core.specs.Literal.{negation_of};
-ghost use Rattle.refute_tree.specs.Views.{literals_of, step_seen};
+ghost use Rattle.refute_tree.specs.code.Views.{literals_of, step_seen};
 ghost use Rattle.cert_check.specs.declared.flaw.FlawKind.TheVariants.{NoSuchClause};
 ghost use Rattle.cert_check.specs.Tests.{is_assumed, is_on_points};
 ghost use Rattle.cert_check.specs.Flaws.{opened_by_cycle, opened_by_clash};
-ghost use Rattle.cert_check.specs.Walks.{clause_in, OpensCases, IsFlawedBy};
+ghost use Rattle.cert_check.specs.code.Walks.{clause_in, OpensCases, IsFlawedBy};
 
 use crate::assumptions::Assumptions;
 use crate::flaw::FlawKind;

@@ -1,7 +1,7 @@
 ghost use Rattle.std.specs.Prelude.{◌≡◌, map, OnOk, Some};
 ghost use Rattle.refute_tree.specs.Trees.{IsRefutation, stated};
 ghost use Rattle.cert_check.specs.Flaws.{ends_empty, refutation_flaw, TellsFlaw};
-ghost use Rattle.cert_check.specs.Walks.{flaw_of_tree, flaw_of};
+ghost use Rattle.cert_check.specs.code.Walks.{flaw_of_tree, flaw_of};
 
 use crate::cases::are_on_points;
 use crate::flaw::{CheckError, Flaw, FlawKind};

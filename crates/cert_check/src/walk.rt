@@ -2,8 +2,8 @@ ghost use Rattle.std.specs.Prelude.{◌≡◌, ◌<◌, [], ◌∷◌, true, ◌
 ghost use Rattle.stn_core.specs.Literal.{negation_of};
 ghost use Rattle.cert_check.specs.Flaws.{cases_of};
 ghost use Rattle.cert_check.specs.declared.walk.WalkError.TheVariants.{OutOfMemory};
-ghost use Rattle.cert_check.specs.Walks.{clause_in, cases_waiting, cases_open, AreAlike, IsWalk, HasRead, HasFailed};
-ghost use Rattle.refute_tree.specs.Views.{step_seen};
+ghost use Rattle.cert_check.specs.code.Walks.{clause_in, cases_waiting, cases_open, AreAlike, IsWalk, HasRead, HasFailed};
+ghost use Rattle.refute_tree.specs.code.Views.{step_seen};
 
 use crate::assumptions::Assumptions;
 use crate::cases::{Cases, cases_of_step};

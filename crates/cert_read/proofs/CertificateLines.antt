@@ -17,8 +17,8 @@ use Rattle.cert_read.specs.declared.error.CertificateRefusal.TheVariants.{NoHead
 use Rattle.cert_read.specs.Certificates.{certificate, no_certificate, HoldsEntries, RefusesBehind, ReadsEntries, LacksHeader, ReadsCertificate, ErrorSays}
 use Rattle.cert_read.specs.declared.line.Line.{Line}
 use Rattle.cert_read.specs.declared.line.Line.TheVariants.{Shown, End}
-use Rattle.cert_read.specs.Lines.{LineIs}
-use Rattle.cert_read.specs.Shapes.{told_as}
+use Rattle.cert_read.specs.code.Lines.{LineIs}
+use Rattle.cert_read.specs.code.Shapes.{told_as}
 
 -- ---- entries
 

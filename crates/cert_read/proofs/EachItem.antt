@@ -8,7 +8,7 @@ use Rattle.smt_sexpr.specs.Table.{Table, Means, MeansEach}
 use Rattle.cert_read.specs.declared.error.PartError.{PartError}
 use Rattle.cert_read.specs.declared.error.PartError.TheVariants.{OutOfMemory, IllFormed}
 use Rattle.cert_read.specs.Parts.{put, each_of}
-use Rattle.cert_read.specs.Shapes.{Lacks}
+use Rattle.cert_read.specs.code.Shapes.{Lacks}
 
 -- the ids that are left stand for items, and what these stand for is what comes behind the parts
 abbrev pub IsLeft : {A : Type 0} → (Sexpr → Option A) → Table → List ℕ → List A → Items → Type 0

@@ -3,7 +3,7 @@ use Rattle.std.proofs.Common.{◌≡◌, ◌∙◌, refl, ap, arith, ℕ, suc, �
 use Rattle.std.specs.Prelude.{All, min, nat_le, unsigned_abs}
 use Rattle.std.proofs.lemmas.Int.{ints}
 use Rattle.stn_core.specs.Limits.{named_value_limit}
-use Rattle.cert_read.specs.Shapes.{IsBetween}
+use Rattle.cert_read.specs.code.Shapes.{IsBetween}
 use Rattle.std.proofs.lemmas.Bool.{le-leb, leb-true, false_from_ne_true}
 use Rattle.std.proofs.lemmas.List.Elements.{recursion_from_All}
 use Rattle.std.specs.List.{AllByRecursion}

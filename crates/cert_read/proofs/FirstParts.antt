@@ -4,7 +4,7 @@ use Rattle.smt_sexpr.specs.Tree.{Sexpr, Items, none, more}
 use Rattle.smt_sexpr.specs.Reading.{Spells}
 use Rattle.cert_read.specs.declared.error.PartError.{PartError}
 use Rattle.cert_read.specs.declared.error.PartError.TheVariants.{OutOfMemory, IllFormed}
-use Rattle.cert_read.specs.Lines.{IfIllFormed, IsClosing, Closed, NeverCloses, IsBrokenOr, LacksFirst}
+use Rattle.cert_read.specs.code.Lines.{IfIllFormed, IsClosing, Closed, NeverCloses, IsBrokenOr, LacksFirst}
 use Rattle.cert_read.proofs.ItemByItem.{closed_none, closed_more, never_more}
 
 module _ (bytes : List ℕ) where

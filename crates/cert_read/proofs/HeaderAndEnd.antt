@@ -8,7 +8,7 @@ use Rattle.cert_text.specs.Form.{numeral_text, header_sexpr, end_sexpr}
 use Rattle.smt_sexpr.specs.Shapes.{symbol, is_symbol}
 use Rattle.cert_text.specs.declared.entry.Version.{Version}
 use Rattle.cert_text.specs.declared.entry.Version.TheVariants.{One, Two}
-use Rattle.cert_read.specs.Shapes.{is_numeral, version_of, IsHeaderOf}
+use Rattle.cert_read.specs.code.Shapes.{is_numeral, version_of, IsHeaderOf}
 use Rattle.cert_text.proofs.OneEntry.{parts, first, others}
 
 pub symbol_is : (text : List ℕ) (x : Sexpr) → is_symbol text x ≡ true → x ≡ symbol text

@@ -10,8 +10,8 @@ use Rattle.smt_sexpr.proofs.ReadingLoop.{each_forward}
 use Rattle.cert_read.specs.declared.error.PartError.{PartError}
 use Rattle.cert_read.specs.declared.error.PartError.TheVariants.{OutOfMemory, IllFormed}
 use Rattle.cert_read.specs.Parts.{put, each_of}
-use Rattle.cert_read.specs.Shapes.{Lacks}
-use Rattle.cert_read.specs.Lines.{IfIllFormed, IsNext, IsClosing, Closed, NeverCloses, LacksList, HasItems}
+use Rattle.cert_read.specs.code.Shapes.{Lacks}
+use Rattle.cert_read.specs.code.Lines.{IfIllFormed, IsNext, IsClosing, Closed, NeverCloses, LacksList, HasItems}
 
 -- ---- two lists of items
 

@@ -7,7 +7,7 @@ use Rattle.cert_text.specs.declared.entry.Version.{Version}
 use Rattle.cert_text.specs.declared.entry.FileEntry.{FileEntry}
 use Rattle.cert_text.specs.declared.entry.FileEntry.TheVariants.{Best, Unbounded}
 use Rattle.cert_read.specs.Parts.{each_of, item_of, whole_of, values_of, schedule_of, points_of, best_with, best_from, unbounded_with, unbounded_from}
-use Rattle.cert_read.specs.Lines.{HasNoFirst}
+use Rattle.cert_read.specs.code.Lines.{HasNoFirst}
 
 -- ---- a least value
 

@@ -2,7 +2,7 @@
 use Rattle.std.proofs.Common.{◌≡◌, ◌⊎◌, inl, inr, ◌∙◌, refl, sym, ap, subst, arith, ℕ, zero, suc, ◌-◌, ◌<◌, ◌≤◌, ◌^◌, ℤ, pos, negsuc, Bool, true, false, List, [], ◌∷◌, map, Option, Some, None}
 use Rattle.std.proofs.lemmas.Int.{ints}
 use Rattle.stn_core.specs.Limits.{named_value_limit}
-use Rattle.cert_read.specs.Shapes.{IsBetween}
+use Rattle.cert_read.specs.code.Shapes.{IsBetween}
 use Rattle.std.specs.Prelude.{All, min, unsigned_abs, codes, option_map, option_and_then, if◌then◌else◌, nat_le}
 use Rattle.std.specs.Option.{option_or}
 use Rattle.std.specs.Str.{bytes_eq}

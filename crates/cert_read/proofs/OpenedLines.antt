@@ -27,7 +27,7 @@ use Rattle.cert_read.specs.declared.line.Head.{Head}
 use Rattle.cert_read.specs.declared.line.Head.TheVariants as head
 use Rattle.cert_read.specs.declared.error.PartError.{PartError}
 use Rattle.cert_read.specs.declared.error.PartError.TheVariants.{OutOfMemory, IllFormed}
-use Rattle.cert_read.specs.Lines.{IfIllFormed, LineIs, IsClosing, Closed, NeverCloses, AreLeft, LacksAll, IsListOf, LacksList, HasItems, head_of, IsLineOf, IsNoLine}
+use Rattle.cert_read.specs.code.Lines.{IfIllFormed, LineIs, IsClosing, Closed, NeverCloses, AreLeft, LacksAll, IsListOf, LacksList, HasItems, head_of, IsLineOf, IsNoLine}
 use Rattle.cert_read.proofs.EntryKinds.{entry_by, head_by, by_tests, head_tests}
 use Rattle.cert_read.proofs.HeaderAndEnd.{is_end_line, end_alone}
 use Rattle.cert_read.proofs.ItemByItem.{closed_none, closed_more, closed_forward, never_more}

@@ -7,8 +7,8 @@ use Rattle.cert_text.specs.declared.entry.Version.{Version}
 use Rattle.cert_text.specs.declared.entry.FileEntry.TheVariants.{Best, Unbounded}
 use Rattle.cert_read.specs.declared.error.PartError.{PartError}
 use Rattle.cert_read.specs.Parts.{each_of, item_of, whole_of, values_of, schedule_of, points_of, best_from, unbounded_from}
-use Rattle.cert_read.specs.Quick.{ReadsOne}
-use Rattle.cert_read.specs.Lines.{IfIllFormed, Closed, AreLeft, LacksAll, IsListOf, LacksList, HasNoFirst, LacksFirst, HasItems}
+use Rattle.cert_read.specs.code.Quick.{ReadsOne}
+use Rattle.cert_read.specs.code.Lines.{IfIllFormed, Closed, AreLeft, LacksAll, IsListOf, LacksList, HasNoFirst, LacksFirst, HasItems}
 use Rattle.cert_read.proofs.FirstParts.{broken_as, broken_more}
 use Rattle.cert_read.proofs.ItemByItem.{closed_more}
 use Rattle.cert_read.proofs.ObjectiveEntries.{best_is, best_no_value, best_no_values, best_no_items, unbounded_is, unbounded_no_values, unbounded_no_points, unbounded_more}

@@ -22,7 +22,7 @@ use Rattle.kept_lemmas.specs.declared.item.Item.{Item}
 use Rattle.kept_lemmas.specs.declared.item.Item.TheVariants.{Own, Keep}
 use Rattle.cert_read.specs.Parts.{item_of}
 use Rattle.cert_read.specs.Written.{IsClosedGap}
-use Rattle.cert_read.specs.Quick.{LiteralFits, ReadsFirst, ReadsClause, ReadsItem, Adds, AddsAll, IsQuick, ReadsOne}
+use Rattle.cert_read.specs.code.Quick.{LiteralFits, ReadsFirst, ReadsClause, ReadsItem, Adds, AddsAll, IsQuick, ReadsOne}
 use Rattle.cert_read.proofs.EntryBack.{item_back}
 use Rattle.cert_read.proofs.NumeralTexts.{text_of_value}
 use Rattle.cert_read.proofs.WrittenBack.{spells_before}

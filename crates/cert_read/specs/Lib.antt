@@ -2,12 +2,9 @@ pub mod Parts
 pub mod Certificates
 pub mod Written
 pub mod WorkedForms
-pub mod Shapes
-pub mod Lines
-pub mod Quick
 pub mod Laws
 pub use Rattle.smt_lex.specs.Grammar
-pub use Rattle.smt_lex.specs.Lexing
+pub use Rattle.smt_lex.specs.code.Lexing
 pub use Rattle.smt_lex.specs.Numbers
 pub use Rattle.smt_sexpr.specs.Tree
 pub use Rattle.smt_sexpr.specs.Table
@@ -16,3 +13,4 @@ pub use Rattle.smt_sexpr.specs.Printing
 pub use Rattle.refute_tree.specs.Examples
 pub use Rattle.cert_text.specs.Form
 pub use Rattle.cert_text.specs.Limits
+pub mod code

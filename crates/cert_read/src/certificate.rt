@@ -7,7 +7,7 @@ ghost use Rattle.smt_sexpr.specs.Tree.{Sexpr};
 ghost use Rattle.smt_sexpr.specs.Table.{Means, HasMeaning};
 ghost use Rattle.cert_read.specs.Certificates.{certificate, no_certificate, ErrorSays, HasMore};
 ghost use Rattle.cert_read.specs.Certificates.{ReadsEntries, ReadsCertificate};
-ghost use Rattle.cert_read.specs.Shapes.{IsHeaderOf, version_of, told_as};
+ghost use Rattle.cert_read.specs.code.Shapes.{IsHeaderOf, version_of, told_as};
 
 use crate::error::{CertReadError, CertificateRefusal};
 use crate::line::{Line, read_line};

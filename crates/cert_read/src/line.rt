@@ -5,10 +5,10 @@ ghost use Rattle.smt_sexpr.specs.Tree.{Sexpr, Items as Several, none};
 ghost use Rattle.smt_sexpr.specs.Table.{Means, HasMeaning};
 ghost use Rattle.cert_read.specs.Certificates.{ErrorSays, RefusesBehind};
 ghost use Rattle.cert_read.specs.Parts.{best_from, unbounded_from};
-ghost use Rattle.cert_read.specs.Lines.{LineIs, IsNext, Closed, NeverCloses, IsListOf, LacksList, HasItems};
-ghost use Rattle.cert_read.specs.Lines.{AreLeft, LacksAll, LacksFirst};
-ghost use Rattle.cert_read.specs.Quick.{ReadsOne, ReadsTo};
-ghost use Rattle.cert_read.specs.Lines.{head_of, IsLineOf, IsNoLine, IfIllFormed};
+ghost use Rattle.cert_read.specs.code.Lines.{LineIs, IsNext, Closed, NeverCloses, IsListOf, LacksList, HasItems};
+ghost use Rattle.cert_read.specs.code.Lines.{AreLeft, LacksAll, LacksFirst};
+ghost use Rattle.cert_read.specs.code.Quick.{ReadsOne, ReadsTo};
+ghost use Rattle.cert_read.specs.code.Lines.{head_of, IsLineOf, IsNoLine, IfIllFormed};
 
 use crate::error::{CertReadError, CertificateRefusal, PartError};
 use crate::part::Part;

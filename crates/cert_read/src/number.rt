@@ -7,7 +7,7 @@ ghost use Rattle.smt_sexpr.specs.Tree.{Sexpr};
 ghost use Rattle.smt_sexpr.specs.Table.{Means, HasMeaning};
 ghost use Rattle.cert_read.specs.Parts.{limited, numeral_within, index_of, point_of};
 ghost use Rattle.cert_read.specs.Parts.{number_within, number_of, whole_of};
-ghost use Rattle.cert_read.specs.Shapes.{is_numeral, IsBetween};
+ghost use Rattle.cert_read.specs.code.Shapes.{is_numeral, IsBetween};
 
 use cert_text::NUMBER_LIMIT;
 use smt_sexpr::{SexprId, Sexprs};

@@ -5,9 +5,9 @@ ghost use Rattle.smt_sexpr.specs.Table.{Means, MeansEach, HasMeaning};
 ghost use Rattle.cert_text.specs.declared.entry.Version.{Version};
 ghost use Rattle.cert_read.specs.Parts.{each_of, bound_of, literal_of, clause_of, single_of, only_in_two, step_named};
 ghost use Rattle.cert_read.specs.Parts.{step_of, lemma_from, kept_from, truth_named};
-ghost use Rattle.refute_tree.specs.Views.{step_seen};
+ghost use Rattle.refute_tree.specs.code.Views.{step_seen};
 ghost use Rattle.smt_sexpr.specs.Shapes.{headed_of, HaveMeaning, HeadIs};
-ghost use Rattle.cert_read.specs.Shapes.{Lacks};
+ghost use Rattle.cert_read.specs.code.Shapes.{Lacks};
 
 use crate::error::PartError;
 use crate::number::{index, number, point, whole};

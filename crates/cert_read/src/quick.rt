@@ -13,8 +13,8 @@ ghost use Rattle.smt_sexpr.specs.Printing.{text_of};
 ghost use Rattle.kept_lemmas.specs.declared.item.Item.TheVariants.{Own, Keep};
 ghost use Rattle.cert_text.specs.Form.{numeral_text, number_of_value, literal_sexpr, step_sexpr};
 ghost use Rattle.cert_text.specs.Limits.{NumberFits};
-ghost use Rattle.cert_read.specs.Quick.{LiteralFits, StepFits, ReadsBound, ReadsLiteral, ReadsFirst, ReadsNext};
-ghost use Rattle.cert_read.specs.Quick.{ReadsClause, ReadsItem, AddsAll, AddsStep, AddsNext, IsQuick};
+ghost use Rattle.cert_read.specs.code.Quick.{LiteralFits, StepFits, ReadsBound, ReadsLiteral, ReadsFirst, ReadsNext};
+ghost use Rattle.cert_read.specs.code.Quick.{ReadsClause, ReadsItem, AddsAll, AddsStep, AddsNext, IsQuick};
 
 use crate::part::Part;
 use cert_text::Version;

@@ -7,7 +7,7 @@ use Rattle.dtp_entry.specs.declared.error.SessionError.{SessionError}
 use Rattle.dtp_entry.specs.declared.error.SessionError.TheVariants.{OutOfMemory, WriteFault}
 use Rattle.dtp_entry.specs.Written.{Writes, WritesOne, IsFront}
 use Rattle.dtp_entry.proofs.Written.{appends_nothing}
-use Rattle.cert_stream.specs.Streams.{Streams}
+use Rattle.cert_stream.specs.code.Streams.{Streams}
 
 -- of a text, behind what waited before, all but the rest went out or waits now
 pub record Goes (text rest waited waits : List ℕ) (before now : Option (List ℕ)) (faults_before faults_now : ℕ) : Type 0 where

@@ -7,7 +7,7 @@ ghost use Rattle.smt_sexpr.specs.Shapes.{items_of, list_of};
 ghost use Rattle.cert_text.specs.declared.entry.Entry.TheVariants.{Best, Unbounded};
 ghost use Rattle.cert_text.specs.Form.{number_of_value, entry_sexpr, line_of};
 ghost use Rattle.dtp_entry.specs.Written.{WritesOne};
-ghost use Rattle.cert_stream.specs.Streams.{Streams};
+ghost use Rattle.cert_stream.specs.code.Streams.{Streams};
 
 use bstr::ByteVec;
 use cert_text::{Entry, Part};

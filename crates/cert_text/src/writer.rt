@@ -7,7 +7,7 @@ ghost use Rattle.smt_sexpr.specs.Tree.{Sexpr};
 ghost use Rattle.smt_sexpr.specs.Printing.{text_of, text_behind};
 ghost use Rattle.cert_text.specs.Form.{numeral, number_of_value, clause_sexpr, literal_sexpr, step_sexpr, kept_sexpr};
 ghost use Rattle.refute_tree.specs.declared.step.Step.TheVariants.{Cycle as CycleStep};
-ghost use Rattle.refute_tree.specs.Views.{literals_of, step_seen};
+ghost use Rattle.refute_tree.specs.code.Views.{literals_of, step_seen};
 ghost use Rattle.smt_sexpr.specs.Shapes.{items_of};
 
 use crate::number::{write_number, write_numeral};

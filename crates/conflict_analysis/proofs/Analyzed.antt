@@ -10,8 +10,8 @@ use Rattle.conflict_analysis.specs.Proved.{IsProved}
 use Rattle.conflict_analysis.specs.declared.entry.Entry.{Entry}
 use Rattle.conflict_analysis.specs.declared.entry.Conflict.{Conflict}
 use Rattle.conflict_analysis.specs.declared.entry.Role.{Role}
-use Rattle.conflict_analysis.specs.Trails.{on_trail, IsConflict, StandsUsed, IsMarked, KeepsAll, DeniesKept, AreOver, IsDenial}
-use Rattle.conflict_analysis.specs.Spines.{NamesTrail, Refutes}
+use Rattle.conflict_analysis.specs.code.Trails.{on_trail, IsConflict, StandsUsed, IsMarked, KeepsAll, DeniesKept, AreOver, IsDenial}
+use Rattle.conflict_analysis.specs.code.Spines.{NamesTrail, Refutes}
 use Rattle.conflict_analysis.proofs.Marks.{conflict_still, denials_of}
 
 -- the literals of the clause and of the steps are within the limits

@@ -13,9 +13,9 @@ use Rattle.conflict_analysis.specs.declared.entry.Conflict.{Conflict}
 use Rattle.conflict_analysis.specs.declared.entry.Conflict.TheVariants.{Cycle as OfCycle}
 use Rattle.conflict_analysis.specs.declared.entry.Role.{Role}
 use Rattle.conflict_analysis.specs.declared.entry.Role.TheVariants.{Resolved}
-use Rattle.conflict_analysis.specs.Trails.{source_clause, pair_cycle, entry_at, on_trail, role_at, IsUsed, IsByClause, IsByCycle, Follows, StandsUsed, IsClosed, IsConflict}
-use Rattle.conflict_analysis.specs.Places.{ArePassed}
-use Rattle.conflict_analysis.specs.Leaves.{at_leaves, IsFewer, StandsAssumed, IsLeafReason, IsAssuming, HasPassed, IsChosen, IsAssumedConflict}
+use Rattle.conflict_analysis.specs.code.Trails.{source_clause, pair_cycle, entry_at, on_trail, role_at, IsUsed, IsByClause, IsByCycle, Follows, StandsUsed, IsClosed, IsConflict}
+use Rattle.conflict_analysis.specs.code.Places.{ArePassed}
+use Rattle.conflict_analysis.specs.code.Leaves.{at_leaves, IsFewer, StandsAssumed, IsLeafReason, IsAssuming, HasPassed, IsChosen, IsAssumedConflict}
 
 false_or_true : (b : Bool) → (b ≡ false) ⊎ (b ≡ true)
 false_or_true false = inl refl

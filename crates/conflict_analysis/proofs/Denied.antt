@@ -5,8 +5,8 @@ use Rattle.stn_core.specs.declared.literal.Literal.{Literal}
 use Rattle.stn_core.specs.Literal.{negation_of, literal_at}
 use Rattle.conflict_analysis.specs.declared.entry.Source.{Source}
 use Rattle.conflict_analysis.specs.declared.entry.Entry.{Entry}
-use Rattle.conflict_analysis.specs.Trails.{source_clause, IsKnown, IsByClause, Stands}
-use Rattle.conflict_analysis.specs.Denials.{AreDenied}
+use Rattle.conflict_analysis.specs.code.Trails.{source_clause, IsKnown, IsByClause, Stands}
+use Rattle.conflict_analysis.specs.code.Denials.{AreDenied}
 
 -- a clause all of whose literals are denied
 pub denied_all : (es : List Entry) (clause named : List Literal) → AreDenied es clause (length clause) → clause ≡ named → (p : ℕ) → p < length named → Stands es (length es) (negation_of (literal_at named p))

@@ -13,8 +13,8 @@ use Rattle.conflict_analysis.specs.declared.entry.Conflict.{Conflict}
 use Rattle.conflict_analysis.specs.declared.entry.Conflict.TheVariants.{Clause as OfClause, Cycle as OfCycle}
 use Rattle.conflict_analysis.specs.declared.entry.Role.{Role}
 use Rattle.conflict_analysis.specs.declared.entry.Role.TheVariants.{Unused, Kept, Resolved}
-use Rattle.conflict_analysis.specs.Trails.{source_clause, pair_cycle, entry_at, on_trail, role_at, IsByClause, IsByCycle, Follows, Stands, IsReason, IsTrail, IsConflict, IsUsed, StandsUsed, IsClosed, IsMarkedMore, IsFirst, IsTurned, IsMarked, KeepsAll, DeniesKept, IsDenial}
-use Rattle.conflict_analysis.specs.Places.{ArePassed}
+use Rattle.conflict_analysis.specs.code.Trails.{source_clause, pair_cycle, entry_at, on_trail, role_at, IsByClause, IsByCycle, Follows, Stands, IsReason, IsTrail, IsConflict, IsUsed, StandsUsed, IsClosed, IsMarkedMore, IsFirst, IsTurned, IsMarked, KeepsAll, DeniesKept, IsDenial}
+use Rattle.conflict_analysis.specs.code.Places.{ArePassed}
 use Rattle.conflict_analysis.proofs.Passing.{kept_used}
 use Rattle.std.specs.Prelude.{slice_index}
 

@@ -11,8 +11,8 @@ use Rattle.conflict_analysis.specs.declared.entry.Entry.{Entry}
 use Rattle.conflict_analysis.specs.declared.entry.Role.{Role}
 use Rattle.conflict_analysis.specs.declared.entry.Role.TheVariants.{Unused, Kept, Resolved}
 use Rattle.stn_core.specs.declared.literal.Literal.{Literal}
-use Rattle.conflict_analysis.specs.Trails.{role_at, IsUsed, IsMarkedMore, IsTurned, IsMarked, IsFirst, entry_at}
-use Rattle.conflict_analysis.specs.Places.{HasMore, IsGreatestBelow, AreWaiting, KeepsWaiting, ArePassed}
+use Rattle.conflict_analysis.specs.code.Trails.{role_at, IsUsed, IsMarkedMore, IsTurned, IsMarked, IsFirst, entry_at}
+use Rattle.conflict_analysis.specs.code.Places.{HasMore, IsGreatestBelow, AreWaiting, KeepsWaiting, ArePassed}
 
 pub unused_by : (r : Role) → (IsUsed r → ⊥) → r ≡ Unused
 unused_by Unused not = refl

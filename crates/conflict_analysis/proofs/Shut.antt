@@ -21,9 +21,9 @@ use Rattle.conflict_analysis.specs.declared.entry.Entry.{Entry}
 use Rattle.conflict_analysis.specs.declared.entry.Conflict.{Conflict}
 use Rattle.conflict_analysis.specs.declared.entry.Conflict.TheVariants.{Clause as OfClause, Cycle as OfCycle}
 use Rattle.conflict_analysis.specs.declared.entry.Role.{Role}
-use Rattle.conflict_analysis.specs.Trails.{no_literal, source_clause, entry_at, on_trail, IsKnown, IsByClause, Follows, IsConflict, StandsUsed}
-use Rattle.conflict_analysis.specs.Leaves.{at_leaves, StandsAssumed, IsLeafReason, AreLeaves, IsAssumedConflict}
-use Rattle.conflict_analysis.specs.Spines.{step_of, Grows, NamesNone, Assumes, AreMore, IsShut, AreShut, Closes}
+use Rattle.conflict_analysis.specs.code.Trails.{no_literal, source_clause, entry_at, on_trail, IsKnown, IsByClause, Follows, IsConflict, StandsUsed}
+use Rattle.conflict_analysis.specs.code.Leaves.{at_leaves, StandsAssumed, IsLeafReason, AreLeaves, IsAssumedConflict}
+use Rattle.conflict_analysis.specs.code.Spines.{step_of, Grows, NamesNone, Assumes, AreMore, IsShut, AreShut, Closes}
 
 two_negative : (l : Literal) → IsNegativeCycle (l ∷ negation_of l ∷ [])
 two_negative l = record { some = omega arith; closed = (l.x, (refl, (refl, refl))); negative = omega (arith, ints) }

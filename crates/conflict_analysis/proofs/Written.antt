@@ -17,10 +17,10 @@ use Rattle.conflict_analysis.specs.declared.entry.Reason.TheVariants.{Given, Dec
 use Rattle.conflict_analysis.specs.declared.entry.Entry.{Entry}
 use Rattle.conflict_analysis.specs.declared.entry.Role.{Role}
 use Rattle.conflict_analysis.specs.declared.entry.Role.TheVariants.{Unused, Kept, Resolved}
-use Rattle.conflict_analysis.specs.Trails.{no_literal, source_clause, entry_at, on_trail, pair_cycle, role_at, IsUsed, IsByClause, IsByCycle, Follows, StandsUsed, IsClosed}
-use Rattle.conflict_analysis.specs.Places.{ArePassed}
-use Rattle.conflict_analysis.specs.Leaves.{at_leaves, StandsAssumed, IsAssuming, HasPassed, IsChosen}
-use Rattle.conflict_analysis.specs.Spines.{step_of, NamesNone, NamesTrail, Assumes, AreMore, AreShut, IsOpening, IsClosing, Closes, IsOpen, IsOpeningAt, IsClosingAt, AreOpened, Refutes}
+use Rattle.conflict_analysis.specs.code.Trails.{no_literal, source_clause, entry_at, on_trail, pair_cycle, role_at, IsUsed, IsByClause, IsByCycle, Follows, StandsUsed, IsClosed}
+use Rattle.conflict_analysis.specs.code.Places.{ArePassed}
+use Rattle.conflict_analysis.specs.code.Leaves.{at_leaves, StandsAssumed, IsAssuming, HasPassed, IsChosen}
+use Rattle.conflict_analysis.specs.code.Spines.{step_of, NamesNone, NamesTrail, Assumes, AreMore, AreShut, IsOpening, IsClosing, Closes, IsOpen, IsOpeningAt, IsClosingAt, AreOpened, Refutes}
 use Rattle.conflict_analysis.proofs.Passing.{kept_used}
 use Rattle.conflict_analysis.proofs.Shut.{negation_twice, opened, source_names_none, assumes_more}
 

@@ -1,10 +1,6 @@
-pub mod Trails
-pub mod Leaves
-pub mod Spines
 pub mod Proved
-pub mod Denials
-pub mod Places
 pub use Rattle.stn_core.specs.Limits
 pub use Rattle.stn_core.specs.Literal
 pub use Rattle.stn_core.specs.Problem
 pub use Rattle.refute_tree.specs.Trees
+pub mod code

@@ -2,11 +2,11 @@
 ghost use Rattle.std.specs.Prelude.{◌≡◌, ◌≤◌, ℕ, List, [], length, All, IfOk, false};
 ghost use Rattle.stn_core.specs.declared.literal.Literal.{Literal as Bound};
 ghost use Rattle.conflict_analysis.specs.declared.entry.Role.TheVariants.{Unused};
-ghost use Rattle.conflict_analysis.specs.Trails.{IsTrail, IsConflict, Stands, IsDenial, AreOver, KeepsAll};
-ghost use Rattle.conflict_analysis.specs.Trails.{DeniesKept};
-ghost use Rattle.conflict_analysis.specs.Trails.{role_at};
-ghost use Rattle.conflict_analysis.specs.Places.{ArePassed};
-ghost use Rattle.conflict_analysis.specs.Leaves.{at_leaves};
+ghost use Rattle.conflict_analysis.specs.code.Trails.{IsTrail, IsConflict, Stands, IsDenial, AreOver, KeepsAll};
+ghost use Rattle.conflict_analysis.specs.code.Trails.{DeniesKept};
+ghost use Rattle.conflict_analysis.specs.code.Trails.{role_at};
+ghost use Rattle.conflict_analysis.specs.code.Places.{ArePassed};
+ghost use Rattle.conflict_analysis.specs.code.Leaves.{at_leaves};
 ghost use Rattle.conflict_analysis.specs.Proved.{IsProved};
 
 use crate::citing::is_cited;

@@ -2,8 +2,8 @@
 ghost use Rattle.std.specs.Prelude.{◌≡◌, ◌≢◌, ◌<◌, ℕ, All, IfSome, length, true};
 ghost use Rattle.stn_core.specs.Literal.{IsOver, negation_of};
 ghost use Rattle.conflict_analysis.specs.declared.entry.Conflict.TheVariants.{Clause as OfClause};
-ghost use Rattle.conflict_analysis.specs.Trails.{Stands, IsByClause, IsConflict};
-ghost use Rattle.conflict_analysis.specs.Denials.{AreDenied};
+ghost use Rattle.conflict_analysis.specs.code.Trails.{Stands, IsByClause, IsConflict};
+ghost use Rattle.conflict_analysis.specs.code.Denials.{AreDenied};
 ghost use Rattle.conflict_analysis.specs.Proved.{IsClauseOver};
 
 use crate::entry::{Entry, Source};

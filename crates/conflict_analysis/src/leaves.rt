@@ -3,10 +3,10 @@
 ghost use Rattle.std.specs.Prelude.{◌≡◌, ◌≢◌, ◌<◌, ◌≤◌, ◌+◌, ◌⊎◌, ℕ, length, slice_index, true, false};
 ghost use Rattle.stn_core.specs.Literal.{negation_of, literal_at};
 ghost use Rattle.conflict_analysis.specs.declared.entry.Role.TheVariants.{Resolved};
-ghost use Rattle.conflict_analysis.specs.Trails.{on_trail, role_at, IsUsed, StandsUsed, IsClosed};
-ghost use Rattle.conflict_analysis.specs.Trails.{entry_at, Follows, IsConflict};
-ghost use Rattle.conflict_analysis.specs.Places.{ArePassed};
-ghost use Rattle.conflict_analysis.specs.Leaves.{at_leaves, IsFewer, StandsAssumed, IsChosen, IsAssumedConflict};
+ghost use Rattle.conflict_analysis.specs.code.Trails.{on_trail, role_at, IsUsed, StandsUsed, IsClosed};
+ghost use Rattle.conflict_analysis.specs.code.Trails.{entry_at, Follows, IsConflict};
+ghost use Rattle.conflict_analysis.specs.code.Places.{ArePassed};
+ghost use Rattle.conflict_analysis.specs.code.Leaves.{at_leaves, IsFewer, StandsAssumed, IsChosen, IsAssumedConflict};
 
 use crate::entry::{Conflict, Entry, Reason, Role, Source};
 use crate::reading::{clause_of, denial_guess, is_same, literal_place, numbers_of};

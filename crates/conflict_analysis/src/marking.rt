@@ -2,9 +2,9 @@
 ghost use Rattle.std.specs.Prelude.{◌≡◌, ◌≢◌, ◌<◌, ◌≤◌, ◌⊎◌, ℕ, List, length, OnOk};
 ghost use Rattle.stn_core.specs.declared.literal.Literal.{Literal as Bound};
 ghost use Rattle.stn_core.specs.Literal.{negation_of, literal_at};
-ghost use Rattle.conflict_analysis.specs.Trails.{Stands, StandsUsed, IsMarkedMore, IsTrail, IsClosed};
-ghost use Rattle.conflict_analysis.specs.Trails.{role_at, IsUsed, IsConflict, IsTurned, IsMarked};
-ghost use Rattle.conflict_analysis.specs.Places.{AreWaiting, KeepsWaiting, ArePassed};
+ghost use Rattle.conflict_analysis.specs.code.Trails.{Stands, StandsUsed, IsMarkedMore, IsTrail, IsClosed};
+ghost use Rattle.conflict_analysis.specs.code.Trails.{role_at, IsUsed, IsConflict, IsTurned, IsMarked};
+ghost use Rattle.conflict_analysis.specs.code.Places.{AreWaiting, KeepsWaiting, ArePassed};
 
 use crate::entry::{Conflict, Entry, Level, Reason, Role, Source};
 use crate::places::Places;

@@ -1,6 +1,6 @@
 //! The places of the trail that a way back has still to pass.
 ghost use Rattle.std.specs.Prelude.{◌≡◌, ◌≢◌, ◌<◌, ◌≤◌, ℕ, [], Contains, IfSome, IfNone, OnOk};
-ghost use Rattle.conflict_analysis.specs.Places.{IsGreatestBelow, HasMore};
+ghost use Rattle.conflict_analysis.specs.code.Places.{IsGreatestBelow, HasMore};
 
 use std::alloc::{AllocError, Global};
 use std::collections::BinaryHeap;

@@ -1,7 +1,7 @@
 //! Clauses by their names, and literals by their places.
 ghost use Rattle.std.specs.Prelude.{◌≡◌, ◌<◌, ◌≤◌, ◌↔◌, length, true};
 ghost use Rattle.stn_core.specs.Literal.{IsOver};
-ghost use Rattle.conflict_analysis.specs.Trails.{source_clause, IsKnown, Stands, on_trail};
+ghost use Rattle.conflict_analysis.specs.code.Trails.{source_clause, IsKnown, Stands, on_trail};
 
 use crate::entry::{Entry, Source};
 use refute_tree::Earlier;

@@ -1,13 +1,13 @@
 //! The steps that a conflict gives, front to back.
 ghost use Rattle.std.specs.Prelude.{◌≡◌, ◌<◌, ◌≤◌, ◌+◌, ◌∷◌, ◌++◌, [], ℕ, length, false, true, OnOk, IfOk};
 ghost use Rattle.stn_core.specs.Literal.{negation_of, literal_at};
-ghost use Rattle.conflict_analysis.specs.Trails.{source_clause, entry_at, on_trail, IsKnown};
-ghost use Rattle.conflict_analysis.specs.Trails.{Follows, IsConflict, IsClosed, StandsUsed};
-ghost use Rattle.conflict_analysis.specs.Places.{ArePassed};
-ghost use Rattle.conflict_analysis.specs.Leaves.{at_leaves, AreLeaves, StandsAssumed, IsAssumedConflict, IsChosen};
+ghost use Rattle.conflict_analysis.specs.code.Trails.{source_clause, entry_at, on_trail, IsKnown};
+ghost use Rattle.conflict_analysis.specs.code.Trails.{Follows, IsConflict, IsClosed, StandsUsed};
+ghost use Rattle.conflict_analysis.specs.code.Places.{ArePassed};
+ghost use Rattle.conflict_analysis.specs.code.Leaves.{at_leaves, AreLeaves, StandsAssumed, IsAssumedConflict, IsChosen};
 ghost use Rattle.conflict_analysis.specs.declared.entry.Conflict.TheVariants.{Clause as OfClause};
-ghost use Rattle.conflict_analysis.specs.Spines.{step_of, Grows, Assumes, IsShut, AreShut, Closes, Refutes};
-ghost use Rattle.conflict_analysis.specs.Spines.{IsOpen, IsOpening, IsClosing, IsOpeningAt, IsClosingAt};
+ghost use Rattle.conflict_analysis.specs.code.Spines.{step_of, Grows, Assumes, IsShut, AreShut, Closes, Refutes};
+ghost use Rattle.conflict_analysis.specs.code.Spines.{IsOpen, IsOpening, IsClosing, IsOpeningAt, IsClosingAt};
 
 use crate::entry::{Conflict, Entry, Reason, Role, Source};
 use crate::leaves::used_place;

@@ -1,8 +1,8 @@
 //! The tables that one conflict leaves to the next one, so that it costs what it rests on, and not the
 //! trail's length.
 ghost use Rattle.std.specs.Prelude.{◌≡◌, ◌≤◌, ◌<◌, ℕ, length, IfOk, [], slice_index, true, false};
-ghost use Rattle.conflict_analysis.specs.Trails.{role_at, IsUsed};
-ghost use Rattle.conflict_analysis.specs.Leaves.{at_leaves, HasPassed};
+ghost use Rattle.conflict_analysis.specs.code.Trails.{role_at, IsUsed};
+ghost use Rattle.conflict_analysis.specs.code.Leaves.{at_leaves, HasPassed};
 ghost use Rattle.conflict_analysis.specs.declared.entry.Role.TheVariants.{Unused};
 
 use crate::entry::Role;

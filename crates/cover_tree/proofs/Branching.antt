@@ -10,7 +10,7 @@ use Rattle.stn_core.specs.Literal.{negation_of}
 use Rattle.cover_tree.specs.declared.node.Node.{Node}
 use Rattle.cover_tree.specs.declared.node.Node.TheVariants.{Free, Split}
 use Rattle.cover_tree.specs.Covers.{Cubes, IsCover, opening, changes, divides, IsLeaf, divided, node_at, cube_at}
-use Rattle.cover_tree.specs.Branches.{AreBranches}
+use Rattle.cover_tree.specs.code.Branches.{AreBranches}
 use Rattle.cover_tree.proofs.Sets.{by_eq, get_set_same, get_set_other, get_two}
 use Rattle.cover_tree.proofs.Parts.{as_long}
 

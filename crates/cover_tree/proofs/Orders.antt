@@ -5,7 +5,7 @@ use Rattle.std.proofs.lemmas.Bool.Decides.{nat_tests}
 use Rattle.std.proofs.lemmas.List.{get_or-set_same, get_or-set_other, length-set, length-map, length-append, get_or_default, get_or-map, get_or_append_left, get_or-append-add, map-append}
 use Rattle.std.proofs.lemmas.Option.{slice_get_within, get_or_from_slice_get, slice_get-get_or}
 use Rattle.std.proofs.lemmas.Bool.{cases_Bool}
-use Rattle.cover_tree.specs.Members.{AreInverse, IsSet, NoMember, flags, twice, order_with, place_with}
+use Rattle.cover_tree.specs.code.Members.{AreInverse, IsSet, NoMember, flags, twice, order_with, place_with}
 use Rattle.cover_tree.proofs.Sets.{by_eq, same_items}
 
 length-twice : (xs : List ℕ) (i x j y : ℕ) → length (twice xs i x j y) ≡ length xs

@@ -3,7 +3,7 @@ use Rattle.std.proofs.Common.{arith, ◌≡◌, ℕ, zero, suc, ◌<◌, ◌+◌
 use Rattle.std.proofs.lemmas.List.{length-append, get_or_append_left, get_or-append-add}
 use Rattle.stn_core.specs.declared.literal.Literal.{Literal}
 use Rattle.cover_tree.specs.declared.link.Link.{Link}
-use Rattle.cover_tree.specs.Links.{linked_path, paths_from, AreBack}
+use Rattle.cover_tree.specs.code.Links.{linked_path, paths_from, AreBack}
 
 abbrev pub Paths : Type 0
 Paths = List (List Literal)

@@ -9,8 +9,8 @@ use Rattle.cover_tree.specs.declared.node.Node.{Node}
 use Rattle.cover_tree.specs.declared.node.Node.TheVariants.{Free, Held, Shut, Split}
 use Rattle.cover_tree.specs.declared.link.Link.{Link}
 use Rattle.cover_tree.specs.Covers.{Cubes, IsCover, opening, changes, divides, IsLeaf, is_free, is_held, held_count, divided, whole, NoneFree, NoneHeld, node_at}
-use Rattle.cover_tree.specs.Members.{NoMember}
-use Rattle.cover_tree.specs.Links.{paths_of, AreBack, cubes_of, AreTables}
+use Rattle.cover_tree.specs.code.Members.{NoMember}
+use Rattle.cover_tree.specs.code.Links.{paths_of, AreBack, cubes_of, AreTables}
 use Rattle.cover_tree.proofs.Paths.{paths_count, paths_longer, path_of_link, back_push, paths_two}
 use Rattle.cover_tree.proofs.Sets.{get_set_other, get_behind, get_longer}
 

@@ -27,7 +27,7 @@ pub struct Cover {
 
 impl Model for Cover {
     ghost use Rattle.cover_tree.specs.Covers.{Cubes};
-    ghost use Rattle.cover_tree.specs.Links.{cubes_of, AreTables};
+    ghost use Rattle.cover_tree.specs.code.Links.{cubes_of, AreTables};
 
     ghost Value = { Cubes };
 

@@ -2,7 +2,7 @@
 ghost use Rattle.std.specs.Prelude.{◌≡◌, ℕ, List, ℤ, Some};
 ghost use Rattle.stn_core.specs.declared.literal.Literal.{Literal};
 ghost use Rattle.cover_tree.specs.declared.node.Node.TheVariants.{Split};
-ghost use Rattle.cover_tree.specs.Branches.{AreBranches};
+ghost use Rattle.cover_tree.specs.code.Branches.{AreBranches};
 ghost use Rattle.cover_tree.specs.Covers.{Cubes, IsCover, node_at};
 ghost use Rattle.cover_tree.specs.Partition.{IsInOne};
 

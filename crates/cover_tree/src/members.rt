@@ -1,6 +1,6 @@
 //! A set of numbers that gives a member, and takes one in or out, in constant time.
 ghost use Rattle.std.specs.Prelude.{◌≡◌, ◌<◌, ◌≤◌, ◌+◌, [], ◌∷◌, ◌++◌, true, false, length, Some, OnOk, IfSome, IfNone, slice_get, slice_set};
-ghost use Rattle.cover_tree.specs.Members.{AreInverse, IsMember, NoMember, order_with, place_with};
+ghost use Rattle.cover_tree.specs.code.Members.{AreInverse, IsMember, NoMember, order_with, place_with};
 
 use std::alloc::{AllocError, Global};
 use std::marker::Model;
@@ -16,7 +16,7 @@ pub(crate) struct Members {
 
 impl Model for Members {
     ghost use Rattle.std.specs.Prelude.{◌-◌, min, vec_len, vec_capacity};
-    ghost use Rattle.cover_tree.specs.Members.{NumberSet, IsSet, flags};
+    ghost use Rattle.cover_tree.specs.code.Members.{NumberSet, IsSet, flags};
 
     ghost Value = { NumberSet };
 

@@ -13,7 +13,7 @@ use Rattle.crossbeam_deque.specs.declared.handles.Stealer.{Stealer}
 use Rattle.cube_pool.specs.declared.lane.Fair.{Fair}
 use Rattle.cube_pool.specs.Lanes.{slip, whole, weigh, IsSettled}
 use Rattle.cube_pool.specs.Hands.{Deque, Doings, IsHand, IsTaker, AreTakers, deque_of, taken_by, weigh_all, pushed_by, fetched_by, newcomer, with_fetched}
-use Rattle.cube_pool.specs.Closings.{Lane, Row, IsEnd, AreHandsLeft, AreJoining, IsRow, IsOpenWith, AreSplit, IsFreshRow, deques, put_by, taken_there, taken_in, taken_over}
+use Rattle.cube_pool.specs.code.Closings.{Lane, Row, IsEnd, AreHandsLeft, AreJoining, IsRow, IsOpenWith, AreSplit, IsFreshRow, deques, put_by, taken_there, taken_in, taken_over}
 use Rattle.cube_pool.proofs.Lanes.{weigh_append}
 use Rattle.cube_pool.proofs.Lists.{same_or_not, either_side, length_pushed, first_of, last_of, all_pushed, all_set, heads, take_more, sum_by_map, same_at}
 

@@ -1,3 +1,3 @@
 pub mod Lanes
 pub mod Hands
-pub mod Closings
+pub mod code

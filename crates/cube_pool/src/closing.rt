@@ -2,7 +2,7 @@
 ghost use Rattle.std.specs.Prelude.{◌≡◌, ◌<◌, ◌≤◌, ◌+◌, ◌-◌, ℕ, length, vec_len, IfOk, OnOk, [], map};
 ghost use Rattle.cube_pool.specs.Lanes.{whole, weigh};
 ghost use Rattle.cube_pool.specs.Hands.{AreInOrder, deque_of, AreTakers};
-ghost use Rattle.cube_pool.specs.Closings.{AreEnds, AreJoined, AreParted, AreRows, AreWhole, put_by, taken_there, taken_in, taken_over};
+ghost use Rattle.cube_pool.specs.code.Closings.{AreEnds, AreJoined, AreParted, AreRows, AreWhole, put_by, taken_there, taken_in, taken_over};
 
 use crate::hand::Hand;
 use crate::lane::{self, Lane};

@@ -3,7 +3,7 @@ ghost use Rattle.std.specs.Prelude.{◌≡◌, ◌<◌, ◌≤◌, ◌+◌, ◌-
 ghost use Rattle.crossbeam_deque.specs.Handles.{stealer_deque};
 ghost use Rattle.cube_pool.specs.Lanes.{whole};
 ghost use Rattle.cube_pool.specs.Hands.{AreNewcomers, newcomer};
-ghost use Rattle.cube_pool.specs.Closings.{AllFirstOut, AreOpenWith, AreFreshRows, IsFreshRow, deques};
+ghost use Rattle.cube_pool.specs.code.Closings.{AllFirstOut, AreOpenWith, AreFreshRows, IsFreshRow, deques};
 
 use crate::hand::Hand;
 use crate::lane::{self, Lane, Mouth};

@@ -20,7 +20,7 @@ impl Model for Pool {
     ghost use Rattle.std.specs.Prelude.{List, map};
     ghost use Rattle.crossbeam_deque.specs.Handles.{stealer_deque};
     ghost use Rattle.cube_pool.specs.Hands.{Deque};
-    ghost use Rattle.cube_pool.specs.Closings.{IsPool};
+    ghost use Rattle.cube_pool.specs.code.Closings.{IsPool};
 
     ghost Value = { List Deque };
 

@@ -33,7 +33,7 @@ use Rattle.dtp_check.specs.declared.check.Checked.{Checked}
 use Rattle.dtp_check.specs.declared.check.Checked.TheVariants.{NotAccepted, Accepted as AcceptedAnswer}
 use Rattle.dtp_check.specs.declared.judgement.Judgement.TheVariants.{Accepted}
 use Rattle.bench_law.specs.Laws.{EndsWell}
-use Rattle.dtp_bench.specs.Outcomes.{IsPair, HasVerdict}
+use Rattle.dtp_bench.specs.code.Outcomes.{IsPair, HasVerdict}
 
 -- ---- the lines of a certificate
 

@@ -1,6 +1,5 @@
 pub mod Lines
 pub mod Benches
-pub mod Outcomes
 pub use Rattle.dtp_io.specs.Faults
 pub use Rattle.dtp_gen.specs.Plans
 pub use Rattle.dtp_gen.specs.Scripts
@@ -8,3 +7,4 @@ pub use Rattle.script_counts.specs.Counting
 pub use Rattle.dtp_entry.specs.Transcripts
 pub use Rattle.dtp_entry.specs.Written
 pub use Rattle.dtp_check.specs.Judged
+pub mod code

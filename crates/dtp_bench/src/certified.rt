@@ -8,7 +8,7 @@ ghost use Rattle.dtp_entry.specs.Transcripts.{IsReport};
 ghost use Rattle.dtp_check.specs.declared.judgement.Judgement.TheVariants.{Accepted};
 ghost use Rattle.dtp_check.specs.Judged.{IsJudged};
 ghost use Rattle.dtp_bench.specs.Benches.{plan_of};
-ghost use Rattle.dtp_bench.specs.Outcomes.{IsPair, HasVerdict};
+ghost use Rattle.dtp_bench.specs.code.Outcomes.{IsPair, HasVerdict};
 
 use crate::laws::plan_law;
 use crate::numbers::PlanNumbers;

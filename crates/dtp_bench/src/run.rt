@@ -2,7 +2,7 @@
 ghost use Rattle.std.specs.Prelude.{◌≡◌, IfOk};
 ghost use Rattle.dtp_entry.specs.Written.{WritesOne};
 ghost use Rattle.dtp_bench.specs.Benches.{IsBench, plan_of};
-ghost use Rattle.dtp_bench.specs.Outcomes.{lines_text};
+ghost use Rattle.dtp_bench.specs.code.Outcomes.{lines_text};
 
 use crate::certified::{certified, check_again, verdict_in};
 use crate::lines::{accepted_line, clauses_line, names_line, plan_line, verdict_line};

@@ -4,7 +4,7 @@ ghost use Rattle.std.specs.List.{AllByRecursion};
 ghost use Rattle.kept_lemmas.specs.Entries.{Placed as Place, IsOwn, shelf_of, without_items};
 ghost use Rattle.kept_lemmas.specs.Facts.{Shelf as Facts};
 ghost use Rattle.cert_text.specs.declared.entry.FileEntry.{FileEntry as Shown};
-ghost use Rattle.lemma_shelf.specs.Tables.{own_item};
+ghost use Rattle.lemma_shelf.specs.code.Tables.{own_item};
 ghost use Rattle.lemma_shelf.specs.ItemFlaws.{items_flaw};
 ghost use Rattle.cert_check.specs.Flaws.{TellsFlaw};
 ghost use Rattle.refute_tree.specs.Trees.{IsRefutation};

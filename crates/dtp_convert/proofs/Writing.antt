@@ -20,7 +20,7 @@ use Rattle.smt_answer.specs.declared.kind.Kind.{Kind}
 use Rattle.script_walk.specs.Questions.{refusal_of}
 use Rattle.script_walk.specs.Course.{Place, start_with, Turn, Outcome, turn, tells, answers, asks, ends, fails, behind_told, behind_answer, asked, taken, by_effect, by_command, course, answers_of, AreAnswered}
 use Rattle.script_walk.proofs.Turns.{told_turn, answered_turn, exit_turn}
-use Rattle.cert_stream.specs.Streams.{entry_lines, whole_text}
+use Rattle.cert_stream.specs.code.Streams.{entry_lines, whole_text}
 use Rattle.dtp_entry.specs.declared.report.Report.TheVariants.{Certificate}
 use Rattle.dtp_entry.specs.Entries.{verdict_of}
 use Rattle.dtp_entry.specs.Transcripts.{DecidesIn, opening, pieces}

@@ -3,7 +3,7 @@ use Rattle.std.proofs.Common.{refl, sym, ap, inl, inr, ◌∙◌, ◌≡◌, ℕ
 use Rattle.std.proofs.lemmas.Result.{on_ok_weaker, on_err_weaker}
 use Rattle.dtp_entry.specs.declared.error.SessionError.{SessionError}
 use Rattle.dtp_entry.specs.Written.{Writes, WritesOne, IsFront, IsPartOf}
-use Rattle.cert_stream.specs.Streams.{Streams}
+use Rattle.cert_stream.specs.code.Streams.{Streams}
 
 front_of_line : (line added : List ℕ) → IsPartOf (λ text. text ≡ line) added → IsFront added line
 front_of_line line added (inl none) = (line, ap (λ (l : List ℕ). l ++ line) (sym none))

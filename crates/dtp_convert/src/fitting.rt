@@ -1,7 +1,7 @@
 //! Whether the numbers of lemmas are within the limits of the format.
 ghost use Rattle.std.specs.Prelude.{All, IsTrue, ◌^◌};
 ghost use Rattle.stn_core.specs.Named.{IsWithinLimit, AreWithinLimit};
-ghost use Rattle.refute_tree.specs.Views.{literals_of, step_seen};
+ghost use Rattle.refute_tree.specs.code.Views.{literals_of, step_seen};
 ghost use Rattle.cert_text.specs.declared.entry.Version.TheVariants.{One};
 ghost use Rattle.cert_text.specs.Limits.{LiteralWithin, StepWithin, LemmaWithin, WholeFits};
 

@@ -3,7 +3,7 @@ ghost use Rattle.std.specs.Prelude.{◌≡◌, []};
 ghost use Rattle.cert_text.specs.declared.entry.Version.TheVariants.{One};
 ghost use Rattle.cert_text.specs.Form.{header_sexpr, end_sexpr, line_of};
 ghost use Rattle.dtp_entry.specs.Written.{WritesOne};
-ghost use Rattle.cert_stream.specs.Streams.{Streams, entry_lines, whole_text};
+ghost use Rattle.cert_stream.specs.code.Streams.{Streams, entry_lines, whole_text};
 
 use cert_stream::write_entry;
 use cert_text::{Entry, Version, write_end, write_header};

@@ -1,4 +1,4 @@
 pub mod Draws
 pub mod Plans
-pub mod Shops
 pub mod Scripts
+pub mod code

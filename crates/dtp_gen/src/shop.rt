@@ -21,7 +21,7 @@ pub struct Shop {
 
 impl Model for Shop {
     ghost use Rattle.dtp_gen.specs.Plans.{Plan};
-    ghost use Rattle.dtp_gen.specs.Shops.{IsShop};
+    ghost use Rattle.dtp_gen.specs.code.Shops.{IsShop};
 
     ghost Value = { Plan };
 

@@ -3,7 +3,7 @@ use Rattle.std.proofs.Common.{refl, sym, ap, subst, ◌∙◌, ◌≡◌, ℕ, �
 use Rattle.std.specs.List.{AllByRecursion}
 use Rattle.std.proofs.lemmas.List.{append_assoc, append-nil}
 use Rattle.cert_text.specs.declared.entry.Entry.{Entry}
-use Rattle.smt_lex.specs.Lexing.{Lexing}
+use Rattle.smt_lex.specs.code.Lexing.{Lexing}
 use Rattle.smt_answer.specs.declared.kind.Kind.{Kind}
 use Rattle.smt_answer.specs.Texts.{error_line}
 use Rattle.smt_script.specs.declared.state.Notice.{Notice}

@@ -9,8 +9,8 @@ use Rattle.stn_core.specs.Cycle.{Leads, weight_of}
 use Rattle.stn_core.proofs.Walks.{Leads-push}
 use Rattle.stn_core.proofs.Cycles.{weight_of-push}
 use Rattle.inc_paths.specs.declared.labels.Lowering.{Lowering}
-use Rattle.inc_paths.specs.Trails.{Labelled, entry_at, point_of, level_of}
-use Rattle.inc_paths.specs.Work.{AreTraced}
+use Rattle.inc_paths.specs.code.Trails.{Labelled, entry_at, point_of, level_of}
+use Rattle.inc_paths.specs.code.Work.{AreTraced}
 
 pub record IsBack (ls : List Literal) (labels : Labelled) (source : ℕ) (base : ℤ) (walk : List Literal) (number : ℕ) : Type 0 where
   pub high : number ≤ length labels.trail

@@ -11,9 +11,9 @@ use Rattle.stn_core.specs.Literal.{most_allowed, value_at, Holds, IsOver, litera
 use Rattle.stn_core.specs.Schedule.{IsSchedule, IsGreatestSchedule, IsInRange}
 use Rattle.stn_core.proofs.Ranges.{in_range_of_greatest}
 use Rattle.inc_paths.specs.declared.labels.Lowering.{Lowering}
-use Rattle.inc_paths.specs.Trails.{Labelled, lowering, first_of}
-use Rattle.inc_paths.specs.Trails.{first_in, older_in}
-use Rattle.inc_paths.specs.Work.{gap_of, IsStart, IsKept, IsLowering, IsWaiting, IsPending}
+use Rattle.inc_paths.specs.code.Trails.{Labelled, lowering, first_of}
+use Rattle.inc_paths.specs.code.Trails.{first_in, older_in}
+use Rattle.inc_paths.specs.code.Work.{gap_of, IsStart, IsKept, IsLowering, IsWaiting, IsPending}
 use Rattle.inc_paths.proofs.Undoing.{first_of-none}
 use Rattle.inc_paths.proofs.Lowers.{at_x, at_other, same_first, same_older, waiting_new, lowering_next, holds_still}
 use Rattle.inc_paths.proofs.Scans.{nothing}

@@ -3,7 +3,7 @@ use Rattle.std.proofs.Common.{arith, refl, ap, sym, ◌∙◌, inl, inr, ◌≡�
 use Rattle.std.proofs.lemmas.Bool.{cases_eq, cases_lt}
 use Rattle.std.proofs.lemmas.List.{get_or_append_left, get_or_push, get_or-set_same, get_or-set_other, length_push, length-set}
 use Rattle.stn_core.specs.declared.literal.Literal.{Literal}
-use Rattle.inc_paths.specs.Graphs.{IsNewest, IsLinked, number_at}
+use Rattle.inc_paths.specs.code.Graphs.{IsNewest, IsLinked, number_at}
 use Rattle.stn_core.specs.Literal.{literal_at}
 
 abbrev none : Literal

@@ -10,9 +10,9 @@ use Rattle.stn_core.specs.declared.literal.Literal.{Literal}
 use Rattle.stn_core.specs.Limits.{bound_limit, value_span, FitsValue}
 use Rattle.stn_core.specs.Literal.{value_at, Holds, IsOver, literal_at}
 use Rattle.inc_paths.specs.declared.labels.Lowering.{Lowering}
-use Rattle.inc_paths.specs.Trails.{Labelled, no_lowering, entry_at, lowering, first_of, point_of, level_of, IsTraced}
-use Rattle.inc_paths.specs.Trails.{first_in, older_in}
-use Rattle.inc_paths.specs.Work.{gap_of, IsStart, IsKept, IsBetween, IsLowering, IsWaiting, IsScanning, IsAt, height, room}
+use Rattle.inc_paths.specs.code.Trails.{Labelled, no_lowering, entry_at, lowering, first_of, point_of, level_of, IsTraced}
+use Rattle.inc_paths.specs.code.Trails.{first_in, older_in}
+use Rattle.inc_paths.specs.code.Work.{gap_of, IsStart, IsKept, IsBetween, IsLowering, IsWaiting, IsScanning, IsAt, height, room}
 use Rattle.inc_paths.proofs.Undoing.{first_of-more}
 
 -- a list's first item and the others

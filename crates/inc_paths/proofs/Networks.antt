@@ -10,9 +10,9 @@ use Rattle.stn_core.specs.Limits.{points_limit}
 use Rattle.stn_core.specs.Literal.{value_at, IsOver}
 use Rattle.stn_core.specs.Schedule.{IsInRange}
 use Rattle.inc_paths.specs.declared.labels.Lowering.{Lowering}
-use Rattle.inc_paths.specs.Trails.{undone, first_of}
-use Rattle.inc_paths.specs.Work.{IsKept}
-use Rattle.inc_paths.specs.Networks.{end_at, KeepsTrail}
+use Rattle.inc_paths.specs.code.Trails.{undone, first_of}
+use Rattle.inc_paths.specs.code.Work.{IsKept}
+use Rattle.inc_paths.specs.code.Networks.{end_at, KeepsTrail}
 use Rattle.inc_paths.proofs.Undoing.{undone-append, drop-append, first_of-none, take-take}
 
 -- the lowerings from a place on, and then those before it

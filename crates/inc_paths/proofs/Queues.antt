@@ -5,7 +5,7 @@ use Rattle.std.specs.Ordering.{is_lt, ordering_then}
 use Rattle.std.specs.declared.cmp.Ordering.TheVariants.{Less, Equal, Greater}
 use Rattle.std.specs.BinaryHeap.{IsHeap, IsUpperBound, PopsGreatest}
 use Rattle.std.proofs.lemmas.Bool.Decides.{nat_tests}
-use Rattle.inc_paths.specs.Trails.{queue_order, FallsFurthest}
+use Rattle.inc_paths.specs.code.Trails.{queue_order, FallsFurthest}
 
 by_test : (t u : Bool) (o : Ordering) → is_lt (ordering_then (cond t Less (cond u Equal Greater)) o) ≡ false → t ≡ false
 by_test true u o h = h

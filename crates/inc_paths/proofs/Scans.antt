@@ -8,10 +8,10 @@ use Rattle.stn_core.specs.declared.literal.Literal.{Literal}
 use Rattle.stn_core.specs.Literal.{value_at, Holds, literal_at}
 use Rattle.stn_core.specs.Schedule.{IsGreatestSchedule}
 use Rattle.inc_paths.specs.declared.labels.Lowering.{Lowering}
-use Rattle.inc_paths.specs.Graphs.{IsNewest}
-use Rattle.inc_paths.specs.Trails.{Labelled, entry_at, first_of}
-use Rattle.inc_paths.specs.Trails.{first_in, older_in}
-use Rattle.inc_paths.specs.Work.{IsStart, IsKept, IsBetween, IsLowering, IsPending, IsTaken, IsScanning, height, room}
+use Rattle.inc_paths.specs.code.Graphs.{IsNewest}
+use Rattle.inc_paths.specs.code.Trails.{Labelled, entry_at, first_of}
+use Rattle.inc_paths.specs.code.Trails.{first_in, older_in}
+use Rattle.inc_paths.specs.code.Work.{IsStart, IsKept, IsBetween, IsLowering, IsPending, IsTaken, IsScanning, height, room}
 use Rattle.inc_paths.proofs.Lowers.{contains_cases, contains_rest, contains_first}
 
 pub taken_scanning : (ls : List Literal) (labels : Labelled) (place : ℕ) → IsTaken ls labels place → IsScanning ls labels (entry_at labels.trail place).literal.x (length ls)

@@ -5,7 +5,7 @@ use Rattle.std.proofs.lemmas.List.{ext_get_or, get_or-drop, get_or-set_same, get
 use Rattle.std.proofs.lemmas.List.Elements.{All-push, All-take}
 use Rattle.stn_core.specs.Literal.{value_at}
 use Rattle.inc_paths.specs.declared.labels.Lowering.{Lowering}
-use Rattle.inc_paths.specs.Trails.{no_lowering, entry_at, undone, first_of, IsLabelled}
+use Rattle.inc_paths.specs.code.Trails.{no_lowering, entry_at, undone, first_of, IsLabelled}
 
 pub undone-append : (es ds : List Lowering) (values : List ℤ) → undone (es ++ ds) values ≡ undone es (undone ds values)
 undone-append [] ds values = refl

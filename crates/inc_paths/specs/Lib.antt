@@ -1,4 +1,1 @@
-pub mod Graphs
-pub mod Trails
-pub mod Work
-pub mod Networks
+pub mod code

@@ -1,5 +1,5 @@
 ghost use Rattle.std.specs.Prelude.{◌≡◌, ◌<◌, ◌≤◌, ◌-◌, [], ◌∷◌, ◌++◌, length, take, min, IfOk, OnOk, OnErr};
-ghost use Rattle.inc_paths.specs.Graphs.{IsNewest};
+ghost use Rattle.inc_paths.specs.code.Graphs.{IsNewest};
 ghost use Rattle.stn_core.specs.Literal.{literal_at};
 
 use std::alloc::{AllocError, Global};
@@ -18,7 +18,7 @@ pub struct Arcs {
 
 impl Model for Arcs {
     ghost use Rattle.std.specs.Prelude.{length};
-    ghost use Rattle.inc_paths.specs.Graphs.{Graph, IsLinked};
+    ghost use Rattle.inc_paths.specs.code.Graphs.{Graph, IsLinked};
 
     ghost Value = { Graph };
 

@@ -2,7 +2,7 @@ ghost use Rattle.std.specs.Prelude.{◌≡◌, ◌≤◌, [], ◌∷◌, length,
 ghost use Rattle.stn_core.specs.Answer.{IsBest, IsCycleAmong};
 ghost use Rattle.stn_core.specs.Limits.{points_limit};
 ghost use Rattle.stn_core.specs.Literal.{IsOver};
-ghost use Rattle.inc_paths.specs.Work.{IsExtending, IsKept};
+ghost use Rattle.inc_paths.specs.code.Work.{IsExtending, IsKept};
 
 use crate::arcs::Arcs;
 use crate::labels::Labels;

@@ -3,8 +3,8 @@ ghost use Rattle.std.specs.Prelude.{IfOk, OnOk, OnErr, All, IfSome, IfNone, IsTr
 ghost use Rattle.stn_core.specs.Limits.{FitsValue};
 ghost use Rattle.stn_core.specs.Literal.{most_allowed};
 ghost use Rattle.inc_paths.specs.declared.labels.Lowering.{Lowering};
-ghost use Rattle.inc_paths.specs.Trails.{entry_at, fall_of, first_of, last_entry, lowered_values, lowering};
-ghost use Rattle.inc_paths.specs.Trails.{FallsFurthest, queued, undone_one, unlabelled, IsCurrent, IsViolated};
+ghost use Rattle.inc_paths.specs.code.Trails.{entry_at, fall_of, first_of, last_entry, lowered_values, lowering};
+ghost use Rattle.inc_paths.specs.code.Trails.{FallsFurthest, queued, undone_one, unlabelled, IsCurrent, IsViolated};
 
 use std::alloc::{AllocError, Global};
 use std::collections::BinaryHeap;
@@ -43,7 +43,7 @@ pub struct Labels {
 
 impl Model for Labels {
     ghost use Rattle.std.specs.BinaryHeap.{heap_items, IsHeap};
-    ghost use Rattle.inc_paths.specs.Trails.{Labelled, IsLabelled, queue_order};
+    ghost use Rattle.inc_paths.specs.code.Trails.{Labelled, IsLabelled, queue_order};
 
     ghost Value = { Labelled };
 

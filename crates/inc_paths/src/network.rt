@@ -1,7 +1,7 @@
 ghost use Rattle.std.specs.Prelude.{◌≡◌, ◌≤◌, [], length, take, IfOk};
 ghost use Rattle.stn_core.specs.Limits.{points_limit};
 ghost use Rattle.stn_core.specs.RoundsNet.{Shown};
-ghost use Rattle.inc_paths.specs.Networks.{end_at, values_at};
+ghost use Rattle.inc_paths.specs.code.Networks.{end_at, values_at};
 
 use crate::arcs::Arcs;
 use crate::extend::extend;
@@ -31,7 +31,7 @@ pub struct Network {
 
 impl Model for Network {
     ghost use Rattle.stn_core.specs.RoundsNet.{Shown};
-    ghost use Rattle.inc_paths.specs.Networks.{KeepsTrail};
+    ghost use Rattle.inc_paths.specs.code.Networks.{KeepsTrail};
 
     ghost Value = { Shown };
 

@@ -2,9 +2,9 @@ ghost use Rattle.std.specs.Prelude.{◌≡◌, ◌<◌, ◌≤◌, ◌-◌, leng
 ghost use Rattle.stn_core.specs.Answer.{IsCycleAmong};
 ghost use Rattle.stn_core.specs.Literal.{value_at, literal_at};
 ghost use Rattle.stn_core.specs.Schedule.{IsGreatestSchedule};
-ghost use Rattle.inc_paths.specs.Trails.{entry_at, first_in, point_at};
-ghost use Rattle.inc_paths.specs.Work.{AreTraced, GoesBack, IsAt, IsClosing, IsPending, IsScanning, IsStart, IsTaken};
-ghost use Rattle.inc_paths.specs.Work.{Lowers, room};
+ghost use Rattle.inc_paths.specs.code.Trails.{entry_at, first_in, point_at};
+ghost use Rattle.inc_paths.specs.code.Work.{AreTraced, GoesBack, IsAt, IsClosing, IsPending, IsScanning, IsStart, IsTaken};
+ghost use Rattle.inc_paths.specs.code.Work.{Lowers, room};
 
 use crate::arcs::Arcs;
 use crate::labels::Labels;

@@ -14,7 +14,7 @@ use Rattle.refute_tree.specs.Batches.{AreRefuted, NamesOver, LemmaIsOver}
 use Rattle.more_inputs.specs.Laws.{MoreInputsRefuteEach}
 use Rattle.book_core.specs.declared.verdict.Verdict.TheVariants.{Unsat}
 use Rattle.book_core.specs.Books.{IsShutBy}
-use Rattle.book_core.specs.Closing.{leaf_steps, two_cycle}
+use Rattle.book_core.specs.code.Closing.{leaf_steps, two_cycle}
 use Rattle.book_core.specs.Verdicts.{IsRight, last_lemma}
 use Rattle.book_core.proofs.ClosedTrees.{leaf_tree}
 use Rattle.book_core.proofs.Concluding.{closed_refutation}

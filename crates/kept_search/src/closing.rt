@@ -1,7 +1,7 @@
 //! How a list of lemmas ends.
 ghost use Rattle.std.specs.Prelude.{◌≡◌, ◌++◌, ◌∷◌, [], ◌<◌, length, IfOk, OnOk, map, Some, slice_get};
 ghost use Rattle.refute_tree.specs.Trees.{stated};
-ghost use Rattle.book_core.specs.Closing.{leaf_steps};
+ghost use Rattle.book_core.specs.code.Closing.{leaf_steps};
 ghost use Rattle.book_core.specs.Verdicts.{last_lemma};
 ghost use Rattle.kept_search.specs.code.Closing.{Closes};
 

@@ -10,7 +10,7 @@ use Rattle.refute_tree.specs.declared.step.Step.TheVariants.{Cycle, Input, Lemma
 use Rattle.refute_tree.specs.Trees.{clause_of, Tree, Forest, leaf, clash, cases, none, more}
 use Rattle.kept_lemmas.specs.Facts.{Fact, Facts, stated_by, no_fact, support_of_clause, support_of_fact, named_by_fact, step_support, step_named, own_fact}
 use Rattle.kept_lemmas.proofs.FactLists.{all_at}
-use Rattle.lemma_shelf.specs.Tables.{fact_at, facts_at, IsKnownStep, IsRenumbered, to_input, to_clash, to_earlier, keeps_cycle, keeps_either, AreRenumbered}
+use Rattle.lemma_shelf.specs.code.Tables.{fact_at, facts_at, IsKnownStep, IsRenumbered, to_input, to_clash, to_earlier, keeps_cycle, keeps_either, AreRenumbered}
 use Rattle.lemma_shelf.proofs.Lists.{get_longer}
 
 -- two steps name the same clauses and cite lemmas that state the same and rest on the same

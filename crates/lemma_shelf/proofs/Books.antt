@@ -12,7 +12,7 @@ use Rattle.stn_core.specs.declared.literal.Literal.{Literal}
 use Rattle.stn_core.specs.Literal.{same_literal}
 use Rattle.stn_core.proofs.SameLiteral.{same_literal_decides}
 use Rattle.std.proofs.lemmas.Bool.{and_parts, and_from}
-use Rattle.lemma_shelf.specs.Tables.{HasClause}
+use Rattle.lemma_shelf.specs.code.Tables.{HasClause}
 
 abbrev alike : List Literal → List Literal → Bool
 alike ls ms = pointwise same_literal ls ms

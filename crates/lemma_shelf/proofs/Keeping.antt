@@ -20,7 +20,7 @@ use Rattle.cert_check.specs.Flaws.{first_of}
 use Rattle.cert_check.specs.declared.flaw.Flaw.{Flaw}
 use Rattle.lemma_shelf.specs.Clauses.{is_clause_of}
 use Rattle.lemma_shelf.specs.ItemFlaws.{fact_flaw, kept_flaw, item_clause, item_flaw, items_flaw_from}
-use Rattle.lemma_shelf.specs.Tables.{table_facts, fact_at, facts_at, shelf_by, entry_of, number_of, IsTable, is_active}
+use Rattle.lemma_shelf.specs.code.Tables.{table_facts, fact_at, facts_at, shelf_by, entry_of, number_of, IsTable, is_active}
 use Rattle.lemma_shelf.proofs.Lists.{some_there}
 use Rattle.lemma_shelf.proofs.TableFacts.{table_fact, fact_is}
 

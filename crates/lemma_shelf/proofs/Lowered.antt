@@ -11,9 +11,9 @@ use Rattle.refute_tree.specs.declared.lemma.Lemma.{Lemma}
 use Rattle.refute_tree.specs.Trees.{IsOnPoints, NamesPoints, IsRefuted, IsRefutation, stated}
 use Rattle.kept_lemmas.specs.Facts.{Fact, Facts, Shelf, named_by_fact, step_named, own_fact}
 use Rattle.kept_lemmas.proofs.FactLists.{all_at}
-use Rattle.lemma_shelf.specs.Tables.{table_facts, fact_at, facts_at, shelf_by, IsTable, is_active, steps_at}
+use Rattle.lemma_shelf.specs.code.Tables.{table_facts, fact_at, facts_at, shelf_by, IsTable, is_active, steps_at}
 use Rattle.lemma_shelf.specs.Lowering.{Refutes, last_fact, StatesLast}
-use Rattle.lemma_shelf.specs.WrittenOut.{RestsOn, itself, cited, IsLowered, last_of}
+use Rattle.lemma_shelf.specs.code.WrittenOut.{RestsOn, itself, cited, IsLowered, last_of}
 use Rattle.lemma_shelf.proofs.Lists.{some_there, all_parts, all_before, all_behind}
 use Rattle.lemma_shelf.proofs.TableFacts.{table_length, table_fact, table_taken, fact_is}
 use Rattle.lemma_shelf.proofs.Tested.{all_clauses_decide}

@@ -12,9 +12,9 @@ use Rattle.kept_lemmas.specs.Facts.{Fact, Facts, Shelf, fact_or_none, item_fact,
 use Rattle.kept_lemmas.specs.Entries.{IsItemRight, AreRight}
 use Rattle.kept_lemmas.proofs.FactLists.{facts-append}
 use Rattle.lemma_shelf.specs.declared.table.Table.{Table}
-use Rattle.lemma_shelf.specs.Tables.{fact_at, facts_at, number_of}
-use Rattle.lemma_shelf.specs.Walks.{facts_in, shelf_in, IsWhole, AreWithin, HasLemma}
-use Rattle.lemma_shelf.specs.Additions.{GoesOn, AddsItem, HasItems}
+use Rattle.lemma_shelf.specs.code.Tables.{fact_at, facts_at, number_of}
+use Rattle.lemma_shelf.specs.code.Walks.{facts_in, shelf_in, IsWhole, AreWithin, HasLemma}
+use Rattle.lemma_shelf.specs.code.Additions.{GoesOn, AddsItem, HasItems}
 use Rattle.lemma_shelf.proofs.Keeping.{by_entry, kept_is, number_holds}
 use Rattle.lemma_shelf.proofs.Lists.{take_more}
 

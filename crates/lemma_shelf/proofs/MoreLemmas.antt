@@ -14,7 +14,7 @@ use Rattle.refute_tree.specs.Trees.{Tree, IsRefuted, stated}
 use Rattle.cert_check.specs.Tests.{is_on_points}
 use Rattle.kept_lemmas.specs.Facts.{Fact, Facts, stated_by, no_fact, support_of_clause, named_by_fact, step_support, step_named, own_fact, facts_from}
 use Rattle.kept_lemmas.proofs.FactLists.{all_at}
-use Rattle.lemma_shelf.specs.Tables.{own_item, table_facts, fact_at, facts_at, IsKnownStep, IsOnTable, IsTable, IsRenumbered, to_input, to_clash, to_earlier, keeps_cycle, keeps_either, AreRenumbered, step_fits, NeedsOf, CitesBelow}
+use Rattle.lemma_shelf.specs.code.Tables.{own_item, table_facts, fact_at, facts_at, IsKnownStep, IsOnTable, IsTable, IsRenumbered, to_input, to_clash, to_earlier, keeps_cycle, keeps_either, AreRenumbered, step_fits, NeedsOf, CitesBelow}
 use Rattle.lemma_shelf.proofs.Lists.{get_longer, get_last, get_parts, some_there, take_front, take_before}
 use Rattle.lemma_shelf.proofs.TableFacts.{table_length, table_stated, table_fact, table_longer, fact_is}
 use Rattle.lemma_shelf.proofs.Alike.{Alike, same_input, same_clash, same_earlier, same_cycle, same_either, tree_moved, fact_same, are_alike}

@@ -12,8 +12,8 @@ use Rattle.refute_tree.specs.declared.step.Step.{Step}
 use Rattle.refute_tree.specs.declared.step.Step.TheVariants.{Cycle, Input, Lemma as Earlier, Clash, Either}
 use Rattle.refute_tree.specs.declared.lemma.Lemma.{Lemma}
 use Rattle.kept_lemmas.proofs.FactLists.{all_at}
-use Rattle.lemma_shelf.specs.Tables.{IsKnownStep, IsTable, steps_at, StepIsClosed, IsClosed, AreClosed}
-use Rattle.lemma_shelf.specs.WrittenOut.{RestsOn, itself, cited, Rises, AreWrittenOut, IsLowered}
+use Rattle.lemma_shelf.specs.code.Tables.{IsKnownStep, IsTable, steps_at, StepIsClosed, IsClosed, AreClosed}
+use Rattle.lemma_shelf.specs.code.WrittenOut.{RestsOn, itself, cited, Rises, AreWrittenOut, IsLowered}
 use Rattle.lemma_shelf.proofs.Lists.{some_there}
 use Rattle.lemma_shelf.proofs.Walking.{steps_are}
 

@@ -5,7 +5,7 @@ use Rattle.std.proofs.lemmas.Bool.{eqb-true, eq-eqb}
 use Rattle.std.proofs.lemmas.List.Elements.{Contains-push_cases}
 use Rattle.std.proofs.lemmas.Option.{same_Some}
 use Rattle.stn_core.specs.declared.literal.Literal.{Literal}
-use Rattle.lemma_shelf.specs.Tables.{IsPresent}
+use Rattle.lemma_shelf.specs.code.Tables.{IsPresent}
 use Rattle.lemma_shelf.proofs.Lists.{take_more, at_contained}
 
 module _ (book clauses : List (List Literal)) where

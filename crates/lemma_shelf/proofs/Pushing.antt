@@ -11,8 +11,8 @@ use Rattle.std.proofs.lemmas.List.Sorted.{searched}
 use Rattle.std.proofs.lemmas.Option.{slice_get-get_or}
 use Rattle.refute_tree.specs.declared.step.Step.{Step}
 use Rattle.refute_tree.specs.declared.step.Step.TheVariants.{Input, Lemma as Earlier, Clash}
-use Rattle.lemma_shelf.specs.Tables.{StepIsClosed}
-use Rattle.lemma_shelf.specs.WrittenOut.{IsPlaced, placed_input, placed_clash, placed_earlier, ArePlaced, AddsPlaced, Rises}
+use Rattle.lemma_shelf.specs.code.Tables.{StepIsClosed}
+use Rattle.lemma_shelf.specs.code.WrittenOut.{IsPlaced, placed_input, placed_clash, placed_earlier, ArePlaced, AddsPlaced, Rises}
 
 on_ok : {A E : Type 0} {P Q : Type 0} (r : Result A E) → (P → Q) → OnOk r P → OnOk r Q
 on_ok (Ok x) f h = f h

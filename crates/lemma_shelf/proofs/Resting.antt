@@ -4,8 +4,8 @@ use Rattle.std.specs.Prelude.{slice_get}
 use Rattle.std.proofs.lemmas.List.Elements.{All-nil, All-append, All-weaker}
 use Rattle.refute_tree.specs.declared.lemma.Lemma.{Lemma}
 use Rattle.kept_lemmas.proofs.FactLists.{all_at}
-use Rattle.lemma_shelf.specs.Tables.{with_number, with_all_cited, steps_at}
-use Rattle.lemma_shelf.specs.WrittenOut.{RestsOn, itself, cited}
+use Rattle.lemma_shelf.specs.code.Tables.{with_number, with_all_cited, steps_at}
+use Rattle.lemma_shelf.specs.code.WrittenOut.{RestsOn, itself, cited}
 use Rattle.lemma_shelf.proofs.Walking.{CitedBy, with_number_longer, cited_longer}
 
 module _ (lemmas : List Lemma) (root : ℕ) where

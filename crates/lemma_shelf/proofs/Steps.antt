@@ -13,8 +13,8 @@ use Rattle.refute_tree.specs.Trees.{Tree, IsRefuted}
 use Rattle.cert_check.specs.Tests.{is_on_points}
 use Rattle.kept_lemmas.specs.Facts.{Facts, stated_by}
 use Rattle.lemma_shelf.specs.declared.table.Table.{Table}
-use Rattle.lemma_shelf.specs.Tables.{table_facts, facts_at, fact_at, IsKnownStep, IsTable, IsRenumbered, to_input, to_clash, to_earlier, AreRenumbered, BeginsAs, AddsStep, NeedsOf, step_fits}
-use Rattle.lemma_shelf.specs.Walks.{facts_in, IsWhole, Pushes, HasLemma, BeginsTable}
+use Rattle.lemma_shelf.specs.code.Tables.{table_facts, facts_at, fact_at, IsKnownStep, IsTable, IsRenumbered, to_input, to_clash, to_earlier, AreRenumbered, BeginsAs, AddsStep, NeedsOf, step_fits}
+use Rattle.lemma_shelf.specs.code.Walks.{facts_in, IsWhole, Pushes, HasLemma, BeginsTable}
 use Rattle.lemma_shelf.proofs.Lists.{some_there}
 use Rattle.lemma_shelf.proofs.Alike.{all_renumbered_longer, tree_known}
 use Rattle.lemma_shelf.proofs.MoreLemmas.{one_more, kept_at, new_at}

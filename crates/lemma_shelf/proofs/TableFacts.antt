@@ -10,7 +10,7 @@ use Rattle.kept_lemmas.specs.declared.item.Item.{Item}
 use Rattle.kept_lemmas.specs.Facts.{Fact, Facts, Shelf, stated_by, no_fact, own_fact, item_fact, facts_from, facts_of}
 use Rattle.kept_lemmas.proofs.FactLists.{facts-append, facts-length}
 use Rattle.kept_lemmas.proofs.Owned.{owned_stated}
-use Rattle.lemma_shelf.specs.Tables.{own_item, table_facts, fact_at}
+use Rattle.lemma_shelf.specs.code.Tables.{own_item, table_facts, fact_at}
 use Rattle.lemma_shelf.proofs.Lists.{get_longer, get_last}
 
 module _ (shelf : Shelf) (clauses : List (List Literal)) where

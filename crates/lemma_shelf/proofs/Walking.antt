@@ -12,7 +12,7 @@ use Rattle.refute_tree.specs.declared.step.Step.TheVariants.{Cycle, Input, Lemma
 use Rattle.refute_tree.specs.declared.lemma.Lemma.{Lemma}
 use Rattle.kept_lemmas.specs.Facts.{Fact, Facts, support_of_clause, support_of_fact, step_support}
 use Rattle.kept_lemmas.proofs.FactLists.{all_at}
-use Rattle.lemma_shelf.specs.Tables.{table_facts, fact_at, IsKnownStep, IsTable, IsPresent, with_number, step_passes, with_cited, with_all_cited, steps_at, StepIsClosed, IsClosed, AreClosed, is_active}
+use Rattle.lemma_shelf.specs.code.Tables.{table_facts, fact_at, IsKnownStep, IsTable, IsPresent, with_number, step_passes, with_cited, with_all_cited, steps_at, StepIsClosed, IsClosed, AreClosed, is_active}
 use Rattle.lemma_shelf.proofs.Lists.{get_longer, get_last, get_parts, some_there, at_contained, all_flat, all_parts}
 use Rattle.lemma_shelf.proofs.TableFacts.{table_length, table_fact, table_taken, fact_is}
 use Rattle.lemma_shelf.proofs.Tested.{all_clauses_decide}

@@ -13,8 +13,8 @@ use Rattle.refute_tree.specs.Trees.{Tree, stated}
 use Rattle.kept_lemmas.specs.declared.item.Item.{Item}
 use Rattle.kept_lemmas.specs.Facts.{Fact, Facts, stated_by, own_fact, facts_of}
 use Rattle.kept_lemmas.proofs.FactLists.{facts-append}
-use Rattle.lemma_shelf.specs.Tables.{own_item, table_facts, fact_at, facts_at, IsKnownStep, IsTable, IsPresent}
-use Rattle.lemma_shelf.specs.WrittenOut.{IsPlaced, placed_input, placed_clash, placed_earlier, stays_cycle, stays_either, ArePlaced, IsPlacedLemma, AreWrittenOut}
+use Rattle.lemma_shelf.specs.code.Tables.{own_item, table_facts, fact_at, facts_at, IsKnownStep, IsTable, IsPresent}
+use Rattle.lemma_shelf.specs.code.WrittenOut.{IsPlaced, placed_input, placed_clash, placed_earlier, stays_cycle, stays_either, ArePlaced, IsPlacedLemma, AreWrittenOut}
 use Rattle.lemma_shelf.proofs.Lists.{some_there, get_parts, get_last, take_before, take_front}
 use Rattle.lemma_shelf.proofs.TableFacts.{table_length, table_stated, table_fact, table_taken, fact_is}
 use Rattle.lemma_shelf.proofs.Alike.{Alike, same_input, same_clash, same_earlier, same_cycle, same_either, tree_moved, fact_same}

@@ -3,7 +3,4 @@ pub mod Examples
 pub mod ItemFlaws
 pub mod Laws
 pub mod Lowering
-pub mod Tables
-pub mod Walks
-pub mod Additions
-pub mod WrittenOut
+pub mod code

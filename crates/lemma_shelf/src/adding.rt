@@ -1,10 +1,10 @@
 //! A checked lemma into the table.
 ghost use Rattle.std.specs.Prelude.{◌≡◌, ◌<◌, [], length, map, All, OnOk, OnErr, IfOk, slice_get, Some};
 ghost use Rattle.refute_tree.specs.Trees.{IsRefuted};
-ghost use Rattle.refute_tree.specs.Views.{step_seen};
+ghost use Rattle.refute_tree.specs.code.Views.{step_seen};
 ghost use Rattle.kept_lemmas.specs.Facts.{stated_by};
-ghost use Rattle.lemma_shelf.specs.Tables.{IsKnownStep, AddsStep, AreRenumbered, BeginsAs, CitesBelow, facts_at};
-ghost use Rattle.lemma_shelf.specs.Walks.{facts_in, IsWhole, HasLemma, BeginsTable, Pushes};
+ghost use Rattle.lemma_shelf.specs.code.Tables.{IsKnownStep, AddsStep, AreRenumbered, BeginsAs, CitesBelow, facts_at};
+ghost use Rattle.lemma_shelf.specs.code.Walks.{facts_in, IsWhole, HasLemma, BeginsTable, Pushes};
 
 use crate::book::Book;
 use crate::needs::needs_of;

@@ -1,6 +1,6 @@
 //! The clauses of problems that lemmas rest on.
 ghost use Rattle.std.specs.Prelude.{◌≡◌, ℕ, [], length, take, Contains, slice_get, Some, MatchOption, IfOk, OnErr};
-ghost use Rattle.lemma_shelf.specs.Tables.{HasClause};
+ghost use Rattle.lemma_shelf.specs.code.Tables.{HasClause};
 
 use indexmap::IndexSet;
 use std::alloc::{AllocError, Global};

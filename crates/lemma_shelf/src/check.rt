@@ -4,8 +4,8 @@ ghost use Rattle.cert_check.specs.Flaws.{TellsFlaw};
 ghost use Rattle.kept_lemmas.specs.Entries.{IsOwn};
 ghost use Rattle.kept_lemmas.specs.Facts.{Shelf as KeptShelf, kept_fact};
 ghost use Rattle.lemma_shelf.specs.ItemFlaws.{items_flaw, item_flaw, item_clause, kept_flaw};
-ghost use Rattle.lemma_shelf.specs.Tables.{is_active, number_of};
-ghost use Rattle.lemma_shelf.specs.Walks.{facts_in, shelf_in, IsWhole, AreWithin, Knows, IsFaultOf, IsFlawOf};
+ghost use Rattle.lemma_shelf.specs.code.Tables.{is_active, number_of};
+ghost use Rattle.lemma_shelf.specs.code.Walks.{facts_in, shelf_in, IsWhole, AreWithin, Knows, IsFaultOf, IsFlawOf};
 
 use crate::stated::Stated;
 use crate::table::Table;

@@ -1,9 +1,9 @@
 //! A checked entry into the table.
 ghost use Rattle.std.specs.Prelude.{◌≡◌, ◌<◌, length, map, All, IfOk};
 ghost use Rattle.kept_lemmas.specs.Entries.{IsItemRight, AreRight};
-ghost use Rattle.lemma_shelf.specs.Tables.{facts_at};
-ghost use Rattle.lemma_shelf.specs.Additions.{AddsItem, HasItems};
-ghost use Rattle.lemma_shelf.specs.Walks.{facts_in, shelf_in, IsWhole, AreWithin, BeginsTable};
+ghost use Rattle.lemma_shelf.specs.code.Tables.{facts_at};
+ghost use Rattle.lemma_shelf.specs.code.Additions.{AddsItem, HasItems};
+ghost use Rattle.lemma_shelf.specs.code.Walks.{facts_in, shelf_in, IsWhole, AreWithin, BeginsTable};
 
 use crate::check::find;
 use crate::table::Table;

@@ -1,9 +1,9 @@
 //! The lemmas that an entry's last item needs, by the numbers of one problem.
 ghost use Rattle.std.specs.Prelude.{◌≡◌, ◌<◌, length, take, map, true, All, IfOk, OnOk, slice_index_or};
-ghost use Rattle.refute_tree.specs.Views.{step_seen};
-ghost use Rattle.lemma_shelf.specs.Tables.{StepIsClosed, AreClosed, is_active};
-ghost use Rattle.lemma_shelf.specs.Walks.{facts_in, IsWhole, IsOf, places};
-ghost use Rattle.lemma_shelf.specs.WrittenOut.{AddsPlaced, ArePlaced, Rises, IsPlacedLemma, AreWrittenOut, IsLowered};
+ghost use Rattle.refute_tree.specs.code.Views.{step_seen};
+ghost use Rattle.lemma_shelf.specs.code.Tables.{StepIsClosed, AreClosed, is_active};
+ghost use Rattle.lemma_shelf.specs.code.Walks.{facts_in, IsWhole, IsOf, places};
+ghost use Rattle.lemma_shelf.specs.code.WrittenOut.{AddsPlaced, ArePlaced, Rises, IsPlacedLemma, AreWrittenOut, IsLowered};
 
 use crate::present::Present;
 use crate::table::Table;

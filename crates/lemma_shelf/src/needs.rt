@@ -2,8 +2,8 @@
 ghost use Rattle.std.specs.Prelude.{◌≡◌, ◌<◌, ℕ, length, All, ◌&&◌, nat_le};
 ghost use Rattle.std.specs.List.{list_all};
 ghost use Rattle.cert_check.specs.Tests.{is_on_points};
-ghost use Rattle.refute_tree.specs.Views.{step_seen};
-ghost use Rattle.lemma_shelf.specs.Tables.{CitesBelow, step_fits, NeedsOf};
+ghost use Rattle.refute_tree.specs.code.Views.{step_seen};
+ghost use Rattle.lemma_shelf.specs.code.Tables.{CitesBelow, step_fits, NeedsOf};
 
 use refute_tree::{Lemma, Reader, StepView};
 use stn_core::Literal;

@@ -1,7 +1,7 @@
 //! Which clauses of the book are clauses of a problem.
 ghost use Rattle.std.specs.Prelude.{◌≡◌, ◌<◌, ◌+◌, length, take, OnOk, IfOk, nat_eq};
 ghost use Rattle.indexmap.specs.IndexMap.{get};
-ghost use Rattle.lemma_shelf.specs.Tables.{IsPresent};
+ghost use Rattle.lemma_shelf.specs.code.Tables.{IsPresent};
 
 use crate::book::Book;
 use indexmap::IndexMap;

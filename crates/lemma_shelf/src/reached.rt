@@ -1,6 +1,6 @@
 //! Lemmas that a walk has come to.
 ghost use Rattle.std.specs.Prelude.{◌≡◌, ◌≤◌, ◌<◌, ℕ, [], length, All, slice_get, Some, OnOk, OnErr, IfOk};
-ghost use Rattle.lemma_shelf.specs.Tables.{with_number};
+ghost use Rattle.lemma_shelf.specs.code.Tables.{with_number};
 
 use indexmap::IndexSet;
 use std::alloc::{AllocError, Global};

@@ -4,7 +4,7 @@ ghost use Rattle.kept_lemmas.specs.Entries.{AreRight};
 ghost use Rattle.kept_lemmas.specs.Facts.{facts_of};
 ghost use Rattle.lemma_shelf.specs.ItemFlaws.{items_flaw};
 ghost use Rattle.lemma_shelf.specs.Lowering.{Refutes, StatesLast};
-ghost use Rattle.lemma_shelf.specs.WrittenOut.{last_of};
+ghost use Rattle.lemma_shelf.specs.code.WrittenOut.{last_of};
 ghost use Rattle.refute_tree.specs.Trees.{IsRefutation};
 
 use crate::check::check;
@@ -47,7 +47,7 @@ pub struct Shelf {
 impl Model for Shelf {
     ghost use Rattle.std.specs.Prelude.{map};
     ghost use Rattle.kept_lemmas.specs.Facts.{Shelf as KeptShelf};
-    ghost use Rattle.lemma_shelf.specs.Walks.{shelf_in, IsWhole, AreWithin};
+    ghost use Rattle.lemma_shelf.specs.code.Walks.{shelf_in, IsWhole, AreWithin};
 
     ghost Value = { KeptShelf };
 

@@ -1,6 +1,6 @@
 //! The lemmas that are some entry's own.
 ghost use Rattle.std.specs.Prelude.{◌≡◌, [], take};
-ghost use Rattle.lemma_shelf.specs.Walks.{IsWhole};
+ghost use Rattle.lemma_shelf.specs.code.Walks.{IsWhole};
 
 use crate::book::Book;
 use refute_tree::Lemma;

@@ -2,10 +2,10 @@
 ghost use Rattle.std.specs.Prelude.{◌≡◌, ◌<◌, [], true, length, All, Contains, OnOk, IfOk, IfSome};
 ghost use Rattle.std.specs.List.{list_all};
 ghost use Rattle.std.specs.Vec.{vec_len};
-ghost use Rattle.refute_tree.specs.Views.{step_seen};
-ghost use Rattle.lemma_shelf.specs.Tables.{step_passes, with_cited, with_all_cited, AreClosed, is_active};
-ghost use Rattle.lemma_shelf.specs.Walks.{facts_in, IsWhole, places, IsOf, Knows};
-ghost use Rattle.lemma_shelf.specs.WrittenOut.{RestsOn};
+ghost use Rattle.refute_tree.specs.code.Views.{step_seen};
+ghost use Rattle.lemma_shelf.specs.code.Tables.{step_passes, with_cited, with_all_cited, AreClosed, is_active};
+ghost use Rattle.lemma_shelf.specs.code.Walks.{facts_in, IsWhole, places, IsOf, Knows};
+ghost use Rattle.lemma_shelf.specs.code.WrittenOut.{RestsOn};
 
 use crate::present::Present;
 use crate::reached::Reached;

@@ -3,7 +3,7 @@ use Rattle.std.proofs.Common.{ℕ, ◌≡◌, ◌+◌, ◌-◌, ◌≤◌, ◌<�
 use Rattle.std.proofs.lemmas.List.{length-drop, take-append-drop, take_at, drop_at, drop-drop, length-take-le}
 use Rattle.refute_tree.specs.declared.step.Step.{Step}
 use Rattle.refute_tree.specs.declared.kind.Kind.{Kind}
-use Rattle.refute_tree.specs.Store.{Parts, parts, together, small_by, large_by, points_by, bounds_by, literals_by, used, used_items, IsWhole, steps_by}
+use Rattle.refute_tree.specs.code.Store.{Parts, parts, together, small_by, large_by, points_by, bounds_by, literals_by, used, used_items, IsWhole, steps_by}
 use Rattle.refute_tree.proofs.Flats.{parts_same, used-append, used-more, points_by-append, bounds_by-append, literals_by-append, items-longer, items-append, whole-append, steps_by-append, length-steps_by}
 
 -- a list of numbers, cut behind so many kinds

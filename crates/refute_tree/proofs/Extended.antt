@@ -8,9 +8,9 @@ use Rattle.refute_tree.specs.declared.step.Step.TheVariants.{Cycle}
 use Rattle.refute_tree.specs.declared.lists.Slices.{Slices}
 use Rattle.refute_tree.specs.declared.lists.Lists.{Lists}
 use Rattle.refute_tree.specs.declared.lists.Place.{Place}
-use Rattle.refute_tree.specs.Paths.{IsShortPath}
-use Rattle.refute_tree.specs.Store.{Parts, parts, narrow_parts, step_by, together, small_by, large_by, points_by, bounds_by, literals_by, used, used_items, IsWhole, steps_by}
-use Rattle.refute_tree.specs.Lists.{parts_of_slices, parts_of_lists, steps_of_slices, SlicesAreWhole, steps_of_lists, ListsAreWhole, AreSlices, AreSame, AreExtended, HavePath, HaveNarrow, HaveSmall, AreCutOut, IsPlaceOf, IsBefore, IsWithin}
+use Rattle.refute_tree.specs.code.Paths.{IsShortPath}
+use Rattle.refute_tree.specs.code.Store.{Parts, parts, narrow_parts, step_by, together, small_by, large_by, points_by, bounds_by, literals_by, used, used_items, IsWhole, steps_by}
+use Rattle.refute_tree.specs.code.Lists.{parts_of_slices, parts_of_lists, steps_of_slices, SlicesAreWhole, steps_of_lists, ListsAreWhole, AreSlices, AreSame, AreExtended, HavePath, HaveNarrow, HaveSmall, AreCutOut, IsPlaceOf, IsBefore, IsWithin}
 use Rattle.refute_tree.proofs.Flats.{parts_same, points_by-append, bounds_by-append, literals_by-append, whole-append, steps_by-append, length-steps_by}
 use Rattle.refute_tree.proofs.Cuts.{front_of, back_of, removed_whole, removed_steps, numbers_within, items_within, used-ordered, items-ordered}
 use Rattle.refute_tree.proofs.PathParts.{path_parts, path_whole, path_step}

@@ -7,8 +7,9 @@ use Rattle.refute_tree.specs.declared.step.Step.{Step}
 use Rattle.refute_tree.specs.declared.step.Step.TheVariants.{Cycle, Input, Lemma as Earlier, Clash, Either}
 use Rattle.refute_tree.specs.declared.kind.Kind.{Kind}
 use Rattle.refute_tree.specs.declared.kind.Kind.TheVariants.{Path as PathKind, Cycle as CycleKind, Pair as PairKind, LargePair as LargePairKind, Input as InputKind, LargeInput as LargeInputKind, Lemma as LemmaKind, LargeLemma as LargeLemmaKind, Clash as ClashKind, LargeClash as LargeClashKind, Either as EitherKind, LargeEither as LargeEitherKind}
-use Rattle.refute_tree.specs.Paths.{path_of, narrow_literal}
-use Rattle.refute_tree.specs.Store.{Parts, parts, together, small_by, large_by, points_by, bounds_by, literals_by, first_number, first_path, used, used_items, IsWhole, pair_of, step_by, behind, steps_by}
+use Rattle.refute_tree.specs.code.Paths.{path_of, narrow_literal}
+use Rattle.refute_tree.specs.code.Store.{Parts, parts, together, small_by, large_by, points_by, bounds_by, literals_by, first_number, first_path, used, used_items, IsWhole, step_by, behind, steps_by}
+use Rattle.refute_tree.specs.Pairs.{pair_of}
 
 -- equal parts
 pub parts_same : (s s' l l' p p' : List ℕ) (b b' : List ℤ) (ls ls' : List Literal) → s ≡ s' → l ≡ l' → p ≡ p' → b ≡ b' → ls ≡ ls' → parts s l p b ls ≡ parts s' l' p' b' ls'

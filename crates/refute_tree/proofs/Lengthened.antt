@@ -11,8 +11,8 @@ use Rattle.refute_tree.specs.declared.step.Step.TheVariants.{Cycle, Input, Lemma
 use Rattle.refute_tree.specs.declared.lemma.Lemma.{Lemma}
 use Rattle.refute_tree.specs.declared.reader.StepView.{StepView}
 use Rattle.refute_tree.specs.declared.reader.StepView.TheVariants.{Clash as ClashView}
-use Rattle.refute_tree.specs.Store.{pair_of}
-use Rattle.refute_tree.specs.Views.{step_seen}
+use Rattle.refute_tree.specs.Pairs.{pair_of}
+use Rattle.refute_tree.specs.code.Views.{step_seen}
 use Rattle.refute_tree.specs.Trees.{clause_of, Tree, Forest, IsDenied, leaf, clash, cases, none, more, IsOnPoints, NamesPoints}
 use Rattle.refute_tree.specs.Lengths.{pair_step, written_out, lengthened_step, lengthened, StaysRefuted}
 use Rattle.refute_tree.proofs.Kept.{AreIn, IsDenied-more}

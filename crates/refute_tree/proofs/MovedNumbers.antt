@@ -7,9 +7,10 @@ use Rattle.stn_core.specs.declared.literal.Literal.{Literal}
 use Rattle.refute_tree.specs.declared.step.Step.{Step}
 use Rattle.refute_tree.specs.declared.kind.Kind.{Kind}
 use Rattle.refute_tree.specs.declared.kind.Kind.TheVariants.{Path as PathKind, Cycle as CycleKind, Pair as PairKind, LargePair as LargePairKind, Input as InputKind, LargeInput as LargeInputKind, Lemma as LemmaKind, LargeLemma as LargeLemmaKind, Clash as ClashKind, LargeClash as LargeClashKind, Either as EitherKind, LargeEither as LargeEitherKind}
-use Rattle.refute_tree.specs.Store.{Parts, parts, small_by, large_by, points_by, bounds_by, literals_by, first_number, used, used_items, IsWhole, step_by, behind, steps_by}
+use Rattle.refute_tree.specs.code.Store.{Parts, parts, small_by, large_by, points_by, bounds_by, literals_by, first_number, used, used_items, IsWhole, step_by, behind, steps_by}
 use Rattle.refute_tree.proofs.Flats.{parts_same}
-use Rattle.refute_tree.specs.Moves.{named_step, is_lemma, is_large_lemma, named_part, named_numbers, HasNamedPart, MovesWithin, PartMovesWithin, NumbersMoveWithin}
+use Rattle.refute_tree.specs.Moves.{named_step, MovesWithin}
+use Rattle.refute_tree.specs.code.MovedParts.{is_lemma, is_large_lemma, named_part, named_numbers, HasNamedPart, PartMovesWithin, NumbersMoveWithin}
 
 -- a kind that names a lemma in the list has one number there
 abbrev pub NamesByOne : (Kind → ℕ) → (Kind → Bool) → Type 0

@@ -8,8 +8,8 @@ use Rattle.stn_core.specs.declared.literal.Literal.{Literal}
 use Rattle.stn_core.specs.Cycle.{Leads, weight_of, IsNegativeCycle}
 use Rattle.refute_tree.specs.declared.kind.Kind.TheVariants.{Path as PathKind}
 use Rattle.refute_tree.specs.declared.step.Step.TheVariants.{Cycle}
-use Rattle.refute_tree.specs.Paths.{path_of, points_of, bounds_of, IsNarrow, IsShortPath}
-use Rattle.refute_tree.specs.Store.{Parts, parts, IsWhole, step_by}
+use Rattle.refute_tree.specs.code.Paths.{path_of, points_of, bounds_of, IsNarrow, IsShortPath}
+use Rattle.refute_tree.specs.code.Store.{Parts, parts, IsWhole, step_by}
 
 -- what a cycle has that is kept as a path
 abbrev pub path_parts : List Literal → Parts

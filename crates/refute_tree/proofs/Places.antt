@@ -5,8 +5,8 @@ use Rattle.refute_tree.specs.declared.kind.Kind.{Kind}
 use Rattle.refute_tree.specs.declared.kind.Kind.TheVariants.{Path}
 use Rattle.refute_tree.specs.declared.lists.Slices.{Slices}
 use Rattle.refute_tree.specs.declared.lists.Place.{Place}
-use Rattle.refute_tree.specs.Store.{small_by, large_by, points_by, bounds_by, literals_by, used, used_items}
-use Rattle.refute_tree.specs.Lists.{SlicesAreWhole, IsPlaceOf, EndsStep, IsBeforeStep}
+use Rattle.refute_tree.specs.code.Store.{small_by, large_by, points_by, bounds_by, literals_by, used, used_items}
+use Rattle.refute_tree.specs.code.Lists.{SlicesAreWhole, IsPlaceOf, EndsStep, IsBeforeStep}
 use Rattle.refute_tree.proofs.Cuts.{numbers_within, used-before, items-before}
 
 -- the end of all is the place of the count

@@ -11,7 +11,7 @@ use Rattle.stn_core.proofs.SameLiteral.{same_literal_decides}
 use Rattle.refute_tree.specs.declared.step.Step.{Step}
 use Rattle.refute_tree.specs.declared.step.Step.TheVariants.{Cycle, Input, Lemma as Earlier, Clash, Either}
 use Rattle.refute_tree.specs.declared.lemma.Lemma.{Lemma}
-use Rattle.refute_tree.specs.Store.{pair_of}
+use Rattle.refute_tree.specs.Pairs.{pair_of}
 use Rattle.refute_tree.specs.Trees.{clause_of, Tree, Forest, IsDenied, leaf, clash, cases, none, more, IsOnPoints, NamesPoints}
 use Rattle.refute_tree.specs.Lengths.{pair_step, is_pair_of, begin_with_pairs, closes, cases_count, shortened_behind, shortened, StaysRefuted}
 use Rattle.refute_tree.proofs.Kept.{AreIn, IsDenied-more}

@@ -5,7 +5,7 @@ use Rattle.stn_core.specs.Literal.{negation_of, same_literal}
 use Rattle.refute_tree.specs.declared.step.Step.{Step}
 use Rattle.refute_tree.specs.declared.step.Step.TheVariants.{Cycle, Input, Clash}
 use Rattle.refute_tree.specs.declared.lemma.Lemma.{Lemma}
-use Rattle.refute_tree.specs.Store.{pair_of}
+use Rattle.refute_tree.specs.Pairs.{pair_of}
 use Rattle.refute_tree.specs.Trees.{IsRefuted}
 
 -- the leaf of a literal and its negation

@@ -1,9 +1,6 @@
 pub mod Limits
 pub mod Trees
-pub mod Paths
-pub mod Store
-pub mod Lists
-pub mod Views
+pub mod Pairs
 pub mod Moves
 pub mod Batches
 pub mod Lengths
@@ -13,3 +10,4 @@ pub use Rattle.stn_core.specs.Cycle
 pub use Rattle.stn_core.specs.Answer
 pub use Rattle.stn_core.specs.Literal
 pub use Rattle.stn_core.specs.Problem
+pub mod code

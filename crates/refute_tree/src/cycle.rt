@@ -1,7 +1,7 @@
 ghost use Rattle.std.specs.Prelude.{◌≡◌, ◌+◌, ◌<◌, ◌↔◌, length, slice_get, Some, IsTrue};
 ghost use Rattle.stn_core.specs.Cycle.{IsNegativeCycle};
-ghost use Rattle.refute_tree.specs.Paths.{path_of};
-ghost use Rattle.refute_tree.specs.Views.{literals_of};
+ghost use Rattle.refute_tree.specs.code.Paths.{path_of};
+ghost use Rattle.refute_tree.specs.code.Views.{literals_of};
 
 use crate::path::Path;
 use stn_core::{Literal, is_cycle};

@@ -1,5 +1,5 @@
 ghost use Rattle.std.specs.Prelude.{◌≡◌, ◌≤◌, ◌<◌, ◌+◌, ◌^◌, length, drop};
-ghost use Rattle.refute_tree.specs.Store.{small_by, large_by, points_by, bounds_by, literals_by};
+ghost use Rattle.refute_tree.specs.code.Store.{small_by, large_by, points_by, bounds_by, literals_by};
 
 /// What a step is, beside its numbers, points, bounds and literals.
 #[derive(Clone, Copy)]

@@ -2,7 +2,7 @@ ghost use Rattle.std.specs.Prelude.{◌≡◌, ◌++◌, Some, None, slice_get, 
 ghost use Rattle.refute_tree.specs.declared.step.Step.TheVariants.{Cycle as CycleStep};
 ghost use Rattle.refute_tree.specs.Lengths.{pair_step, lengthened_step, lengthened_lemma, shortened_lemma};
 ghost use Rattle.refute_tree.specs.Lengths.{is_pair_of, begin_with_pairs, ClosedCases, IsShorter, StaysRefuted};
-ghost use Rattle.refute_tree.specs.Views.{literals_of, step_seen};
+ghost use Rattle.refute_tree.specs.code.Views.{literals_of, step_seen};
 
 use crate::cycle::Cycle;
 use crate::lemma::Lemma;

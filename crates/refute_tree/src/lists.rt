@@ -1,8 +1,8 @@
 ghost use Rattle.std.specs.Prelude.{◌≡◌, ◌≤◌, ◌++◌, ◌∷◌, [], length, take, drop, OnOk, OnErr, IfOk};
-ghost use Rattle.refute_tree.specs.Lists.{AreNone, AreSame, AreExtended, BeginAs, AreCut, AreCutOut, HavePath, HaveNarrow, HaveSmall};
-ghost use Rattle.refute_tree.specs.Lists.{AreSlices, SlicesAreWhole, IsEnd, IsPlaceOf, EndsStep, IsBeforeStep};
-ghost use Rattle.refute_tree.specs.Lists.{IsBefore, IsWithin};
-ghost use Rattle.refute_tree.specs.Paths.{IsNarrow, IsShortPath};
+ghost use Rattle.refute_tree.specs.code.Lists.{AreNone, AreSame, AreExtended, BeginAs, AreCut, AreCutOut, HavePath, HaveNarrow, HaveSmall};
+ghost use Rattle.refute_tree.specs.code.Lists.{AreSlices, SlicesAreWhole, IsEnd, IsPlaceOf, EndsStep, IsBeforeStep};
+ghost use Rattle.refute_tree.specs.code.Lists.{IsBefore, IsWithin};
+ghost use Rattle.refute_tree.specs.code.Paths.{IsNarrow, IsShortPath};
 
 use crate::kind::{Kind, bounds_by, large_by, literals_by, points_by, small_by};
 use crate::narrow::{push_bounds, push_points};

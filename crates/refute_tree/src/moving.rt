@@ -1,8 +1,10 @@
 ghost use Rattle.std.specs.Prelude.{◌≡◌, ◌≤◌, ◌+◌, length, drop};
-ghost use Rattle.refute_tree.specs.Moves.{moved_number, listed_number, named_numbers, HasNamedPart, NoneGrows};
-ghost use Rattle.refute_tree.specs.Moves.{NumberMovesWithin, PartMovesWithin, NumbersMoveWithin};
-ghost use Rattle.refute_tree.specs.Moves.{is_lemma, is_large_lemma};
-ghost use Rattle.refute_tree.specs.Store.{small_by, large_by, used};
+ghost use Rattle.refute_tree.specs.Moves.{moved_number, listed_number, NoneGrows};
+ghost use Rattle.refute_tree.specs.code.MovedParts.{named_numbers, HasNamedPart};
+ghost use Rattle.refute_tree.specs.Moves.{NumberMovesWithin};
+ghost use Rattle.refute_tree.specs.code.MovedParts.{PartMovesWithin, NumbersMoveWithin};
+ghost use Rattle.refute_tree.specs.code.MovedParts.{is_lemma, is_large_lemma};
+ghost use Rattle.refute_tree.specs.code.Store.{small_by, large_by, used};
 
 use crate::kind::{Kind, large_by, small_by};
 

@@ -1,6 +1,6 @@
 //! Literals of which each begins where the one before it ends, kept as their points and their bounds.
 ghost use Rattle.std.specs.Prelude.{◌≡◌, ◌++◌, ◌∷◌, [], IsTrue, OnOk, take, vec_len};
-ghost use Rattle.refute_tree.specs.Paths.{IsNarrow, IsShortPath, points_of, bounds_of};
+ghost use Rattle.refute_tree.specs.code.Paths.{IsNarrow, IsShortPath, points_of, bounds_of};
 
 use std::alloc::AllocError;
 use stn_core::Literal;

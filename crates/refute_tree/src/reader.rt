@@ -1,8 +1,8 @@
 ghost use Rattle.std.specs.Prelude.{◌≡◌, ◌≤◌, ◌<◌, ◌+◌, ◌∷◌, length, MatchOption};
-ghost use Rattle.refute_tree.specs.Lists.{SlicesAreWhole, HaveStep, IsBehindStep, parts_of_slices, steps_of_slices};
-ghost use Rattle.refute_tree.specs.Store.{step_by, first_number, first_path};
-ghost use Rattle.refute_tree.specs.Paths.{narrow_literal, path_of};
-ghost use Rattle.refute_tree.specs.Views.{step_seen, ReadsNone};
+ghost use Rattle.refute_tree.specs.code.Lists.{SlicesAreWhole, HaveStep, IsBehindStep, parts_of_slices, steps_of_slices};
+ghost use Rattle.refute_tree.specs.code.Store.{step_by, first_number, first_path};
+ghost use Rattle.refute_tree.specs.code.Paths.{narrow_literal, path_of};
+ghost use Rattle.refute_tree.specs.code.Views.{step_seen, ReadsNone};
 
 use crate::cycle::Cycle;
 use crate::kind::{Kind, bounds_by, large_by, literals_by, points_by, small_by};
@@ -101,7 +101,7 @@ pub struct Reader<'a> {
 impl<'a> Model for Reader<'a> {
     ghost use Rattle.std.specs.Prelude.{List};
     ghost use Rattle.refute_tree.specs.declared.step.Step.{Step};
-    ghost use Rattle.refute_tree.specs.Lists.{SlicesAreWhole, steps_of_slices};
+    ghost use Rattle.refute_tree.specs.code.Lists.{SlicesAreWhole, steps_of_slices};
 
     ghost Value = { List Step };
 

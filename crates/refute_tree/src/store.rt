@@ -1,10 +1,11 @@
 ghost use Rattle.std.specs.Prelude.{◌≡◌, ◌≤◌, ◌∷◌, [], ◌++◌, length, map, take, drop, All, OnOk, OnErr, IfOk};
 ghost use Rattle.refute_tree.specs.declared.step.Step.TheVariants.{Cycle, Input, Lemma as Cited, Clash, Either};
-ghost use Rattle.refute_tree.specs.Lists.{SlicesAreWhole, steps_of_slices};
+ghost use Rattle.refute_tree.specs.code.Lists.{SlicesAreWhole, steps_of_slices};
 ghost use Rattle.refute_tree.specs.Moves.{moved_step, MovesWithin, listed_number, named_step, NoneGrows};
-ghost use Rattle.refute_tree.specs.Paths.{IsNarrow, IsShortPath};
-ghost use Rattle.refute_tree.specs.Store.{pair_of, parts, narrow_parts, step_by, IsWhole, AreNumberKinds, AreLiteralKinds};
-ghost use Rattle.refute_tree.specs.Views.{literals_of, step_seen};
+ghost use Rattle.refute_tree.specs.code.Paths.{IsNarrow, IsShortPath};
+ghost use Rattle.refute_tree.specs.code.Store.{parts, narrow_parts, step_by, IsWhole, AreNumberKinds, AreLiteralKinds};
+ghost use Rattle.refute_tree.specs.Pairs.{pair_of};
+ghost use Rattle.refute_tree.specs.code.Views.{literals_of, step_seen};
 
 use crate::cycle::Cycle as CycleView;
 use crate::kind::Kind;
@@ -30,7 +31,7 @@ pub struct Steps {
 impl Model for Steps {
     ghost use Rattle.std.specs.Prelude.{List};
     ghost use Rattle.refute_tree.specs.declared.step.Step.{Step};
-    ghost use Rattle.refute_tree.specs.Lists.{ListsAreWhole, steps_of_lists};
+    ghost use Rattle.refute_tree.specs.code.Lists.{ListsAreWhole, steps_of_lists};
 
     ghost Value = { List Step };
 

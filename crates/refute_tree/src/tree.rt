@@ -1,7 +1,7 @@
 ghost use Rattle.std.specs.Prelude.{◌≡◌, [], ◌∷◌, IfOk};
 ghost use Rattle.refute_tree.specs.declared.step.Step.TheVariants.{Cycle, Clash};
 ghost use Rattle.refute_tree.specs.Trees.{IsLeaf, IsClash, IsCaseTree, joined};
-ghost use Rattle.refute_tree.specs.Views.{step_seen};
+ghost use Rattle.refute_tree.specs.code.Views.{step_seen};
 
 use crate::reader::StepView;
 use crate::store::Steps;

@@ -10,8 +10,8 @@ use Rattle.smt_lex.specs.declared.token.LexErrorKind.TheVariants.{BadByte, Unclo
 use Rattle.smt_lex.specs.declared.token.Token.{Token}
 use Rattle.smt_lex.specs.Bytes.{is_binary_digit, is_symbol_byte, is_quoted_byte, is_space, is_line_end}
 use Rattle.smt_lex.specs.Grammar.{LongestGap, LongestToken, Reads}
-use Rattle.smt_lex.specs.Scan.{gap_len, text_len, one_more}
-use Rattle.smt_lex.specs.Front.{Front, marked, fraction_of, number_of, based_of, text_of, quoted_end_of, quoted_of, front_of}
+use Rattle.smt_lex.specs.code.Scan.{gap_len, text_len, one_more}
+use Rattle.smt_lex.specs.code.Front.{Front, marked, fraction_of, number_of, based_of, text_of, quoted_end_of, quoted_of, front_of}
 use Rattle.smt_lex.proofs.Runs.{run_passes}
 use Rattle.smt_lex.proofs.Gaps.{gap_sound, gap_unique, gap_is}
 use Rattle.smt_lex.proofs.OneFront.{token_found, token_sound}

@@ -8,8 +8,8 @@ use Rattle.smt_lex.specs.declared.token.TokenKind.{TokenKind}
 use Rattle.smt_lex.specs.declared.token.TokenKind.TheVariants.{Left, Right, Numeral, Decimal, Hex, Binary, Text, Symbol, Keyword}
 use Rattle.smt_lex.specs.Bytes.{is_binary_digit, is_symbol_byte, is_quoted_byte, is_space}
 use Rattle.smt_lex.specs.Grammar.{IsToken, is_run, is_numeral, is_inside_text, EndsToken, LongestGap, LongestToken, Reads}
-use Rattle.smt_lex.specs.Scan.{gap_len}
-use Rattle.smt_lex.specs.Front.{Front, marked, fraction_of, number_of, based_of, text_of, quoted_end_of, quoted_of, front_of}
+use Rattle.smt_lex.specs.code.Scan.{gap_len}
+use Rattle.smt_lex.specs.code.Front.{Front, marked, fraction_of, number_of, based_of, text_of, quoted_end_of, quoted_of, front_of}
 use Rattle.smt_lex.proofs.FirstBytes.{starts, token_starts, no_token_empty}
 use Rattle.smt_lex.proofs.Gaps.{gap_is}
 use Rattle.smt_lex.proofs.OneFront.{token_sound}

@@ -1,6 +1,6 @@
 //! What stands at the front of the bytes: a token of each kind, or a refusal.
 ghost use Rattle.std.specs.Prelude.{◌≡◌, ◌+◌, ◌<◌, ◌^◌, length, IfOk, IfErr};
-ghost use Rattle.smt_lex.specs.Front.{front_of, fraction_of, number_of, based_of, text_of, quoted_of, marked};
+ghost use Rattle.smt_lex.specs.code.Front.{front_of, fraction_of, number_of, based_of, text_of, quoted_of, marked};
 ghost use Rattle.smt_lex.specs.Grammar.{LongestToken, Refuses};
 
 use crate::scan::{
@@ -24,7 +24,7 @@ fn marked(kind: TokenKind, mark: usize, run: usize) -> Front
 }
 
 /// Behind digits: a point and more digits, or nothing that belongs to the number.
-#[tactic(auto, unfolding(crate::specs::Front::fraction_of))]
+#[tactic(auto, unfolding(crate::specs::code::Front::fraction_of))]
 fn fraction(whole: usize, bytes: &[u8]) -> (TokenKind, usize)
     requires { whole + length bytes.now < 2 ^ 64 }
     ensures { result ≡ fraction_of whole bytes.now }
@@ -43,7 +43,7 @@ fn fraction(whole: usize, bytes: &[u8]) -> (TokenKind, usize)
 }
 
 /// Behind a first digit.
-#[tactic(auto, unfolding(crate::specs::Front::number_of))]
+#[tactic(auto, unfolding(crate::specs::code::Front::number_of))]
 fn number(first: u8, rest: &[u8]) -> Front
     requires { length rest.now + 1 < 2 ^ 64 }
     ensures { result ≡ number_of first rest.now }
@@ -56,7 +56,7 @@ fn number(first: u8, rest: &[u8]) -> Front
 }
 
 /// Behind `#`.
-#[tactic(auto, unfolding(crate::specs::Front::based_of))]
+#[tactic(auto, unfolding(crate::specs::code::Front::based_of))]
 fn based(bytes: &[u8]) -> Front
     requires { length bytes.now + 1 < 2 ^ 64 }
     ensures { result ≡ based_of bytes.now }
@@ -69,7 +69,7 @@ fn based(bytes: &[u8]) -> Front
 }
 
 /// Behind an opening quotation mark.
-#[tactic(auto, unfolding(crate::specs::Front::text_of))]
+#[tactic(auto, unfolding(crate::specs::code::Front::text_of))]
 fn text_front(rest: &[u8]) -> Front
     requires { length rest.now + 1 < 2 ^ 64 }
     ensures { result ≡ text_of rest.now }
@@ -81,7 +81,7 @@ fn text_front(rest: &[u8]) -> Front
 }
 
 /// Behind an opening bar.
-#[tactic(auto, unfolding(crate::specs::Front::quoted_of, crate::specs::Front::quoted_end_of))]
+#[tactic(auto, unfolding(crate::specs::code::Front::quoted_of, crate::specs::code::Front::quoted_end_of))]
 fn quoted(rest: &[u8]) -> Front
     requires { length rest.now + 1 < 2 ^ 64 }
     ensures { result ≡ quoted_of rest.now }
@@ -95,7 +95,7 @@ fn quoted(rest: &[u8]) -> Front
 }
 
 /// By the first byte.
-#[tactic(auto, unfolding(crate::specs::Front::front_of))]
+#[tactic(auto, unfolding(crate::specs::code::Front::front_of))]
 fn front_parts(bytes: &[u8]) -> Front
     requires { 0 < length bytes.now }
     ensures { result ≡ front_of bytes.now }

@@ -2,7 +2,7 @@
 ghost use Rattle.std.specs.Prelude.{◌≡◌, List, ℕ, Option, Result, Some, None, Ok, Err, length, ◌≤◌, ◌<◌, ◌+◌};
 ghost use Rattle.smt_lex.specs.declared.token.Token.{Token};
 ghost use Rattle.smt_lex.specs.declared.token.LexError.{LexError};
-ghost use Rattle.smt_lex.specs.Lexing.{err_of};
+ghost use Rattle.smt_lex.specs.code.Lexing.{err_of};
 ghost use Rattle.smt_lex.specs.Grammar.{Reads};
 
 use crate::front::front;
@@ -21,7 +21,7 @@ pub struct Lexer<'a> {
 
 impl<'a> Model for Lexer<'a> {
     ghost use Rattle.std.specs.Prelude.{◌≤◌, length};
-    ghost use Rattle.smt_lex.specs.Lexing.{Lexing};
+    ghost use Rattle.smt_lex.specs.code.Lexing.{Lexing};
 
     ghost Value = { Lexing };
 

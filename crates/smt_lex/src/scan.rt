@@ -4,7 +4,7 @@ ghost use Rattle.std.specs.Char.{is_ascii_digit, is_ascii_hexdigit};
 ghost use Rattle.std.specs.List.{list_any, prefix_len};
 ghost use Rattle.smt_lex.specs.Bytes.{is_space, is_line_end, is_binary_digit, is_symbol_byte, is_quoted_byte};
 ghost use Rattle.smt_lex.specs.Grammar.{LongestGap};
-ghost use Rattle.smt_lex.specs.Scan.{gap_len, text_len};
+ghost use Rattle.smt_lex.specs.code.Scan.{gap_len, text_len};
 
 /// White space: tab, line feed, carriage return, space.
 #[tactic(auto, unfolding(crate::specs::Bytes::is_space))]

@@ -5,7 +5,7 @@ use Rattle.std.proofs.lemmas.List.{reverse-append, append-nil, length-append, le
 use Rattle.smt_lex.specs.declared.token.TokenKind.TheVariants.{Left, Right}
 use Rattle.smt_lex.specs.declared.token.Token.{Token}
 use Rattle.smt_lex.specs.declared.token.LexError.{LexError}
-use Rattle.smt_lex.specs.Lexing.{Lexing, err_of}
+use Rattle.smt_lex.specs.code.Lexing.{Lexing, err_of}
 use Rattle.smt_lex.specs.Grammar.{Reads}
 use Rattle.smt_sexpr.specs.declared.node.Node.{Node}
 use Rattle.smt_sexpr.specs.declared.node.Node.TheVariants.{Leaf, List as ListOf}

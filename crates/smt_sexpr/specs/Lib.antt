@@ -7,5 +7,5 @@ pub mod Commands
 pub mod Laws
 pub use Rattle.smt_lex.specs.Bytes
 pub use Rattle.smt_lex.specs.Grammar
-pub use Rattle.smt_lex.specs.Lexing
+pub use Rattle.smt_lex.specs.code.Lexing
 pub use Rattle.smt_lex.specs.Symbols

@@ -16,7 +16,7 @@ use Rattle.cube_pool.proofs.Orders.{is_none, is_one, times_more}
 use Rattle.cube_pool.proofs.Lists.{first_of, last_of, all_pushed, length_pushed, same_or_not}
 use Rattle.steal_search.specs.declared.dealing.Pace.{Pace}
 use Rattle.steal_search.specs.declared.shared.Worker.{Worker}
-use Rattle.steal_search.specs.Staff.{AllMayWork, AreHanded, AreSeated, IsFirst, MayWork}
+use Rattle.steal_search.specs.code.Staff.{AllMayWork, AreHanded, AreSeated, IsFirst, MayWork}
 
 -- the last worker's seat is joined
 module _ (desk : Place) (problem : Problem) (n : ℕ) (s t : List Worker) (w : Worker) (e : s ≡ t ++ w ∷ []) (seats : AreSeated desk s) (old new : Sight)

@@ -1,10 +1,10 @@
 //! Workers on threads of their own.
 ghost use Rattle.std.specs.Prelude.{◌≡◌, ◌≤◌, ◌<◌, ◌+◌, ◌^◌, [], length, vec_len, None, IfOk, OnOk, IfSome};
 ghost use Rattle.book_core.specs.Verdicts.{IsRight};
-ghost use Rattle.book_search.specs.Deliveries.{IsWaiting};
+ghost use Rattle.book_search.specs.code.Deliveries.{IsWaiting};
 ghost use Rattle.book_lock.specs.Seats.{AllJoined};
 ghost use Rattle.cube_pool.specs.Hands.{AreInOrder};
-ghost use Rattle.steal_search.specs.Staff.{AllMayWork, AreHanded, AreSeated, IsFirst, IsSameWorker, MayWork};
+ghost use Rattle.steal_search.specs.code.Staff.{AllMayWork, AreHanded, AreSeated, IsFirst, IsSameWorker, MayWork};
 
 use crate::dealing::{Pace, deal};
 use crate::worker::go_on;

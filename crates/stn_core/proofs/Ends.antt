@@ -11,7 +11,7 @@ use Rattle.stn_core.specs.Literal.{value_at, IsOver, Holds}
 use Rattle.stn_core.specs.Schedule.{IsGreatestSchedule}
 use Rattle.stn_core.specs.Answer.{IsBest, IsCycleAmong}
 use Rattle.stn_core.specs.Schedule.{IsInRange}
-use Rattle.stn_core.specs.Rounds.{initial_label, label_value, begun, label_at, value_of, round_of, by_of, IsFallen, IsTraced, IsWaiting, IsDone, IsRound, NoneLowered, AreFallen, IsLatest, IsCycleOf}
+use Rattle.stn_core.specs.code.Rounds.{initial_label, label_value, begun, label_at, value_of, round_of, by_of, IsFallen, IsTraced, IsWaiting, IsDone, IsRound, NoneLowered, AreFallen, IsLatest, IsCycleOf}
 
 -- from one round to the next
 begun_at : (labels : List Label) (p : ℕ) → p < length labels → label_at (map begun labels) p ≡ begun (label_at labels p)

@@ -9,7 +9,7 @@ use Rattle.stn_core.specs.Limits.{bound_limit}
 use Rattle.stn_core.specs.declared.literal.Literal.{Literal}
 use Rattle.stn_core.specs.declared.label.Label.{Label}
 use Rattle.stn_core.specs.Literal.{literal_at, value_at, IsOver, Holds}
-use Rattle.stn_core.specs.Rounds.{initial_label, label_at, value_of, last_of, round_of, by_of, IsFallen, IsTraced, IsWaiting, IsDone, IsAbove, IsRound, IsLoweredIn}
+use Rattle.stn_core.specs.code.Rounds.{initial_label, label_at, value_of, last_of, round_of, by_of, IsFallen, IsTraced, IsWaiting, IsDone, IsAbove, IsRound, IsLoweredIn}
 
 -- what a test of the code says
 pub below_from_test : (a b : ℤ) → lt_z a b ≡ true → a <ℤ b

@@ -10,7 +10,7 @@ use Rattle.stn_core.specs.Limits.{points_limit, value_limit}
 use Rattle.stn_core.specs.Literal.{value_at, literal_at, Holds, IsOver}
 use Rattle.stn_core.specs.Schedule.{IsGreatestSchedule}
 use Rattle.stn_core.proofs.Ranges.{in_range_of_greatest}
-use Rattle.stn_core.specs.Uppers.{IsUpper}
+use Rattle.stn_core.specs.code.Uppers.{IsUpper}
 
 -- one lowering keeps the values above every schedule
 pub upper_next : (points : ℕ) (ls : List Literal) (values : List ℤ) (k : ℕ) (v : ℤ) → k < length ls → All (IsOver points) ls → IsUpper points ls values

@@ -8,7 +8,7 @@ use Rattle.std.proofs.lemmas.Bool.{cases_eq}
 use Rattle.stn_core.specs.declared.literal.Literal.{Literal}
 use Rattle.stn_core.specs.declared.label.Label.{Label}
 use Rattle.stn_core.specs.Cycle.{Leads, weight_of, IsNegativeCycle}
-use Rattle.stn_core.specs.Rounds.{value_of, round_of, by_of, IsFallen, AreFallen, IsLatest, IsCycleOf}
+use Rattle.stn_core.specs.code.Rounds.{value_of, round_of, by_of, IsFallen, AreFallen, IsLatest, IsCycleOf}
 
 pub Leads-push : (a : ℕ) (ls : List Literal) (b : ℕ) (l : Literal) → Leads a ls b → l.x ≡ b → Leads a (ls ++ l ∷ []) l.y
 Leads-push a [] b l h e = (e ∙ sym h, refl)

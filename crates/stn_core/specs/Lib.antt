@@ -8,6 +8,5 @@ pub mod Answer
 pub mod Named
 pub mod Net
 pub mod Laws
-pub mod Rounds
-pub mod Uppers
 pub mod RoundsNet
+pub mod code

@@ -1,6 +1,6 @@
 ghost use Rattle.std.specs.Prelude.{◌≡◌, ◌<◌, ◌≤◌, length, IfOk, IfSome, IsSome};
 ghost use Rattle.stn_core.specs.Limits.{points_limit};
-ghost use Rattle.stn_core.specs.Rounds.{round_of, AreFallen, IsCycleOf};
+ghost use Rattle.stn_core.specs.code.Rounds.{round_of, AreFallen, IsCycleOf};
 
 use crate::label::Label;
 use crate::literal::Literals;

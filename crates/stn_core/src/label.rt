@@ -1,7 +1,7 @@
 ghost use Rattle.std.specs.Prelude.{◌≡◌, ◌<◌, ◌≤◌, ◌*◌, length, map, All};
 ghost use Rattle.stn_core.specs.Limits.{points_limit};
 ghost use Rattle.stn_core.specs.Literal.{IsOver};
-ghost use Rattle.stn_core.specs.Rounds.{begun, IsRound, NoneLowered, TellsLowered};
+ghost use Rattle.stn_core.specs.code.Rounds.{begun, IsRound, NoneLowered, TellsLowered};
 
 use crate::limits::Value;
 use crate::literal::Literal;

@@ -1,7 +1,7 @@
 ghost use Rattle.std.specs.Prelude.{◌≡◌, ◌<◌, ◌≤◌, length, ℕ, slice_set, IsTrue, All, pos, neg_ℤ, ◌+ℤ◌, ◌<ℤ◌, ◌≤ℤ◌};
 ghost use Rattle.stn_core.specs.Limits.{value_limit};
 ghost use Rattle.stn_core.specs.Literal.{IsOver, HoldEach, value_at, literal_at, most_allowed};
-ghost use Rattle.stn_core.specs.Uppers.{IsUpper};
+ghost use Rattle.stn_core.specs.code.Uppers.{IsUpper};
 
 use crate::limits::{VALUE_LIMIT, Value};
 use crate::literal::{Literal, holds};

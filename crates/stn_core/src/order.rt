@@ -1,6 +1,6 @@
 ghost use Rattle.std.specs.Prelude.{length, All};
 ghost use Rattle.stn_core.specs.Literal.{IsOver};
-ghost use Rattle.stn_core.specs.Uppers.{IsUpper};
+ghost use Rattle.stn_core.specs.code.Uppers.{IsUpper};
 
 use crate::limits::Value;
 use crate::literal::Literal;

@@ -2,7 +2,7 @@ ghost use Rattle.std.specs.Prelude.{◌≡◌, ◌≤◌, All, IfOk, map};
 ghost use Rattle.stn_core.specs.Answer.{IsAnswer};
 ghost use Rattle.stn_core.specs.Limits.{points_limit};
 ghost use Rattle.stn_core.specs.Literal.{IsOver};
-ghost use Rattle.stn_core.specs.Rounds.{label_value, IsRound, NoneLowered};
+ghost use Rattle.stn_core.specs.code.Rounds.{label_value, IsRound, NoneLowered};
 
 use crate::cycle::cycle_from;
 use crate::label::{INITIAL, Label, begin_round, lower};

@@ -2,7 +2,7 @@ ghost use Rattle.std.specs.Prelude.{◌≤◌, length, All, IfOk, IfSome};
 ghost use Rattle.stn_core.specs.Answer.{IsAnswer, IsCycleAmong};
 ghost use Rattle.stn_core.specs.Limits.{points_limit};
 ghost use Rattle.stn_core.specs.Literal.{IsOver};
-ghost use Rattle.stn_core.specs.Uppers.{IsUpper};
+ghost use Rattle.stn_core.specs.code.Uppers.{IsUpper};
 
 use crate::limits::Value;
 use crate::literal::{Literal, Literals};

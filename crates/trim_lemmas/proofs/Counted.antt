@@ -9,7 +9,7 @@ use Rattle.refute_tree.specs.declared.lemma.Lemma.{Lemma}
 use Rattle.refute_tree.specs.Moves.{NoneGrows}
 use Rattle.trim_lemmas.specs.declared.places.Places.{Places}
 use Rattle.trim_lemmas.specs.Trimming.{place, renumbered_number, renumbered_step, renumbered}
-use Rattle.trim_lemmas.specs.Marks.{ArePlaces, number_by, step_by, lemma_by}
+use Rattle.trim_lemmas.specs.code.Marks.{ArePlaces, number_by, step_by, lemma_by}
 
 pub place_zero : (bs : List Bool) → place bs 0 ≡ 0
 place_zero [] = refl

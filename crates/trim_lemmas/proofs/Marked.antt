@@ -9,7 +9,7 @@ use Rattle.refute_tree.specs.declared.step.Step.{Step}
 use Rattle.refute_tree.specs.declared.step.Step.TheVariants.{Cycle, Input, Lemma as Earlier, Clash, Either}
 use Rattle.refute_tree.specs.declared.lemma.Lemma.{Lemma}
 use Rattle.trim_lemmas.specs.Trimming.{Cites, IsNeeded, root, cited, AreNeeded, IsLast, IsWanted}
-use Rattle.trim_lemmas.specs.Marks.{marked_number, marked_step, marked, steps_at, marked_by, swept, with_last}
+use Rattle.trim_lemmas.specs.code.Marks.{marked_number, marked_step, marked, steps_at, marked_by, swept, with_last}
 
 abbrev IsMarked : List Bool → ℕ → Type 0
 IsMarked bs j = get_or bs j false ≡ true

@@ -14,7 +14,7 @@ use Rattle.refute_tree.specs.Trees.{clause_of, Tree, Forest, leaf, clash, cases,
 use Rattle.refute_tree.specs.Batches.{LemmaBatch, AreRefuted, NamesOver, LemmaIsOver}
 use Rattle.trim_lemmas.specs.Trimming.{root, cited, AreNeeded, IsLast, IsWanted, place, renumbered_number, renumbered_step, renumbered, shortened, IsTrimmed, IsTrimmedBatch, StaysRefutation, StaysRefuted, StaysOver, StaysStated, last_clause}
 use Rattle.trim_lemmas.specs.declared.places.Places.{Places}
-use Rattle.trim_lemmas.specs.Marks.{ArePlaces, lemma_by}
+use Rattle.trim_lemmas.specs.code.Marks.{ArePlaces, lemma_by}
 use Rattle.trim_lemmas.proofs.Counted.{lemmas_same}
 use Rattle.trim_lemmas.proofs.Picked.{picked_none, comes_from, goes_to, get_mapped, map_get, All-picked}
 

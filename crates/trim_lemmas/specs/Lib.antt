@@ -1,5 +1,5 @@
 pub mod Trimming
-pub mod Marks
 pub use Rattle.refute_tree.specs.Trees
-pub use Rattle.refute_tree.specs.Views
+pub use Rattle.refute_tree.specs.code.Views
 pub use Rattle.refute_tree.specs.Batches
+pub mod code

@@ -1,8 +1,8 @@
 //! Which lemmas of a list the marked ones need.
 ghost use Rattle.std.specs.Prelude.{◌≡◌, ◌≤◌, length, IfOk};
-ghost use Rattle.refute_tree.specs.Views.{step_seen};
+ghost use Rattle.refute_tree.specs.code.Views.{step_seen};
 ghost use Rattle.trim_lemmas.specs.Trimming.{AreNeeded, IsLast, IsWanted};
-ghost use Rattle.trim_lemmas.specs.Marks.{marked_step, marked, swept, with_last};
+ghost use Rattle.trim_lemmas.specs.code.Marks.{marked_step, marked, swept, with_last};
 
 use refute_tree::{Lemma, Reader, StepView};
 use std::alloc::{AllocError, Global};

@@ -1,7 +1,7 @@
 //! The numbers of the lemmas that are kept, among one another.
 ghost use Rattle.std.specs.Prelude.{◌≡◌, ◌<◌, ◌+◌, ◌^◌, length, map, IfOk};
 ghost use Rattle.refute_tree.specs.Moves.{NoneGrows};
-ghost use Rattle.trim_lemmas.specs.Marks.{ArePlaces, number_by, step_by};
+ghost use Rattle.trim_lemmas.specs.code.Marks.{ArePlaces, number_by, step_by};
 
 use refute_tree::Steps;
 use std::alloc::{AllocError, Global};

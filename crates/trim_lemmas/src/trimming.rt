@@ -5,7 +5,7 @@ ghost use Rattle.std.specs.Vec.{vec_len};
 ghost use Rattle.trim_lemmas.specs.Trimming.{shortened, IsTrimmed, StaysRefutation, StaysOver, last_clause};
 ghost use Rattle.trim_lemmas.specs.Trimming.{place, IsTrimmedBatch, StaysRefuted, StaysStated};
 ghost use Rattle.refute_tree.specs.Moves.{NoneGrows};
-ghost use Rattle.trim_lemmas.specs.Marks.{lemma_by, number_by};
+ghost use Rattle.trim_lemmas.specs.code.Marks.{lemma_by, number_by};
 
 use crate::marking::{needed_by, needed_lemmas};
 use crate::places::Places;

@@ -1,7 +1,7 @@
 -- What was found of a source.
 use Rattle.std.specs.Prelude.{◌≢◌, ℕ, List}
 use Rattle.cert_text.specs.declared.entry.Version.TheVariants.{One}
-use Rattle.cert_stream.specs.Streams.{whole_text}
+use Rattle.cert_stream.specs.code.Streams.{whole_text}
 use Rattle.dtp_check.specs.declared.judgement.Judgement.TheVariants.{Accepted}
 use Rattle.dtp_check.specs.Judged.{IsJudged}
 use Rattle.dtp_convert.specs.declared.convert.Examined.{Examined}

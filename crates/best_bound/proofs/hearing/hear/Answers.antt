@@ -5,7 +5,7 @@ use Rattle.refute_tree.specs.Trees.{IsRefutation}
 use Rattle.refute_tree.specs.Batches.{LemmaIsOver}
 use Rattle.book_core.specs.Verdicts.{IsRight}
 use Rattle.best_values.specs.Bests.{objective}
-use Rattle.better_schedules.specs.Descents.{IsDescent, IsQuestion}
+use Rattle.better_schedules.specs.code.Descents.{IsDescent, IsQuestion}
 use Rattle.better_schedules.proofs.Descending.{within_limit, middle_most}
 use Rattle.best_bound.specs.Answers.{IsBestAnswer}
 use Rattle.best_bound.proofs.Ending.{least_is}

@@ -1,5 +1,5 @@
 use Rattle.std.proofs.Common.{subst}
-use Rattle.best_bound.specs.Hearings.{IsHeard}
+use Rattle.best_bound.specs.code.Hearings.{IsHeard}
 use Rattle.best_bound.proofs.Replies.{heard_at_once, heard_later}
 use Rattle.best_bound.proofs.one.descend.Goals.{in-Heard, in-Open+in_ok-verdict-in-Open+in_ok-heard-in-Open}
 use Rattle.best_bound.proofs.one.descend.Goals as goal

@@ -1,5 +1,5 @@
 use Rattle.std.specs.Prelude.{IfSome}
-use Rattle.better_schedules.specs.Descents.{IsDescent, left_to_ask}
+use Rattle.better_schedules.specs.code.Descents.{IsDescent, left_to_ask}
 use Rattle.kept_search.specs.Kept.{IsSearchOf}
 use Rattle.best_bound.proofs.shared.descend.Given as goal
 

@@ -3,7 +3,7 @@ use Rattle.std.specs.Int.{w128}
 use Rattle.std.proofs.lemmas.Int.{to_z-of_z}
 use Rattle.std.proofs.lemmas.Grind.{common_steps}
 use Rattle.stn_core.specs.Literal.{value_at}
-use Rattle.better_schedules.specs.Heights.{IsHeight}
+use Rattle.better_schedules.specs.code.Heights.{IsHeight}
 use Rattle.better_schedules.proofs.Gaps.{heights_push}
 use Rattle.better_schedules.proofs.above.heights.Goals as goal
 

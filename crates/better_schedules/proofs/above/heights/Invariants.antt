@@ -1,6 +1,6 @@
 use Rattle.std.proofs.Common.{◌≡◌, ◌<◌, ℕ, length, slice_index}
 use Rattle.stn_core.specs.Literal.{value_at}
-use Rattle.better_schedules.specs.Heights.{IsHeight}
+use Rattle.better_schedules.specs.code.Heights.{IsHeight}
 use Rattle.better_schedules.proofs.above.heights.Given as goal
 
 abbrev pub invariant-loop-value : goal.invariant-loop-value

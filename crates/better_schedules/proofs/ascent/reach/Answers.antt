@@ -2,7 +2,7 @@ use Rattle.std.proofs.Common.{sym, subst, ℕ, All}
 use Rattle.std.specs.List.Sorted.{IsNonDecreasing}
 use Rattle.std.specs.Prelude.{IsPermutation}
 use Rattle.std.proofs.lemmas.List.Sorted.{All-permutation, IsPermutation-sym, IsNonDecreasingBy-from_sort}
-use Rattle.better_schedules.specs.Heights.{IsApart}
+use Rattle.better_schedules.specs.code.Heights.{IsApart}
 use Rattle.better_schedules.proofs.ascent.reach.Goals as goal
 
 pub climb-requires-clause-sorted : goal.climb-requires-clause-sorted

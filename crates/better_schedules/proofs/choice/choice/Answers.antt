@@ -3,7 +3,7 @@ use Rattle.std.proofs.lemmas.Grind.{common_steps}
 use Rattle.std.proofs.lemmas.List.{get_or_default}
 use Rattle.stn_core.specs.declared.literal.Literal.{Literal}
 use Rattle.stn_core.specs.Problem.{ClauseHolds}
-use Rattle.better_schedules.specs.Choices.{IsTrueOf}
+use Rattle.better_schedules.specs.code.Choices.{IsTrueOf}
 use Rattle.better_schedules.proofs.Choosing.{choice_push}
 use Rattle.better_schedules.proofs.choice.choice.Goals as goal
 

@@ -1,6 +1,6 @@
 use Rattle.std.proofs.Common.{ℕ, [], ◌≡◌, ◌<◌, length, slice_index_or}
 use Rattle.stn_core.specs.Literal.{literal_at}
-use Rattle.better_schedules.specs.Choices.{IsTrueOf}
+use Rattle.better_schedules.specs.code.Choices.{IsTrueOf}
 use Rattle.better_schedules.proofs.choice.choice.Given as goal
 
 abbrev pub invariant-loop-clause : goal.invariant-loop-clause

@@ -1,7 +1,7 @@
 use Rattle.std.proofs.Common.{subst, List}
 use Rattle.stn_core.specs.declared.literal.Literal.{Literal}
 use Rattle.stn_core.specs.Answer.{IsAnswer}
-use Rattle.better_schedules.specs.Choices.{IsChoice}
+use Rattle.better_schedules.specs.code.Choices.{IsChoice}
 use Rattle.better_schedules.proofs.Choosing.{no_cycle, flat}
 use Rattle.better_schedules.proofs.tight.flattened.Goals as goal
 

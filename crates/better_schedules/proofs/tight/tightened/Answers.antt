@@ -1,7 +1,7 @@
 use Rattle.std.proofs.Common.{◌≡◌, ◌∙◌, ◌+◌, subst, List, take, ap, ℤ}
 use Rattle.stn_core.specs.declared.literal.Literal.{Literal}
 use Rattle.stn_core.specs.Answer.{IsAnswer}
-use Rattle.better_schedules.specs.Choices.{IsChoice}
+use Rattle.better_schedules.specs.code.Choices.{IsChoice}
 use Rattle.better_schedules.proofs.Choosing.{tight}
 use Rattle.better_schedules.proofs.tight.tightened.Goals as goal
 

@@ -1,5 +1,5 @@
 use Rattle.std.proofs.Common.{◌≤◌, ◌*◌, subst, List, ℕ, length, All}
-use Rattle.better_schedules.specs.Heights.{IsApart, IsSetUpTo}
+use Rattle.better_schedules.specs.code.Heights.{IsApart, IsSetUpTo}
 use Rattle.better_schedules.proofs.Gaps.{free_set}
 use Rattle.better_schedules.proofs.unbounded.unbounded_set.Goals as goal
 

@@ -3,7 +3,7 @@ use Rattle.refute_tree.specs.declared.lemma.Lemma.{Lemma as Stated}
 use Rattle.refute_tree.specs.Limits.{lemmas_limit}
 use Rattle.refute_tree.specs.Batches.{LemmaBatch, moved}
 use Rattle.book_core.specs.Shared.{lemmas_of}
-use Rattle.book_core.specs.Handed.{handed_in, IsMovable}
+use Rattle.book_core.specs.code.Handed.{handed_in, IsMovable}
 use Rattle.book_core.proofs.MovedBack.{movable, moved_back}
 use Rattle.book_core.proofs.prepared.prepare.Goals as goal
 

@@ -4,7 +4,7 @@ use Rattle.book_lock.specs.declared.cube.Dealt.{Dealt}
 use Rattle.std.specs.Prelude.{IfSome}
 use Rattle.book_core.specs.Runs.{state_of}
 use Rattle.book_lock.specs.Seats.{IsCubeNear}
-use Rattle.book_lock.specs.Looks.{Looked}
+use Rattle.book_lock.specs.code.Looks.{Looked}
 use Rattle.book_lock.proofs.Taking.{looked_from, near_taken}
 use Rattle.book_lock.proofs.looking.look.Goals as goal
 

@@ -1,6 +1,6 @@
 use Rattle.std.proofs.Common.{◌∙◌, ap, ◌++◌, [], refl}
 use Rattle.stn_core.specs.declared.literal.Literal.{Literal}
-use Rattle.book_search.specs.Base.{unit_steps, steps_of}
+use Rattle.book_search.specs.code.Base.{unit_steps, steps_of}
 use Rattle.book_search.proofs.Bases.{one_more, all_looked_at}
 use Rattle.book_search.proofs.base.closing_steps.Goals as goal
 

@@ -1,6 +1,6 @@
 use Rattle.std.proofs.Common.{◌≡◌, ◌++◌, [], flat_map, take}
 use Rattle.stn_core.specs.declared.literal.Literal.{Literal}
-use Rattle.book_search.specs.Base.{unit_steps}
+use Rattle.book_search.specs.code.Base.{unit_steps}
 use Rattle.book_search.proofs.base.closing_steps.Given as goal
 
 abbrev pub invariant-loop-literal : goal.invariant-loop-literal

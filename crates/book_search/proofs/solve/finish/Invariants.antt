@@ -1,6 +1,6 @@
 use Rattle.std.proofs.Common.{◌≡◌}
 use Rattle.book_core.specs.Ends.{left_in}
-use Rattle.book_search.specs.Deliveries.{IsWaiting}
+use Rattle.book_search.specs.code.Deliveries.{IsWaiting}
 use Rattle.book_search.proofs.solve.finish.Given as goal
 
 abbrev pub invariant-turns : goal.invariant-turns

@@ -1,5 +1,5 @@
 use Rattle.std.proofs.Common.{take}
-use Rattle.branch_search.specs.Clauses.{IsFalse}
+use Rattle.branch_search.specs.code.Clauses.{IsFalse}
 use Rattle.branch_search.proofs.clauses.clause_holds.Given as goal
 
 abbrev pub invariant-loop-literal : goal.invariant-loop-literal

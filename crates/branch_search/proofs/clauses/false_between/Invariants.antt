@@ -1,4 +1,4 @@
-use Rattle.branch_search.specs.Clauses.{HoldBetween}
+use Rattle.branch_search.specs.code.Clauses.{HoldBetween}
 use Rattle.branch_search.proofs.clauses.false_between.Given as goal
 
 abbrev pub invariant-loop-i : goal.invariant-loop-i

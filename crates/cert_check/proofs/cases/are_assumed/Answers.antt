@@ -1,5 +1,5 @@
 use Rattle.std.proofs.Common.{arith, ◌<◌, length}
-use Rattle.refute_tree.specs.Views.{literals_of}
+use Rattle.refute_tree.specs.code.Views.{literals_of}
 use Rattle.cert_check.specs.Tests.{is_assumed}
 use Rattle.cert_check.proofs.Tested.{all_more, all_not}
 use Rattle.cert_check.proofs.cases.are_assumed.Goals as goal

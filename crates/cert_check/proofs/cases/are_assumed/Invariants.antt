@@ -1,6 +1,6 @@
 use Rattle.std.proofs.Common.{◌≡◌, drop}
 use Rattle.std.specs.List.{list_all}
-use Rattle.refute_tree.specs.Views.{literals_of}
+use Rattle.refute_tree.specs.code.Views.{literals_of}
 use Rattle.cert_check.specs.Tests.{is_assumed}
 use Rattle.cert_check.proofs.cases.are_assumed.Given as goal
 

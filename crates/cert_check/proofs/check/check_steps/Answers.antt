@@ -1,9 +1,9 @@
 use Rattle.std.proofs.Common.{◌≡◌, ◌∷◌, ap, ◌∙◌, length, List, true, arith}
 use Rattle.stn_core.specs.declared.literal.Literal.{Literal}
 use Rattle.refute_tree.specs.declared.step.Step.{Step}
-use Rattle.refute_tree.specs.Views.{step_seen}
+use Rattle.refute_tree.specs.code.Views.{step_seen}
 use Rattle.cert_check.specs.Flaws.{steps_flaw}
-use Rattle.cert_check.specs.Walks.{open_cases}
+use Rattle.cert_check.specs.code.Walks.{open_cases}
 use Rattle.cert_check.proofs.Steps.{begun, turned}
 use Rattle.cert_check.proofs.check.check_steps.Goals as goal
 

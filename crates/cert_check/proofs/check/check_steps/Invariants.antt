@@ -1,7 +1,7 @@
 use Rattle.std.proofs.Common.{◌≡◌, ◌+◌, ◌∷◌, [], map, length}
 use Rattle.stn_core.specs.Literal.{negation_of}
 use Rattle.cert_check.specs.Flaws.{steps_flaw}
-use Rattle.cert_check.specs.Walks.{cases_open, IsWalk}
+use Rattle.cert_check.specs.code.Walks.{cases_open, IsWalk}
 use Rattle.cert_check.proofs.check.check_steps.Given as goal
 
 abbrev pub invariant-steps : goal.invariant-steps

@@ -1,6 +1,6 @@
 use Rattle.std.proofs.Common.{ap, arith}
 use Rattle.std.proofs.lemmas.List.{take_rest}
-use Rattle.smt_lex.specs.Lexing.{Lexing}
+use Rattle.smt_lex.specs.code.Lexing.{Lexing}
 use Rattle.cert_read.proofs.QuickTexts.{quick_found}
 use Rattle.cert_read.proofs.line.quick_item.Goals as goal
 

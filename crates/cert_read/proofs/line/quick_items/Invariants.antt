@@ -1,5 +1,5 @@
 use Rattle.std.proofs.Common.{◌≡◌, ◌-◌, length}
-use Rattle.cert_read.specs.Quick.{ReadsTo}
+use Rattle.cert_read.specs.code.Quick.{ReadsTo}
 use Rattle.cert_read.proofs.line.quick_items.Given as goal
 
 abbrev pub invariant-loop-parts : goal.invariant-loop-parts

@@ -1,5 +1,5 @@
 use Rattle.cert_text.specs.Form.{literal_sexpr}
-use Rattle.cert_read.specs.Quick.{LiteralFits}
+use Rattle.cert_read.specs.code.Quick.{LiteralFits}
 use Rattle.cert_read.proofs.QuickTexts.{adds_more, adds_all}
 use Rattle.cert_read.proofs.quick.literals_behind.Goals as goal
 

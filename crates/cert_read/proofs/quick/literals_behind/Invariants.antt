@@ -1,6 +1,6 @@
 use Rattle.std.proofs.Common.{length}
 use Rattle.cert_text.specs.Form.{literal_sexpr}
-use Rattle.cert_read.specs.Quick.{LiteralFits, Adds}
+use Rattle.cert_read.specs.code.Quick.{LiteralFits, Adds}
 use Rattle.cert_read.proofs.quick.literals_behind.Given as goal
 
 abbrev pub invariant-loop-literal : goal.invariant-loop-literal

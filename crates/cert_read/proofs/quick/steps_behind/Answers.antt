@@ -1,6 +1,6 @@
 use Rattle.std.proofs.Common.{◌≡◌, []}
 use Rattle.cert_text.specs.Form.{step_sexpr}
-use Rattle.cert_read.specs.Quick.{StepFits}
+use Rattle.cert_read.specs.code.Quick.{StepFits}
 use Rattle.cert_read.proofs.QuickTexts.{adds_more, adds_all}
 use Rattle.cert_read.proofs.quick.steps_behind.Goals as goal
 

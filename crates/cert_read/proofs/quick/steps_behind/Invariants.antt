@@ -1,6 +1,6 @@
 use Rattle.std.proofs.Common.{length, []}
 use Rattle.cert_text.specs.Form.{step_sexpr}
-use Rattle.cert_read.specs.Quick.{StepFits, Adds}
+use Rattle.cert_read.specs.code.Quick.{StepFits, Adds}
 use Rattle.cert_read.proofs.quick.steps_behind.Given as goal
 
 abbrev pub invariant-loop-steps : goal.invariant-loop-steps

@@ -1,6 +1,6 @@
 use Rattle.std.proofs.Common.{◌≡◌, ◌<◌, length, take, arith}
 use Rattle.std.specs.Vec.{vec_len}
-use Rattle.refute_tree.specs.Views.{literals_of}
+use Rattle.refute_tree.specs.code.Views.{literals_of}
 use Rattle.cert_text.proofs.EachLiteral.{each_more}
 use Rattle.cert_text.proofs.KeptFronts.{front_behind, front_kept}
 use Rattle.cert_text.proofs.writer.write_each_behind.Goals as goal

@@ -2,7 +2,7 @@ use Rattle.std.proofs.Common.{◌≡◌, ◌++◌, map, drop, take}
 use Rattle.std.specs.Vec.{vec_len}
 use Rattle.smt_sexpr.specs.Printing.{text_behind}
 use Rattle.smt_sexpr.specs.Shapes.{items_of}
-use Rattle.refute_tree.specs.Views.{literals_of}
+use Rattle.refute_tree.specs.code.Views.{literals_of}
 use Rattle.cert_text.specs.Form.{literal_sexpr}
 use Rattle.cert_text.proofs.writer.write_each_behind.Given as goal
 

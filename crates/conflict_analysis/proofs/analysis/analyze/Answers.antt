@@ -1,6 +1,6 @@
 use Rattle.std.proofs.Common.{List, length, refl, subst, sym}
 use Rattle.conflict_analysis.specs.declared.entry.Role.{Role}
-use Rattle.conflict_analysis.specs.Trails.{IsConflict, StandsUsed}
+use Rattle.conflict_analysis.specs.code.Trails.{IsConflict, StandsUsed}
 use Rattle.conflict_analysis.proofs.Analyzed.{learned_by, denials_by, used_conflict}
 use Rattle.conflict_analysis.proofs.Passing.{waiting_start}
 use Rattle.conflict_analysis.proofs.analysis.analyze.Goals as goal

@@ -1,5 +1,5 @@
 use Rattle.std.proofs.Common.{All}
-use Rattle.conflict_analysis.specs.Trails.{DeniesKept}
+use Rattle.conflict_analysis.specs.code.Trails.{DeniesKept}
 use Rattle.conflict_analysis.proofs.Marks.{KeepsPassed}
 use Rattle.conflict_analysis.proofs.analysis.kept_clause.Given as goal
 

@@ -1,6 +1,6 @@
 use Rattle.std.proofs.Common.{◌≡◌, ◌⊎◌, ℕ, ◌<◌}
 use Rattle.stn_core.specs.Literal.{negation_of, literal_at}
-use Rattle.conflict_analysis.specs.Leaves.{IsFewer, StandsAssumed}
+use Rattle.conflict_analysis.specs.code.Leaves.{IsFewer, StandsAssumed}
 use Rattle.conflict_analysis.proofs.leaves.assume_others.Given as goal
 
 abbrev pub invariant-loop-q : goal.invariant-loop-q

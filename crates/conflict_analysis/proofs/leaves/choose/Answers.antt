@@ -4,8 +4,8 @@ use Rattle.stn_core.specs.declared.literal.Literal.{Literal}
 use Rattle.stn_core.specs.Literal.{negation_of, literal_at}
 use Rattle.conflict_analysis.specs.declared.entry.Source.{Source}
 use Rattle.conflict_analysis.specs.declared.entry.Reason.TheVariants.{Clause as ByClause}
-use Rattle.conflict_analysis.specs.Trails.{source_clause}
-use Rattle.conflict_analysis.specs.Leaves.{StandsAssumed}
+use Rattle.conflict_analysis.specs.code.Trails.{source_clause}
+use Rattle.conflict_analysis.specs.code.Leaves.{StandsAssumed}
 use Rattle.conflict_analysis.proofs.Marks.{reason_is, literal_is}
 use Rattle.conflict_analysis.proofs.Chosen.{chosen_clause, chosen_pair, chosen_cycle}
 use Rattle.conflict_analysis.proofs.leaves.choose.Goals as goal

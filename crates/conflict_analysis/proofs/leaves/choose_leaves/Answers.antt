@@ -1,5 +1,5 @@
 use Rattle.std.proofs.Common.{◌≡◌, arith, ℕ, subst}
-use Rattle.conflict_analysis.specs.Leaves.{IsChosen}
+use Rattle.conflict_analysis.specs.code.Leaves.{IsChosen}
 use Rattle.conflict_analysis.proofs.Chosen.{chosen_fewer, cycle_stands, conflict_assumed}
 use Rattle.conflict_analysis.proofs.leaves.choose_leaves.Goals as goal
 

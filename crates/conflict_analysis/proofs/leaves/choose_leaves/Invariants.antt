@@ -1,5 +1,5 @@
 use Rattle.std.proofs.Common.{◌≤◌, length}
-use Rattle.conflict_analysis.specs.Leaves.{IsChosen}
+use Rattle.conflict_analysis.specs.code.Leaves.{IsChosen}
 use Rattle.conflict_analysis.proofs.leaves.choose_leaves.Given as goal
 
 abbrev pub invariant-forth : goal.invariant-forth

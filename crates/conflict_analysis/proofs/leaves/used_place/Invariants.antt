@@ -1,5 +1,5 @@
 use Rattle.std.proofs.Common.{◌≡◌, ℕ, ◌<◌}
-use Rattle.conflict_analysis.specs.Trails.{on_trail, role_at, IsUsed}
+use Rattle.conflict_analysis.specs.code.Trails.{on_trail, role_at, IsUsed}
 use Rattle.conflict_analysis.proofs.leaves.used_place.Given as goal
 
 abbrev pub invariant-loop-k : goal.invariant-loop-k

@@ -1,6 +1,6 @@
 use Rattle.std.proofs.Common.{◌≤◌, length}
-use Rattle.conflict_analysis.specs.Trails.{IsMarked}
-use Rattle.conflict_analysis.specs.Places.{AreWaiting, ArePassed}
+use Rattle.conflict_analysis.specs.code.Trails.{IsMarked}
+use Rattle.conflict_analysis.specs.code.Places.{AreWaiting, ArePassed}
 use Rattle.conflict_analysis.proofs.marking.mark_back.Given as goal
 
 abbrev pub invariant-back : goal.invariant-back

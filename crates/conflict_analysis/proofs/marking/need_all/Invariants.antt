@@ -1,7 +1,7 @@
 use Rattle.std.proofs.Common.{◌≡◌, ℕ, ◌<◌}
-use Rattle.conflict_analysis.specs.Trails.{StandsUsed, IsMarkedMore}
+use Rattle.conflict_analysis.specs.code.Trails.{StandsUsed, IsMarkedMore}
 use Rattle.stn_core.specs.Literal.{literal_at}
-use Rattle.conflict_analysis.specs.Places.{KeepsWaiting}
+use Rattle.conflict_analysis.specs.code.Places.{KeepsWaiting}
 use Rattle.conflict_analysis.proofs.marking.need_all.Given as goal
 
 abbrev pub invariant-loop-q : goal.invariant-loop-q

@@ -1,5 +1,5 @@
 use Rattle.std.proofs.Common.{arith, subst, sym, ◌∙◌}
-use Rattle.conflict_analysis.specs.Trails.{Stands, StandsUsed}
+use Rattle.conflict_analysis.specs.code.Trails.{Stands, StandsUsed}
 use Rattle.conflict_analysis.proofs.Marks.{marked_twice, denials_more, denials_past}
 use Rattle.conflict_analysis.proofs.Passing.{waiting_twice}
 use Rattle.conflict_analysis.proofs.marking.need_denials.Goals as goal

@@ -1,6 +1,6 @@
 use Rattle.std.proofs.Common.{ℕ, List, subst}
 use Rattle.conflict_analysis.specs.declared.entry.Role.{Role}
-use Rattle.conflict_analysis.specs.Places.{KeepsWaiting}
+use Rattle.conflict_analysis.specs.code.Places.{KeepsWaiting}
 use Rattle.conflict_analysis.proofs.marking.turn.Goals as goal
 
 pub returns-in_ok-resolve-clause-waiting : goal.returns-in_ok-resolve-clause-waiting

@@ -1,5 +1,5 @@
 use Rattle.std.proofs.Common.{arith, length, sym, subst, ◌∙◌}
-use Rattle.conflict_analysis.specs.Trails.{StandsUsed}
+use Rattle.conflict_analysis.specs.code.Trails.{StandsUsed}
 use Rattle.conflict_analysis.proofs.Shut.{assumed_next}
 use Rattle.conflict_analysis.proofs.spine.is_clash.Goals as goal
 

@@ -1,5 +1,5 @@
 use Rattle.std.proofs.Common.{[], ◌∷◌}
-use Rattle.conflict_analysis.specs.Spines.{step_of}
+use Rattle.conflict_analysis.specs.code.Spines.{step_of}
 use Rattle.conflict_analysis.proofs.Shut.{denied_used, cases_close, grows_twice}
 use Rattle.conflict_analysis.proofs.spine.push_cases.Goals as goal
 

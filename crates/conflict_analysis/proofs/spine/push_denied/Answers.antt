@@ -3,7 +3,7 @@ use Rattle.refute_tree.specs.declared.step.Step.TheVariants.{Clash}
 use Rattle.conflict_analysis.specs.declared.entry.Source.{Source}
 use Rattle.conflict_analysis.specs.declared.entry.Source.TheVariants.{Input as OfInput}
 use Rattle.conflict_analysis.specs.declared.entry.Conflict.TheVariants.{Clause as OfClause}
-use Rattle.conflict_analysis.specs.Trails.{IsConflict, IsKnown, StandsUsed}
+use Rattle.conflict_analysis.specs.code.Trails.{IsConflict, IsKnown, StandsUsed}
 use Rattle.conflict_analysis.proofs.Shut.{denied_used, clash_closes}
 use Rattle.conflict_analysis.proofs.spine.push_denied.Goals as goal
 use Rattle.conflict_analysis.proofs.spine.push_denied.Goals.{in-Lemma, in-Input+else-is_clash}

@@ -1,5 +1,5 @@
 use Rattle.std.proofs.Common.{◌≤◌}
-use Rattle.conflict_analysis.specs.Spines.{Grows, Assumes, AreShut}
+use Rattle.conflict_analysis.specs.code.Spines.{Grows, Assumes, AreShut}
 use Rattle.conflict_analysis.proofs.spine.push_leaves.Given as goal
 
 abbrev pub invariant-loop-q : goal.invariant-loop-q

@@ -1,6 +1,6 @@
 use Rattle.std.proofs.Common.{arith, ◌≡◌, ℕ, List, length, drop, subst, sym}
 use Rattle.refute_tree.specs.declared.step.Step.{Step}
-use Rattle.conflict_analysis.specs.Spines.{AreOpened, Refutes}
+use Rattle.conflict_analysis.specs.code.Spines.{AreOpened, Refutes}
 use Rattle.conflict_analysis.proofs.Written.{AreWritten, written_first, written_next, written_all}
 use Rattle.conflict_analysis.proofs.spine.steps_for.Goals as goal
 

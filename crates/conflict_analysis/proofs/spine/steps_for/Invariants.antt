@@ -1,5 +1,5 @@
 use Rattle.std.proofs.Common.{◌≤◌, length, drop}
-use Rattle.conflict_analysis.specs.Spines.{AreOpened}
+use Rattle.conflict_analysis.specs.code.Spines.{AreOpened}
 use Rattle.conflict_analysis.proofs.Written.{AreWritten}
 use Rattle.conflict_analysis.proofs.spine.steps_for.Given as goal
 

@@ -1,6 +1,6 @@
 use Rattle.std.proofs.Common.{◌≡◌, ◌≤◌, ◌<◌, ℕ, length, true}
 use Rattle.std.specs.Prelude.{slice_index}
-use Rattle.conflict_analysis.specs.Leaves.{at_leaves}
+use Rattle.conflict_analysis.specs.code.Leaves.{at_leaves}
 use Rattle.conflict_analysis.proofs.tables.clear.Given as goal
 
 abbrev pub invariant-loop-k : goal.invariant-loop-k

@@ -1,6 +1,6 @@
 use Rattle.std.proofs.Common.{◌≡◌, ◌≤◌, ◌<◌, ℕ, length}
 use Rattle.std.specs.Prelude.{slice_index}
-use Rattle.conflict_analysis.specs.Trails.{role_at, IsUsed}
+use Rattle.conflict_analysis.specs.code.Trails.{role_at, IsUsed}
 use Rattle.conflict_analysis.proofs.tables.unmark.Given as goal
 
 abbrev pub invariant-loop-k : goal.invariant-loop-k

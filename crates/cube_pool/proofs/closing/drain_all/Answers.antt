@@ -1,7 +1,7 @@
 use Rattle.std.proofs.Common.{◌≡◌, ◌∙◌, ap, ◌++◌, ℕ, List}
 use Rattle.crossbeam_deque.specs.Handles.{worker_flavor, worker_view}
 use Rattle.cube_pool.specs.Lanes.{whole}
-use Rattle.cube_pool.specs.Closings.{Lane}
+use Rattle.cube_pool.specs.code.Closings.{Lane}
 use Rattle.cube_pool.proofs.Lists.{first_of}
 use Rattle.cube_pool.proofs.Parts.{drained}
 use Rattle.cube_pool.proofs.closing.drain_all.Goals as goal

@@ -1,6 +1,6 @@
 use Rattle.std.proofs.Common.{◌≡◌, ℕ, ◌+◌, vec_len}
 use Rattle.cube_pool.specs.Lanes.{weigh}
-use Rattle.cube_pool.specs.Closings.{AreWhole, put_by, taken_there}
+use Rattle.cube_pool.specs.code.Closings.{AreWhole, put_by, taken_there}
 use Rattle.cube_pool.proofs.closing.drain_all.Given as goal
 
 abbrev pub invariant-lanes : goal.invariant-lanes

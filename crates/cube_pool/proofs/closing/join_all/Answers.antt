@@ -1,7 +1,7 @@
 use Rattle.std.proofs.Common.{arith, ◌≡◌, ◌∙◌, ◌+◌, ◌-◌, ap, ℕ, List, length, subst}
 use Rattle.cube_pool.specs.Lanes.{whole}
 use Rattle.cube_pool.specs.Hands.{Deque}
-use Rattle.cube_pool.specs.Closings.{Row, AreEnds, IsRow, taken_in, taken_over}
+use Rattle.cube_pool.specs.code.Closings.{Row, AreEnds, IsRow, taken_in, taken_over}
 use Rattle.cube_pool.proofs.Lists.{first_of, last_of, length_pushed}
 use Rattle.cube_pool.proofs.Parts.{sum_popped}
 use Rattle.cube_pool.proofs.closing.join_all.Goals as goal

@@ -1,6 +1,6 @@
 use Rattle.std.proofs.Common.{◌≡◌, ℕ, ◌+◌, ◌-◌, ◌≤◌, length, vec_len}
 use Rattle.cube_pool.specs.Lanes.{whole}
-use Rattle.cube_pool.specs.Closings.{AreEnds, AreRows, put_by, taken_there, taken_over}
+use Rattle.cube_pool.specs.code.Closings.{AreEnds, AreRows, put_by, taken_there, taken_over}
 use Rattle.cube_pool.proofs.closing.join_all.Given as goal
 
 abbrev pub invariant-rows : goal.invariant-rows

@@ -1,7 +1,7 @@
 use Rattle.std.proofs.Common.{◌≡◌, ℕ, ◌+◌, ◌-◌, ◌≤◌, map, take, length, vec_len}
 use Rattle.cube_pool.specs.Lanes.{whole}
 use Rattle.cube_pool.specs.Hands.{AreTakers, deque_of}
-use Rattle.cube_pool.specs.Closings.{AreJoining, put_by, taken_there, taken_in}
+use Rattle.cube_pool.specs.code.Closings.{AreJoining, put_by, taken_there, taken_in}
 use Rattle.cube_pool.proofs.closing.join_row.Given as goal
 
 abbrev pub invariant-row : goal.invariant-row

@@ -2,7 +2,7 @@ use Rattle.std.proofs.Common.{arith, ◌≡◌, ℕ, ◌+◌, ◌-◌, ◌∙◌
 use Rattle.std.specs.Prelude.{slice_get}
 use Rattle.cube_pool.specs.Lanes.{whole}
 use Rattle.cube_pool.specs.Hands.{Doings}
-use Rattle.cube_pool.specs.Closings.{Lane, Row, IsEnd, IsRow}
+use Rattle.cube_pool.specs.code.Closings.{Lane, Row, IsEnd, IsRow}
 use Rattle.cube_pool.proofs.Lists.{all_pushed, length_pushed}
 use Rattle.cube_pool.proofs.Parts.{hands_left, row_parted, end_parted, put_parted, taken_parted}
 use Rattle.cube_pool.proofs.closing.part.Goals as goal

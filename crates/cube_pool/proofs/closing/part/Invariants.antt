@@ -1,6 +1,6 @@
 use Rattle.std.proofs.Common.{◌≡◌, ℕ, ◌+◌, length, vec_len}
 use Rattle.cube_pool.specs.Hands.{pushed_by, fetched_by}
-use Rattle.cube_pool.specs.Closings.{AreRows, AreEndsSoFar, AreHandsLeft, put_by, taken_there, taken_over}
+use Rattle.cube_pool.specs.code.Closings.{AreRows, AreEndsSoFar, AreHandsLeft, put_by, taken_there, taken_over}
 use Rattle.cube_pool.proofs.closing.part.Given as goal
 
 abbrev pub invariant-hands : goal.invariant-hands

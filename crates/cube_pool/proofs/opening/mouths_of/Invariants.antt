@@ -1,6 +1,6 @@
 use Rattle.std.proofs.Common.{◌≡◌, map, take, vec_len}
 use Rattle.crossbeam_deque.specs.Handles.{stealer_deque}
-use Rattle.cube_pool.specs.Closings.{AllFirstOut, deques}
+use Rattle.cube_pool.specs.code.Closings.{AllFirstOut, deques}
 use Rattle.cube_pool.proofs.opening.mouths_of.Given as goal
 
 abbrev pub invariant-loop-lane : goal.invariant-loop-lane

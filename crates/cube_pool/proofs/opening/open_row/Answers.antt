@@ -3,7 +3,7 @@ use Rattle.std.specs.Prelude.{slice_get}
 use Rattle.crossbeam_deque.specs.Handles.{worker_deque}
 use Rattle.cube_pool.specs.Lanes.{whole}
 use Rattle.cube_pool.specs.Hands.{Deque}
-use Rattle.cube_pool.specs.Closings.{deques}
+use Rattle.cube_pool.specs.code.Closings.{deques}
 use Rattle.cube_pool.proofs.Parts.{same_deques, split_more, row_more, takers_more, nothing_more, deque_there}
 use Rattle.cube_pool.proofs.opening.open_row.Goals as goal
 

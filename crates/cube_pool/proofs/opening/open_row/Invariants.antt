@@ -1,7 +1,7 @@
 use Rattle.std.proofs.Common.{◌≡◌, ◌-◌, [], map, take, vec_len}
 use Rattle.cube_pool.specs.Lanes.{whole}
 use Rattle.cube_pool.specs.Hands.{AreTakers, Deque, deque_of, taken_by}
-use Rattle.cube_pool.specs.Closings.{AreSplit, deques}
+use Rattle.cube_pool.specs.code.Closings.{AreSplit, deques}
 use Rattle.cube_pool.proofs.opening.open_row.Given as goal
 
 abbrev pub invariant-loop-place : goal.invariant-loop-place

@@ -1,6 +1,6 @@
 use Rattle.std.proofs.Common.{◌≡◌, ◌-◌, vec_len}
 use Rattle.cube_pool.specs.Lanes.{whole}
-use Rattle.cube_pool.specs.Closings.{AreOpenWith, AreFreshRows, deques}
+use Rattle.cube_pool.specs.code.Closings.{AreOpenWith, AreFreshRows, deques}
 use Rattle.cube_pool.proofs.opening.open_rows.Given as goal
 
 abbrev pub invariant-loop-made : goal.invariant-loop-made

@@ -4,7 +4,7 @@ use Rattle.std.proofs.lemmas.List.{length-map}
 use Rattle.crossbeam_deque.specs.Handles.{worker_deque, worker_view}
 use Rattle.cube_pool.specs.Lanes.{whole}
 use Rattle.cube_pool.specs.Hands.{Doings, newcomer, deque_of, taken_by}
-use Rattle.cube_pool.specs.Closings.{Lane, Row, IsOpenWith, IsFreshRow, deques}
+use Rattle.cube_pool.specs.code.Closings.{Lane, Row, IsOpenWith, IsFreshRow, deques}
 use Rattle.cube_pool.proofs.Lists.{first_of, last_of, length_pushed, gets_pushed}
 use Rattle.cube_pool.proofs.Parts.{seated, is_newcomer}
 use Rattle.cube_pool.proofs.opening.seat.Goals as goal

@@ -1,6 +1,6 @@
 use Rattle.std.proofs.Common.{◌≡◌, ℕ, ◌<◌, ◌+◌, length, vec_len, slice_get, Some}
 use Rattle.cube_pool.specs.Hands.{newcomer}
-use Rattle.cube_pool.specs.Closings.{AreFreshRows, AreLanesLeft, deques}
+use Rattle.cube_pool.specs.code.Closings.{AreFreshRows, AreLanesLeft, deques}
 use Rattle.cube_pool.proofs.opening.seat.Given as goal
 
 abbrev pub invariant-lanes : goal.invariant-lanes

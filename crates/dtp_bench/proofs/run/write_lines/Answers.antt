@@ -1,7 +1,7 @@
 use Rattle.std.proofs.Common.{◌∙◌, ◌++◌, ap, Err, ℕ, List, string_bytes}
 use Rattle.std.proofs.lemmas.Result.{err_from_is_err_and}
 use Rattle.dtp_bench.specs.Lines.{verdict_line, accepted_line}
-use Rattle.dtp_bench.specs.Outcomes.{lines_text}
+use Rattle.dtp_bench.specs.code.Outcomes.{lines_text}
 use Rattle.dtp_bench.proofs.Writing.{wrote_nothing, wrote_more, wrote_part, wrote_last}
 use Rattle.dtp_bench.proofs.run.write_lines.Goals as goal
 

@@ -1,5 +1,5 @@
 use Rattle.std.proofs.Common.{◌≡◌, map, take}
-use Rattle.lemma_shelf.specs.Tables.{own_item}
+use Rattle.lemma_shelf.specs.code.Tables.{own_item}
 use Rattle.dtp_check.proofs.earlier.own_lemmas.Given as goal
 
 abbrev pub invariant-loop-item : goal.invariant-loop-item

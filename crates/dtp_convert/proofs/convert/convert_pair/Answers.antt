@@ -1,7 +1,7 @@
 use Rattle.std.proofs.Common.{◌≡◌, ◌∙◌, sym, subst, List, ℕ, inr}
 use Rattle.cert_text.specs.declared.entry.Version.TheVariants.{One}
 use Rattle.cert_text.specs.declared.entry.Entry.{Entry}
-use Rattle.cert_stream.specs.Streams.{whole_text}
+use Rattle.cert_stream.specs.code.Streams.{whole_text}
 use Rattle.dtp_entry.specs.Written.{Writes, IsPartOf}
 use Rattle.dtp_entry.proofs.Written.{on_err}
 use Rattle.dtp_check.specs.declared.check.Checked.TheVariants as checked

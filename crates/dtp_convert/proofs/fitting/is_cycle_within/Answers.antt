@@ -4,7 +4,7 @@ use Rattle.std.proofs.lemmas.List.{drop_more}
 use Rattle.std.proofs.lemmas.List.Elements.{All-cons}
 use Rattle.std.proofs.lemmas.Option.{get_or_from_slice_get}
 use Rattle.stn_core.specs.declared.literal.Literal.{Literal}
-use Rattle.refute_tree.specs.Views.{literals_of}
+use Rattle.refute_tree.specs.code.Views.{literals_of}
 use Rattle.cert_text.specs.Limits.{LiteralWithin}
 use Rattle.dtp_convert.proofs.fitting.is_cycle_within.Goals as goal
 

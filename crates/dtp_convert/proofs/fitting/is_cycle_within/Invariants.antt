@@ -1,6 +1,6 @@
 use Rattle.std.proofs.Common.{◌^◌, drop}
 use Rattle.std.specs.Prelude.{All}
-use Rattle.refute_tree.specs.Views.{literals_of}
+use Rattle.refute_tree.specs.code.Views.{literals_of}
 use Rattle.cert_text.specs.Limits.{LiteralWithin}
 use Rattle.dtp_convert.proofs.fitting.is_cycle_within.Given as goal
 

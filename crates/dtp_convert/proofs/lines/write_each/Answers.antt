@@ -3,7 +3,7 @@ use Rattle.std.proofs.lemmas.List.{at_drop_more}
 use Rattle.std.proofs.lemmas.Result.{err_from_is_err_and}
 use Rattle.cert_text.specs.declared.entry.Entry.{Entry}
 use Rattle.cert_text.specs.Form.{entry_sexpr, line_of}
-use Rattle.cert_stream.specs.Streams.{entry_lines}
+use Rattle.cert_stream.specs.code.Streams.{entry_lines}
 use Rattle.cert_stream.proofs.Pieces.{goes_called, goes_fails, streams_as}
 use Rattle.dtp_convert.proofs.WritingLines.{streams_of}
 use Rattle.dtp_convert.proofs.lines.write_each.Goals as goal

@@ -1,5 +1,5 @@
 use Rattle.std.proofs.Common.{drop, []}
-use Rattle.cert_stream.specs.Streams.{entry_lines}
+use Rattle.cert_stream.specs.code.Streams.{entry_lines}
 use Rattle.cert_stream.proofs.Pieces.{Goes}
 use Rattle.dtp_convert.proofs.lines.write_each.Given as goal
 

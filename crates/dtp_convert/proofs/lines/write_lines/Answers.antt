@@ -2,7 +2,7 @@ use Rattle.std.proofs.Common.{[], refl, sym, ap, ◌∙◌, Err, append-nil}
 use Rattle.std.proofs.lemmas.Result.{err_from_is_err_and}
 use Rattle.cert_text.specs.declared.entry.Version.TheVariants.{One}
 use Rattle.cert_text.specs.Form.{end_sexpr, line_of}
-use Rattle.cert_stream.specs.Streams.{whole_text}
+use Rattle.cert_stream.specs.code.Streams.{whole_text}
 use Rattle.cert_stream.proofs.Pieces.{goes_start, goes_called, goes_end, goes_fails, streams_as}
 use Rattle.dtp_convert.proofs.WritingLines.{streams_of, one_of}
 use Rattle.dtp_convert.proofs.lines.write_lines.Goals as goal

@@ -5,9 +5,9 @@ use Rattle.stn_core.specs.declared.literal.Literals.{Literals}
 use Rattle.stn_core.specs.Answer.{IsBest}
 use Rattle.stn_core.specs.Schedule.{IsGreatestSchedule}
 use Rattle.inc_paths.specs.declared.labels.Lowering.{Lowering}
-use Rattle.inc_paths.specs.Trails.{Labelled, fall_of}
-use Rattle.inc_paths.specs.Trails.{first_in, older_in}
-use Rattle.inc_paths.specs.Work.{IsKept, IsStart, IsLowering, IsPending}
+use Rattle.inc_paths.specs.code.Trails.{Labelled, fall_of}
+use Rattle.inc_paths.specs.code.Trails.{first_in, older_in}
+use Rattle.inc_paths.specs.code.Work.{IsKept, IsStart, IsLowering, IsPending}
 use Rattle.inc_paths.proofs.Lowers.{holds_not}
 use Rattle.inc_paths.proofs.Extends.{x_in, y_in, fits, best_more, loop_cycle, greatest_best, first_is, older_is, began_start, began_lowering, began_pending, kept_back}
 use Rattle.inc_paths.proofs.extend.extend.Goals as goal

@@ -1,8 +1,8 @@
 use Rattle.std.proofs.Common.{arith, subst, ◌≡◌, ◌-◌, Bool, true, false, ◌+ℤ◌, ◌<ℤ◌}
 use Rattle.stn_core.specs.declared.literal.Literal.{Literal}
 use Rattle.stn_core.specs.Literal.{value_at, IsOver, literal_at}
-use Rattle.inc_paths.specs.Trails.{first_in}
-use Rattle.inc_paths.specs.Trails.{fall_of}
+use Rattle.inc_paths.specs.code.Trails.{first_in}
+use Rattle.inc_paths.specs.code.Trails.{fall_of}
 use Rattle.inc_paths.proofs.Lowers.{fits_sum, passed, holds_not, literal_over, looked, IsLooked}
 use Rattle.inc_paths.proofs.relax.look.Goals as goal
 use Rattle.inc_paths.proofs.relax.look.Goals.{Start}

@@ -1,9 +1,9 @@
 use Rattle.std.proofs.Common.{arith, refl, sym, subst, ◌∙◌, ◌≡◌, ◌<◌, ◌-◌, ℕ, List, ℤ, length}
 use Rattle.inc_paths.specs.declared.labels.Lowering.{Lowering}
-use Rattle.inc_paths.specs.Graphs.{IsNewest}
+use Rattle.inc_paths.specs.code.Graphs.{IsNewest}
 use Rattle.stn_core.specs.Literal.{literal_at}
-use Rattle.inc_paths.specs.Trails.{entry_at}
-use Rattle.inc_paths.specs.Work.{IsLowering, IsScanning}
+use Rattle.inc_paths.specs.code.Trails.{entry_at}
+use Rattle.inc_paths.specs.code.Work.{IsLowering, IsScanning}
 use Rattle.inc_paths.proofs.Scans.{taken_scanning, narrowed, all_scanned, first_on, kept_on, kept_at}
 use Rattle.inc_paths.proofs.relax.scan.Goals as goal
 

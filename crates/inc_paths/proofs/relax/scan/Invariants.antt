@@ -1,8 +1,8 @@
 use Rattle.std.proofs.Common.{◌≡◌, ◌<◌, ◌≤◌, ◌-◌, length}
 use Rattle.stn_core.specs.Literal.{literal_at}
-use Rattle.inc_paths.specs.Trails.{entry_at}
-use Rattle.inc_paths.specs.Trails.{first_in, older_in}
-use Rattle.inc_paths.specs.Work.{IsKept, IsLowering, IsScanning, IsAt, room}
+use Rattle.inc_paths.specs.code.Trails.{entry_at}
+use Rattle.inc_paths.specs.code.Trails.{first_in, older_in}
+use Rattle.inc_paths.specs.code.Work.{IsKept, IsLowering, IsScanning, IsAt, room}
 use Rattle.inc_paths.proofs.relax.scan.Given as goal
 
 abbrev pub invariant-literals : goal.invariant-literals

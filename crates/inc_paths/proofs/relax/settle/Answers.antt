@@ -2,8 +2,8 @@ use Rattle.std.proofs.Common.{arith, sym, subst, ◌∙◌, ◌≡◌, ◌<◌, 
 use Rattle.std.specs.Option.{IfSome}
 use Rattle.stn_core.specs.declared.literal.Literal.{Literal}
 use Rattle.stn_core.specs.Literal.{value_at}
-use Rattle.inc_paths.specs.Trails.{first_in}
-use Rattle.inc_paths.specs.Work.{AreTraced, IsLowering, IsClosing}
+use Rattle.inc_paths.specs.code.Trails.{first_in}
+use Rattle.inc_paths.specs.code.Work.{AreTraced, IsLowering, IsClosing}
 use Rattle.inc_paths.proofs.Scans.{first_on, taken_there, popped_first, popped_lowering, popped_taken, popped_room, none_waits, settled}
 use Rattle.inc_paths.proofs.relax.settle.Goals as goal
 use Rattle.inc_paths.proofs.relax.settle.Goals.{In-Some}

@@ -1,6 +1,6 @@
 use Rattle.std.proofs.Common.{◌≡◌}
-use Rattle.inc_paths.specs.Trails.{first_in, older_in}
-use Rattle.inc_paths.specs.Work.{IsKept, IsLowering, IsPending, room}
+use Rattle.inc_paths.specs.code.Trails.{first_in, older_in}
+use Rattle.inc_paths.specs.code.Work.{IsKept, IsLowering, IsPending, room}
 use Rattle.inc_paths.proofs.relax.settle.Given as goal
 
 abbrev pub invariant-queue : goal.invariant-queue

@@ -1,7 +1,7 @@
 use Rattle.std.proofs.Common.{arith, ap, subst, ◌∙◌, ◌≡◌, ◌<◌, ◌-◌, ◌++◌, ◌∷◌, []}
 use Rattle.stn_core.specs.Literal.{value_at}
 use Rattle.inc_paths.specs.declared.labels.Lowering.{Lowering}
-use Rattle.inc_paths.specs.Trails.{entry_at}
+use Rattle.inc_paths.specs.code.Trails.{entry_at}
 use Rattle.inc_paths.proofs.Backs.{IsBack, back_more, back_done}
 use Rattle.inc_paths.proofs.relax.way_back.Goals as goal
 

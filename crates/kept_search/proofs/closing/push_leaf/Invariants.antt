@@ -1,5 +1,5 @@
 use Rattle.std.proofs.Common.{◌≡◌, ◌++◌, take}
-use Rattle.book_core.specs.Closing.{leaf_steps}
+use Rattle.book_core.specs.code.Closing.{leaf_steps}
 use Rattle.kept_search.proofs.closing.push_leaf.Given as goal
 
 abbrev pub invariant-loop-literal : goal.invariant-loop-literal

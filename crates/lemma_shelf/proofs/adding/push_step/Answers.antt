@@ -1,6 +1,6 @@
 use Rattle.std.proofs.Common.{ap}
-use Rattle.refute_tree.specs.Views.{step_seen}
-use Rattle.lemma_shelf.specs.Tables.{keeps_cycle, keeps_either}
+use Rattle.refute_tree.specs.code.Views.{step_seen}
+use Rattle.lemma_shelf.specs.code.Tables.{keeps_cycle, keeps_either}
 use Rattle.lemma_shelf.proofs.Steps.{adds_input, adds_clash, adds_lemma, adds_itself}
 use Rattle.lemma_shelf.proofs.adding.push_step.Goals as goal
 

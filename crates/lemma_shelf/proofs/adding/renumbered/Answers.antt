@@ -1,7 +1,7 @@
 use Rattle.std.proofs.Common.{length}
 use Rattle.std.proofs.lemmas.List.Elements.{All-rest}
-use Rattle.refute_tree.specs.Views.{step_seen}
-use Rattle.lemma_shelf.specs.Tables.{IsKnownStep}
+use Rattle.refute_tree.specs.code.Views.{step_seen}
+use Rattle.lemma_shelf.specs.code.Tables.{IsKnownStep}
 use Rattle.lemma_shelf.proofs.Steps.{begins_further, next_done}
 use Rattle.lemma_shelf.proofs.adding.renumbered.Goals as goal
 

@@ -1,6 +1,6 @@
 use Rattle.std.proofs.Common.{◌≡◌, List, ◌++◌, length, All}
 use Rattle.refute_tree.specs.declared.step.Step.{Step}
-use Rattle.lemma_shelf.specs.Tables.{IsKnownStep, AreRenumbered, BeginsAs}
+use Rattle.lemma_shelf.specs.code.Tables.{IsKnownStep, AreRenumbered, BeginsAs}
 use Rattle.lemma_shelf.proofs.adding.renumbered.Given as goal
 
 abbrev pub invariant-steps : goal.invariant-steps

@@ -1,7 +1,7 @@
 use Rattle.std.proofs.Common.{◌≡◌, map, drop}
 use Rattle.std.specs.Prelude.{IfSome}
 use Rattle.lemma_shelf.specs.ItemFlaws.{items_flaw_from, items_flaw}
-use Rattle.lemma_shelf.specs.Walks.{shelf_in, Knows}
+use Rattle.lemma_shelf.specs.code.Walks.{shelf_in, Knows}
 use Rattle.lemma_shelf.proofs.check.check.Given as goal
 
 abbrev pub invariant-loop-item : goal.invariant-loop-item

@@ -1,7 +1,7 @@
 use Rattle.std.proofs.Common.{length, map, sym, ap, ◌∙◌, refl}
 use Rattle.std.proofs.lemmas.Option.{slice_get_read}
 use Rattle.lemma_shelf.specs.ItemFlaws.{item_clause}
-use Rattle.lemma_shelf.specs.Walks.{shelf_in}
+use Rattle.lemma_shelf.specs.code.Walks.{shelf_in}
 use Rattle.lemma_shelf.proofs.Keeping.{within, clause_kept}
 use Rattle.lemma_shelf.proofs.check.check_item.Goals as goal
 

@@ -1,7 +1,7 @@
 use Rattle.std.proofs.Common.{[], subst, Option}
 use Rattle.cert_check.specs.declared.flaw.Flaw.{Flaw}
 use Rattle.cert_check.specs.Flaws.{TellsFlaw}
-use Rattle.lemma_shelf.specs.Walks.{shelf_in}
+use Rattle.lemma_shelf.specs.code.Walks.{shelf_in}
 use Rattle.lemma_shelf.proofs.Keeping.{owned_flaw_same}
 use Rattle.lemma_shelf.proofs.check.check_items.Goals as goal
 

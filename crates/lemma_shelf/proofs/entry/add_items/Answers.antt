@@ -2,9 +2,9 @@ use Rattle.std.proofs.Common.{arith, ◌≡◌, ℕ, List, length, map, refl, sy
 use Rattle.std.specs.Prelude.{slice_get}
 use Rattle.std.proofs.lemmas.Option.{slice_get_read}
 use Rattle.kept_lemmas.specs.Entries.{IsItemRight}
-use Rattle.lemma_shelf.specs.Tables.{facts_at}
-use Rattle.lemma_shelf.specs.Walks.{facts_in, shelf_in}
-use Rattle.lemma_shelf.specs.Additions.{AddsItem}
+use Rattle.lemma_shelf.specs.code.Tables.{facts_at}
+use Rattle.lemma_shelf.specs.code.Walks.{facts_in, shelf_in}
+use Rattle.lemma_shelf.specs.code.Additions.{AddsItem}
 use Rattle.lemma_shelf.proofs.MoreItems.{right_now, added_items}
 use Rattle.lemma_shelf.proofs.Steps.{begins_table}
 use Rattle.lemma_shelf.proofs.entry.add_items.Goals as goal

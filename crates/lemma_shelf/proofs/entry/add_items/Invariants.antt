@@ -1,6 +1,6 @@
 use Rattle.std.proofs.Common.{map, take}
-use Rattle.lemma_shelf.specs.Additions.{HasItems}
-use Rattle.lemma_shelf.specs.Walks.{shelf_in, BeginsTable}
+use Rattle.lemma_shelf.specs.code.Additions.{HasItems}
+use Rattle.lemma_shelf.specs.code.Walks.{shelf_in, BeginsTable}
 use Rattle.lemma_shelf.proofs.entry.add_items.Given as goal
 
 abbrev pub invariant-loop-item : goal.invariant-loop-item

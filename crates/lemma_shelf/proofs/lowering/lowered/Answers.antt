@@ -1,8 +1,8 @@
 use Rattle.std.proofs.Common.{◌≡◌, List, true, sym, ap, subst, ◌∙◌}
 use Rattle.stn_core.specs.declared.literal.Literal.{Literal}
-use Rattle.lemma_shelf.specs.Tables.{AreClosed, is_active}
-use Rattle.lemma_shelf.specs.Walks.{facts_in, places}
-use Rattle.lemma_shelf.specs.WrittenOut.{Rises, AreWrittenOut}
+use Rattle.lemma_shelf.specs.code.Tables.{AreClosed, is_active}
+use Rattle.lemma_shelf.specs.code.Walks.{facts_in, places}
+use Rattle.lemma_shelf.specs.code.WrittenOut.{Rises, AreWrittenOut}
 use Rattle.lemma_shelf.proofs.Placing.{rises_sorted, closed_permuted, as_lowered}
 use Rattle.lemma_shelf.proofs.Resting.{rests_none}
 use Rattle.lemma_shelf.proofs.lowering.lowered.Goals as goal

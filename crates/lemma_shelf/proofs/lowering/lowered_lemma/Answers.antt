@@ -2,9 +2,9 @@ use Rattle.std.proofs.Common.{◌≡◌, List, length, take, get_or, Some, All, 
 use Rattle.std.specs.Prelude.{slice_get}
 use Rattle.std.proofs.lemmas.Option.{slice_get_read}
 use Rattle.refute_tree.specs.declared.step.Step.{Step}
-use Rattle.lemma_shelf.specs.Tables.{StepIsClosed}
-use Rattle.lemma_shelf.specs.Walks.{places}
-use Rattle.lemma_shelf.specs.WrittenOut.{ArePlaced}
+use Rattle.lemma_shelf.specs.code.Tables.{StepIsClosed}
+use Rattle.lemma_shelf.specs.code.Walks.{places}
+use Rattle.lemma_shelf.specs.code.WrittenOut.{ArePlaced}
 use Rattle.lemma_shelf.proofs.Placing.{closed_before, number_within}
 use Rattle.lemma_shelf.proofs.lowering.lowered_lemma.Goals as goal
 

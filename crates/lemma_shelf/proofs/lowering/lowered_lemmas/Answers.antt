@@ -1,8 +1,8 @@
 use Rattle.std.proofs.Common.{ℕ, List, [], ◌∷◌, ◌++◌, take, get_or, sym, subst}
 use Rattle.std.proofs.lemmas.Option.{slice_get-get_or}
 use Rattle.refute_tree.specs.declared.lemma.Lemma.{Lemma}
-use Rattle.lemma_shelf.specs.Walks.{places}
-use Rattle.lemma_shelf.specs.WrittenOut.{AreWrittenOut}
+use Rattle.lemma_shelf.specs.code.Walks.{places}
+use Rattle.lemma_shelf.specs.code.WrittenOut.{AreWrittenOut}
 use Rattle.lemma_shelf.proofs.Lists.{take_more}
 use Rattle.lemma_shelf.proofs.Written.{written_more}
 use Rattle.lemma_shelf.proofs.lowering.lowered_lemmas.Goals as goal

@@ -1,5 +1,5 @@
 use Rattle.std.proofs.Common.{take}
-use Rattle.lemma_shelf.specs.WrittenOut.{AreWrittenOut}
+use Rattle.lemma_shelf.specs.code.WrittenOut.{AreWrittenOut}
 use Rattle.lemma_shelf.proofs.lowering.lowered_lemmas.Given as goal
 
 abbrev pub invariant-loop-i : goal.invariant-loop-i

@@ -1,8 +1,8 @@
 use Rattle.std.proofs.Common.{All, subst}
 use Rattle.std.proofs.lemmas.List.Elements.{All-head, All-rest}
-use Rattle.refute_tree.specs.Views.{step_seen}
-use Rattle.lemma_shelf.specs.Tables.{StepIsClosed}
-use Rattle.lemma_shelf.specs.Walks.{places}
+use Rattle.refute_tree.specs.code.Views.{step_seen}
+use Rattle.lemma_shelf.specs.code.Tables.{StepIsClosed}
+use Rattle.lemma_shelf.specs.code.Walks.{places}
 use Rattle.lemma_shelf.proofs.Pushing.{next_done}
 use Rattle.lemma_shelf.proofs.lowering.lowered_steps.Goals as goal
 

@@ -1,8 +1,8 @@
 use Rattle.std.proofs.Common.{◌≡◌, List, ◌++◌, length, All}
 use Rattle.refute_tree.specs.declared.step.Step.{Step}
-use Rattle.lemma_shelf.specs.Tables.{StepIsClosed}
-use Rattle.lemma_shelf.specs.Walks.{places}
-use Rattle.lemma_shelf.specs.WrittenOut.{ArePlaced}
+use Rattle.lemma_shelf.specs.code.Tables.{StepIsClosed}
+use Rattle.lemma_shelf.specs.code.Walks.{places}
+use Rattle.lemma_shelf.specs.code.WrittenOut.{ArePlaced}
 use Rattle.lemma_shelf.proofs.lowering.lowered_steps.Given as goal
 
 abbrev pub invariant-steps : goal.invariant-steps

@@ -1,7 +1,7 @@
 use Rattle.std.proofs.Common.{sym, ap, ◌∙◌, Contains}
-use Rattle.refute_tree.specs.Views.{step_seen}
-use Rattle.lemma_shelf.specs.Walks.{places}
-use Rattle.lemma_shelf.specs.WrittenOut.{stays_cycle, stays_either}
+use Rattle.refute_tree.specs.code.Views.{step_seen}
+use Rattle.lemma_shelf.specs.code.Walks.{places}
+use Rattle.lemma_shelf.specs.code.WrittenOut.{stays_cycle, stays_either}
 use Rattle.lemma_shelf.proofs.Pushing.{number_ok, number_at, lemma_is_before, adds_input, adds_clash, adds_lemma, adds_itself}
 use Rattle.lemma_shelf.proofs.lowering.push_step.Goals as goal
 

@@ -1,8 +1,8 @@
 use Rattle.std.proofs.Common.{length, ap, ◌∙◌}
 use Rattle.std.specs.Prelude.{nat_le, ◌&&◌}
 use Rattle.std.proofs.lemmas.List.Elements.{All-rest}
-use Rattle.refute_tree.specs.Views.{step_seen}
-use Rattle.lemma_shelf.specs.Tables.{CitesBelow, step_fits}
+use Rattle.refute_tree.specs.code.Views.{step_seen}
+use Rattle.lemma_shelf.specs.code.Tables.{CitesBelow, step_fits}
 use Rattle.lemma_shelf.proofs.Fitting.{fits_first}
 use Rattle.lemma_shelf.proofs.needs.of_steps.Goals as goal
 

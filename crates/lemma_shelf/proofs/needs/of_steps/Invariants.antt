@@ -1,7 +1,7 @@
 use Rattle.std.proofs.Common.{◌≡◌, ℕ, length, All}
 use Rattle.std.specs.Prelude.{nat_le, ◌&&◌}
 use Rattle.std.specs.List.{list_all}
-use Rattle.lemma_shelf.specs.Tables.{step_fits, CitesBelow}
+use Rattle.lemma_shelf.specs.code.Tables.{step_fits, CitesBelow}
 use Rattle.lemma_shelf.proofs.needs.of_steps.Given as goal
 
 abbrev pub invariant-steps : goal.invariant-steps

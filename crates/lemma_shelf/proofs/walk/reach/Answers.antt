@@ -2,8 +2,8 @@ use Rattle.std.proofs.Common.{arith, ◌≡◌, ◌<◌, ◌≤◌, length, sym,
 use Rattle.std.specs.Prelude.{vec_len}
 use Rattle.std.specs.List.{list_all}
 use Rattle.std.proofs.lemmas.Option.{slice_get_read}
-use Rattle.lemma_shelf.specs.Tables.{step_passes, steps_at, with_all_cited}
-use Rattle.lemma_shelf.specs.Walks.{places}
+use Rattle.lemma_shelf.specs.code.Tables.{step_passes, steps_at, with_all_cited}
+use Rattle.lemma_shelf.specs.code.Walks.{places}
 use Rattle.lemma_shelf.proofs.Resting.{rests_begun, rests_turn}
 use Rattle.lemma_shelf.proofs.Walking.{begun, turn, stopped, all_closed, ended, number_in, steps_are}
 use Rattle.lemma_shelf.proofs.walk.reach.Goals as goal

@@ -1,6 +1,6 @@
 use Rattle.std.proofs.Common.{length, ◌-◌, All}
-use Rattle.lemma_shelf.specs.Walks.{places}
-use Rattle.lemma_shelf.specs.WrittenOut.{RestsOn}
+use Rattle.lemma_shelf.specs.code.Walks.{places}
+use Rattle.lemma_shelf.specs.code.WrittenOut.{RestsOn}
 use Rattle.lemma_shelf.proofs.Walking.{IsWalking}
 use Rattle.lemma_shelf.proofs.walk.reach.Given as goal
 

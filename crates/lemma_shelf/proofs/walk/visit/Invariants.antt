@@ -1,7 +1,7 @@
 use Rattle.std.proofs.Common.{◌≡◌, length}
 use Rattle.std.specs.List.{list_all}
-use Rattle.lemma_shelf.specs.Tables.{step_passes, with_all_cited}
-use Rattle.lemma_shelf.specs.Walks.{places}
+use Rattle.lemma_shelf.specs.code.Tables.{step_passes, with_all_cited}
+use Rattle.lemma_shelf.specs.code.Walks.{places}
 use Rattle.lemma_shelf.proofs.walk.visit.Given as goal
 
 abbrev pub invariant-steps : goal.invariant-steps

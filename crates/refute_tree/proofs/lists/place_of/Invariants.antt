@@ -1,5 +1,5 @@
 use Rattle.std.proofs.Common.{◌≤◌, length}
-use Rattle.refute_tree.specs.Lists.{IsPlaceOf}
+use Rattle.refute_tree.specs.code.Lists.{IsPlaceOf}
 use Rattle.refute_tree.proofs.lists.place_of.Given as goal
 
 abbrev pub invariant-back : goal.invariant-back

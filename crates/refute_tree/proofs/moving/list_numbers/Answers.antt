@@ -2,8 +2,9 @@ use Rattle.std.proofs.Common.{◌≡◌, ◌+◌, ◌∷◌, ◌++◌, List, tak
 use Rattle.std.proofs.lemmas.List.{drop_more}
 use Rattle.refute_tree.specs.declared.kind.Kind.{Kind}
 use Rattle.refute_tree.specs.declared.kind.Kind.TheVariants.{Path}
-use Rattle.refute_tree.specs.Store.{small_by, large_by, used}
-use Rattle.refute_tree.specs.Moves.{is_lemma, is_large_lemma, listed_number, named_numbers}
+use Rattle.refute_tree.specs.code.Store.{small_by, large_by, used}
+use Rattle.refute_tree.specs.Moves.{listed_number}
+use Rattle.refute_tree.specs.code.MovedParts.{is_lemma, is_large_lemma, named_numbers}
 use Rattle.refute_tree.proofs.MovedNumbers.{small_by_one, large_by_one, turn_left, turn_same}
 use Rattle.refute_tree.proofs.moving.list_numbers.Goals as goal
 

@@ -1,6 +1,7 @@
 use Rattle.std.proofs.Common.{◌≡◌, ◌+◌, ◌++◌, length, take, drop}
-use Rattle.refute_tree.specs.Moves.{moved_number, named_numbers, NumbersMoveWithin, is_lemma, is_large_lemma}
-use Rattle.refute_tree.specs.Store.{small_by, large_by, used}
+use Rattle.refute_tree.specs.Moves.{moved_number}
+use Rattle.refute_tree.specs.code.MovedParts.{named_numbers, NumbersMoveWithin, is_lemma, is_large_lemma}
+use Rattle.refute_tree.specs.code.Store.{small_by, large_by, used}
 use Rattle.refute_tree.proofs.moving.move_numbers.Given as goal
 
 abbrev pub invariant-loop-kind : goal.invariant-loop-kind

@@ -1,7 +1,7 @@
 use Rattle.std.proofs.Common.{ℕ, All, take, drop}
 use Rattle.stn_core.specs.Cycle.{Leads}
 use Rattle.stn_core.specs.Literal.{literal_at}
-use Rattle.refute_tree.specs.Paths.{IsNarrow}
+use Rattle.refute_tree.specs.code.Paths.{IsNarrow}
 use Rattle.refute_tree.proofs.narrow.is_short_path.Given as goal
 
 abbrev pub invariant-loop-literal : goal.invariant-loop-literal

@@ -1,6 +1,6 @@
 use Rattle.std.proofs.Common.{◌≡◌, ◌++◌, take}
 use Rattle.std.specs.Vec.{vec_len}
-use Rattle.refute_tree.specs.Paths.{bounds_of}
+use Rattle.refute_tree.specs.code.Paths.{bounds_of}
 use Rattle.refute_tree.proofs.narrow.push_bounds.Given as goal
 
 abbrev pub invariant-loop-literal : goal.invariant-loop-literal

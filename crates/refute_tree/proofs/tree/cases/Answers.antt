@@ -2,7 +2,7 @@ use Rattle.std.proofs.Common.{◌≡◌, ◌∙◌, ◌++◌, ◌∷◌, [], ap,
 use Rattle.std.proofs.lemmas.List.{drop_all}
 use Rattle.refute_tree.specs.declared.step.Step.{Step}
 use Rattle.refute_tree.specs.Trees.{joined}
-use Rattle.refute_tree.specs.Views.{step_seen}
+use Rattle.refute_tree.specs.code.Views.{step_seen}
 use Rattle.refute_tree.proofs.Built.{built_cases}
 use Rattle.refute_tree.proofs.tree.cases.Goals as goal
 

@@ -1,6 +1,6 @@
 use Rattle.std.proofs.Common.{◌≡◌, ◌∷◌, ◌++◌, drop}
 use Rattle.refute_tree.specs.Trees.{joined}
-use Rattle.refute_tree.specs.Views.{step_seen}
+use Rattle.refute_tree.specs.code.Views.{step_seen}
 use Rattle.refute_tree.proofs.tree.cases.Given as goal
 
 abbrev pub invariant-loop-child : goal.invariant-loop-child

@@ -1,5 +1,5 @@
 use Rattle.std.proofs.Common.{◌≡◌}
-use Rattle.steal_search.specs.Staff.{IsFirst}
+use Rattle.steal_search.specs.code.Staff.{IsFirst}
 use Rattle.steal_search.proofs.shared.begin.Given as goal
 
 abbrev pub invariant-loop-slice : goal.invariant-loop-slice

@@ -3,7 +3,7 @@ use Rattle.std.specs.Prelude.{IsSome}
 use Rattle.book_lock.specs.Rules.{kept_of}
 use Rattle.cube_pool.specs.Hands.{Doings}
 use Rattle.steal_search.proofs.Staffing.{IsHandAt}
-use Rattle.steal_search.specs.Staff.{AreHanded, AreSeated, IsFirst}
+use Rattle.steal_search.specs.code.Staff.{AreHanded, AreSeated, IsFirst}
 use Rattle.steal_search.proofs.shared.gather.Given as goal
 
 abbrev pub invariant-staff : goal.invariant-staff

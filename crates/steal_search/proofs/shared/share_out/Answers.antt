@@ -1,7 +1,7 @@
 use Rattle.std.proofs.Common.{arith, ◌≡◌, ◌<◌, ◌∙◌, ◌++◌, List, ap, sym, subst, length, drop}
 use Rattle.std.proofs.lemmas.List.{take_at}
 use Rattle.steal_search.specs.declared.shared.Worker.{Worker}
-use Rattle.steal_search.specs.Staff.{AreHanded, AreSeated}
+use Rattle.steal_search.specs.code.Staff.{AreHanded, AreSeated}
 use Rattle.steal_search.proofs.Staffing.{all_hands, newcomers}
 use Rattle.steal_search.proofs.shared.share_out.Goals as goal
 

@@ -4,7 +4,7 @@ use Rattle.cube_pool.specs.Hands.{Doings}
 use Rattle.cube_pool.proofs.Lists.{first_of, last_of, length_pushed}
 use Rattle.steal_search.specs.declared.dealing.Pace.{Pace}
 use Rattle.steal_search.specs.declared.shared.Worker.{Worker}
-use Rattle.steal_search.specs.Staff.{IsFirst}
+use Rattle.steal_search.specs.code.Staff.{IsFirst}
 use Rattle.steal_search.proofs.Staffing.{IsHandAt, first_split, seats_more, work_more, handed_more}
 use Rattle.steal_search.proofs.shared.staff_of.Goals as goal
 

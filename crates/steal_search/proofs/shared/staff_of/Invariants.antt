@@ -3,7 +3,7 @@ use Rattle.std.specs.Prelude.{IfSome}
 use Rattle.steal_search.specs.declared.dealing.Pace.{Pace}
 use Rattle.cube_pool.specs.Hands.{Doings}
 use Rattle.steal_search.proofs.Staffing.{IsHandAt}
-use Rattle.steal_search.specs.Staff.{AllMayWork, AreHanded, AreSeated, IsFirst}
+use Rattle.steal_search.specs.code.Staff.{AllMayWork, AreHanded, AreSeated, IsFirst}
 use Rattle.steal_search.proofs.shared.staff_of.Given as goal
 
 abbrev pub invariant-hands : goal.invariant-hands

@@ -1,7 +1,7 @@
 use Rattle.std.proofs.Common.{rules, arith, ◌≡◌, ◌<◌, ◌≤◌, length, ◌+◌, ◌-◌, get_or, vec_len, drop, pos}
 use Rattle.std.proofs.lemmas.List.{get_or_read}
 use Rattle.stn_core.specs.Limits.{points_limit}
-use Rattle.stn_core.specs.Rounds.{round_of}
+use Rattle.stn_core.specs.code.Rounds.{round_of}
 use Rattle.stn_core.proofs.Walks.{marks-room, walked_more, cycle_found, not_late}
 use Rattle.stn_core.proofs.cycle.cycle_from.Goals as goal
 

@@ -3,7 +3,7 @@ use Rattle.std.specs.Int.{w128}
 use Rattle.std.proofs.lemmas.Int.{to_z-of_z}
 use Rattle.std.proofs.lemmas.List.{get_or_default}
 use Rattle.std.proofs.lemmas.List.Edits.{map_over_more}
-use Rattle.stn_core.specs.Rounds.{begun, label_at, value_of}
+use Rattle.stn_core.specs.code.Rounds.{begun, label_at, value_of}
 use Rattle.stn_core.proofs.label.begin_round.Goals as goal
 
 pub loop-label-preserved : goal.loop-label-preserved

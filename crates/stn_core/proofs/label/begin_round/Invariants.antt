@@ -1,5 +1,5 @@
 use Rattle.std.proofs.Common.{◌≡◌, ◌++◌, take, drop, map}
-use Rattle.stn_core.specs.Rounds.{begun}
+use Rattle.stn_core.specs.code.Rounds.{begun}
 use Rattle.stn_core.proofs.label.begin_round.Given as goal
 
 abbrev pub invariant-loop-label : goal.invariant-loop-label

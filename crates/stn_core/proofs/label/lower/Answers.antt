@@ -3,7 +3,7 @@ use Rattle.std.specs.Int.{w128}
 use Rattle.std.proofs.lemmas.Int.{ints, to_z-of_z}
 use Rattle.stn_core.specs.Limits.{points_limit}
 use Rattle.stn_core.specs.Literal.{IsOver, literal_at}
-use Rattle.stn_core.specs.Rounds.{last_of, value_of}
+use Rattle.stn_core.specs.code.Rounds.{last_of, value_of}
 use Rattle.stn_core.proofs.Rounds.{below_from_test, reached_from_test, after, round_after, round_skips, lowered_now}
 use Rattle.stn_core.proofs.label.lower.Goals as goal
 use Rattle.stn_core.proofs.label.lower.Goals.{then-bound-label, else-bound-label}

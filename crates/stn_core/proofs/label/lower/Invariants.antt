@@ -1,5 +1,5 @@
 use Rattle.std.proofs.Common.{length}
-use Rattle.stn_core.specs.Rounds.{IsRound, TellsLowered}
+use Rattle.stn_core.specs.code.Rounds.{IsRound, TellsLowered}
 use Rattle.stn_core.proofs.label.lower.Given as goal
 
 abbrev pub invariant-loop-literal : goal.invariant-loop-literal

@@ -1,6 +1,6 @@
 use Rattle.std.proofs.Common.{arith, subst, ◌≤◌, ℕ, length}
 use Rattle.stn_core.specs.Limits.{points_limit}
-use Rattle.stn_core.specs.Rounds.{IsRound}
+use Rattle.stn_core.specs.code.Rounds.{IsRound}
 use Rattle.stn_core.proofs.Ends.{ready_next, none_lowered_next, schedule_answer, cycle_answer}
 use Rattle.stn_core.proofs.plain.run.Goals as goal
 

@@ -1,4 +1,4 @@
-use Rattle.stn_core.specs.Rounds.{IsRound, NoneLowered}
+use Rattle.stn_core.specs.code.Rounds.{IsRound, NoneLowered}
 use Rattle.stn_core.proofs.plain.run.Given as goal
 
 abbrev pub invariant-loop-round : goal.invariant-loop-round

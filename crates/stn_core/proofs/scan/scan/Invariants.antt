@@ -1,5 +1,5 @@
 use Rattle.std.proofs.Common.{length}
-use Rattle.stn_core.specs.Uppers.{IsUpper}
+use Rattle.stn_core.specs.code.Uppers.{IsUpper}
 use Rattle.stn_core.proofs.scan.scan.Given as goal
 
 abbrev pub invariant-literals : goal.invariant-literals

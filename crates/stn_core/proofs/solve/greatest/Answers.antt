@@ -1,7 +1,7 @@
 use Rattle.std.proofs.Common.{arith, rules, subst, sym, ◌∙◌, ◌≡◌, ◌<◌, ℕ, length, List, ℤ, replicate, pos}
 use Rattle.std.proofs.lemmas.List.{take-append-le, take_all}
 use Rattle.stn_core.specs.Literal.{Holds, literal_at}
-use Rattle.stn_core.specs.Uppers.{IsUpper}
+use Rattle.stn_core.specs.code.Uppers.{IsUpper}
 use Rattle.stn_core.proofs.Uppers.{upper_first, best}
 use Rattle.stn_core.proofs.solve.greatest.Goals as goal
 

@@ -1,5 +1,5 @@
 use Rattle.std.proofs.Common.{◌≡◌, ◌≤◌, length}
-use Rattle.trim_lemmas.specs.Marks.{swept}
+use Rattle.trim_lemmas.specs.code.Marks.{swept}
 use Rattle.trim_lemmas.proofs.marking.mark_back.Given as goal
 
 abbrev pub invariant-back : goal.invariant-back

@@ -1,5 +1,5 @@
 use Rattle.std.proofs.Common.{◌≡◌, ◌≤◌, length}
-use Rattle.trim_lemmas.specs.Marks.{marked}
+use Rattle.trim_lemmas.specs.code.Marks.{marked}
 use Rattle.trim_lemmas.proofs.marking.mark_cited.Given as goal
 
 abbrev pub invariant-loop-step : goal.invariant-loop-step

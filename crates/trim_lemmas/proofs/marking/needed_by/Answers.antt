@@ -1,7 +1,7 @@
 use Rattle.std.proofs.Common.{◌≡◌, Bool, List, length, subst, sym, ap, ◌∙◌}
 use Rattle.std.proofs.lemmas.List.{with_items_is}
 use Rattle.trim_lemmas.specs.Trimming.{AreNeeded, IsWanted}
-use Rattle.trim_lemmas.specs.Marks.{swept}
+use Rattle.trim_lemmas.specs.code.Marks.{swept}
 use Rattle.trim_lemmas.proofs.Marked.{swept_right, length_first}
 use Rattle.trim_lemmas.proofs.marking.needed_by.Goals as goal
 

@@ -1,7 +1,7 @@
 use Rattle.std.proofs.Common.{◌≡◌, Bool, false, List, length, replicate, subst, sym, ap, ◌∙◌}
 use Rattle.std.proofs.lemmas.List.{with_items_is}
 use Rattle.trim_lemmas.specs.Trimming.{AreNeeded, IsWanted}
-use Rattle.trim_lemmas.specs.Marks.{with_last}
+use Rattle.trim_lemmas.specs.code.Marks.{with_last}
 use Rattle.trim_lemmas.proofs.Marked.{first_marks, first_long, needed_of_last}
 use Rattle.trim_lemmas.proofs.marking.needed_lemmas.Goals as goal
 

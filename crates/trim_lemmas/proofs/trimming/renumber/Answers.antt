@@ -3,7 +3,7 @@ use Rattle.std.proofs.lemmas.List.{get_or_default}
 use Rattle.std.proofs.lemmas.List.Edits.{map_over_more}
 use Rattle.refute_tree.specs.declared.step.Step.{Step}
 use Rattle.refute_tree.specs.declared.lemma.Lemma.{Lemma}
-use Rattle.trim_lemmas.specs.Marks.{lemma_by}
+use Rattle.trim_lemmas.specs.code.Marks.{lemma_by}
 use Rattle.trim_lemmas.proofs.trimming.renumber.Goals as goal
 
 pub loop-lemma-preserved : goal.loop-lemma-preserved

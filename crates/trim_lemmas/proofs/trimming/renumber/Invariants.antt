@@ -1,5 +1,5 @@
 use Rattle.std.proofs.Common.{◌≡◌, ◌++◌, take, drop, map}
-use Rattle.trim_lemmas.specs.Marks.{lemma_by}
+use Rattle.trim_lemmas.specs.code.Marks.{lemma_by}
 use Rattle.trim_lemmas.proofs.trimming.renumber.Given as goal
 
 abbrev pub invariant-loop-lemma : goal.invariant-loop-lemma

@@ -3,7 +3,7 @@ use Rattle.book_lock.specs.declared.cube.Cube.{Cube}
 use Rattle.std.specs.Prelude.{IfSome}
 use Rattle.book_core.specs.Runs.{state_of}
 use Rattle.book_lock.specs.Seats.{IsCubeNear}
-use Rattle.book_lock.specs.Looks.{Looked}
+use Rattle.book_lock.specs.code.Looks.{Looked}
 use Rattle.book_lock.proofs.Turning.{seen_now, taking_ready, taking_kept, taking_takes}
 use Rattle.book_lock.proofs.desk.Desk.take_some.Goals as goal
 

@@ -1,4 +1,4 @@
-use Rattle.book_search.specs.Base.{IsBase}
+use Rattle.book_search.specs.code.Base.{IsBase}
 use Rattle.book_search.proofs.units.Units.of.Given as goal
 
 abbrev pub invariant-loop-number : goal.invariant-loop-number

@@ -1,6 +1,6 @@
 use Rattle.std.proofs.Common.{arith, ◌∙◌, ap, sym, subst, length, List, get_or, []}
 use Rattle.stn_core.specs.declared.literal.Literal.{Literal}
-use Rattle.branch_search.specs.Divisions.{HasLive}
+use Rattle.branch_search.specs.code.Divisions.{HasLive}
 use Rattle.branch_search.specs.Slices.{question_of}
 use Rattle.branch_search.proofs.Splits.{live_more}
 use Rattle.branch_search.proofs.state.State.check_all.Goals as goal

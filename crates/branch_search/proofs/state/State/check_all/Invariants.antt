@@ -1,8 +1,8 @@
 use Rattle.std.proofs.Common.{◌≡◌, ◌≤◌, ◌<◌, ℕ, min, [], slice_index_or}
-use Rattle.branch_search.specs.Search.{IsSearch}
+use Rattle.branch_search.specs.code.Search.{IsSearch}
 use Rattle.branch_search.specs.Slices.{question_of}
 use Rattle.stn_core.specs.Limits.{adds_limit}
-use Rattle.branch_search.specs.Divisions.{HasLive}
+use Rattle.branch_search.specs.code.Divisions.{HasLive}
 use Rattle.branch_search.proofs.state.State.check_all.Given as goal
 
 abbrev pub invariant-loop-i : goal.invariant-loop-i

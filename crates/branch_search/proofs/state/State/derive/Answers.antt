@@ -2,8 +2,8 @@ use Rattle.std.proofs.Common.{refl, ◌∙◌, ap, sym, take, set, ◌+◌, List
 use Rattle.stn_core.specs.declared.literal.Literal.{Literal}
 use Rattle.conflict_analysis.specs.declared.entry.Entry.{Entry}
 use Rattle.conflict_analysis.specs.declared.entry.Reason.TheVariants.{Decision}
-use Rattle.conflict_analysis.specs.Trails.{on_trail}
-use Rattle.branch_search.specs.Search.{all_lemmas}
+use Rattle.conflict_analysis.specs.code.Trails.{on_trail}
+use Rattle.branch_search.specs.code.Search.{all_lemmas}
 use Rattle.branch_search.specs.Slices.{question_of}
 use Rattle.conflict_analysis.proofs.Marks.{entry_is}
 use Rattle.branch_search.proofs.Learned.{trail_seen}

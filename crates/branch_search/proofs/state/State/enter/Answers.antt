@@ -1,6 +1,6 @@
 use Rattle.std.proofs.Common.{arith}
 use Rattle.std.proofs.lemmas.List.Elements.{Contains-get_or}
-use Rattle.conflict_analysis.specs.Trails.{no_literal}
+use Rattle.conflict_analysis.specs.code.Trails.{no_literal}
 use Rattle.branch_search.specs.Slices.{question_of}
 use Rattle.branch_search.proofs.Proposals.{given_pushed, same_parts}
 use Rattle.branch_search.proofs.state.State.enter.Goals as goal

@@ -1,5 +1,5 @@
 use Rattle.std.proofs.Common.{◌≡◌, ◌≤◌, min, take, []}
-use Rattle.branch_search.specs.Search.{IsSearch}
+use Rattle.branch_search.specs.code.Search.{IsSearch}
 use Rattle.branch_search.specs.Slices.{question_of}
 use Rattle.stn_core.specs.Limits.{adds_limit}
 use Rattle.branch_search.proofs.state.State.enter.Given as goal

@@ -1,5 +1,5 @@
 use Rattle.std.proofs.Common.{◌≡◌}
-use Rattle.branch_search.specs.Search.{IsSearch}
+use Rattle.branch_search.specs.code.Search.{IsSearch}
 use Rattle.branch_search.specs.Slices.{question_of}
 use Rattle.branch_search.proofs.state.State.follow_all.Given as goal
 

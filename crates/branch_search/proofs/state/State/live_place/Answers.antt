@@ -1,6 +1,6 @@
 use Rattle.std.proofs.Common.{arith, refl, ◌∙◌, subst, ℕ}
 use Rattle.stn_core.specs.Literal.{IsOver, literal_at}
-use Rattle.conflict_analysis.specs.Trails.{no_literal}
+use Rattle.conflict_analysis.specs.code.Trails.{no_literal}
 use Rattle.branch_search.specs.Slices.{question_of}
 use Rattle.branch_search.proofs.Splits.{live_turn, same_literals}
 use Rattle.branch_search.proofs.state.State.live_place.Goals as goal

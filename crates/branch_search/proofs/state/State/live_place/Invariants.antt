@@ -1,7 +1,7 @@
 use Rattle.std.proofs.Common.{◌≡◌, ◌≤◌, ◌<◌, ℕ, min, length}
 use Rattle.stn_core.specs.Literal.{negation_of, literal_at}
-use Rattle.conflict_analysis.specs.Trails.{Stands}
-use Rattle.branch_search.specs.Search.{IsSearch}
+use Rattle.conflict_analysis.specs.code.Trails.{Stands}
+use Rattle.branch_search.specs.code.Search.{IsSearch}
 use Rattle.branch_search.specs.Slices.{question_of}
 use Rattle.stn_core.specs.Limits.{adds_limit}
 use Rattle.branch_search.proofs.state.State.live_place.Given as goal

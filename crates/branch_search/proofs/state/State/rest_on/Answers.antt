@@ -2,8 +2,8 @@ use Rattle.std.proofs.Common.{◌≡◌, ◌∙◌, ap, subst, take, set, List}
 use Rattle.stn_core.specs.declared.literal.Literal.{Literal}
 use Rattle.conflict_analysis.specs.declared.entry.Entry.{Entry}
 use Rattle.conflict_analysis.specs.declared.entry.Reason.TheVariants.{Clause as ByClause}
-use Rattle.conflict_analysis.specs.Trails.{on_trail, Stands, IsByClause}
-use Rattle.branch_search.specs.Search.{all_lemmas}
+use Rattle.conflict_analysis.specs.code.Trails.{on_trail, Stands, IsByClause}
+use Rattle.branch_search.specs.code.Search.{all_lemmas}
 use Rattle.branch_search.specs.Slices.{question_of}
 use Rattle.branch_search.proofs.Restated.{part_clause, rested}
 use Rattle.branch_search.proofs.state.State.rest_on.Goals as goal

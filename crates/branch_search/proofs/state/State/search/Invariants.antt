@@ -1,8 +1,8 @@
 use Rattle.std.proofs.Common.{◌≡◌, ◌≤◌, min, length}
-use Rattle.branch_search.specs.Search.{IsSearch}
+use Rattle.branch_search.specs.code.Search.{IsSearch}
 use Rattle.branch_search.specs.Slices.{question_of}
 use Rattle.stn_core.specs.Limits.{adds_limit}
-use Rattle.branch_search.specs.Turns.{weight}
+use Rattle.branch_search.specs.code.Turns.{weight}
 use Rattle.branch_search.proofs.state.State.search.Given as goal
 
 abbrev pub invariant-turns : goal.invariant-turns

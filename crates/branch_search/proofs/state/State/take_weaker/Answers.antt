@@ -1,6 +1,6 @@
 use Rattle.std.proofs.Common.{◌∙◌, ap, subst, length, [], ◌∷◌}
 use Rattle.stn_core.specs.declared.literal.Literal.{Literal}
-use Rattle.conflict_analysis.specs.Trails.{Stands}
+use Rattle.conflict_analysis.specs.code.Trails.{Stands}
 use Rattle.branch_search.specs.Slices.{question_of}
 use Rattle.branch_search.proofs.Proposals.{pair_stuck, pair_pushed, stands_at, same_parts}
 use Rattle.branch_search.proofs.state.State.take_weaker.Goals as goal

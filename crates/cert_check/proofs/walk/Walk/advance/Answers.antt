@@ -1,5 +1,5 @@
 use Rattle.std.proofs.Common.{arith, ◌∙◌, subst, List, ◌∷◌}
-use Rattle.cert_check.specs.Walks.{AreAlike, waiting}
+use Rattle.cert_check.specs.code.Walks.{AreAlike, waiting}
 use Rattle.stn_core.specs.declared.literal.Literal.{Literal}
 use Rattle.cert_check.proofs.Stacks.{place_within, cut_stack, past_last, next_stack, next_cases}
 use Rattle.cert_check.proofs.walk.Walk.advance.Goals as goal

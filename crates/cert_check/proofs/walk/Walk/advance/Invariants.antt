@@ -1,5 +1,5 @@
 use Rattle.std.proofs.Common.{◌≡◌, length}
-use Rattle.cert_check.specs.Walks.{waiting, IsStack}
+use Rattle.cert_check.specs.code.Walks.{waiting, IsStack}
 use Rattle.cert_check.proofs.walk.Walk.advance.Given as goal
 
 abbrev pub invariant-loop-frame : goal.invariant-loop-frame

@@ -1,6 +1,6 @@
 use Rattle.std.proofs.Common.{map, take}
 use Rattle.stn_core.specs.Literal.{negation_of}
-use Rattle.cert_check.specs.Walks.{IsAlike}
+use Rattle.cert_check.specs.code.Walks.{IsAlike}
 use Rattle.cert_check.proofs.walk.Walk.new.Given as goal
 
 abbrev pub invariant-loop-literal : goal.invariant-loop-literal

@@ -1,7 +1,7 @@
 use Rattle.std.proofs.Common.{Bor, List, ℕ}
 use Rattle.kept_lemmas.specs.declared.item.Item.{Item}
 use Rattle.cert_read.specs.Parts.{item_of}
-use Rattle.cert_read.specs.Quick.{ReadsItem, IsQuick}
+use Rattle.cert_read.specs.code.Quick.{ReadsItem, IsQuick}
 use Rattle.cert_read.proofs.QuickTexts.{if_some_more, quick_is}
 use Rattle.cert_read.proofs.quick.ItemQuick.quick.Goals as goal
 

@@ -1,5 +1,5 @@
 use Rattle.std.proofs.Common.{◌≡◌, ◌-◌, ℕ, length, false}
-use Rattle.conflict_analysis.specs.Leaves.{at_leaves}
+use Rattle.conflict_analysis.specs.code.Leaves.{at_leaves}
 use Rattle.conflict_analysis.proofs.tables.NoLeaves.into_leaves.Given as goal
 
 abbrev pub invariant-leaves : goal.invariant-leaves

@@ -1,6 +1,6 @@
 use Rattle.std.proofs.Common.{◌≡◌, ◌-◌, ℕ, length}
 use Rattle.conflict_analysis.specs.declared.entry.Role.TheVariants.{Unused}
-use Rattle.conflict_analysis.specs.Trails.{role_at}
+use Rattle.conflict_analysis.specs.code.Trails.{role_at}
 use Rattle.conflict_analysis.proofs.tables.Unmarked.into_roles.Given as goal
 
 abbrev pub invariant-roles : goal.invariant-roles

@@ -1,5 +1,5 @@
 use Rattle.std.proofs.Common.{◌≡◌, ◌<◌, ◌++◌, [], length, reverse, slice_index_or}
-use Rattle.cover_tree.specs.Links.{paths_of}
+use Rattle.cover_tree.specs.code.Links.{paths_of}
 use Rattle.cover_tree.proofs.cover.Cover.cube_of.Given as goal
 
 abbrev pub invariant-loop-at : goal.invariant-loop-at

@@ -1,6 +1,6 @@
 use Rattle.std.proofs.Common.{arith, ◌≢◌, ◌<◌, ◌-◌, subst}
 use Rattle.std.proofs.lemmas.Bool.Decides.{nat_tests}
-use Rattle.cover_tree.specs.Members.{NumberSet, IsMember, NoMember}
+use Rattle.cover_tree.specs.code.Members.{NumberSet, IsMember, NoMember}
 use Rattle.cover_tree.proofs.Orders.{none_in, member_in}
 use Rattle.cover_tree.proofs.members.Members.any.Goals as goal
 

@@ -1,6 +1,6 @@
 use Rattle.std.proofs.Common.{◌≡◌, ◌∙◌, ◌+◌, Some, true, false, ap, sym, subst, set}
 use Rattle.std.specs.Prelude.{slice_get}
-use Rattle.cover_tree.specs.Members.{NumberSet, flags}
+use Rattle.cover_tree.specs.code.Members.{NumberSet, flags}
 use Rattle.cover_tree.proofs.Orders.{inserted, inserted_set, has_room}
 use Rattle.cover_tree.proofs.members.Members.insert.Goals as goal
 

@@ -1,5 +1,5 @@
 use Rattle.std.proofs.Common.{◌∙◌, ◌-◌, false, ap, sym, subst, set}
-use Rattle.cover_tree.specs.Members.{NumberSet, IsMember, flags}
+use Rattle.cover_tree.specs.code.Members.{NumberSet, IsMember, flags}
 use Rattle.cover_tree.proofs.Orders.{removed, removed_set, is_in_set}
 use Rattle.cover_tree.proofs.members.Members.remove.Goals as goal
 

@@ -1,6 +1,6 @@
 use Rattle.std.proofs.Common.{rules, arith, ap, ◌∙◌, ◌≡◌, ◌<◌, ◌+◌, ◌++◌, ◌∷◌, [], ℕ, length}
 use Rattle.std.proofs.lemmas.List.{get_or_read}
-use Rattle.inc_paths.specs.Graphs.{Graph, number_at}
+use Rattle.inc_paths.specs.code.Graphs.{Graph, number_at}
 use Rattle.inc_paths.proofs.Linking.{linked_more}
 use Rattle.inc_paths.proofs.arcs.Arcs.push.Goals as goal
 

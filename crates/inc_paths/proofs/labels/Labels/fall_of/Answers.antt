@@ -4,7 +4,7 @@ use Rattle.std.specs.Prelude.{unsigned_abs}
 use Rattle.std.proofs.lemmas.Int.{to_z-of_z}
 use Rattle.std.proofs.lemmas.Grind.{common_steps}
 use Rattle.stn_core.specs.Literal.{value_at}
-use Rattle.inc_paths.specs.Trails.{Labelled, first_of}
+use Rattle.inc_paths.specs.code.Trails.{Labelled, first_of}
 use Rattle.inc_paths.proofs.labels.Labels.fall_of.Goals as goal
 
 pub returns : goal.returns

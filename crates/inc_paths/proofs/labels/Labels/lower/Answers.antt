@@ -4,7 +4,7 @@ use Rattle.std.proofs.lemmas.Int.{to_z-of_z}
 use Rattle.std.proofs.lemmas.Grind.{common_steps}
 use Rattle.std.specs.BinaryHeap.{heap_items}
 use Rattle.stn_core.specs.Literal.{value_at, most_allowed}
-use Rattle.inc_paths.specs.Trails.{Labelled, lowering}
+use Rattle.inc_paths.specs.code.Trails.{Labelled, lowering}
 use Rattle.inc_paths.proofs.Undoing.{labelled_more}
 use Rattle.inc_paths.proofs.labels.Labels.lower.Goals as goal
 

@@ -1,5 +1,5 @@
 use Rattle.std.proofs.Common.{ap}
-use Rattle.inc_paths.specs.Trails.{Labelled}
+use Rattle.inc_paths.specs.code.Trails.{Labelled}
 use Rattle.inc_paths.proofs.Queues.{popped}
 use Rattle.inc_paths.proofs.labels.Labels.pop.Goals as goal
 

@@ -1,5 +1,5 @@
 use Rattle.std.proofs.Common.{◌≡◌, length, take}
-use Rattle.inc_paths.specs.Trails.{first_of}
+use Rattle.inc_paths.specs.code.Trails.{first_of}
 use Rattle.inc_paths.proofs.labels.Labels.undo.Given as goal
 
 abbrev pub invariant-newest : goal.invariant-newest

@@ -1,6 +1,6 @@
 use Rattle.std.proofs.Common.{List, map, subst}
 use Rattle.stn_core.specs.declared.literal.Literal.{Literal}
-use Rattle.lemma_shelf.specs.Tables.{HasClause}
+use Rattle.lemma_shelf.specs.code.Tables.{HasClause}
 use Rattle.lemma_shelf.proofs.Books.{added}
 use Rattle.lemma_shelf.proofs.book.Book.add.Goals as goal
 

@@ -2,7 +2,7 @@ use Rattle.std.proofs.Common.{List, subst, nat_eq}
 use Rattle.std.proofs.lemmas.List.{take_all}
 use Rattle.indexmap.specs.IndexMap.{get}
 use Rattle.stn_core.specs.declared.literal.Literal.{Literal}
-use Rattle.lemma_shelf.specs.Tables.{IsPresent}
+use Rattle.lemma_shelf.specs.code.Tables.{IsPresent}
 use Rattle.lemma_shelf.proofs.present.Present.new.Goals as goal
 
 pub returns-clause-present : goal.returns-clause-present

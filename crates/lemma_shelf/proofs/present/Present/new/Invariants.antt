@@ -1,6 +1,6 @@
 use Rattle.std.proofs.Common.{take, nat_eq}
 use Rattle.indexmap.specs.IndexMap.{get}
-use Rattle.lemma_shelf.specs.Tables.{IsPresent}
+use Rattle.lemma_shelf.specs.code.Tables.{IsPresent}
 use Rattle.lemma_shelf.proofs.present.Present.new.Given as goal
 
 abbrev pub invariant-loop-i : goal.invariant-loop-i

@@ -1,7 +1,7 @@
 use Rattle.std.proofs.Common.{[], ◌∷◌, ◌++◌, map, ap, subst, ◌∙◌}
 use Rattle.std.proofs.lemmas.List.{map-append}
-use Rattle.lemma_shelf.specs.Additions.{HasItems}
-use Rattle.lemma_shelf.specs.Walks.{shelf_in}
+use Rattle.lemma_shelf.specs.code.Additions.{HasItems}
+use Rattle.lemma_shelf.specs.code.Walks.{shelf_in}
 use Rattle.lemma_shelf.proofs.MoreItems.{shelf_longer}
 use Rattle.lemma_shelf.proofs.shelf.Shelf.add_entry.Goals as goal
 

@@ -2,7 +2,7 @@ use Rattle.std.proofs.Common.{◌≡◌, None, map, subst}
 use Rattle.kept_lemmas.specs.Facts.{Shelf}
 use Rattle.kept_lemmas.specs.Entries.{AreRight}
 use Rattle.lemma_shelf.specs.ItemFlaws.{items_flaw}
-use Rattle.lemma_shelf.specs.Walks.{shelf_in}
+use Rattle.lemma_shelf.specs.code.Walks.{shelf_in}
 use Rattle.lemma_shelf.proofs.Refuting.{refutes}
 use Rattle.lemma_shelf.proofs.shelf.Shelf.check_entry.Goals as goal
 

@@ -1,7 +1,7 @@
 use Rattle.std.proofs.Common.{map, sym, ap, subst, ◌∙◌}
 use Rattle.refute_tree.specs.Trees.{IsRefutation}
 use Rattle.lemma_shelf.specs.Lowering.{StatesLast}
-use Rattle.lemma_shelf.specs.WrittenOut.{last_of}
+use Rattle.lemma_shelf.specs.code.WrittenOut.{last_of}
 use Rattle.lemma_shelf.proofs.Lowered.{root_there, root_is, refutation, states_last}
 use Rattle.lemma_shelf.proofs.shelf.Shelf.lower.Goals as goal
 

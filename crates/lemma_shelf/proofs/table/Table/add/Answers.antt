@@ -2,8 +2,8 @@ use Rattle.std.proofs.Common.{arith, ◌<◌, ℕ, All, List, length, map, refl,
 use Rattle.std.proofs.lemmas.List.Elements.{All-weaker}
 use Rattle.stn_core.specs.Literal.{negation_of}
 use Rattle.refute_tree.specs.declared.step.Step.{Step}
-use Rattle.lemma_shelf.specs.Tables.{AreRenumbered}
-use Rattle.lemma_shelf.specs.Walks.{facts_in}
+use Rattle.lemma_shelf.specs.code.Tables.{AreRenumbered}
+use Rattle.lemma_shelf.specs.code.Walks.{facts_in}
 use Rattle.lemma_shelf.proofs.MoreLemmas.{all_renumbered_known, all_cite}
 use Rattle.lemma_shelf.proofs.Steps.{steps_known, begins_itself, pushed}
 use Rattle.lemma_shelf.proofs.table.Table.add.Goals as goal

@@ -2,8 +2,8 @@ use Rattle.std.proofs.Common.{arith, ◌<◌, ◌∙◌, ap, subst, length}
 use Rattle.std.specs.Prelude.{slice_get}
 use Rattle.std.proofs.lemmas.Option.{slice_get-get_or}
 use Rattle.refute_tree.specs.declared.cycle.Cycle.{Cycle as CycleSeen}
-use Rattle.refute_tree.specs.Paths.{path_of}
-use Rattle.refute_tree.specs.Views.{literals_of}
+use Rattle.refute_tree.specs.code.Paths.{path_of}
+use Rattle.refute_tree.specs.code.Views.{literals_of}
 use Rattle.refute_tree.proofs.PathParts.{path_length}
 use Rattle.refute_tree.proofs.cycle.Cycle.at.Goals as goal
 

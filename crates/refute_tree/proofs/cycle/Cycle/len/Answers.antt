@@ -1,6 +1,6 @@
 use Rattle.std.proofs.Common.{◌∙◌, ap, sym, length}
 use Rattle.refute_tree.specs.declared.cycle.Cycle.{Cycle as CycleSeen}
-use Rattle.refute_tree.specs.Views.{literals_of}
+use Rattle.refute_tree.specs.code.Views.{literals_of}
 use Rattle.refute_tree.proofs.PathParts.{path_length}
 use Rattle.refute_tree.proofs.cycle.Cycle.len.Goals as goal
 

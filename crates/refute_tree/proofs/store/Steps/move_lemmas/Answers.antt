@@ -1,8 +1,9 @@
 use Rattle.std.proofs.Common.{List, sym, ap, ◌∙◌, map, All, subst, length, ◌≤◌, arith, refl}
 use Rattle.refute_tree.specs.declared.step.Step.{Step}
-use Rattle.refute_tree.specs.Store.{Parts, small_by, large_by, IsWhole, steps_by, used}
-use Rattle.refute_tree.specs.Lists.{steps_of_lists, parts_of_lists}
-use Rattle.refute_tree.specs.Moves.{is_lemma, is_large_lemma, moved_number, moved_step, MovesWithin}
+use Rattle.refute_tree.specs.code.Store.{Parts, small_by, large_by, IsWhole, steps_by, used}
+use Rattle.refute_tree.specs.code.Lists.{steps_of_lists, parts_of_lists}
+use Rattle.refute_tree.specs.Moves.{moved_number, moved_step, MovesWithin}
+use Rattle.refute_tree.specs.code.MovedParts.{is_lemma, is_large_lemma}
 use Rattle.refute_tree.proofs.Flats.{parts_same}
 use Rattle.refute_tree.proofs.MovedNumbers.{small_by_one, large_by_one, small_within, large_within, moved_whole, moved_steps, items_moved}
 use Rattle.refute_tree.proofs.store.Steps.move_lemmas.Goals as goal

@@ -1,7 +1,8 @@
 use Rattle.std.proofs.Common.{List, sym, ap, ◌∙◌, map, subst, length, ◌≤◌, arith, refl}
-use Rattle.refute_tree.specs.Store.{Parts, small_by, large_by, IsWhole, steps_by, used}
-use Rattle.refute_tree.specs.Lists.{steps_of_lists, parts_of_lists}
-use Rattle.refute_tree.specs.Moves.{is_lemma, is_large_lemma, listed_number, named_step}
+use Rattle.refute_tree.specs.code.Store.{Parts, small_by, large_by, IsWhole, steps_by, used}
+use Rattle.refute_tree.specs.code.Lists.{steps_of_lists, parts_of_lists}
+use Rattle.refute_tree.specs.Moves.{listed_number, named_step}
+use Rattle.refute_tree.specs.code.MovedParts.{is_lemma, is_large_lemma}
 use Rattle.refute_tree.proofs.Flats.{parts_same}
 use Rattle.refute_tree.proofs.MovedNumbers.{small_by_one, large_by_one, moved_whole, moved_steps, items_moved}
 use Rattle.refute_tree.proofs.store.Steps.renumber_lemmas.Goals as goal

@@ -1,0 +1,6 @@
+-- Words of the code alone, which contracts of the code's own calls cite: no part of the meaning.
+pub mod Paths
+pub mod Store
+pub mod Lists
+pub mod Views
+pub mod MovedParts
