@@ -7,6 +7,7 @@
 (assert (>= (- |tea is ready| |water boils|) 3))
 (assert (<= (- |tea is ready| start) 15))
 (check-sat)
+(minimize (- |tea is ready| start))            ; how soon can it be ready?
 (assert (<= (- |tea is ready| start) 6))       ; six minutes are too few
 (check-sat)
 (exit)
