@@ -177,7 +177,9 @@ def peer(name, problem, limit):
     with tempfile.NamedTemporaryFile("w", suffix=".mzn") as file:
         file.write(problem.model)
         file.flush()
-        done = run(["minizinc", "--solver", "gecode", file.name], "", limit)
+        # its solver stands in a group of its own, and outlives it where it is killed: it is told the limit itself
+        stop = ["--time-limit", str(int(limit * 1000))]
+        done = run(["minizinc", "--solver", "gecode", *stop, file.name], "", limit + 10)
     return done if done and "==========" in done[0] else None
 
 
