@@ -8,7 +8,7 @@ ghost use Rattle.better_schedules.specs.Near.{span};
 ghost use Rattle.better_schedules.specs.code.Descents.{IsDescent, IsMiddle, IsTooLow, IsQuestion, LeadsOn};
 
 use crate::incumbent::{Incumbent, improved, opened};
-use crate::lower_bound::{Bound, floored, is_near, middle};
+use crate::lower_bound::{Bound, floored, is_near, middle, near_of};
 use crate::tight::low_hint;
 use crate::unbounded::unbounded_set;
 use best_values::question;
@@ -23,6 +23,8 @@ pub struct Descent {
     // how far below the best value is asked next, at most: twice as far after each schedule, since one that is far from the
     // best is found soon, and half of the way once a bound was refuted
     step: Value,
+    // a way that is left of no more than this is near
+    near: Value,
 }
 
 /// The problem with one more clause, the last: the objective is below the bound.
@@ -51,6 +53,7 @@ impl Descent {
         let incumbent = opened(alloc, problem, first, x, y)?;
         let lower = floored(problem, hint);
         Ok(Descent {
+            near: near_of(lower, &incumbent),
             lower,
             incumbent,
             step: 0,
@@ -74,7 +77,7 @@ impl Descent {
         if !is_near(problem, self.incumbent.value) {
             return Ok(None);
         }
-        let bound = middle(self.lower, &self.incumbent, self.step);
+        let bound = middle(self.lower, &self.incumbent, self.step, self.near);
         let asked = question(alloc, problem, x, y, bound.value)?;
         Ok(Some(Question {
             bound,
@@ -124,6 +127,7 @@ impl Descent {
             lower: bound,
             incumbent: self.incumbent,
             step: Value::MAX,
+            near: self.near,
         }
     }
 
@@ -149,6 +153,7 @@ impl Descent {
             lower: self.lower,
             incumbent,
             step: self.step.saturating_mul(2).saturating_add(1),
+            near: self.near,
         })
     }
 

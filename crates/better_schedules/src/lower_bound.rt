@@ -42,13 +42,29 @@ pub(crate) fn floored(problem: &Problem, hint: Value) -> Bound
     Bound { value: hint }
 }
 
+/// How much of the way between the two, less than which is near: a twelfth. What is refuted there takes about as long as what is
+/// refuted at the least value, and the next question begins as far away.
+pub(crate) fn near_of(low: Bound, best: &Incumbent) -> Value {
+    best.value.wrapping_sub(low.value) / 12
+}
+
+// At most how far below the higher one a question is: half of the way, and near the end a 64th of it, so that the last steps ask for
+// anything better at all.
+fn most_step(way: Value, near: Value) -> Value {
+    if way <= near {
+        way >> 6u32
+    } else {
+        way >> 1u32
+    }
+}
+
 /// A bound to ask for: between the two, or the higher one. It is as far below the higher one as the step says, and at most
-/// half of the way: a hint, whose difference is tested.
-pub(crate) fn middle(low: Bound, best: &Incumbent, step: Value) -> Bound
+/// half of the way, or a small part of it where that is near: a hint, whose difference is tested.
+pub(crate) fn middle(low: Bound, best: &Incumbent, step: Value, near: Value) -> Bound
     ensures { IsMiddle low.value best.now.value result.value }
 {
-    let half = best.value.wrapping_sub(low.value) >> 1u32;
-    let value = best.value.wrapping_sub(half.min(step));
+    let way = best.value.wrapping_sub(low.value);
+    let value = best.value.wrapping_sub(most_step(way, near).min(step));
     if low.value < value && value < best.value {
         return Bound { value };
     }
