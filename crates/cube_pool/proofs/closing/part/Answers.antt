@@ -57,4 +57,4 @@ hands-preserved c =
 pub returns : goal.returns
 returns c =
     let v = c.hands.invariant in
-    all_parted c.args.pool.now c.args.hands.items c.hands.hands.items c.hands.lanes.items c.hands.rows.items (omega (arith, c.in_default.ensures.cases.0)) v.count v.same v.ends v.rows v.put v.taken v.own v.fetched v.known
+    all_parted c.args.pool.now c.args.hands.items c.hands.hands.items c.hands.lanes.items c.hands.rows.items (omega (arith, c.in_default.ensures.cases.0)) (omega (arith, v.count)) (omega (arith, v.same)) v.ends v.rows v.put v.taken v.own v.fetched v.known
