@@ -1,5 +1,5 @@
 -- What the hands knew, through their parting, the joining of their passes, and the end.
-use Rattle.std.proofs.Common.{arith, ◌≡◌, ◌≢◌, ℕ, zero, suc, ◌<◌, ◌≤◌, ◌+◌, ◌-◌, inl, inr, All, IsPermutation, List, [], ◌∷◌, ◌++◌, length, map, set, take, drop, Result, Ok, Err, refl, sym, ap, ◌∙◌, subst, append-nil}
+use Rattle.std.proofs.Common.{arith, ◌≡◌, ℕ, zero, suc, ◌<◌, ◌≤◌, ◌+◌, ◌-◌, inl, inr, All, IsPermutation, List, [], ◌∷◌, ◌++◌, length, map, set, take, drop, Result, Ok, Err, refl, sym, ap, ◌∙◌, subst, append-nil}
 use mathlib.Core.List.{IsPrefix}
 use Rattle.std.specs.Prelude.{sum_by, IfOk, OnOk}
 use Rattle.std.specs.Global.{Global}
@@ -9,8 +9,8 @@ use Rattle.std.proofs.lemmas.List.Elements.{All-head, All-nil}
 use Rattle.std.proofs.lemmas.List.Sorted.{All-permutation, IsPermutation-sym, sum_by-IsPermutation}
 use Rattle.crossbeam_deque.specs.Handles.{Pass, view, worker_view}
 use Rattle.cube_pool.specs.declared.slip.Slip.{Slip}
-use Rattle.cube_pool.specs.Lanes.{History, Begins, HasOneHistory, first_taken, fresh, joint, left_in, pushed_in, takings_in, slip, whole, weigh}
-use Rattle.cube_pool.specs.Hands.{Deque, Doings, AreInOrder, AreTakers, HaveHistories, IsHand, IsHistoryOf, IsTaker, fetched_by, fetched_there, known_by, known_there, newcomer, pushed_by, taken_by}
+use Rattle.cube_pool.specs.Lanes.{History, Begins, HasOneHistory, fresh, joint, pushed_in, takings_in, weigh}
+use Rattle.cube_pool.specs.Hands.{Deque, Doings, AreInOrder, AreTakers, HaveHistories, IsHand, IsHistoryOf, fetched_by, fetched_there, known_by, known_there, newcomer, pushed_by, taken_by}
 use Rattle.cube_pool.specs.code.Closings.{Lane, Row, AreBecomingJoint, AreJoined, AreParted, AreEndsSoFar, AreRows, HasTakenIn, HaveOneHistory, IsOwnEnd, IsTakingIn, known_at, put_by, seen_at, taken_at, taken_over, taken_there}
 use Rattle.cube_pool.proofs.Lanes.{weigh_append}
 use Rattle.cube_pool.proofs.Lists.{IsFrontOf, all_longer, all_parts, all_popped, all_pushed, front_popped, get_or_any, last_is, length_pushed, same_or_not}
@@ -29,7 +29,7 @@ module _ (hand : Doings) {number pushes : ℕ} (lane : Lane) (passes : List (Pas
       let P : ℕ → Lane → Type 0 = λ k l. (one : Doings) → IsOwnEnd (get_or all (length pool - 1 - k) one) l in
       let place : length t ≡ length pool - 1 - length lanes = omega (arith, count, length_pushed s t hand e) in
       let here : P (length lanes) lane = λ one.
-          subst (λ (d : Doings). IsOwnEnd d lane) (last_is all s t hand one e front ∙ ap (λ (n : ℕ). get_or all n one) place) own_parted in
+      subst (λ (d : Doings). IsOwnEnd d lane) (last_is all s t hand one e front ∙ ap (λ (n : ℕ). get_or all n one) place) own_parted in
       all_pushed P lanes' lanes lane el was here
 
 -- a hand's row is parted
@@ -93,15 +93,14 @@ module _ (old lanes : List Lane) (row s t : List (Pass ℕ Slip Global)) (pass :
         let now : get_or (set lanes place lane') k d ≡ lane' = ap (λ (n : ℕ). get_or (set lanes place lane') n d) i ∙ get_or-set_same lanes place lane' d within in
         let before : worker_view (get_or lanes place d) ≡ worker_view (get_or old place d) = (was place d within).1 (omega (arith, at, longer, count, few)) in
         let a : worker_view lane ≡ worker_view (get_or old k d) =
-            ap (λ (x : Lane). worker_view x) (is ∙ get_or_any lanes place lane d within) ∙ (before ∙ ap (λ (n : ℕ). worker_view (get_or old n d)) (sym i)) in
+        ap (λ (x : Lane). worker_view x) (is ∙ get_or_any lanes place lane d within) ∙ (before ∙ ap (λ (n : ℕ). worker_view (get_or old n d)) (sym i)) in
         let b : view pass ≡ seen_at (length row - 1 - k) row = seen ∙ ap (λ (n : ℕ). seen_at n row) back in
         let all : worker_view (get_or (set lanes place lane') k d) ≡ joint (worker_view (get_or old k d)) (seen_at (length row - 1 - k) row) =
-            ap (λ (x : Lane). worker_view x) now ∙ (knows ∙ (ap (λ (v : Slip). joint v (view pass)) a ∙ ap (λ (w : Slip). joint (worker_view (get_or old k d)) w) b)) in
+        ap (λ (x : Lane). worker_view x) now ∙ (knows ∙ (ap (λ (v : Slip). joint v (view pass)) a ∙ ap (λ (w : Slip). joint (worker_view (get_or old k d)) w) b)) in
         (λ _. all, λ low. absurd (omega (arith, low, back))))
     | inr ne ↦
         (let there : k < length lanes = omega (arith, l, length-set lanes place lane') in
-        let same : get_or (set lanes place lane') k d ≡ get_or lanes k d = get_or-set_other lanes place k lane' d ne in
-        (
+        let same : get_or (set lanes place lane') k d ≡ get_or lanes k d = get_or-set_other lanes place k lane' d ne in (
           λ high. ap (λ (x : Lane). worker_view x) same ∙ (was k d there).0 (omega (arith, high, ne, at, longer, count, few, there)),
           λ low. ap (λ (x : Lane). worker_view x) same ∙ (was k d there).1 (omega (arith, low, longer)),
         ))
@@ -185,9 +184,8 @@ module _ (pool : List Deque) (hands : List Doings) (old : List Lane) (rows : Lis
       let log : History = one.log in
       let took : HasTakenIn k rows own_end last = subst (λ (n : ℕ). HasTakenIn n rows own_end last) back (joined.each j d there) in
       let own : (i : ℕ) (hand : Doings) → i ≡ k → IsOwnEnd (get_or hands i hand) (get_or old j d) =
-          λ i hand e. subst (λ (n : ℕ). IsOwnEnd (get_or hands n hand) (get_or old j d)) (back ∙ sym e) (parted.own j d there_before hand) in
-      let fronts = took.fronts log one.begins in
-      (
+      λ i hand e. subst (λ (n : ℕ). IsOwnEnd (get_or hands n hand) (get_or old j d)) (back ∙ sym e) (parted.own j d there_before hand) in
+      let fronts = took.fronts log one.begins in (
         log,
         record {
           legal = one.legal;
@@ -216,8 +214,7 @@ pub all_histories : (pool : List Deque) (hands sorted : List Doings) (old : List
 all_histories pool hands sorted old rows lanes permuted order parted joined told k l =
     let one = have_histories pool sorted old rows lanes order parted joined told k l in
     let log : History = one.0 in
-    let back : IsPermutation sorted hands = IsPermutation-sym hands sorted permuted in
-    (
+    let back : IsPermutation sorted hands = IsPermutation-sym hands sorted permuted in (
       log,
       record {
         legal = one.1.legal;

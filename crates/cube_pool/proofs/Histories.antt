@@ -1,5 +1,5 @@
 -- Histories of a deque: their fronts, and what one more event makes of them.
-use Rattle.std.proofs.Common.{arith, ◌≡◌, ℕ, zero, suc, ◌<◌, ◌≤◌, ◌+◌, ◌⊎◌, inl, inr, All, List, [], ◌∷◌, ◌++◌, length, take, drop, Some, refl, sym, ap, ◌∙◌, subst, append_assoc, append-nil}
+use Rattle.std.proofs.Common.{arith, ◌≡◌, ℕ, zero, suc, ◌<◌, ◌≤◌, ◌+◌, ◌⊎◌, inl, inr, List, [], ◌∷◌, ◌++◌, length, drop, Some, refl, sym, ap, ◌∙◌, subst, append_assoc, append-nil}
 use Rattle.std.specs.Prelude.{slice_get}
 use Rattle.std.proofs.lemmas.List.{length-append}
 use Rattle.std.proofs.lemmas.List.Elements.{All-weaker}
@@ -7,7 +7,7 @@ use mathlib.Core.List.{IsPrefix}
 use Rattle.cube_pool.specs.declared.slip.Event.{Event}
 use Rattle.cube_pool.specs.declared.slip.Event.TheVariants.{Pushed, Taken}
 use Rattle.cube_pool.specs.declared.slip.Slip.{Slip}
-use Rattle.cube_pool.specs.Lanes.{History, pushed_in, takings_in, first_taken, left_in, oldest_in, IsLegal, Begins, weigh}
+use Rattle.cube_pool.specs.Lanes.{History, pushed_in, takings_in, left_in, oldest_in, IsLegal, Begins}
 
 pub prefix_self : {A : Type 0} (xs : List A) → IsPrefix xs xs
 prefix_self xs = ([], append-nil xs)

@@ -1,5 +1,5 @@
 -- Each step keeps the rule.
-use Rattle.std.proofs.Common.{arith, ◌≡◌, ◌≢◌, ℕ, zero, suc, ◌<◌, ◌+◌, ◌-◌, All, List, [], ◌∷◌, ◌++◌, length, map, set, sym, refl, ap, ◌∙◌, ⊎_elim, subst, append-nil}
+use Rattle.std.proofs.Common.{arith, ◌≡◌, ◌≢◌, ℕ, zero, suc, ◌<◌, ◌+◌, All, List, [], ◌∷◌, ◌++◌, length, set, sym, refl, ap, ◌∙◌, ⊎_elim, subst, append-nil}
 use Rattle.std.proofs.lemmas.List.Elements.{All-nil, All-append, All-cons}
 use mathlib.Core.Option.{some, some-ne-none}
 use mathlib.Core.List.{IsPrefix}
@@ -8,7 +8,7 @@ use Rattle.crossbeam_deque.specs.Tasks.{Pushes, Takes, Finds, Forks, Merges, Lea
 use Rattle.crossbeam_deque.proofs.Lists.{at_set, at_snoc}
 use Rattle.cube_pool.specs.declared.slip.Event.TheVariants.{Pushed, Taken}
 use Rattle.cube_pool.specs.declared.slip.Slip.{Slip}
-use Rattle.cube_pool.specs.Lanes.{History, pushed_in, takings_in, left_in, fresh, joint, lessened, slip, whole, weigh, total, Begins, HasHistory, HasOneHistory, HasPut, HasTaken, IdleIsEmpty, Balanced, IsSettled}
+use Rattle.cube_pool.specs.Lanes.{History, pushed_in, fresh, joint, lessened, slip, whole, weigh, total, Begins, HasHistory, HasOneHistory, HasPut, HasTaken, IdleIsEmpty, Balanced, IsSettled}
 use Rattle.cube_pool.proofs.Histories.{prefix_self, begins_more, left_after, left_pushed, legal_none, legal_pushed, legal_taken, oldest_first, pushed_append, pushed_same}
 
 pub weigh_append : (h : ℕ → ℕ) (xs ys : List ℕ) → weigh h (xs ++ ys) ≡ weigh h xs + weigh h ys
@@ -166,15 +166,15 @@ merges port v other w is_first none_put parts items views b at two at' =
     let vs : List Slip = set views port both in
     let was : IdleIsEmpty vs = idle_set views port both (omega arith) b.2 in
     let at_other : get_elem? views other ≡ some w = ⊎_elim
-        (λ (x : (other ≡ port) × (both ≡ w)). absurd (two x.0))
-        (λ (x : (other ≢ port) × (get_elem? views other ≡ some w)). x.1)
-        (at_set views port other both w at') in
+    (λ (x : (other ≡ port) × (both ≡ w)). absurd (two x.0))
+    (λ (x : (other ≢ port) × (get_elem? views other ≡ some w)). x.1)
+    (at_set views port other both w at') in
     let mine = r.fronts port v at in
     let its = r.fronts other w at_other in
     let all : Begins r.log both = (mine.0, All-append (IsFront r.log) v.joined (w.known ∷ w.joined) mine.1 (All-cons (IsFront r.log) w.known w.joined its.0 its.1)) in
     let fronts : (j : ℕ) (u : Slip) → get_elem? vs j ≡ some u → Begins r.log u = fronts_set items views port v both at r r.log (prefix_self r.log) all in
     let first : (u : Slip) → get_elem? vs 0 ≡ some u → u.put ≡ pushed_in r.log =
-        first_set items views port v both at r r.log refl (ap (λ (l : List ℕ). v.put ++ l) none_put ∙ append-nil v.put) in (
+    first_set items views port v both at r r.log refl (ap (λ (l : List ℕ). v.put ++ l) none_put ∙ append-nil v.put) in (
       (let s = total_set (λ (u : Slip). u.parts) views port v both at in let t = total_set (λ (u : Slip). u.parts) vs other w none_ at' in let p = b.0 in omega arith),
       (λ h. (let s = total_set (λ (u : Slip). weigh h u.put) views port v both at in
           let s' = total_set (λ (u : Slip). weigh h u.put) vs other w none_ at' in

@@ -1,5 +1,5 @@
 -- Hands' parts: deques' ends and rows of passes.
-use Rattle.std.proofs.Common.{arith, ◌≡◌, ◌≢◌, ℕ, ◌<◌, ◌≤◌, ◌+◌, ◌-◌, inl, inr, List, [], ◌∷◌, ◌++◌, length, map, set, take, Option, Some, None, MatchOption, Result, Ok, Err, sym, ap, ◌∙◌, subst}
+use Rattle.std.proofs.Common.{arith, ◌≡◌, ◌≢◌, ℕ, ◌<◌, ◌≤◌, ◌+◌, ◌-◌, List, [], ◌∷◌, ◌++◌, length, map, set, take, Option, Some, None, MatchOption, Result, Ok, Err, sym, ap, ◌∙◌, subst}
 use mathlib.Core.List.{IsPrefix}
 use Rattle.std.specs.Prelude.{slice_get, sum_by, option_map, OnOk, IfErr}
 use Rattle.std.specs.Global.{Global}
@@ -14,11 +14,11 @@ use Rattle.cube_pool.specs.declared.slip.Slip.{Slip}
 use Rattle.crossbeam_deque.specs.declared.handles.Stealer.{Stealer}
 use Rattle.cube_pool.specs.declared.lane.Fair.{Fair}
 use Rattle.cube_pool.specs.declared.lane.Full.{Full}
-use Rattle.cube_pool.specs.Lanes.{History, HasPut, HasTaken, fresh, joint, lessened, oldest_in, slip, whole, weigh, IsSettled}
-use Rattle.cube_pool.specs.Hands.{Deque, Doings, HasFetched, HasPushed, IsHand, IsTaker, AreTakers, deque_of, known_by, taken_by, weigh_all, pushed_by, fetched_by, newcomer, with_fetched}
+use Rattle.cube_pool.specs.Lanes.{History, HasPut, HasTaken, fresh, joint, lessened, slip, whole, weigh, IsSettled}
+use Rattle.cube_pool.specs.Hands.{Deque, Doings, HasFetched, HasPushed, IsHand, IsTaker, AreTakers, deque_of, known_by, taken_by, weigh_all, pushed_by, fetched_by, newcomer}
 use Rattle.cube_pool.specs.code.Closings.{Lane, Row, IsEnd, AreHandsLeft, AreJoining, IsRow, IsOpenWith, AreSplit, IsFreshRow, deques, put_by, taken_there, taken_in, taken_over}
 use Rattle.cube_pool.proofs.Lanes.{weigh_append}
-use Rattle.cube_pool.proofs.Lists.{same_or_not, either_side, length_pushed, first_of, last_of, all_pushed, all_set, heads, take_more, sum_by_map, same_at}
+use Rattle.cube_pool.proofs.Lists.{length_pushed, first_of, last_of, all_pushed, all_set, heads, take_more, sum_by_map, same_at}
 
 -- a sum over a list without its last element
 pub sum_popped : {A : Type 0} (f : A → ℕ) (s t : List A) (x : A) → s ≡ t ++ x ∷ [] → sum_by f s ≡ sum_by f t + f x
@@ -248,7 +248,7 @@ module _ (pool : List Deque) (row more : List (Pass ℕ Slip Global)) (place : �
   pub takers_more : AreTakers row → AreTakers more
   takers_more was =
       let is : view pass ≡ slip 1 [] (taken_by pass) (known_by pass) [] =
-          new ∙ (ap (λ (xs : List ℕ). slip 1 [] xs [] []) (sym nothing) ∙ ap (λ (log : History). slip 1 [] (taken_by pass) log []) (sym unknown)) in
+      new ∙ (ap (λ (xs : List ℕ). slip 1 [] xs [] []) (sym nothing) ∙ ap (λ (log : History). slip 1 [] (taken_by pass) log []) (sym unknown)) in
       all_pushed (λ k p. IsTaker p) more row pass e was (of_deque.2, of_deque.3, is)
 
   none_more : {B : Type 0} (f : Pass ℕ Slip Global → List B) → f pass ≡ [] → map f row ≡ map (λ (d : Deque). []) (take place pool) → map f more ≡ map (λ (d : Deque). []) (take (place + 1) pool)
@@ -341,9 +341,9 @@ module _ (passes : List (Pass ℕ Slip Global)) (mouths : List (Stealer ℕ Glob
       let taken : taken_by pass' ≡ taken_by pass ++ x ∷ [] = ap (λ (v : Slip). v.taken) f.3 in
       let known : known_by pass' ≡ log ++ Taken ∷ [] = ap (λ (v : Slip). v.known) f.3 in
       let all : map taken_by (set passes place pass') ≡ set (map taken_by passes) place (get_or (map taken_by passes) place [] ++ x ∷ []) =
-          map-set taken_by passes place pass' ∙ ap (λ (xs : List ℕ). set (map taken_by passes) place xs) (taken ∙ ap (λ (xs : List ℕ). xs ++ x ∷ []) (sym was_there)) in
+      map-set taken_by passes place pass' ∙ ap (λ (xs : List ℕ). set (map taken_by passes) place xs) (taken ∙ ap (λ (xs : List ℕ). xs ++ x ∷ []) (sym was_there)) in
       let seen : map known_by (set passes place pass') ≡ set (map known_by passes) place (log ++ Taken ∷ []) =
-          map-set known_by passes place pass' ∙ ap (λ (l : History). set (map known_by passes) place l) known in
+      map-set known_by passes place pass' ∙ ap (λ (l : History). set (map known_by passes) place l) known in
       let was : IsPrefix (get_or (map known_by passes) place []) log = subst (λ (l : History). IsPrefix l log) (sym was_known) f.1 in
       let before : HasFetched (hand_of passes number v) place x (hand_of (set passes place pass') number v) = (log, was, f.2, doings_same number v (pools_after same) all seen) in
       subst (λ (d : Doings). HasFetched d place x (hand_of (set passes place pass') number v)) is before

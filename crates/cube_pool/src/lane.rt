@@ -165,7 +165,8 @@ pub(crate) fn join(lane: &mut Lane, pass: Pass<u32, Slip>)
 pub(crate) fn drain(alloc: Global, lane: &mut Lane) -> Result<Vec<u32>, AllocError>
     requires fifo { worker_flavor lane.old ≡ 0 }
     requires parts { (worker_port lane.old ≡ 0) × ((worker_view lane.old).parts ≡ whole) }
-    ensures settled { IfOk result (λ left. IsSettled (worker_view lane.old).put (worker_view lane.old).taken left.items) }
+    ensures settled { IfOk result (λ left. IsSettled (worker_view lane.old).put (worker_view lane.old).taken
+        left.items) }
     ensures history { OnOk result (HasOneHistory (worker_view lane.old)) }
 {
     let count = lane.len_as::<Total>();

@@ -1,4 +1,4 @@
-use Rattle.std.proofs.Common.{◌≡◌, ◌∙◌, ap, ◌++◌, ℕ, List}
+use Rattle.std.proofs.Common.{◌∙◌, ap, ◌++◌, ℕ, List}
 use Rattle.crossbeam_deque.specs.Handles.{worker_view}
 use Rattle.cube_pool.specs.Lanes.{HasOneHistory}
 use Rattle.cube_pool.specs.code.Closings.{Lane, IsWhole}

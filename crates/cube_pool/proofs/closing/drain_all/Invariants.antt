@@ -1,4 +1,4 @@
-use Rattle.std.proofs.Common.{All, ◌≡◌, ℕ, ◌+◌, vec_len}
+use Rattle.std.proofs.Common.{◌≡◌, ℕ, ◌+◌, vec_len}
 use Rattle.cube_pool.specs.Lanes.{weigh}
 use Rattle.cube_pool.specs.code.Closings.{AreWhole, HaveOneHistory, put_by, taken_there}
 use Rattle.cube_pool.proofs.closing.drain_all.Given as goal

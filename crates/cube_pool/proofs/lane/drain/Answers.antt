@@ -1,4 +1,4 @@
-use Rattle.std.proofs.Common.{arith, ap, ◌≡◌, ◌∙◌, ◌++◌, ◌∷◌, [], List, ℕ, append_assoc, length, sym}
+use Rattle.std.proofs.Common.{arith, ◌≡◌, length}
 use Rattle.crossbeam_deque.specs.Handles.{worker_view}
 use Rattle.cube_pool.proofs.Lanes.{takes, learns, ends, settled_now, settled_all}
 use Rattle.cube_pool.proofs.lane.drain.Goals as goal

@@ -4,7 +4,7 @@ use Rattle.std.proofs.lemmas.List.Sorted.{IsNonDecreasingBy-from_sort_by_key}
 use Rattle.crossbeam_deque.specs.Handles.{stealer_deque}
 use Rattle.cube_pool.specs.Hands.{Doings}
 use Rattle.cube_pool.proofs.Endings.{all_histories, on_ok}
-use Rattle.cube_pool.proofs.Orders.{sorted_hands, settled_hands}
+use Rattle.cube_pool.proofs.Orders.{sorted_hands}
 use Rattle.cube_pool.proofs.pool.Pool.close.Goals as goal
 
 pub join_all-requires-clause-few : goal.join_all-requires-clause-few
