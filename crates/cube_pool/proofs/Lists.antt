@@ -1,9 +1,10 @@
 -- Facts of lists: what holds of each element goes on through a pop, a push and a store.
-use Rattle.std.proofs.Common.{arith, ◌≡◌, ◌≢◌, ℕ, zero, suc, ◌<◌, ◌≤◌, ◌+◌, ◌⊎◌, inl, inr, List, [], ◌∷◌, ◌++◌, length, map, set, take, Some, Option, refl, sym, ap, ◌∙◌, subst, MatchOption, None}
+use Rattle.std.proofs.Common.{arith, ◌≡◌, ◌≢◌, ℕ, zero, suc, ◌<◌, ◌≤◌, ◌+◌, ◌⊎◌, inl, inr, All, List, [], ◌∷◌, ◌++◌, length, map, set, take, Some, Option, refl, sym, ap, ◌∙◌, subst, MatchOption, None}
 use Rattle.std.specs.Prelude.{slice_get, sum_by}
 use Rattle.std.proofs.Math.ListN.{get_or, get_or-append}
 use Rattle.std.proofs.Math.Seq.{get_or-append_seam}
 use Rattle.std.proofs.lemmas.List.Sums.{sum_by-append}
+use Rattle.std.proofs.lemmas.List.Elements.{All-nil, All-cons, All-head, All-tail, All-push}
 use Rattle.std.proofs.lemmas.Option.{slice_get-get_or, get_or_from_slice_get}
 use Rattle.std.proofs.lemmas.List.{length-append, length-set, get_or-set_same, get_or-set_other}
 
@@ -51,6 +52,43 @@ all_set {A = A} P xs i y l here h k d less = elim (same_or_not k i) [
       (let few : k < length xs = omega (arith, length-set xs i y) in
       subst (P k) (sym (get_or-set_other xs i k y d ne)) (h k d ne few))
 ]
+
+-- one list is a front of the other
+abbrev pub IsFrontOf : {A : Type 0} → List A → List A → Type 0
+IsFrontOf {A} xs all = (k : ℕ) (d : A) → k < length xs → get_or xs k d ≡ get_or all k d
+
+pub front_popped : {A : Type 0} (all s t : List A) (x : A) → s ≡ t ++ x ∷ [] → IsFrontOf s all → IsFrontOf t all
+front_popped {A = A} all s t x e h k d l =
+    let same : get_or s k d ≡ get_or t k d = ap (λ (ys : List A). get_or ys k d) e ∙ get_or-append t (x ∷ []) d k l in
+    sym same ∙ h k d (omega (arith, length_pushed s t x e))
+
+pub last_is : {A : Type 0} (all s t : List A) (x d : A) → s ≡ t ++ x ∷ [] → IsFrontOf s all → x ≡ get_or all (length t) d
+last_is {A = A} all s t x d e h =
+    let same : get_or s (length t) d ≡ x = ap (λ (ys : List A). get_or ys (length t) d) e ∙ get_or-append_seam t x [] d in
+    sym same ∙ h (length t) d (omega (arith, length_pushed s t x e))
+
+-- all of a list, and of its two parts
+pub all_parts : {A : Type 0} (P : A → Type 0) (xs ys : List A) → All P (xs ++ ys) → All P xs × All P ys
+all_parts P [] ys h = (All-nil P, h)
+all_parts P (x ∷ xs) ys h =
+    let rest = all_parts P xs ys (All-tail P x (xs ++ ys) h) in
+    (All-cons P x xs (All-head P x (xs ++ ys) h) rest.0, rest.1)
+
+pub all_none : {A : Type 0} (P : A → Type 0) (xs : List A) → length xs ≡ 0 → All P xs
+all_none P [] none = All-nil P
+all_none P (x ∷ xs) none = absurd (omega (arith, none))
+
+pub all_popped : {A : Type 0} (P : A → Type 0) (s t : List A) (x : A) → s ≡ t ++ x ∷ [] → All P s → All P t × P x
+all_popped P s t x e h = (first_of (λ k y. P y) s t x e h, last_of (λ k y. P y) s t x e h)
+
+pub all_longer : {A : Type 0} (P : A → Type 0) (s t : List A) (x : A) → s ≡ t ++ x ∷ [] → All P t → P x → All P s
+all_longer P s t x e h p = subst (All P) (sym e) (All-push P t x h p)
+
+-- an element that is there doesn't depend on what stands for one that isn't
+pub get_or_any : {A : Type 0} (xs : List A) (k : ℕ) (d e : A) → k < length xs → get_or xs k d ≡ get_or xs k e
+get_or_any [] k d e l = absurd (omega arith)
+get_or_any (x ∷ xs) zero d e l = refl
+get_or_any (x ∷ xs) (suc k) d e l = get_or_any xs k d e (omega arith)
 
 -- what f makes of the first ones is known, and so of them without the last
 pub heads : {A B : Type 0} (f : A → B) (pool : List B) (t : List A) (p : A) (m : ℕ) → map f (t ++ p ∷ []) ≡ take m pool → m ≡ length t + 1

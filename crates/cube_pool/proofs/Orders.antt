@@ -1,7 +1,6 @@
 -- Hands that were sorted by their numbers.
-use Rattle.std.proofs.Common.{arith, ◌≡◌, ◌≢◌, ℕ, zero, suc, ◌<◌, ◌≤◌, ◌+◌, ◌==◌, eq-eqb, ne_eqb, Bool, cond, inl, inr, List, [], ◌∷◌, length, All, IsPermutation, sym, ap, ◌∙◌, subst}
+use Rattle.std.proofs.Common.{arith, ◌≡◌, ◌≢◌, ℕ, zero, suc, ◌<◌, ◌≤◌, ◌+◌, eq-eqb, ne_eqb, Bool, cond, inl, inr, List, [], ◌∷◌, length, All, IsPermutation, ap, ◌∙◌, subst}
 use Rattle.std.proofs.Math.ListN.{get_or}
-use Rattle.std.specs.Prelude.{sum_by}
 use Rattle.std.specs.List.Sorted.{IsNonDecreasingBy}
 use Rattle.std.proofs.lemmas.List.Sorted.{sum_by-IsPermutation, length_permutation, All-permutation}
 use Rattle.cube_pool.specs.Hands.{Deque, Doings, AreHandsOf, AreInOrder, AreSettled, one_for, times, weigh_all, pushed_by, fetched_by}

@@ -2,7 +2,7 @@
 ghost use Rattle.std.specs.Prelude.{◌≡◌, ◌<◌, ◌≤◌, ◌+◌, ◌-◌, ℕ, length, vec_len, IfOk, OnOk, [], map};
 ghost use Rattle.cube_pool.specs.Lanes.{whole, weigh};
 ghost use Rattle.cube_pool.specs.Hands.{AreInOrder, deque_of, AreTakers};
-ghost use Rattle.cube_pool.specs.code.Closings.{AreEnds, AreJoined, AreParted, AreRows, AreWhole, put_by, taken_there, taken_in, taken_over};
+ghost use Rattle.cube_pool.specs.code.Closings.{AreEnds, AreJoined, AreJoint, AreParted, AreRows, AreWhole, HaveOneHistory, put_by, taken_there, taken_in, taken_over};
 
 use crate::hand::Hand;
 use crate::lane::{self, Lane};
@@ -45,6 +45,7 @@ fn join_row(lanes: &mut Vec<Lane>, row: Row, left: usize)
     ensures put { (h : ℕ → ℕ) → put_by h lanes.new.items ≡ put_by h lanes.old.items }
     ensures taken { (h : ℕ → ℕ)
         → taken_there h lanes.new.items ≡ taken_there h lanes.old.items + taken_in h row.items }
+    ensures joint { AreJoint lanes.old.items row.items lanes.new.items }
 {
     let mut row = row;
     'row: while let Some(pass) = row.pop() {
@@ -70,8 +71,9 @@ pub(crate) fn join_all(pool: &Pool, lanes: &mut Vec<Lane>, rows: Vec<Row>)
 // What is left in the deques.
 pub(crate) fn drain_all(alloc: Global, lanes: Vec<Lane>) -> Result<Vec<u32>, AllocError>
     requires { AreWhole lanes.items }
-    ensures { IfOk result (λ left. (h : ℕ → ℕ)
+    ensures settled { IfOk result (λ left. (h : ℕ → ℕ)
         → put_by h lanes.items ≡ taken_there h lanes.items + weigh h left.items) }
+    ensures histories { OnOk result (HaveOneHistory lanes.items) }
 {
     let mut lanes = lanes;
     let mut left = Vec::new(alloc);

@@ -19,7 +19,7 @@ pub struct Hand {
 impl Model for Hand {
     ghost use Rattle.std.specs.Prelude.{map};
     ghost use Rattle.crossbeam_deque.specs.Handles.{worker_view};
-    ghost use Rattle.cube_pool.specs.Hands.{Doings, IsHand, deque_of, taken_by};
+    ghost use Rattle.cube_pool.specs.Hands.{Doings, IsHand, deque_of, known_by, taken_by};
 
     ghost Value = { Doings };
 
@@ -28,6 +28,8 @@ impl Model for Hand {
       number = h.number;
       pushed = (worker_view h.lane).put;
       fetched = map taken_by h.passes.items;
+      known_by_pushes = (worker_view h.lane).known;
+      known_by_fetches = map known_by h.passes.items;
     } };
 
     ghost invariant = { λ h. IsHand h.number h.pushes h.lane h.passes.items };

@@ -1,7 +1,7 @@
 //! One deque, its worker's end and the passes of the others.
 ghost use Rattle.std.specs.Prelude.{◌≡◌, ◌<◌, ◌≤◌, ◌+◌, ◌-◌, ℕ, [], ◌∷◌, ◌++◌, List, IfOk, IfErr, OnOk, OnErr, MatchOption, IfSome};
-ghost use Rattle.crossbeam_deque.specs.Handles.{view, IsPassOf, SamePass, SameWorker, worker_capacity, worker_deque, worker_flavor, worker_index, worker_view, stealer_deque, stealer_flavor};
-ghost use Rattle.cube_pool.specs.Lanes.{slip, whole, IsSettled};
+ghost use Rattle.crossbeam_deque.specs.Handles.{view, IsPassOf, SamePass, SameWorker, worker_capacity, worker_deque, worker_flavor, worker_index, worker_port, worker_view, stealer_deque, stealer_flavor};
+ghost use Rattle.cube_pool.specs.Lanes.{fresh, joint, lessened, slip, whole, HasOneHistory, HasPut, HasTaken, IsSettled};
 
 use crate::slip::Slip;
 use crossbeam_deque::protocol::{Join, Lesson, Outcome, Protocol, Split};
@@ -9,7 +9,7 @@ use crossbeam_deque::{Pass, Steal, Stealer, Worker};
 use std::alloc::{AllocError, Global};
 use std::sync::Wait;
 
-/// The rule of a deque: what was put there was taken or is there.
+/// The rule of a deque: what was put there was taken or is there, and the oldest was taken first.
 pub struct Fair;
 
 impl Protocol<u32, Slip> for Fair {
@@ -18,37 +18,34 @@ impl Protocol<u32, Slip> for Fair {
 
     ghost holds = { Balanced };
 
-    ghost first = { slip whole [] [] };
+    ghost first = { slip whole [] [] [] [] };
 
-    ghost guest = { slip 0 [] [] };
+    ghost guest = { slip 0 [] [] [] [] };
 }
 
 struct Puts;
 
 impl Outcome<u32, Slip> for Puts {
-    ghost use Rattle.std.specs.Prelude.{◌≡◌, ◌++◌};
-    ghost use Rattle.cube_pool.specs.Lanes.{slip};
+    ghost use Rattle.cube_pool.specs.Lanes.{HasPut};
 
-    ghost then = { λ v xs w. w ≡ slip v.parts (v.put ++ xs) v.taken };
+    ghost then = { HasPut };
 }
 
 struct Takes;
 
 impl Outcome<u32, Slip> for Takes {
-    ghost use Rattle.std.specs.Prelude.{◌≡◌, ◌++◌};
-    ghost use Rattle.cube_pool.specs.Lanes.{slip};
+    ghost use Rattle.cube_pool.specs.Lanes.{HasTaken};
 
-    ghost then = { λ v xs w. w ≡ slip v.parts v.put (v.taken ++ xs) };
+    ghost then = { HasTaken };
 }
 
 struct Ends;
 
 impl Outcome<u32, Slip> for Ends {
-    ghost use Rattle.std.specs.Prelude.{◌≡◌, ◌++◌};
-    ghost use Rattle.cube_pool.specs.Lanes.{slip, IsSettled};
     ghost use Rattle.std.specs.Prelude.{[]};
+    ghost use Rattle.cube_pool.specs.Lanes.{HasTaken, IsSettled};
 
-    ghost then = { λ v xs w. w ≡ slip v.parts v.put (v.taken ++ xs) };
+    ghost then = { HasTaken };
 
     ghost empty = { λ v. IsSettled v.put v.taken [] };
 }
@@ -56,29 +53,28 @@ impl Outcome<u32, Slip> for Ends {
 struct Total;
 
 impl Lesson<u32, Slip> for Total {
-    ghost use Rattle.cube_pool.specs.Lanes.{IsSettled};
+    ghost use Rattle.cube_pool.specs.Lanes.{HasOneHistory, IsSettled};
 
-    ghost fact = { λ v items. IsSettled v.put v.taken items };
+    ghost fact = { λ v items. IsSettled v.put v.taken items × HasOneHistory v };
 }
 
 struct Cut;
 
 impl Split<Slip> for Cut {
-    ghost use Rattle.cube_pool.specs.Lanes.{slip};
-    ghost use Rattle.std.specs.Prelude.{[], ◌-◌};
+    ghost use Rattle.cube_pool.specs.Lanes.{fresh, lessened};
 
-    ghost left = { λ v. slip (v.parts - 1) v.put v.taken };
+    ghost left = { lessened };
 
-    ghost right = { λ v. slip 1 [] [] };
+    ghost right = { λ _. fresh };
 }
 
 impl Join<Slip> for Cut {
-    ghost use Rattle.cube_pool.specs.Lanes.{slip};
-    ghost use Rattle.std.specs.Prelude.{[], ◌+◌, ◌++◌};
+    ghost use Rattle.std.specs.Prelude.{[]};
+    ghost use Rattle.cube_pool.specs.Lanes.{joint, slip};
 
-    ghost both = { λ v w. slip (v.parts + w.parts) (v.put ++ w.put) (v.taken ++ w.taken) };
+    ghost both = { joint };
 
-    ghost spent = { slip 0 [] [] };
+    ghost spent = { slip 0 [] [] [] [] };
 }
 
 /// The worker's own end of its deque.
@@ -95,7 +91,7 @@ pub struct Full {
 
 pub(crate) fn open(alloc: Global) -> Result<Lane, AllocError>
     ensures { IfOk result (λ w. (65536 ≤ worker_capacity w) × (worker_flavor w ≡ 0) × (worker_index w ≡ 0)
-        × (worker_view w ≡ slip whole [] [])) }
+        × (worker_port w ≡ 0) × (worker_view w ≡ slip whole [] [] [] [])) }
 {
     Lane::fifo_as(alloc, 65536)
 }
@@ -103,12 +99,11 @@ pub(crate) fn open(alloc: Global) -> Result<Lane, AllocError>
 // The number goes to the deque's end. `pushes` counts the pushes.
 pub(crate) fn push(lane: &mut Lane, pushes: &mut u32, id: u32) -> Result<(), Full>
     requires own { (65536 ≤ worker_capacity lane.old) × (worker_index lane.old ≤ pushes.old) }
-    requires parts { 0 < (worker_view lane.old).parts }
+    requires parts { (worker_port lane.old ≡ 0) × (0 < (worker_view lane.old).parts) }
     ensures same { SameWorker lane.old lane.new }
     ensures index { worker_index lane.new ≤ pushes.new }
-    ensures ok { OnOk result ((pushes.old < 65536) × (pushes.new ≡ pushes.old + 1)
-        × (worker_view lane.new ≡ slip (worker_view lane.old).parts ((worker_view lane.old).put ++ id ∷ [])
-        (worker_view lane.old).taken)) }
+    ensures count { OnOk result ((pushes.old < 65536) × (pushes.new ≡ pushes.old + 1)) }
+    ensures ok { OnOk result (HasPut (worker_view lane.old) (id ∷ []) (worker_view lane.new)) }
     ensures full { IfErr result (λ f. (65536 ≤ pushes.old) × (f.id ≡ id) × (pushes.new ≡ pushes.old)
         × (worker_view lane.new ≡ worker_view lane.old)) }
 {
@@ -124,7 +119,7 @@ pub(crate) fn push(lane: &mut Lane, pushes: &mut u32, id: u32) -> Result<(), Ful
     }
 }
 
-// The first number of a deque. A steal that finds it empty changes no view, so that nothing can be said of None.
+// The oldest number of a deque. A steal that finds it empty changes no view, so that nothing can be said of None.
 pub(crate) fn fetch<R: Wait>(rt: &R, mouth: &Mouth, pass: &mut Pass<u32, Slip>) -> Option<u32>
     requires pass { IsPassOf (stealer_deque mouth.now) pass.old }
     requires fifo { stealer_flavor mouth.now ≡ 0 }
@@ -132,7 +127,7 @@ pub(crate) fn fetch<R: Wait>(rt: &R, mouth: &Mouth, pass: &mut Pass<u32, Slip>) 
     ensures same { SamePass pass.old pass.new }
     ensures fetched { MatchOption result
         (view pass.new ≡ view pass.old)
-        (λ x. view pass.new ≡ slip (view pass.old).parts (view pass.old).put ((view pass.old).taken ++ x ∷ [])) }
+        (λ x. HasTaken (view pass.old) (x ∷ []) (view pass.new)) }
 {
     for _ in rt.forever() {
         match mouth.steal_as::<Takes>(pass) {
@@ -149,9 +144,7 @@ pub(crate) fn split(lane: &mut Lane) -> Pass<u32, Slip>
     requires { 1 < (worker_view lane.old).parts }
     ensures same { SameWorker lane.old lane.new × (worker_index lane.new ≡ worker_index lane.old)
         × IsPassOf (worker_deque lane.old) result }
-    ensures views { (worker_view lane.new
-        ≡ slip ((worker_view lane.old).parts - 1) (worker_view lane.old).put (worker_view lane.old).taken)
-        × (view result ≡ slip 1 [] []) }
+    ensures views { (worker_view lane.new ≡ lessened (worker_view lane.old)) × (view result ≡ fresh) }
 {
     lane.another::<Cut>()
 }
@@ -159,10 +152,10 @@ pub(crate) fn split(lane: &mut Lane) -> Pass<u32, Slip>
 // What a pass did becomes known to the worker's own end.
 pub(crate) fn join(lane: &mut Lane, pass: Pass<u32, Slip>)
     requires pass { IsPassOf (worker_deque lane.old) pass }
-    requires parts { 0 < (worker_view lane.old).parts }
+    requires put { (view pass).put ≡ [] }
+    requires parts { (worker_port lane.old ≡ 0) × (0 < (worker_view lane.old).parts) }
     ensures same { SameWorker lane.old lane.new × (worker_index lane.new ≡ worker_index lane.old) }
-    ensures views { worker_view lane.new ≡ slip ((worker_view lane.old).parts + (view pass).parts)
-        ((worker_view lane.old).put ++ (view pass).put) ((worker_view lane.old).taken ++ (view pass).taken) }
+    ensures views { worker_view lane.new ≡ joint (worker_view lane.old) (view pass) }
 {
     lane.absorb::<Cut>(pass);
 }
@@ -171,8 +164,10 @@ pub(crate) fn join(lane: &mut Lane, pass: Pass<u32, Slip>)
 // put.
 pub(crate) fn drain(alloc: Global, lane: &mut Lane) -> Result<Vec<u32>, AllocError>
     requires fifo { worker_flavor lane.old ≡ 0 }
-    requires parts { (worker_view lane.old).parts ≡ whole }
-    ensures { IfOk result (λ left. IsSettled (worker_view lane.old).put (worker_view lane.old).taken left.items) }
+    requires parts { (worker_port lane.old ≡ 0) × ((worker_view lane.old).parts ≡ whole) }
+    ensures settled { IfOk result (λ left. IsSettled (worker_view lane.old).put (worker_view lane.old).taken
+        left.items) }
+    ensures history { OnOk result (HasOneHistory (worker_view lane.old)) }
 {
     let count = lane.len_as::<Total>();
     let mut left = Vec::with_capacity(alloc, count)?;

@@ -1,6 +1,6 @@
 //! The pool.
 ghost use Rattle.std.specs.Prelude.{◌≡◌, ◌<◌, ◌≤◌, ℕ, length, IfOk, OnOk, OnErr, IfErr, IsErr, MatchOption, IfNone, ◌↔◌};
-ghost use Rattle.cube_pool.specs.Hands.{AreHandsOf, AreNewcomers, AreSettled, with_fetched, with_pushed};
+ghost use Rattle.cube_pool.specs.Hands.{AreHandsOf, AreNewcomers, AreSettled, HasFetched, HasPushed, HaveHistories};
 
 use crate::closing::{drain_all, join_all, part};
 use crate::hand::Hand;
@@ -41,21 +41,21 @@ impl Pool {
     /// 65,536 pushes, gives the number back, and leaves all as it was. It takes no memory.
     pub fn push(&self, hand: &mut Hand, id: u32) -> Result<(), Full>
         requires pool { hand.old.pool ≡ self.now }
-        ensures ok { OnOk result (hand.new ≡ with_pushed hand.old id) }
+        ensures ok { OnOk result (HasPushed hand.old id hand.new) }
         ensures full { IfErr result (λ full. (full.id ≡ id) × (hand.new ≡ hand.old)) }
         ensures exactly { IsErr result ↔ (65536 ≤ length hand.old.pushed) }
     {
         lane::push(&mut hand.lane, &mut hand.pushes, id)
     }
 
-    /// The first number of the hand's own deque, or else of another one. `None` comes where each deque was found
+    /// The oldest number of the hand's own deque, or else of another one. `None` comes where each deque was found
     /// empty at a moment of its own in this call, of which the contract says nothing: an empty deque leaves no trace
     /// in what a hand has seen.
     pub fn fetch<R: Wait>(&self, rt: &R, hand: &mut Hand) -> Option<u32>
         requires pool { hand.old.pool ≡ self.now }
         ensures { MatchOption result
             (hand.new ≡ hand.old)
-            (λ id. (k : ℕ) × (k < length self.now) × (hand.new ≡ with_fetched hand.old k id)) }
+            (λ id. (k : ℕ) × (k < length self.now) × HasFetched hand.old k id hand.new) }
     {
         let own = hand.number as usize;
         if let Some(id) = self.fetch_at(rt, hand, own) {
@@ -67,13 +67,13 @@ impl Pool {
         self.fetch_within(rt, hand, 0, own)
     }
 
-    // The first number of a deque with a number from low on and below high.
+    // The oldest number of a deque with a number from low on and below high.
     fn fetch_within<R: Wait>(&self, rt: &R, hand: &mut Hand, low: usize, high: usize) -> Option<u32>
         requires pool { hand.old.pool ≡ self.now }
         requires high { high ≤ length self.now }
         ensures { MatchOption result
             (hand.new ≡ hand.old)
-            (λ id. (k : ℕ) × (k < length self.now) × (hand.new ≡ with_fetched hand.old k id)) }
+            (λ id. (k : ℕ) × (k < length self.now) × HasFetched hand.old k id hand.new) }
     {
         for place in low..high {
             if let Some(id) = self.fetch_at(rt, hand, place) {
@@ -83,21 +83,23 @@ impl Pool {
         None
     }
 
-    // The first number of the deque with this number.
+    // The oldest number of the deque with this number.
     fn fetch_at<R: Wait>(&self, rt: &R, hand: &mut Hand, place: usize) -> Option<u32>
         requires pool { hand.old.pool ≡ self.now }
         requires place { place < length self.now }
         ensures { MatchOption result
             (hand.new ≡ hand.old)
-            (λ id. hand.new ≡ with_fetched hand.old place id) }
+            (λ id. HasFetched hand.old place id hand.new) }
     {
         lane::fetch(rt, &self.mouths[place], &mut hand.passes[place])
     }
 
-    /// What is left, once the pool has all its hands again, in any order.
+    /// What is left, once the pool has all its hands again, in any order. Each deque had one history, and what a hand
+    /// knew of it is a front of that one.
     pub fn close(self, hands: Vec<Hand>) -> Result<Vec<u32>, AllocError>
         requires { AreHandsOf self hands.items }
-        ensures { IfOk result (λ left. AreSettled hands.items left.items) }
+        ensures settled { IfOk result (λ left. AreSettled hands.items left.items) }
+        ensures histories { IfOk result (λ _. HaveHistories self hands.items) }
     {
         let alloc = *self.mouths.allocator();
         let mut lanes = Vec::with_capacity(alloc, hands.len())?;

@@ -22,7 +22,8 @@ use Rattle.book_lock.specs.declared.cube.Dealt.{Dealt}
 use Rattle.book_lock.specs.declared.cube.Dealt.TheVariants.{Cube as DealtCube, Idle, Done}
 use Rattle.book_lock.specs.declared.view.View.{View}
 use Rattle.book_lock.specs.Seats.{Sight, IsSameSeat, Takes, TakesNear, Ends, Called}
-use Rattle.cube_pool.specs.Hands.{Doings, with_pushed, with_fetched}
+use Rattle.cube_pool.specs.declared.slip.Event.TheVariants.{Pushed, Taken}
+use Rattle.cube_pool.specs.Hands.{Doings, HasPushed, HasFetched, fetched_there, known_there}
 use Rattle.steal_search.specs.Workers.{GoesOn, HandGoesOn, IsAnswered, IsJustifiedThere}
 
 prefix_self : {A : Type 0} (xs : List A) → IsPrefix xs xs
@@ -90,7 +91,14 @@ holds_some seat s = let c = if_some (λ (cube : Cube). Unit {0}) seat.cube s (tt
     tt_for (Some x) = tt
 
 pub hand_self : (h : Doings) → HandGoesOn h h
-hand_self h = record { pool = refl; number = refl; pushed = prefix_self h.pushed; fetched = λ k. prefix_self (get_or h.fetched k []) }
+hand_self h = record {
+  pool = refl;
+  number = refl;
+  pushed = prefix_self h.pushed;
+  fetched = λ k. prefix_self (fetched_there k h);
+  known_by_pushes = prefix_self h.known_by_pushes;
+  known_by_fetches = λ k. prefix_self (known_there k h);
+}
 
 pub hand_same : (g h : Doings) → h ≡ g → HandGoesOn g h
 hand_same g h e = subst (HandGoesOn g) (sym e) (hand_self g)
@@ -100,21 +108,38 @@ hand_on f g h a b = record {
   pool = b.pool ∙ a.pool;
   number = b.number ∙ a.number;
   pushed = prefix_trans f.pushed g.pushed h.pushed a.pushed b.pushed;
-  fetched = λ k. prefix_trans (get_or f.fetched k []) (get_or g.fetched k []) (get_or h.fetched k []) (a.fetched k) (b.fetched k);
+  fetched = λ k. prefix_trans (fetched_there k f) (fetched_there k g) (fetched_there k h) (a.fetched k) (b.fetched k);
+  known_by_pushes = prefix_trans f.known_by_pushes g.known_by_pushes h.known_by_pushes a.known_by_pushes b.known_by_pushes;
+  known_by_fetches = λ k. prefix_trans (known_there k f) (known_there k g) (known_there k h) (a.known_by_fetches k) (b.known_by_fetches k);
 }
 
-pub hand_pushed : (g h : Doings) (id : ℕ) → h ≡ with_pushed g id → HandGoesOn g h
-hand_pushed g h id e = subst (HandGoesOn g) (sym e) (record { pool = refl; number = refl; pushed = (id ∷ [], refl); fetched = λ k. prefix_self (get_or g.fetched k []) })
+pub hand_pushed : (g h : Doings) (id : ℕ) → HasPushed g id h → HandGoesOn g h
+hand_pushed g h id f = subst (HandGoesOn g) (sym f.3) (record {
+  pool = refl;
+  number = refl;
+  pushed = (id ∷ [], refl);
+  fetched = λ k. prefix_self (fetched_there k g);
+  known_by_pushes = prefix_trans g.known_by_pushes f.0 (f.0 ++ Pushed id ∷ []) f.1 (Pushed id ∷ [], refl);
+  known_by_fetches = λ k. prefix_self (known_there k g);
+})
 
-set_prefix : (xss : List (List ℕ)) (i id k : ℕ) → IsPrefix (get_or xss k []) (get_or (set xss i (get_or xss i [] ++ id ∷ [])) k [])
-set_prefix [] i id k = prefix_self (get_or [] k [])
-set_prefix (xs ∷ xss) zero id zero = (id ∷ [], refl)
-set_prefix (xs ∷ xss) zero id (suc k) = prefix_self (get_or xss k [])
-set_prefix (xs ∷ xss) (suc i) id zero = prefix_self xs
-set_prefix (xs ∷ xss) (suc i) id (suc k) = set_prefix xss i id k
+-- a longer list stands for one of the lists
+set_prefix : {A : Type 0} (xss : List (List A)) (i : ℕ) (ys : List A) (k : ℕ) → IsPrefix (get_or xss i []) ys → IsPrefix (get_or xss k []) (get_or (set xss i ys) k [])
+set_prefix [] i ys k p = prefix_self (get_or [] k [])
+set_prefix (xs ∷ xss) zero ys zero p = p
+set_prefix (xs ∷ xss) zero ys (suc k) p = prefix_self (get_or xss k [])
+set_prefix (xs ∷ xss) (suc i) ys zero p = prefix_self xs
+set_prefix (xs ∷ xss) (suc i) ys (suc k) p = set_prefix xss i ys k p
 
-pub hand_fetched : (g h : Doings) (place id : ℕ) → h ≡ with_fetched g place id → HandGoesOn g h
-hand_fetched g h place id e = subst (HandGoesOn g) (sym e) (record { pool = refl; number = refl; pushed = prefix_self g.pushed; fetched = λ k. set_prefix g.fetched place id k })
+pub hand_fetched : (g h : Doings) (place id : ℕ) → HasFetched g place id h → HandGoesOn g h
+hand_fetched g h place id f = subst (HandGoesOn g) (sym f.3) (record {
+  pool = refl;
+  number = refl;
+  pushed = prefix_self g.pushed;
+  fetched = λ k. set_prefix g.fetched place (fetched_there place g ++ id ∷ []) k (id ∷ [], refl);
+  known_by_pushes = prefix_self g.known_by_pushes;
+  known_by_fetches = λ k. set_prefix g.known_by_fetches place (f.0 ++ Taken ∷ []) k (prefix_trans (known_there place g) f.0 (f.0 ++ Taken ∷ []) f.1 (Taken ∷ [], refl));
+})
 
 negation_over : (points : ℕ) (l : Literal) → IsOver points l → IsOver points (negation_of l)
 negation_over points l h = let a = h.low in let b = h.high in record { x_in = h.y_in; y_in = h.x_in; low = omega (arith, ints); high = omega (arith, ints) }

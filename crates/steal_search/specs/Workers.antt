@@ -1,5 +1,5 @@
 -- What a worker's calls do to its seat and its hand: what stays, and what goes on.
-use Rattle.std.specs.Prelude.{◌≡◌, ℕ, List, [], ◌∷◌, ◌++◌, Some, None, IsSome, slice_index_or}
+use Rattle.std.specs.Prelude.{◌≡◌, ℕ, List, [], ◌∷◌, ◌++◌, Some, None, IsSome}
 use mathlib.Core.List.{IsPrefix}
 use Rattle.stn_core.specs.declared.problem.Problem.{Problem}
 use Rattle.refute_tree.specs.Batches.{LemmaBatch}
@@ -12,7 +12,7 @@ use Rattle.book_lock.specs.declared.cube.Cube.{Cube}
 use Rattle.book_lock.specs.declared.cube.Dealt.{Dealt}
 use Rattle.book_lock.specs.declared.cube.Dealt.TheVariants.{Cube as DealtCube, Idle, Done}
 use Rattle.book_lock.specs.Seats.{Sight, IsSameSeat}
-use Rattle.cube_pool.specs.Hands.{Doings}
+use Rattle.cube_pool.specs.Hands.{Doings, fetched_there, known_there}
 
 -- the seat of the same desk, with its number; its front and its events begin with those of before
 pub record GoesOn (old new : Sight) : Type 0 where
@@ -20,12 +20,15 @@ pub record GoesOn (old new : Sight) : Type 0 where
   pub front : IsPrefix old.view.front new.view.front
   pub events : IsPrefix old.view.events new.view.events
 
--- the hand of the same pool, with its number; what it pushed and what it fetched begins with that of before
+-- the hand of the same pool, with its number; what it pushed and what it fetched begins with that of before, and so
+-- does what it knows of the deques' histories
 pub record HandGoesOn (old new : Doings) : Type 0 where
   pub pool : new.pool ≡ old.pool
   pub number : new.number ≡ old.number
   pub pushed : IsPrefix old.pushed new.pushed
-  pub fetched : (k : ℕ) → IsPrefix (slice_index_or old.fetched k []) (slice_index_or new.fetched k [])
+  pub fetched : (k : ℕ) → IsPrefix (fetched_there k old) (fetched_there k new)
+  pub known_by_pushes : IsPrefix old.known_by_pushes new.known_by_pushes
+  pub known_by_fetches : (k : ℕ) → IsPrefix (known_there k old) (known_there k new)
 
 -- the seat's last call was answered Done
 abbrev pub HasEnded : Sight → Type 0

@@ -2,10 +2,10 @@
 use Rattle.std.proofs.Common.{arith, ◌≡◌, ℕ, zero, suc, ◌<◌, List, [], ◌∷◌, ◌++◌, length, sym, ap, ◌∙◌, subst}
 use Rattle.std.proofs.Math.ListN.{get_or}
 use Rattle.std.proofs.lemmas.Option.{get_or_from_slice_get}
-use Rattle.cube_pool.specs.Hands.{AreHandsOf, AreNewcomers, Deque, Doings, newcomer, times}
+use Rattle.cube_pool.specs.Hands.{AreHandsOf, AreNewcomers, Deque, Doings, HasFetched, HasPushed, newcomer, times}
 use Rattle.cube_pool.proofs.Lists.{first_of, last_of, length_pushed}
 use Rattle.cube_pool.proofs.Orders.{times_more, is_one, is_none}
-use Rattle.worker_tests.specs.Placed.{IsHandOf}
+use Rattle.worker_tests.specs.Placed.{IsHandOf, IsSameHand}
 
 -- two hands were popped, the last one first
 module _ (pool : List Deque) (all rest last : List Doings) (first second : Doings) (new : AreNewcomers 2 pool all) (e : all ≡ rest ++ second ∷ []) (f : rest ≡ last ++ first ∷ []) where
@@ -42,3 +42,9 @@ once pool first second a b (suc (suc n)) l = absurd (omega (arith, l))
 pub are_both : (pool : List Deque) (hands : List Doings) (first second : Doings) → hands ≡ first ∷ second ∷ [] → length pool ≡ 2 → IsHandOf pool 0 first → IsHandOf pool 1 second → AreHandsOf pool hands
 are_both pool hands first second e two a b =
     subst (λ (hs : List Doings). AreHandsOf pool hs) (sym e) (sym two, (λ k d l. (both_at pool first second a b k d l).0), (λ n l. once pool first second a b n (omega (arith, l, two))))
+
+pub same_pushed : (g h : Doings) (id : ℕ) → HasPushed g id h → IsSameHand g h
+same_pushed g h id f = (ap (λ (d : Doings). d.pool) f.3, ap (λ (d : Doings). d.number) f.3)
+
+pub same_fetched : (g h : Doings) (k id : ℕ) → HasFetched g k id h → IsSameHand g h
+same_fetched g h k id f = (ap (λ (d : Doings). d.pool) f.3, ap (λ (d : Doings). d.number) f.3)

@@ -1,11 +1,14 @@
 use Rattle.std.proofs.Common.{◌≡◌, ◌++◌, length}
-use Rattle.crossbeam_deque.specs.Handles.{worker_flavor, worker_view}
-use Rattle.cube_pool.specs.Lanes.{slip, whole}
+use Rattle.crossbeam_deque.specs.Handles.{worker_flavor, worker_port, worker_view}
+use Rattle.cube_pool.specs.Lanes.{whole}
 use Rattle.cube_pool.proofs.lane.drain.Given as goal
 
 abbrev pub invariant-loop-i : goal.invariant-loop-i
 invariant-loop-i l = record {
   fifo : worker_flavor l.lane ≡ 0;
-  seen : worker_view l.lane ≡ slip whole (worker_view l.fn.lane).put ((worker_view l.fn.lane).taken ++ l.left.items);
+  first : worker_port l.lane ≡ 0;
+  parts : (worker_view l.lane).parts ≡ whole;
+  put : (worker_view l.lane).put ≡ (worker_view l.fn.lane).put;
+  taken : (worker_view l.lane).taken ≡ (worker_view l.fn.lane).taken ++ l.left.items;
   count : length l.left.items ≡ l._i;
 }

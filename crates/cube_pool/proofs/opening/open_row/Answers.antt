@@ -4,7 +4,7 @@ use Rattle.crossbeam_deque.specs.Handles.{worker_deque}
 use Rattle.cube_pool.specs.Lanes.{whole}
 use Rattle.cube_pool.specs.Hands.{Deque}
 use Rattle.cube_pool.specs.code.Closings.{deques}
-use Rattle.cube_pool.proofs.Parts.{same_deques, split_more, row_more, takers_more, nothing_more, deque_there}
+use Rattle.cube_pool.proofs.Parts.{same_deques, split_more, row_more, takers_more, nothing_more, unknown_more, deque_there}
 use Rattle.cube_pool.proofs.opening.open_row.Goals as goal
 
 pub returns-in_err-push-clause-deques : goal.returns-in_err-push-clause-deques
@@ -26,4 +26,5 @@ loop-place-preserved c =
       row = row_more pool c.loop-place.row.items c.push.new.self.items c.loop-place.place c.split-pass.result (worker_deque c.index_mut.result.now) c.in_ok-push.ensures.items at c.split-pass.ensures.same.2 c.split-pass.ensures.views.1 v.row;
       takers = takers_more pool c.loop-place.row.items c.push.new.self.items c.loop-place.place c.split-pass.result (worker_deque c.index_mut.result.now) c.in_ok-push.ensures.items at c.split-pass.ensures.same.2 c.split-pass.ensures.views.1 v.takers;
       nothing = nothing_more pool c.loop-place.row.items c.push.new.self.items c.loop-place.place c.split-pass.result (worker_deque c.index_mut.result.now) c.in_ok-push.ensures.items at c.split-pass.ensures.same.2 c.split-pass.ensures.views.1 v.nothing;
+      unknown = unknown_more pool c.loop-place.row.items c.push.new.self.items c.loop-place.place c.split-pass.result (worker_deque c.index_mut.result.now) c.in_ok-push.ensures.items at c.split-pass.ensures.same.2 c.split-pass.ensures.views.1 v.unknown;
     }

@@ -1,6 +1,6 @@
 use Rattle.std.proofs.Common.{◌≡◌, ◌-◌, [], map, take, vec_len}
 use Rattle.cube_pool.specs.Lanes.{whole}
-use Rattle.cube_pool.specs.Hands.{AreTakers, Deque, deque_of, taken_by}
+use Rattle.cube_pool.specs.Hands.{AreTakers, Deque, deque_of, known_by, taken_by}
 use Rattle.cube_pool.specs.code.Closings.{AreSplit, deques}
 use Rattle.cube_pool.proofs.opening.open_row.Given as goal
 
@@ -12,4 +12,5 @@ invariant-loop-place l = record {
   row : map deque_of l.row.items ≡ take l.place (deques l.fn.lanes.items);
   takers : AreTakers l.row.items;
   nothing : map taken_by l.row.items ≡ map (λ (d : Deque). []) (take l.place (deques l.fn.lanes.items));
+  unknown : map known_by l.row.items ≡ map (λ (d : Deque). []) (take l.place (deques l.fn.lanes.items));
 }

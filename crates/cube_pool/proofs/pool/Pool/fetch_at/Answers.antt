@@ -28,7 +28,7 @@ returns g c =
     let mouths = c.self.inside.mouths.items in
     let pools : map deque_of passes ≡ map stealer_deque mouths = ap (λ (d : Doings). d.pool) c.hand.view_is ∙ (c.requires.pool ∙ sym c.self.view_is) in
     let within : c.args.place < length mouths = omega (arith, c.requires.place, length-map mouths stealer_deque, ap length c.self.view_is) in
-    let pushed = (worker_view c.hand.inside.lane).put in
+    let v = worker_view c.hand.inside.lane in
     match_option c.fetch.result c.fetch.ensures.fetched
-    (fetched_none passes mouths c.args.place c.index_mut.result.now c.fetch.new.pass c.index.result.now c.index_mut.ensures.value c.index.ensures pools within c.hand.invariant.takers c.hand.inside.number pushed c.args.hand.now c.fetch.ensures.same c.hand.view_is)
-    (fetched_some passes mouths c.args.place c.index_mut.result.now c.fetch.new.pass c.index.result.now c.index_mut.ensures.value c.index.ensures pools within c.hand.invariant.takers c.hand.inside.number pushed c.args.hand.now c.fetch.ensures.same c.hand.view_is)
+    (fetched_none passes mouths c.args.place c.index_mut.result.now c.fetch.new.pass c.index.result.now c.index_mut.ensures.value c.index.ensures pools within c.hand.invariant.takers c.hand.inside.number v c.args.hand.now c.fetch.ensures.same c.hand.view_is)
+    (fetched_some passes mouths c.args.place c.index_mut.result.now c.fetch.new.pass c.index.result.now c.index_mut.ensures.value c.index.ensures pools within c.hand.invariant.takers c.hand.inside.number v c.args.hand.now c.fetch.ensures.same c.hand.view_is)
