@@ -1,16 +1,15 @@
 //! What a conflict leads to.
-ghost use Rattle.std.specs.Prelude.{◌≡◌, ◌<◌, ◌≤◌, ◌+◌, ◌^◌, [], length, map, true, min, Some, slice_get};
+ghost use Rattle.std.specs.Prelude.{◌≡◌, ◌<◌, ◌+◌, [], length, true, Some};
 ghost use Rattle.std.specs.Prelude.{IfOk, OnOk};
-ghost use Rattle.refute_tree.specs.Trees.{stated};
-ghost use Rattle.branch_search.specs.code.Search.{IsState, IsStuck, IsLearned, IsSettled, IsExcluded};
-ghost use Rattle.branch_search.specs.Slices.{question_of};
+ghost use Rattle.branch_search.specs.code.Search.{IsStuck, IsLearned, IsSettled, IsExcluded};
 
 use crate::both::Both;
 use crate::state::State;
+use crate::task::Task;
 use conflict_analysis::{Conflict, Level, Source, analyze, numbers_of, open_place};
 use refute_tree::{Earlier, Lemma};
 use std::alloc::{AllocError, Global};
-use stn_core::{Literal, Net, Problem};
+use stn_core::{Literal, Net};
 
 // Whether nothing was decided.
 fn is_root(levels: &[Level]) -> bool
@@ -32,28 +31,24 @@ impl State {
     fn learn<E: Earlier, N: Net>(
         &mut self,
         alloc: Global,
-        problem: &Problem,
-        handed: &E,
-        cube: &[Literal],
+        task: &Task<'_, E>,
         net: &N,
         conflict: &Conflict,
         wanted: &mut Vec<usize>,
     ) -> Result<(), AllocError>
-        requires few { length (E.clauses handed.now) < 2 ^ 63 }
-        requires stuck { IsStuck (question_of problem.now (E.clauses handed.now) cube.now) self.old
-            (N.literals_of net.now) conflict.now }
+        requires stuck { IsStuck task.now self.old (N.literals_of net.now) conflict.now }
         ensures levels { self.new.levels.items ≡ self.old.levels.items }
-        ensures learned { OnOk result (IsLearned (question_of problem.now (E.clauses handed.now) cube.now)
+        ensures learned { OnOk result (IsLearned task.now
             self.new (length self.old.own.items) (N.literals_of net.now)) }
     {
         let whole = is_root(&self.levels);
         let both = Both {
-            handed,
+            task,
             own: self.own.as_slice(),
         };
         let lemma = analyze(
             alloc,
-            problem,
+            task.problem(),
             &both,
             self.entries.as_slice(),
             self.levels.as_slice(),
@@ -93,34 +88,30 @@ impl State {
     pub fn react<E: Earlier, N: Net>(
         &mut self,
         alloc: Global,
-        problem: &Problem,
-        handed: &E,
-        cube: &[Literal],
+        task: &Task<'_, E>,
         net: &mut N,
         conflict: &Conflict,
     ) -> Result<Option<usize>, AllocError>
-        requires few { length (E.clauses handed.now) < 2 ^ 63 }
-        requires points { N.points_of net.old ≡ problem.now.points }
-        requires stuck { IsStuck (question_of problem.now (E.clauses handed.now) cube.now) self.old
-            (N.literals_of net.old) conflict.now }
+        requires points { N.points_of net.old ≡ task.now.problem.points }
+        requires stuck { IsStuck task.now self.old (N.literals_of net.old) conflict.now }
         ensures points { N.points_of net.new ≡ N.points_of net.old }
-        ensures settled { IfOk result (IsSettled (question_of problem.now (E.clauses handed.now) cube.now)
+        ensures settled { IfOk result (IsSettled task.now
             (length self.old.levels.items) self.new (N.literals_of net.new)) }
         ensures adds { N.adds_of net.new ≡ N.adds_of net.old }
     {
         let j = self.own.len();
         let mut wanted = Vec::new(alloc);
-        self.learn(alloc, problem, handed, cube, net, conflict, &mut wanted)?;
+        self.learn(alloc, task, net, conflict, &mut wanted)?;
         if self.levels.is_empty() {
             return Ok(Some(j));
         }
-        self.cite_all(alloc, problem, handed, cube, net, &wanted)?;
-        let source = Source::Lemma(handed.count() + j);
+        self.cite_all(alloc, task, net, &wanted)?;
+        let source = Source::Lemma(task.count() + j);
         let level = self.jump_level(alloc, source)?;
         self.cut(net, level);
         let clause = clause_at(&self.own, j);
         let place = open_place(&self.guide, &self.entries, source, clause);
-        self.take_unit(problem, handed, cube, net, source, place)?;
+        self.take_unit(task, net, source, place)?;
         Ok(None)
     }
 
@@ -128,23 +119,18 @@ impl State {
     pub fn exclude<E: Earlier, N: Net>(
         &mut self,
         alloc: Global,
-        problem: &Problem,
-        handed: &E,
-        cube: &[Literal],
+        task: &Task<'_, E>,
         net: &N,
         conflict: &Conflict,
     ) -> Result<usize, AllocError>
-        requires few { length (E.clauses handed.now) < 2 ^ 63 }
-        requires stuck { IsStuck (question_of problem.now (E.clauses handed.now) cube.now) self.old
-            (N.literals_of net.now) conflict.now }
+        requires stuck { IsStuck task.now self.old (N.literals_of net.now) conflict.now }
         requires root { self.old.levels.items ≡ [] }
         ensures levels { self.new.levels.items ≡ self.old.levels.items }
-        ensures excluded { IfOk result (IsExcluded (question_of problem.now (E.clauses handed.now) cube.now)
-            self.new) }
+        ensures excluded { IfOk result (IsExcluded task.now self.new) }
     {
         let j = self.own.len();
         let mut wanted = Vec::new(alloc);
-        self.learn(alloc, problem, handed, cube, net, conflict, &mut wanted)?;
+        self.learn(alloc, task, net, conflict, &mut wanted)?;
         Ok(j)
     }
 }

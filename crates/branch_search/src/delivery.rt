@@ -1,16 +1,16 @@
 //! What a slice delivers: of its lemmas those that the search hasn't forgotten, and those that these cite.
 ghost use Rattle.std.specs.Prelude.{◌≡◌, ◌<◌, ◌+◌, ◌^◌, ℕ, length, Some, true, false, slice_index_or, IfOk};
-ghost use Rattle.branch_search.specs.Slices.{question_of, IsSlice};
+ghost use Rattle.branch_search.specs.Slices.{IsSlice};
 ghost use Rattle.branch_search.specs.code.Divisions.{IsDivision, excluding};
 ghost use Rattle.branch_search.specs.code.Deliveries.{IsLeft, IsOfKind};
 
 use crate::answer::Slice;
 use crate::divide::Division;
 use crate::state::State;
+use crate::task::Task;
 use refute_tree::{Batch, Earlier};
 use search_guide::{Guide, Source};
 use std::alloc::{AllocError, Global};
-use stn_core::{Literal, Problem};
 use trim_lemmas::{TrimmedBatch, trimmed_batch};
 
 // The lemma that excludes the cube, if one does.
@@ -77,18 +77,14 @@ impl State {
     pub fn deliver<E: Earlier>(
         &mut self,
         alloc: Global,
-        problem: &Problem,
-        handed: &E,
-        cube: &[Literal],
+        task: &Task<'_, E>,
         division: Division,
     ) -> Result<Slice, AllocError>
-        requires few { length (E.clauses handed.now) < 2 ^ 63 }
-        requires division { IsDivision (question_of problem.now (E.clauses handed.now) cube.now)
-            self.old.own.items division }
-        ensures answer { IfOk result (IsSlice (question_of problem.now (E.clauses handed.now) cube.now)) }
+        requires division { IsDivision task.now self.old.own.items division }
+        ensures answer { IfOk result (IsSlice task.now) }
         ensures kind { IfOk result (IsOfKind division) }
     {
-        let seen = handed.count();
+        let seen = task.count();
         let left = self.take_wanted(alloc, seen, excluding(&division))?;
         self.guide.close_up(seen, &left.needed)?;
         match division {

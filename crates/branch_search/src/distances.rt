@@ -1,18 +1,17 @@
 //! What follows from the trail's literals by distances between points, each with a negative cycle that shows
 //! it. The distances have no contract: each cycle is tested before it is a reason.
-ghost use Rattle.std.specs.Prelude.{◌≡◌, ◌<◌, ◌≤◌, All, length, IfOk, IfSome, OnOk};
+ghost use Rattle.std.specs.Prelude.{◌≡◌, ◌<◌, All, length, IfOk, IfSome, OnOk};
 ghost use Rattle.conflict_analysis.specs.code.Trails.{Stands, IsByCycle};
 ghost use Rattle.branch_search.specs.code.Hits.{IsOnPath};
 ghost use Rattle.branch_search.specs.code.Search.{IsState};
-ghost use Rattle.branch_search.specs.Slices.{question_of};
-ghost use Rattle.stn_core.specs.Literal.{negation_of};
 
 use crate::state::State;
+use crate::task::Task;
 use conflict_analysis::{Entry, Reason, is_over, literal_on};
 use refute_tree::Earlier;
 use search_guide::LiteralNumber;
 use std::alloc::{AllocError, Global};
-use stn_core::{Literal, Literals, Net, Problem, is_cycle, negate};
+use stn_core::{Literal, Literals, Net, is_cycle, negate};
 
 // The denied literal, and then those at the places of the trail.
 fn path_of(
@@ -91,22 +90,18 @@ impl State {
     fn take_hit<E: Earlier, N: Net>(
         &mut self,
         alloc: Global,
-        problem: &Problem,
-        handed: &E,
-        cube: &[Literal],
+        task: &Task<'_, E>,
         net: &N,
         number: LiteralNumber,
     ) -> Result<(), AllocError>
-        requires state { IsState (question_of problem.now (E.clauses handed.now) cube.now) self.old
-            (N.literals_of net.now) }
+        requires state { IsState task.now self.old (N.literals_of net.now) }
         ensures levels { self.new.levels.items ≡ self.old.levels.items }
-        ensures state { OnOk result (IsState (question_of problem.now (E.clauses handed.now) cube.now)
-            self.new (N.literals_of net.now)) }
+        ensures state { OnOk result (IsState task.now self.new (N.literals_of net.now)) }
     {
         let Some(literal) = self.guide.literal(number) else {
             return Ok(());
         };
-        if !is_over(literal, problem.points) {
+        if !is_over(literal, task.problem().points) {
             return Ok(());
         }
         if let Some(cycle) = self.explain(alloc, number, literal)? {
@@ -139,16 +134,12 @@ impl State {
     pub fn measure_next<E: Earlier, N: Net>(
         &mut self,
         alloc: Global,
-        problem: &Problem,
-        handed: &E,
-        cube: &[Literal],
+        task: &Task<'_, E>,
         net: &N,
     ) -> Result<(), AllocError>
-        requires state { IsState (question_of problem.now (E.clauses handed.now) cube.now) self.old
-            (N.literals_of net.now) }
+        requires state { IsState task.now self.old (N.literals_of net.now) }
         ensures levels { self.new.levels.items ≡ self.old.levels.items }
-        ensures state { OnOk result (IsState (question_of problem.now (E.clauses handed.now) cube.now)
-            self.new (N.literals_of net.now)) }
+        ensures state { OnOk result (IsState task.now self.new (N.literals_of net.now)) }
     {
         let k = self.measured;
         if k >= self.entries.len() {
@@ -164,7 +155,7 @@ impl State {
             let Some(number) = self.next_hit() else {
                 return Ok(());
             };
-            self.take_hit(alloc, problem, handed, cube, net, number)?;
+            self.take_hit(alloc, task, net, number)?;
         }
         Ok(())
     }

@@ -1,18 +1,18 @@
 //! The end of a slice: with the cube alone, whether a clause has no literal that is consistent with it, and
 //! what to split on.
-ghost use Rattle.std.specs.Prelude.{◌≡◌, ◌<◌, ◌≤◌, ◌+◌, ◌^◌, ◌++◌, ◌∷◌, [], All, length, min, true, IfOk, OnOk};
+ghost use Rattle.std.specs.Prelude.{◌≡◌, ◌<◌, ◌≤◌, ◌+◌, ◌++◌, ◌∷◌, [], All, length, min, true, IfOk, OnOk};
 ghost use Rattle.std.specs.Prelude.{IfSome};
 ghost use Rattle.stn_core.specs.Literal.{IsOver, negation_of};
 ghost use Rattle.stn_core.specs.Net.{IsConsistent};
 ghost use Rattle.conflict_analysis.specs.declared.entry.Reason.TheVariants.{Cycle as ByCycle};
 ghost use Rattle.branch_search.specs.code.Search.{IsState};
-ghost use Rattle.branch_search.specs.Slices.{question_of};
 ghost use Rattle.stn_core.specs.Limits.{adds_limit};
 ghost use Rattle.branch_search.specs.code.Divisions.{IsLiveAt, IsLiveness, AreLive, IsDivision, Divides};
 ghost use Rattle.stn_core.specs.Solution.{IsAtom};
 
 use crate::clauses::false_clause;
 use crate::state::State;
+use crate::task::Task;
 use conflict_analysis::{Conflict, Reason, Source, clause_of, is_over};
 use refute_tree::Earlier;
 use std::alloc::{AllocError, Global};
@@ -106,22 +106,18 @@ impl State {
     // trail.
     fn live_place<E: Earlier, N: Net>(
         &mut self,
-        problem: &Problem,
-        handed: &E,
-        cube: &[Literal],
+        task: &Task<'_, E>,
         net: &mut N,
         clause: &[Literal],
     ) -> Result<Option<usize>, AllocError>
         requires over { All (IsOver (N.points_of net.old)) clause.now }
-        requires points { N.points_of net.old ≡ problem.now.points }
-        requires state { IsState (question_of problem.now (E.clauses handed.now) cube.now) self.old
-            (N.literals_of net.old) }
+        requires points { N.points_of net.old ≡ task.now.problem.points }
+        requires state { IsState task.now self.old (N.literals_of net.old) }
         ensures points { N.points_of net.new ≡ N.points_of net.old }
         ensures literals { N.literals_of net.new ≡ N.literals_of net.old }
         ensures levels { self.new.levels.items ≡ self.old.levels.items }
         ensures own { self.new.own.items ≡ self.old.own.items }
-        ensures state { IfOk result (λ _. IsState (question_of problem.now (E.clauses handed.now) cube.now)
-            self.new (N.literals_of net.new)) }
+        ensures state { IfOk result (λ _. IsState task.now self.new (N.literals_of net.new)) }
         ensures live { IfOk result (IsLiveAt (N.points_of net.old) (N.literals_of net.old)
             self.new.entries.items clause.now) }
         ensures counts { OnOk result (min (N.adds_of net.old) adds_limit ≤ N.adds_of net.new) }
@@ -143,31 +139,26 @@ impl State {
     fn check_live<E: Earlier, N: Net>(
         &mut self,
         alloc: Global,
-        problem: &Problem,
-        handed: &E,
-        cube: &[Literal],
+        task: &Task<'_, E>,
         net: &mut N,
         i: usize,
     ) -> Result<Live, AllocError>
-        requires few { length (E.clauses handed.now) < 2 ^ 63 }
-        requires points { N.points_of net.old ≡ problem.now.points }
-        requires state { IsState (question_of problem.now (E.clauses handed.now) cube.now) self.old
-            (N.literals_of net.old) }
+        requires points { N.points_of net.old ≡ task.now.problem.points }
+        requires state { IsState task.now self.old (N.literals_of net.old) }
         requires root { self.old.levels.items ≡ [] }
-        requires within { i < length problem.now.clauses }
+        requires within { i < length task.now.problem.clauses }
         ensures points { N.points_of net.new ≡ N.points_of net.old }
         ensures literals { N.literals_of net.new ≡ N.literals_of net.old }
         ensures levels { self.new.levels.items ≡ self.old.levels.items }
-        ensures live { IfOk result (IsLiveness (question_of problem.now (E.clauses handed.now) cube.now)
-            self.new (N.literals_of net.new) i) }
+        ensures live { IfOk result (IsLiveness task.now self.new (N.literals_of net.new) i) }
         ensures counts { OnOk result (min (N.adds_of net.old) adds_limit ≤ N.adds_of net.new) }
     {
-        let clause = clause_of(problem, handed, Source::Input(i));
-        match self.live_place(problem, handed, cube, net, clause)? {
+        let clause = clause_of(task.problem(), task.handed(), Source::Input(i));
+        match self.live_place(task, net, clause)? {
             Some(place) => Ok(Live::At(place)),
             None => {
                 let conflict = Conflict::Clause(Source::Input(i));
-                let j = self.exclude(alloc, problem, handed, cube, net, &conflict)?;
+                let j = self.exclude(alloc, task, net, &conflict)?;
                 Ok(Live::Nowhere(j))
             }
         }
@@ -177,26 +168,21 @@ impl State {
     fn check_all<E: Earlier, N: Net>(
         &mut self,
         alloc: Global,
-        problem: &Problem,
-        handed: &E,
-        cube: &[Literal],
+        task: &Task<'_, E>,
         net: &mut N,
     ) -> Result<Option<usize>, AllocError>
-        requires few { length (E.clauses handed.now) < 2 ^ 63 }
-        requires points { N.points_of net.old ≡ problem.now.points }
-        requires state { IsState (question_of problem.now (E.clauses handed.now) cube.now) self.old
-            (N.literals_of net.old) }
+        requires points { N.points_of net.old ≡ task.now.problem.points }
+        requires state { IsState task.now self.old (N.literals_of net.old) }
         requires root { self.old.levels.items ≡ [] }
         ensures points { N.points_of net.new ≡ N.points_of net.old }
         ensures literals { N.literals_of net.new ≡ N.literals_of net.old }
         ensures levels { self.new.levels.items ≡ self.old.levels.items }
-        ensures live { IfOk result (AreLive (question_of problem.now (E.clauses handed.now) cube.now) self.new
-            (N.literals_of net.new)) }
+        ensures live { IfOk result (AreLive task.now self.new (N.literals_of net.new)) }
         ensures counts { OnOk result (min (N.adds_of net.old) adds_limit ≤ N.adds_of net.new) }
     {
-        let count = problem.clauses.as_slice().len();
+        let count = task.problem().clauses.as_slice().len();
         for i in 0..count {
-            match self.check_live(alloc, problem, handed, cube, net, i)? {
+            match self.check_live(alloc, task, net, i)? {
                 Live::At(_) => {}
                 Live::Nowhere(j) => return Ok(Some(j)),
             }
@@ -209,24 +195,20 @@ impl State {
     pub fn divide<E: Earlier, N: Net>(
         &mut self,
         alloc: Global,
-        problem: &Problem,
-        handed: &E,
-        cube: &[Literal],
+        task: &Task<'_, E>,
         net: &mut N,
         place: Option<(usize, usize)>,
     ) -> Result<Division, AllocError>
-        requires few { length (E.clauses handed.now) < 2 ^ 63 }
-        requires points { N.points_of net.old ≡ problem.now.points }
-        requires state { IsState (question_of problem.now (E.clauses handed.now) cube.now) self.old
-            (N.literals_of net.old) }
+        requires points { N.points_of net.old ≡ task.now.problem.points }
+        requires state { IsState task.now self.old (N.literals_of net.old) }
         requires root { self.old.levels.items ≡ [] }
-        requires cube { N.literals_of net.old ≡ cube.now }
+        requires cube { N.literals_of net.old ≡ task.now.cube }
         ensures points { N.points_of net.new ≡ N.points_of net.old }
-        ensures division { IfOk result (IsDivision (question_of problem.now (E.clauses handed.now) cube.now)
-            self.new.own.items) }
+        ensures division { IfOk result (IsDivision task.now self.new.own.items) }
         ensures counts { OnOk result (min (N.adds_of net.old) adds_limit ≤ N.adds_of net.new) }
     {
-        if let Some(j) = self.check_all(alloc, problem, handed, cube, net)? {
+        let problem = task.problem();
+        if let Some(j) = self.check_all(alloc, task, net)? {
             return Ok(Division::Excluded(j));
         }
         let values = net.schedule();
@@ -237,9 +219,9 @@ impl State {
         if let Some(literal) = divides_at(problem, net, place)? {
             return Ok(Division::Split(literal));
         }
-        match self.check_live(alloc, problem, handed, cube, net, i)? {
+        match self.check_live(alloc, task, net, i)? {
             Live::At(place) => {
-                let literal = clause_of(problem, handed, Source::Input(i))[place];
+                let literal = clause_of(problem, task.handed(), Source::Input(i))[place];
                 Ok(Division::Split(literal))
             }
             Live::Nowhere(j) => Ok(Division::Excluded(j)),

@@ -22,6 +22,7 @@ mod roots;
 mod search;
 mod slicing;
 mod state;
+mod task;
 mod waiting;
 
 pub use answer::Slice;

@@ -1,18 +1,18 @@
 //! What follows from the trail's literals, by ladders, clauses, the net and distances.
-ghost use Rattle.std.specs.Prelude.{◌≡◌, ◌<◌, ◌≤◌, ◌+◌, ◌^◌, length, true, min, IfOk, OnOk};
+ghost use Rattle.std.specs.Prelude.{◌≡◌, ◌<◌, ◌≤◌, ◌+◌, length, true, min, IfOk, OnOk};
 ghost use Rattle.branch_search.specs.code.Search.{IsState, IsAfter, IsTried, IsWeaker};
-ghost use Rattle.branch_search.specs.Slices.{question_of};
 ghost use Rattle.stn_core.specs.Limits.{adds_limit};
 
 use crate::both::Both;
 use crate::state::State;
+use crate::task::Task;
 use conflict_analysis::{
     Conflict, Reason, Source, is_conflict, is_over, literal_on, number_of, source_of, unit_of,
 };
 use refute_tree::Earlier;
 use search_guide::{Guide, LiteralNumber, Proposal};
 use std::alloc::{AllocError, Global};
-use stn_core::{Literal, Literals, Net, Problem, negate};
+use stn_core::{Literal, Literals, Net, negate};
 
 /// What became of a proposal.
 #[derive(Drop)]
@@ -36,27 +36,28 @@ impl State {
     // The literal at a place of a clause, whose others are denied.
     pub fn take_unit<E: Earlier, N: Net>(
         &mut self,
-        problem: &Problem,
-        handed: &E,
-        cube: &[Literal],
+        task: &Task<'_, E>,
         net: &N,
         source: Source,
         place: usize,
     ) -> Result<Tried, AllocError>
-        requires few { length (E.clauses handed.now) < 2 ^ 63 }
-        requires state { IsState (question_of problem.now (E.clauses handed.now) cube.now) self.old
-            (N.literals_of net.now) }
+        requires state { IsState task.now self.old (N.literals_of net.now) }
         ensures levels { self.new.levels.items ≡ self.old.levels.items }
-        ensures taken { IfOk result (IsTried (question_of problem.now (E.clauses handed.now) cube.now)
-            self.new (N.literals_of net.now)) }
+        ensures taken { IfOk result (IsTried task.now self.new (N.literals_of net.now)) }
         ensures longer { OnOk result (length self.old.entries.items ≤ length self.new.entries.items) }
     {
         let both = Both {
-            handed,
+            task,
             own: self.own.as_slice(),
         };
-        let Some(literal) = unit_of(problem, &both, &self.guide, &self.entries, source, place)
-        else {
+        let Some(literal) = unit_of(
+            task.problem(),
+            &both,
+            &self.guide,
+            &self.entries,
+            source,
+            place,
+        ) else {
             return Ok(Tried::Nothing);
         };
         let number = number_of(&self.guide, source, place);
@@ -67,25 +68,20 @@ impl State {
     // A clause whose literals are all denied.
     pub fn take_conflict<E: Earlier, N: Net>(
         &mut self,
-        problem: &Problem,
-        handed: &E,
-        cube: &[Literal],
+        task: &Task<'_, E>,
         net: &N,
         source: Source,
     ) -> Tried
-        requires few { length (E.clauses handed.now) < 2 ^ 63 }
-        requires state { IsState (question_of problem.now (E.clauses handed.now) cube.now) self.old
-            (N.literals_of net.now) }
+        requires state { IsState task.now self.old (N.literals_of net.now) }
         ensures levels { self.new.levels.items ≡ self.old.levels.items }
-        ensures taken { IsTried (question_of problem.now (E.clauses handed.now) cube.now) self.new
-            (N.literals_of net.now) result }
+        ensures taken { IsTried task.now self.new (N.literals_of net.now) result }
         ensures longer { length self.old.entries.items ≤ length self.new.entries.items }
     {
         let both = Both {
-            handed,
+            task,
             own: self.own.as_slice(),
         };
-        if is_conflict(problem, &both, &self.guide, &self.entries, source) {
+        if is_conflict(task.problem(), &both, &self.guide, &self.entries, source) {
             return Tried::Stuck(Conflict::Clause(source));
         }
         Tried::Nothing
@@ -95,26 +91,22 @@ impl State {
     fn take_weaker<E: Earlier, N: Net>(
         &mut self,
         alloc: Global,
-        problem: &Problem,
-        handed: &E,
-        cube: &[Literal],
+        task: &Task<'_, E>,
         net: &N,
         k: usize,
         number: LiteralNumber,
     ) -> Result<Tried, AllocError>
         requires within { k < length self.old.entries.items }
-        requires state { IsState (question_of problem.now (E.clauses handed.now) cube.now) self.old
-            (N.literals_of net.now) }
+        requires state { IsState task.now self.old (N.literals_of net.now) }
         ensures levels { self.new.levels.items ≡ self.old.levels.items }
-        ensures taken { IfOk result (IsTried (question_of problem.now (E.clauses handed.now) cube.now)
-            self.new (N.literals_of net.now)) }
+        ensures taken { IfOk result (IsTried task.now self.new (N.literals_of net.now)) }
         ensures longer { OnOk result (length self.old.entries.items ≤ length self.new.entries.items) }
     {
         let tighter = literal_on(&self.entries, k);
         let Some(weaker) = self.guide.literal(number) else {
             return Ok(Tried::Nothing);
         };
-        if !is_over(weaker, problem.points) || !is_weaker(tighter, weaker) {
+        if !is_over(weaker, task.problem().points) || !is_weaker(tighter, weaker) {
             return Ok(Tried::Nothing);
         }
         if self.is_on_trail(Guide::negated(number), negate(weaker)) {
@@ -129,32 +121,21 @@ impl State {
     fn take_next<E: Earlier, N: Net>(
         &mut self,
         alloc: Global,
-        problem: &Problem,
-        handed: &E,
-        cube: &[Literal],
+        task: &Task<'_, E>,
         net: &N,
         k: usize,
     ) -> Result<Tried, AllocError>
-        requires few { length (E.clauses handed.now) < 2 ^ 63 }
         requires within { k < length self.old.entries.items }
-        requires state { IsState (question_of problem.now (E.clauses handed.now) cube.now) self.old
-            (N.literals_of net.now) }
+        requires state { IsState task.now self.old (N.literals_of net.now) }
         ensures levels { self.new.levels.items ≡ self.old.levels.items }
-        ensures taken { IfOk result (IsTried (question_of problem.now (E.clauses handed.now) cube.now)
-            self.new (N.literals_of net.now)) }
+        ensures taken { IfOk result (IsTried task.now self.new (N.literals_of net.now)) }
         ensures longer { OnOk result (length self.old.entries.items ≤ length self.new.entries.items) }
     {
         match self.guide.next()? {
             Proposal::Nothing => Ok(Tried::Nothing),
-            Proposal::Weaker(number) => {
-                self.take_weaker(alloc, problem, handed, cube, net, k, number)
-            }
-            Proposal::Unit(source, place) => {
-                self.take_unit(problem, handed, cube, net, source_of(source), place)
-            }
-            Proposal::Conflict(source) => {
-                Ok(self.take_conflict(problem, handed, cube, net, source_of(source)))
-            }
+            Proposal::Weaker(number) => self.take_weaker(alloc, task, net, k, number),
+            Proposal::Unit(source, place) => self.take_unit(task, net, source_of(source), place),
+            Proposal::Conflict(source) => Ok(self.take_conflict(task, net, source_of(source))),
         }
     }
 
@@ -162,24 +143,19 @@ impl State {
     fn follow<E: Earlier, N: Net>(
         &mut self,
         alloc: Global,
-        problem: &Problem,
-        handed: &E,
-        cube: &[Literal],
+        task: &Task<'_, E>,
         net: &N,
         k: usize,
     ) -> Result<Option<Conflict>, AllocError>
-        requires few { length (E.clauses handed.now) < 2 ^ 63 }
         requires within { k < length self.old.entries.items }
-        requires state { IsState (question_of problem.now (E.clauses handed.now) cube.now) self.old
-            (N.literals_of net.now) }
+        requires state { IsState task.now self.old (N.literals_of net.now) }
         ensures levels { self.new.levels.items ≡ self.old.levels.items }
-        ensures after { IfOk result (IsAfter (question_of problem.now (E.clauses handed.now) cube.now)
-            self.new (N.literals_of net.now)) }
+        ensures after { IfOk result (IsAfter task.now self.new (N.literals_of net.now)) }
     {
         let limit = self.guide.literals();
         self.guide.begin(self.entries[k].number);
         'proposals: for _turn in 0..limit {
-            match self.take_next(alloc, problem, handed, cube, net, k)? {
+            match self.take_next(alloc, task, net, k)? {
                 Tried::Pushed => {}
                 Tried::Nothing => return Ok(None),
                 Tried::Stuck(conflict) => return Ok(Some(conflict)),
@@ -192,17 +168,12 @@ impl State {
     fn follow_all<E: Earlier, N: Net>(
         &mut self,
         alloc: Global,
-        problem: &Problem,
-        handed: &E,
-        cube: &[Literal],
+        task: &Task<'_, E>,
         net: &N,
     ) -> Result<Option<Conflict>, AllocError>
-        requires few { length (E.clauses handed.now) < 2 ^ 63 }
-        requires state { IsState (question_of problem.now (E.clauses handed.now) cube.now) self.old
-            (N.literals_of net.now) }
+        requires state { IsState task.now self.old (N.literals_of net.now) }
         ensures levels { self.new.levels.items ≡ self.old.levels.items }
-        ensures after { IfOk result (IsAfter (question_of problem.now (E.clauses handed.now) cube.now)
-            self.new (N.literals_of net.now)) }
+        ensures after { IfOk result (IsAfter task.now self.new (N.literals_of net.now)) }
     {
         let limit = self.guide.literals();
         'literals: for _turn in 0..limit {
@@ -211,7 +182,7 @@ impl State {
                 return Ok(None);
             }
             self.followed = k + 1;
-            if let Some(conflict) = self.follow(alloc, problem, handed, cube, net, k)? {
+            if let Some(conflict) = self.follow(alloc, task, net, k)? {
                 return Ok(Some(conflict));
             }
         }
@@ -232,18 +203,14 @@ impl State {
     // The next literal into the net, if there is one that isn't in it yet.
     fn net_next<E: Earlier, N: Net>(
         &mut self,
-        problem: &Problem,
-        handed: &E,
-        cube: &[Literal],
+        task: &Task<'_, E>,
         net: &mut N,
     ) -> Result<Option<Conflict>, AllocError>
-        requires points { N.points_of net.old ≡ problem.now.points }
-        requires state { IsState (question_of problem.now (E.clauses handed.now) cube.now) self.old
-            (N.literals_of net.old) }
+        requires points { N.points_of net.old ≡ task.now.problem.points }
+        requires state { IsState task.now self.old (N.literals_of net.old) }
         ensures points { N.points_of net.new ≡ N.points_of net.old }
         ensures levels { self.new.levels.items ≡ self.old.levels.items }
-        ensures after { IfOk result (IsAfter (question_of problem.now (E.clauses handed.now) cube.now)
-            self.new (N.literals_of net.new)) }
+        ensures after { IfOk result (IsAfter task.now self.new (N.literals_of net.new)) }
         ensures counts { OnOk result (min (N.adds_of net.old) adds_limit ≤ N.adds_of net.new) }
     {
         let k = self.netted;
@@ -254,7 +221,7 @@ impl State {
         if !self.is_for_net(k) {
             return Ok(None);
         }
-        let found = self.add_to_net(problem, handed, cube, net, k)?;
+        let found = self.add_to_net(task, net, k)?;
         Ok(found)
     }
 
@@ -263,29 +230,25 @@ impl State {
     fn advance<E: Earlier, N: Net>(
         &mut self,
         alloc: Global,
-        problem: &Problem,
-        handed: &E,
-        cube: &[Literal],
+        task: &Task<'_, E>,
         net: &mut N,
     ) -> Result<Option<Conflict>, AllocError>
-        requires points { N.points_of net.old ≡ problem.now.points }
-        requires state { IsState (question_of problem.now (E.clauses handed.now) cube.now) self.old
-            (N.literals_of net.old) }
+        requires points { N.points_of net.old ≡ task.now.problem.points }
+        requires state { IsState task.now self.old (N.literals_of net.old) }
         ensures points { N.points_of net.new ≡ N.points_of net.old }
         ensures levels { self.new.levels.items ≡ self.old.levels.items }
-        ensures after { IfOk result (IsAfter (question_of problem.now (E.clauses handed.now) cube.now)
-            self.new (N.literals_of net.new)) }
+        ensures after { IfOk result (IsAfter task.now self.new (N.literals_of net.new)) }
         ensures counts { OnOk result (min (N.adds_of net.old) adds_limit ≤ N.adds_of net.new) }
     {
         if self.has_many_waiting() {
-            let found = self.net_waiting(alloc, problem, handed, cube, net)?;
+            let found = self.net_waiting(alloc, task, net)?;
             return Ok(found);
         }
         if self.netted < self.entries.len() {
-            let found = self.net_next(problem, handed, cube, net)?;
+            let found = self.net_next(task, net)?;
             return Ok(found);
         }
-        self.measure_next(alloc, problem, handed, cube, net)?;
+        self.measure_next(alloc, task, net)?;
         Ok(None)
     }
 
@@ -295,31 +258,26 @@ impl State {
     pub fn propagate<E: Earlier, N: Net>(
         &mut self,
         alloc: Global,
-        problem: &Problem,
-        handed: &E,
-        cube: &[Literal],
+        task: &Task<'_, E>,
         net: &mut N,
     ) -> Result<Option<Conflict>, AllocError>
-        requires few { length (E.clauses handed.now) < 2 ^ 63 }
-        requires points { N.points_of net.old ≡ problem.now.points }
-        requires state { IsState (question_of problem.now (E.clauses handed.now) cube.now) self.old
-            (N.literals_of net.old) }
+        requires points { N.points_of net.old ≡ task.now.problem.points }
+        requires state { IsState task.now self.old (N.literals_of net.old) }
         ensures points { N.points_of net.new ≡ N.points_of net.old }
         ensures levels { self.new.levels.items ≡ self.old.levels.items }
-        ensures after { IfOk result (IsAfter (question_of problem.now (E.clauses handed.now) cube.now)
-            self.new (N.literals_of net.new)) }
+        ensures after { IfOk result (IsAfter task.now self.new (N.literals_of net.new)) }
         ensures counts { OnOk result (min (N.adds_of net.old) adds_limit ≤ N.adds_of net.new) }
     {
         // each literal goes once into the net and once into the distances
         let limit = self.guide.literals().saturating_add(1);
         'literals: for _turn in 0..limit {
-            if let Some(conflict) = self.follow_all(alloc, problem, handed, cube, net)? {
+            if let Some(conflict) = self.follow_all(alloc, task, net)? {
                 return Ok(Some(conflict));
             }
             if self.netted >= self.entries.len() && self.is_measured() {
                 return Ok(None);
             }
-            if let Some(conflict) = self.advance(alloc, problem, handed, cube, net)? {
+            if let Some(conflict) = self.advance(alloc, task, net)? {
                 return Ok(Some(conflict));
             }
         }

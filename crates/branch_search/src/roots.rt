@@ -1,18 +1,18 @@
 //! Lemmas for what holds without a decision, so that a learned lemma doesn't write its reasons again: each is
 //! made once, when a conflict first rests on the literal, and is then the literal's reason.
-ghost use Rattle.std.specs.Prelude.{◌≡◌, ◌<◌, ◌^◌, length, IfOk, OnOk};
+ghost use Rattle.std.specs.Prelude.{◌≡◌, ◌<◌, length, IfOk, OnOk};
 ghost use Rattle.branch_search.specs.code.Roots.{denial_of};
 ghost use Rattle.branch_search.specs.code.Search.{IsState};
-ghost use Rattle.branch_search.specs.Slices.{question_of};
 
 use crate::both::Both;
 use crate::state::State;
+use crate::task::Task;
 use conflict_analysis::{Conflict, Entry, Reason, Source, analyze, is_same, literal_on, unit_of};
 use refute_tree::{Earlier, Lemma};
 use search_guide::Guide;
 use std::alloc::{AllocError, Global};
 use std::mem;
-use stn_core::{Literal, Literals, Net, Problem, negate};
+use stn_core::{Literal, Literals, Net, negate};
 
 // What the literal's negation is in conflict with, where the literal follows from others.
 fn denial_conflict(alloc: Global, entry: &Entry) -> Result<Option<Conflict>, AllocError>
@@ -52,20 +52,15 @@ impl State {
     fn derive<E: Earlier, N: Net>(
         &mut self,
         alloc: Global,
-        problem: &Problem,
-        handed: &E,
-        cube: &[Literal],
+        task: &Task<'_, E>,
         net: &N,
         k: usize,
     ) -> Result<(), AllocError>
-        requires few { length (E.clauses handed.now) < 2 ^ 63 }
         requires within { k < length self.old.entries.items }
-        requires state { IsState (question_of problem.now (E.clauses handed.now) cube.now) self.old
-            (N.literals_of net.now) }
+        requires state { IsState task.now self.old (N.literals_of net.now) }
         ensures levels { self.new.levels.items ≡ self.old.levels.items }
         ensures entries { OnOk result (self.new.entries.items ≡ self.old.entries.items) }
-        ensures state { OnOk result (IsState (question_of problem.now (E.clauses handed.now) cube.now)
-            self.new (N.literals_of net.now)) }
+        ensures state { OnOk result (IsState task.now self.new (N.literals_of net.now)) }
     {
         let Some(conflict) = denial_conflict(alloc, &self.entries[k])? else {
             return Ok(());
@@ -77,13 +72,13 @@ impl State {
         };
         let entry = mem::replace(&mut self.entries[k], denial);
         let both = Both {
-            handed,
+            task,
             own: self.own.as_slice(),
         };
         let mut wanted = Vec::new(alloc);
         let lemma = analyze(
             alloc,
-            problem,
+            task.problem(),
             &both,
             &self.entries[..k + 1],
             [].as_slice(),
@@ -100,31 +95,20 @@ impl State {
     }
 
     // The literal at the place rests on the clause, where all others of the clause are denied before it.
-    fn rest_on<E: Earlier, N: Net>(
-        &mut self,
-        problem: &Problem,
-        handed: &E,
-        cube: &[Literal],
-        net: &N,
-        source: Source,
-        k: usize,
-    )
-        requires few { length (E.clauses handed.now) < 2 ^ 63 }
+    fn rest_on<E: Earlier, N: Net>(&mut self, task: &Task<'_, E>, net: &N, source: Source, k: usize)
         requires within { k < length self.old.entries.items }
-        requires state { IsState (question_of problem.now (E.clauses handed.now) cube.now) self.old
-            (N.literals_of net.now) }
+        requires state { IsState task.now self.old (N.literals_of net.now) }
         ensures levels { self.new.levels.items ≡ self.old.levels.items }
-        ensures state { IsState (question_of problem.now (E.clauses handed.now) cube.now) self.new
-            (N.literals_of net.now) }
+        ensures state { IsState task.now self.new (N.literals_of net.now) }
     {
         let literal = literal_on(&self.entries, k);
         let place = place_in(&self.own, literal);
         let both = Both {
-            handed,
+            task,
             own: self.own.as_slice(),
         };
         let Some(unit) = unit_of(
-            problem,
+            task.problem(),
             &both,
             &self.guide,
             &self.entries[..k],
@@ -148,24 +132,19 @@ impl State {
     pub fn cite_all<E: Earlier, N: Net>(
         &mut self,
         alloc: Global,
-        problem: &Problem,
-        handed: &E,
-        cube: &[Literal],
+        task: &Task<'_, E>,
         net: &N,
         wanted: &[usize],
     ) -> Result<(), AllocError>
-        requires few { length (E.clauses handed.now) < 2 ^ 63 }
-        requires state { IsState (question_of problem.now (E.clauses handed.now) cube.now) self.old
-            (N.literals_of net.now) }
+        requires state { IsState task.now self.old (N.literals_of net.now) }
         ensures levels { self.new.levels.items ≡ self.old.levels.items }
-        ensures state { OnOk result (IsState (question_of problem.now (E.clauses handed.now) cube.now)
-            self.new (N.literals_of net.now)) }
+        ensures state { OnOk result (IsState task.now self.new (N.literals_of net.now)) }
     {
         'wanted: for k in wanted {
             if *k < self.entries.len() {
-                let source = Source::Lemma(handed.count() + self.own.len());
-                self.derive(alloc, problem, handed, cube, net, *k)?;
-                self.rest_on(problem, handed, cube, net, source, *k);
+                let source = Source::Lemma(task.count() + self.own.len());
+                self.derive(alloc, task, net, *k)?;
+                self.rest_on(task, net, source, *k);
             }
         }
         Ok(())

@@ -1,18 +1,18 @@
 //! The turns of a search.
-ghost use Rattle.std.specs.Prelude.{◌≡◌, ◌<◌, ◌≤◌, ◌+◌, ◌^◌, [], length, min, IfOk, IfSome, OnOk};
-ghost use Rattle.branch_search.specs.code.Search.{IsState, IsStuck, IsSettled};
-ghost use Rattle.branch_search.specs.Slices.{question_of};
+ghost use Rattle.std.specs.Prelude.{◌≡◌, ◌<◌, ◌≤◌, length, min, IfOk, IfSome, OnOk};
+ghost use Rattle.branch_search.specs.code.Search.{IsState, IsStuck};
 ghost use Rattle.stn_core.specs.Limits.{adds_limit};
 ghost use Rattle.branch_search.specs.code.Turns.{IsTurn, IsFound};
 ghost use Rattle.stn_core.specs.Solution.{IsSolution};
 
 use crate::model::try_model;
 use crate::state::State;
+use crate::task::Task;
 use conflict_analysis::{Conflict, Entry, Level, Reason, is_over};
 use refute_tree::Earlier;
 use search_guide::{Guide, LiteralNumber};
 use std::alloc::{AllocError, Global};
-use stn_core::{Literal, Net, Problem, Schedule};
+use stn_core::{Net, Problem, Schedule};
 
 /// How a search ends.
 #[derive(Drop)]
@@ -73,20 +73,12 @@ fn restart_level(guide: &mut Guide, entries: &[Entry], levels: &[Level]) -> Opti
 
 impl State {
     // Back to the level from which a restart decides anew, if it is time.
-    fn restart<E: Earlier, N: Net>(
-        &mut self,
-        problem: &Problem,
-        handed: &E,
-        cube: &[Literal],
-        net: &mut N,
-    )
-        requires state { IsState (question_of problem.now (E.clauses handed.now) cube.now) self.old
-            (N.literals_of net.old) }
+    fn restart<E: Earlier, N: Net>(&mut self, task: &Task<'_, E>, net: &mut N)
+        requires state { IsState task.now self.old (N.literals_of net.old) }
         ensures points { N.points_of net.new ≡ N.points_of net.old }
         ensures adds { N.adds_of net.new ≡ N.adds_of net.old }
         ensures levels { length self.new.levels.items ≤ length self.old.levels.items }
-        ensures state { IsState (question_of problem.now (E.clauses handed.now) cube.now) self.new
-            (N.literals_of net.new) }
+        ensures state { IsState task.now self.new (N.literals_of net.new) }
     {
         let found = restart_level(&mut self.guide, &self.entries, &self.levels);
         let Some(level) = found else {
@@ -99,23 +91,19 @@ impl State {
     fn settle<E: Earlier, N: Net>(
         &mut self,
         alloc: Global,
-        problem: &Problem,
-        handed: &E,
-        cube: &[Literal],
+        task: &Task<'_, E>,
         net: &mut N,
         rest: Rest,
         conflict: &Conflict,
     ) -> Result<Turn, AllocError>
-        requires few { length (E.clauses handed.now) < 2 ^ 63 }
-        requires points { N.points_of net.old ≡ problem.now.points }
-        requires stuck { IsStuck (question_of problem.now (E.clauses handed.now) cube.now) self.old
-            (N.literals_of net.old) conflict.now }
+        requires points { N.points_of net.old ≡ task.now.problem.points }
+        requires stuck { IsStuck task.now self.old (N.literals_of net.old) conflict.now }
         ensures points { N.points_of net.new ≡ N.points_of net.old }
-        ensures turn { IfOk result (IsTurn (question_of problem.now (E.clauses handed.now) cube.now)
+        ensures turn { IfOk result (IsTurn task.now
             rest.decisions (length self.old.levels.items) self.new (N.literals_of net.new)) }
         ensures counts { OnOk result (min (N.adds_of net.old) adds_limit ≤ N.adds_of net.new) }
     {
-        if let Some(j) = self.react(alloc, problem, handed, cube, net, conflict)? {
+        if let Some(j) = self.react(alloc, task, net, conflict)? {
             return Ok(Turn::Ended(Found::Excluded(j)));
         }
         self.guide.forget()?;
@@ -127,30 +115,27 @@ impl State {
         {
             return Ok(Turn::Ended(Found::Spent));
         }
-        self.restart(problem, handed, cube, net);
+        self.restart(task, net);
         Ok(Turn::Jumped)
     }
 
     // Decides the literal with the number.
     fn decide<E: Earlier, N: Net>(
         &mut self,
-        problem: &Problem,
-        handed: &E,
-        cube: &[Literal],
+        task: &Task<'_, E>,
         net: &N,
         rest: Rest,
         number: LiteralNumber,
     ) -> Result<Turn, AllocError>
-        requires points { N.points_of net.now ≡ problem.now.points }
-        requires state { IsState (question_of problem.now (E.clauses handed.now) cube.now) self.old
-            (N.literals_of net.now) }
-        ensures turn { IfOk result (IsTurn (question_of problem.now (E.clauses handed.now) cube.now)
+        requires points { N.points_of net.now ≡ task.now.problem.points }
+        requires state { IsState task.now self.old (N.literals_of net.now) }
+        ensures turn { IfOk result (IsTurn task.now
             rest.decisions (length self.old.levels.items) self.new (N.literals_of net.now)) }
     {
         let Some(literal) = self.guide.literal(number) else {
             return Ok(Turn::Ended(Found::Spent));
         };
-        if !is_over(literal, problem.points) || rest.decisions < 1 {
+        if !is_over(literal, task.problem().points) || rest.decisions < 1 {
             return Ok(Turn::Ended(Found::Spent));
         }
         self.begin_level(net)?;
@@ -193,29 +178,26 @@ impl State {
     fn go_on<E: Earlier, N: Net>(
         &mut self,
         alloc: Global,
-        problem: &Problem,
-        handed: &E,
-        cube: &[Literal],
+        task: &Task<'_, E>,
         net: &mut N,
         rest: Rest,
     ) -> Result<Turn, AllocError>
-        requires points { N.points_of net.old ≡ problem.now.points }
-        requires state { IsState (question_of problem.now (E.clauses handed.now) cube.now) self.old
-            (N.literals_of net.old) }
+        requires points { N.points_of net.old ≡ task.now.problem.points }
+        requires state { IsState task.now self.old (N.literals_of net.old) }
         ensures points { N.points_of net.new ≡ N.points_of net.old }
-        ensures turn { IfOk result (IsTurn (question_of problem.now (E.clauses handed.now) cube.now)
+        ensures turn { IfOk result (IsTurn task.now
             rest.decisions (length self.old.levels.items) self.new (N.literals_of net.new)) }
         ensures counts { OnOk result (min (N.adds_of net.old) adds_limit ≤ N.adds_of net.new) }
     {
         let chosen = self.guide.choose(net.schedule());
-        if let Some(schedule) = self.find_model(alloc, problem, net, chosen.is_none())? {
+        if let Some(schedule) = self.find_model(alloc, task.problem(), net, chosen.is_none())? {
             return Ok(Turn::Ended(Found::Model(schedule)));
         }
         if self.is_spent(net, rest) {
             return Ok(Turn::Ended(Found::Spent));
         }
         match chosen {
-            Some(number) => self.decide(problem, handed, cube, net, rest, number),
+            Some(number) => self.decide(task, net, rest, number),
             None => Ok(Turn::Ended(Found::Spent)),
         }
     }
@@ -224,24 +206,20 @@ impl State {
     fn turn<E: Earlier, N: Net>(
         &mut self,
         alloc: Global,
-        problem: &Problem,
-        handed: &E,
-        cube: &[Literal],
+        task: &Task<'_, E>,
         net: &mut N,
         rest: Rest,
     ) -> Result<Turn, AllocError>
-        requires few { length (E.clauses handed.now) < 2 ^ 63 }
-        requires points { N.points_of net.old ≡ problem.now.points }
-        requires state { IsState (question_of problem.now (E.clauses handed.now) cube.now) self.old
-            (N.literals_of net.old) }
+        requires points { N.points_of net.old ≡ task.now.problem.points }
+        requires state { IsState task.now self.old (N.literals_of net.old) }
         ensures points { N.points_of net.new ≡ N.points_of net.old }
-        ensures turn { IfOk result (IsTurn (question_of problem.now (E.clauses handed.now) cube.now)
+        ensures turn { IfOk result (IsTurn task.now
             rest.decisions (length self.old.levels.items) self.new (N.literals_of net.new)) }
         ensures counts { OnOk result (min (N.adds_of net.old) adds_limit ≤ N.adds_of net.new) }
     {
-        match self.propagate(alloc, problem, handed, cube, net)? {
-            Some(conflict) => self.settle(alloc, problem, handed, cube, net, rest, &conflict),
-            None => self.go_on(alloc, problem, handed, cube, net, rest),
+        match self.propagate(alloc, task, net)? {
+            Some(conflict) => self.settle(alloc, task, net, rest, &conflict),
+            None => self.go_on(alloc, task, net, rest),
         }
     }
 
@@ -249,24 +227,19 @@ impl State {
     pub fn search<E: Earlier, N: Net>(
         &mut self,
         alloc: Global,
-        problem: &Problem,
-        handed: &E,
-        cube: &[Literal],
+        task: &Task<'_, E>,
         net: &mut N,
         rest: Rest,
     ) -> Result<Found, AllocError>
-        requires few { length (E.clauses handed.now) < 2 ^ 63 }
-        requires points { N.points_of net.old ≡ problem.now.points }
-        requires state { IsState (question_of problem.now (E.clauses handed.now) cube.now) self.old
-            (N.literals_of net.old) }
+        requires points { N.points_of net.old ≡ task.now.problem.points }
+        requires state { IsState task.now self.old (N.literals_of net.old) }
         ensures points { N.points_of net.new ≡ N.points_of net.old }
-        ensures found { IfOk result (IsFound (question_of problem.now (E.clauses handed.now) cube.now)
-            self.new) }
+        ensures found { IfOk result (IsFound task.now self.new) }
         ensures counts { OnOk result (min (N.adds_of net.old) adds_limit ≤ N.adds_of net.new) }
     {
         let mut left = rest;
         'turns: loop {
-            match self.turn(alloc, problem, handed, cube, net, left)? {
+            match self.turn(alloc, task, net, left)? {
                 Turn::Decided => left.decisions -= 1,
                 Turn::Jumped => {}
                 Turn::Ended(found) => return Ok(found),

@@ -1,5 +1,5 @@
 //! A slice.
-ghost use Rattle.std.specs.Prelude.{◌≡◌, ◌<◌, ◌≤◌, ◌+◌, ◌^◌, [], All, length, min, IfOk, OnOk};
+ghost use Rattle.std.specs.Prelude.{◌≡◌, ◌<◌, ◌≤◌, ◌^◌, [], All, length, min, IfOk, OnOk};
 ghost use Rattle.stn_core.specs.Literal.{IsOver};
 ghost use Rattle.conflict_analysis.specs.Proved.{IsClauseOver};
 ghost use Rattle.branch_search.specs.code.Search.{IsState};
@@ -13,6 +13,7 @@ use crate::divide::Division;
 use crate::hearing::Hearing;
 use crate::search::{Found, Rest};
 use crate::state::State;
+use crate::task::Task;
 use refute_tree::Earlier;
 use search_distances::Distances;
 use search_guide::{Guide, Policy};
@@ -26,32 +27,27 @@ impl State {
     fn begin<E: Earlier, N: Net>(
         &mut self,
         alloc: Global,
-        problem: &Problem,
-        handed: &E,
-        cube: &[Literal],
+        task: &Task<'_, E>,
         net: &mut N,
         rest: Rest,
     ) -> Result<Found, AllocError>
-        requires few { length (E.clauses handed.now) < 2 ^ 63 }
-        requires points { N.points_of net.old ≡ problem.now.points }
-        requires state { IsState (question_of problem.now (E.clauses handed.now) cube.now) self.old
-            (N.literals_of net.old) }
+        requires points { N.points_of net.old ≡ task.now.problem.points }
+        requires state { IsState task.now self.old (N.literals_of net.old) }
         requires root { self.old.levels.items ≡ [] }
         requires empty { N.literals_of net.old ≡ [] }
-        requires over { All (IsOver problem.now.points) cube.now }
+        requires over { All (IsOver task.now.problem.points) task.now.cube }
         ensures points { N.points_of net.new ≡ N.points_of net.old }
-        ensures found { IfOk result (IsFound (question_of problem.now (E.clauses handed.now) cube.now)
-            self.new) }
+        ensures found { IfOk result (IsFound task.now self.new) }
         ensures counts { OnOk result (min (N.adds_of net.old) adds_limit ≤ N.adds_of net.new) }
     {
-        if let Some(j) = self.enter(alloc, problem, handed, cube, net)? {
+        if let Some(j) = self.enter(alloc, task, net)? {
             return Ok(Found::Excluded(j));
         }
-        if let Some(conflict) = self.take_units(problem, handed, cube, net)? {
-            let j = self.exclude(alloc, problem, handed, cube, net, &conflict)?;
+        if let Some(conflict) = self.take_units(task, net)? {
+            let j = self.exclude(alloc, task, net, &conflict)?;
             return Ok(Found::Excluded(j));
         }
-        let found = self.search(alloc, problem, handed, cube, net, rest)?;
+        let found = self.search(alloc, task, net, rest)?;
         Ok(found)
     }
 
@@ -69,28 +65,23 @@ impl State {
     fn finish<E: Earlier, N: Net>(
         &mut self,
         alloc: Global,
-        problem: &Problem,
-        handed: &E,
-        cube: &[Literal],
+        task: &Task<'_, E>,
         net: &mut N,
         place: Option<(usize, usize)>,
     ) -> Result<Division, AllocError>
-        requires few { length (E.clauses handed.now) < 2 ^ 63 }
-        requires points { N.points_of net.old ≡ problem.now.points }
-        requires state { IsState (question_of problem.now (E.clauses handed.now) cube.now) self.old
-            (N.literals_of net.old) }
+        requires points { N.points_of net.old ≡ task.now.problem.points }
+        requires state { IsState task.now self.old (N.literals_of net.old) }
         requires root { self.old.levels.items ≡ [] }
         requires empty { N.literals_of net.old ≡ [] }
-        requires over { All (IsOver problem.now.points) cube.now }
+        requires over { All (IsOver task.now.problem.points) task.now.cube }
         ensures points { N.points_of net.new ≡ N.points_of net.old }
-        ensures division { IfOk result (IsDivision (question_of problem.now (E.clauses handed.now) cube.now)
-            self.new.own.items) }
+        ensures division { IfOk result (IsDivision task.now self.new.own.items) }
         ensures counts { OnOk result (min (N.adds_of net.old) adds_limit ≤ N.adds_of net.new) }
     {
-        if let Some(j) = self.enter(alloc, problem, handed, cube, net)? {
+        if let Some(j) = self.enter(alloc, task, net)? {
             return Ok(Division::Excluded(j));
         }
-        let division = self.divide(alloc, problem, handed, cube, net, place)?;
+        let division = self.divide(alloc, task, net, place)?;
         Ok(division)
     }
 }
@@ -114,30 +105,26 @@ fn spend<N: Net>(net: &mut N, problem: &Problem, target: u64) -> Result<(), Allo
 fn divide_cube<E: Earlier, N: Net>(
     alloc: Global,
     state: &mut State,
-    problem: &Problem,
-    handed: &E,
-    cube: &[Literal],
+    task: &Task<'_, E>,
     net: &mut N,
     target: u64,
 ) -> Result<Slice, AllocError>
-    requires few { length (E.clauses handed.now) < 2 ^ 63 }
-    requires points { N.points_of net.old ≡ problem.now.points }
-    requires lemmas { All (IsClauseOver problem.now.points) (E.clauses handed.now) }
-    requires proved { AreProved (question_of problem.now (E.clauses handed.now) cube.now)
-        state.old.own.items }
-    requires over { All (IsOver problem.now.points) cube.now }
+    requires points { N.points_of net.old ≡ task.now.problem.points }
+    requires lemmas { All (IsClauseOver task.now.problem.points) task.now.handed }
+    requires proved { AreProved task.now state.old.own.items }
+    requires over { All (IsOver task.now.problem.points) task.now.cube }
     ensures points { N.points_of net.new ≡ N.points_of net.old }
-    ensures answer { IfOk result (IsSlice (question_of problem.now (E.clauses handed.now) cube.now)) }
+    ensures answer { IfOk result (IsSlice task.now) }
     ensures spent { OnOk result (target ≤ N.adds_of net.new) }
 {
     state.hearing.answer();
-    let place = state.dividing(cube);
+    let place = state.dividing(task.cube());
     net.retract(Mark { length: 0 });
-    spend(net, problem, target)?;
+    spend(net, task.problem(), target)?;
     net.retract(Mark { length: 0 });
     state.clear();
-    let division = state.finish(alloc, problem, handed, cube, net, place)?;
-    let slice = state.deliver(alloc, problem, handed, cube, division)?;
+    let division = state.finish(alloc, task, net, place)?;
+    let slice = state.deliver(alloc, task, division)?;
     Ok(slice)
 }
 
@@ -150,19 +137,16 @@ fn decisions_of(budget: u64) -> u64 {
 fn run<E: Earlier, N: Net>(
     alloc: Global,
     state: &mut State,
-    problem: &Problem,
-    handed: &E,
-    cube: &[Literal],
+    task: &Task<'_, E>,
     budget: u64,
     net: &mut N,
 ) -> Result<Slice, AllocError>
-    requires few { length (E.clauses handed.now) < 2 ^ 63 }
-    requires points { N.points_of net.old ≡ problem.now.points }
+    requires points { N.points_of net.old ≡ task.now.problem.points }
     requires empty { N.literals_of net.old ≡ [] }
-    requires lemmas { All (IsClauseOver problem.now.points) (E.clauses handed.now) }
-    requires over { All (IsOver problem.now.points) cube.now }
+    requires lemmas { All (IsClauseOver task.now.problem.points) task.now.handed }
+    requires over { All (IsOver task.now.problem.points) task.now.cube }
     ensures points { N.points_of net.new ≡ N.points_of net.old }
-    ensures answer { IfOk result (IsSlice (question_of problem.now (E.clauses handed.now) cube.now)) }
+    ensures answer { IfOk result (IsSlice task.now) }
     ensures spent { IfOk result (HasSpent (N.adds_of net.old) budget (N.adds_of net.new)) }
 {
     let target = net.adds().saturating_add(budget);
@@ -170,19 +154,19 @@ fn run<E: Earlier, N: Net>(
         decisions: decisions_of(budget),
         target,
     };
-    state.renew(alloc, problem, handed)?;
-    match state.begin(alloc, problem, handed, cube, net, rest)? {
+    state.renew(alloc, task)?;
+    match state.begin(alloc, task, net, rest)? {
         Found::Model(schedule) => {
             let division = Division::Model(schedule);
-            let slice = state.deliver(alloc, problem, handed, cube, division)?;
+            let slice = state.deliver(alloc, task, division)?;
             Ok(slice)
         }
         Found::Excluded(j) => {
             let division = Division::Excluded(j);
-            let slice = state.deliver(alloc, problem, handed, cube, division)?;
+            let slice = state.deliver(alloc, task, division)?;
             Ok(slice)
         }
-        Found::Spent => divide_cube(alloc, state, problem, handed, cube, net, target),
+        Found::Spent => divide_cube(alloc, state, task, net, target),
     }
 }
 
@@ -267,7 +251,8 @@ impl Searcher {
         ensures answer { IfOk result (IsSlice (question_of problem.now (E.clauses handed.now) cube.now)) }
         ensures spent { IfOk result (HasSpent (N.adds_of net.old) budget (N.adds_of net.new)) }
     {
-        let result = run(alloc, &mut self.state, problem, handed, cube, budget, net);
+        let task = Task::new(problem, handed, cube);
+        let result = run(alloc, &mut self.state, &task, budget, net);
         net.retract(Mark { length: 0 });
         result
     }

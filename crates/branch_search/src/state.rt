@@ -1,20 +1,20 @@
 //! The trail of a search, beside a net that has some of its literals, and the lemmas learned so far.
-ghost use Rattle.std.specs.Prelude.{◌≡◌, ◌<◌, ◌≤◌, ◌+◌, ◌++◌, ◌∷◌, [], List, length, take, min, true, OnOk};
+ghost use Rattle.std.specs.Prelude.{◌≡◌, ◌<◌, ◌≤◌, ◌+◌, ◌++◌, ◌∷◌, [], length, take, min, true, OnOk};
 ghost use Rattle.std.specs.Prelude.{IfOk};
 ghost use Rattle.conflict_analysis.specs.code.Trails.{on_trail, Stands};
-ghost use Rattle.branch_search.specs.code.Search.{level_at, start_of, in_net_of, IsState, IsAfter};
-ghost use Rattle.branch_search.specs.Slices.{question_of};
+ghost use Rattle.branch_search.specs.code.Search.{start_of, in_net_of, IsState, IsAfter};
 ghost use Rattle.branch_search.specs.code.Search.{IsNetAfter};
 ghost use Rattle.stn_core.specs.Limits.{adds_limit};
 
 use crate::hearing::Hearing;
+use crate::task::Task;
 use conflict_analysis::{Conflict, Entry, Level, Reason, Tables, is_standing, literal_on};
 use refute_tree::{Earlier, Lemma};
 use search_distances::Distances;
 use search_guide::{Guide, LiteralNumber};
 use std::alloc::{AllocError, Global};
 use std::mem;
-use stn_core::{Added, Literal, Mark, Net, Problem};
+use stn_core::{Added, Literal, Mark, Net};
 
 #[derive(Drop)]
 pub struct State {
@@ -138,12 +138,7 @@ impl State {
 
     /// Before another slice: no literal stands on the trail, and there are no own lemmas. The guide stays,
     /// where the lemmas that it knows are among those that are handed, and others may stand before its own.
-    pub fn renew<E: Earlier>(
-        &mut self,
-        alloc: Global,
-        problem: &Problem,
-        handed: &E,
-    ) -> Result<(), AllocError>
+    pub fn renew<E: Earlier>(&mut self, alloc: Global, task: &Task<'_, E>) -> Result<(), AllocError>
         ensures entries { OnOk result (self.new.entries.items ≡ []) }
         ensures levels { OnOk result (self.new.levels.items ≡ []) }
         ensures own { OnOk result (self.new.own.items ≡ []) }
@@ -152,15 +147,16 @@ impl State {
         self.own.truncate(0);
         self.met_conflict = false;
         self.hearing.renew(self.conflicts);
-        match start_of_own(&self.guide, handed, self.seen) {
-            Some(start) => self.guide.renumber(self.seen, start, handed.count())?,
+        let count = task.count();
+        match start_of_own(&self.guide, task.handed(), self.seen) {
+            Some(start) => self.guide.renumber(self.seen, start, count)?,
             None => {
-                self.guide = Guide::with_policy(alloc, problem, self.guide.policy())?;
-                self.distances = Distances::new(alloc, &self.guide, problem.points)?;
-                self.guide.renumber(0, 0, handed.count())?;
+                self.guide = Guide::with_policy(alloc, task.problem(), self.guide.policy())?;
+                self.distances = Distances::new(alloc, &self.guide, task.problem().points)?;
+                self.guide.renumber(0, 0, count)?;
             }
         }
-        self.seen = handed.count();
+        self.seen = count;
         Ok(())
     }
 
@@ -203,19 +199,15 @@ impl State {
     /// The literal at the place of the trail goes into the net. The conflict is with the net's literals.
     pub fn add_to_net<E: Earlier, N: Net>(
         &self,
-        problem: &Problem,
-        handed: &E,
-        cube: &[Literal],
+        task: &Task<'_, E>,
         net: &mut N,
         k: usize,
     ) -> Result<Option<Conflict>, AllocError>
         requires within { k < length self.now.entries.items }
-        requires points { N.points_of net.old ≡ problem.now.points }
-        requires state { IsState (question_of problem.now (E.clauses handed.now) cube.now) self.now
-            (N.literals_of net.old) }
+        requires points { N.points_of net.old ≡ task.now.problem.points }
+        requires state { IsState task.now self.now (N.literals_of net.old) }
         ensures points { N.points_of net.new ≡ N.points_of net.old }
-        ensures after { IfOk result (IsAfter (question_of problem.now (E.clauses handed.now) cube.now)
-            self.now (N.literals_of net.new)) }
+        ensures after { IfOk result (IsAfter task.now self.now (N.literals_of net.new)) }
         ensures counts { OnOk result (N.adds_of net.new ≡ min (N.adds_of net.old + 1) adds_limit) }
         ensures added { IfOk result (IsNetAfter (N.literals_of net.old) (on_trail self.now.entries.items k)
             (N.literals_of net.new)) }

@@ -2,15 +2,15 @@
 //! chain might lower its points again with each literal.
 ghost use Rattle.std.specs.Prelude.{◌≡◌, ◌≤◌, length, min, IfOk, OnOk};
 ghost use Rattle.branch_search.specs.code.Search.{IsState, IsAfter, AllStand};
-ghost use Rattle.branch_search.specs.Slices.{question_of};
 ghost use Rattle.stn_core.specs.Limits.{adds_limit};
 
 use crate::state::State;
+use crate::task::Task;
 use conflict_analysis::{Conflict, literal_on};
 use net_batch::add_all;
 use refute_tree::Earlier;
 use std::alloc::{AllocError, Global};
-use stn_core::{Literal, Net, Problem};
+use stn_core::{Literal, Net};
 
 /// Fewer literals than these go into the net one by one, since a batch looks at each point.
 const MANY: usize = 32;
@@ -39,18 +39,14 @@ impl State {
     pub fn net_waiting<E: Earlier, N: Net>(
         &mut self,
         alloc: Global,
-        problem: &Problem,
-        handed: &E,
-        cube: &[Literal],
+        task: &Task<'_, E>,
         net: &mut N,
     ) -> Result<Option<Conflict>, AllocError>
-        requires points { N.points_of net.old ≡ problem.now.points }
-        requires state { IsState (question_of problem.now (E.clauses handed.now) cube.now) self.old
-            (N.literals_of net.old) }
+        requires points { N.points_of net.old ≡ task.now.problem.points }
+        requires state { IsState task.now self.old (N.literals_of net.old) }
         ensures points { N.points_of net.new ≡ N.points_of net.old }
         ensures levels { self.new.levels.items ≡ self.old.levels.items }
-        ensures after { IfOk result (IsAfter (question_of problem.now (E.clauses handed.now) cube.now)
-            self.new (N.literals_of net.new)) }
+        ensures after { IfOk result (IsAfter task.now self.new (N.literals_of net.new)) }
         ensures counts { OnOk result (min (N.adds_of net.old) adds_limit ≤ N.adds_of net.new) }
     {
         let literals = self.literals_waiting(alloc, self.netted)?;

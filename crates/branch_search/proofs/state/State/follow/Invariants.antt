@@ -1,11 +1,10 @@
 use Rattle.std.proofs.Common.{◌≡◌, ◌<◌, length}
 use Rattle.branch_search.specs.code.Search.{IsSearch}
-use Rattle.branch_search.specs.Slices.{question_of}
 use Rattle.branch_search.proofs.state.State.follow.Given as goal
 
 abbrev pub invariant-proposals : goal.invariant-proposals
 invariant-proposals g l =
-    let q = question_of l.problem (g.E.Earlier.clauses l.handed) l.cube in
+    let q = l.task in
     record {
       within : l.k < length l.self.entries.items;
       levels : l.self.levels.items ≡ l.fn.self.levels.items;

@@ -1,23 +1,24 @@
 use Rattle.std.proofs.Common.{subst, sym, Option, List, ℤ}
 use Rattle.std.specs.Prelude.{IfSome}
-use Rattle.branch_search.specs.Slices.{question_of, AreProved}
+use Rattle.stn_core.specs.declared.problem.Problem.{Problem}
+use Rattle.branch_search.specs.Slices.{AreProved}
 use Rattle.stn_core.specs.Solution.{IsSolution}
 use Rattle.branch_search.proofs.state.State.go_on.Goals as goal
 
 pub returns-in-Some-clause-turn : goal.returns-in-Some-clause-turn
 returns-in-Some-clause-turn g c =
-    let q = question_of c.args.problem.now (g.E.Earlier.clauses c.args.handed.now) c.args.cube.now in (
-      subst (λ (o : Option (List ℤ)). IfSome o (IsSolution c.args.problem.now)) c.in-Some.is
-          c.in_ok-schedule.ensures.model,
+    let q = c.args.task.now in (
+      subst (λ (p : Problem). IsSolution p c.in-Some.schedule) c.problem.ensures
+          (subst (λ (o : Option (List ℤ)). IfSome o (IsSolution c.problem.result.now)) c.in-Some.is c.in_ok-schedule.ensures.model),
       subst (AreProved q) (sym c.in_ok-schedule.ensures.own) c.requires.state.proved,
     )
 
 pub returns-then-is_spent-clause-turn : goal.returns-then-is_spent-clause-turn
 returns-then-is_spent-clause-turn g c =
-    let q = question_of c.args.problem.now (g.E.Earlier.clauses c.args.handed.now) c.args.cube.now in
+    let q = c.args.task.now in
     subst (AreProved q) (sym c.in_ok-schedule.ensures.own) c.requires.state.proved
 
 pub returns-in-None-clause-turn : goal.returns-in-None-clause-turn
 returns-in-None-clause-turn g c =
-    let q = question_of c.args.problem.now (g.E.Earlier.clauses c.args.handed.now) c.args.cube.now in
+    let q = c.args.task.now in
     subst (AreProved q) (sym c.in_ok-schedule.ensures.own) c.requires.state.proved

@@ -1,14 +1,13 @@
 use Rattle.std.proofs.Common.{arith, refl, ◌∙◌, subst, ℕ}
 use Rattle.stn_core.specs.Literal.{IsOver, literal_at}
 use Rattle.conflict_analysis.specs.code.Trails.{no_literal}
-use Rattle.branch_search.specs.Slices.{question_of}
 use Rattle.branch_search.proofs.Splits.{live_turn, same_literals}
 use Rattle.branch_search.proofs.state.State.live_place.Goals as goal
 
 pub loop-q-preserved : goal.loop-q-preserved
 loop-q-preserved g c =
     let net = g.N.Net in
-    let q = question_of c.args.problem.now (g.E.Earlier.clauses c.args.handed.now) c.args.cube.now in
+    let q = c.args.task.now in
     let others = net.points_of c.loop-q.net in
     let before = net.literals_of c.loop-q.net in
     let after = net.literals_of c.add.new.self in

@@ -2,14 +2,13 @@ use Rattle.std.proofs.Common.{◌≡◌, ◌≤◌, ◌<◌, ℕ, min, length}
 use Rattle.stn_core.specs.Literal.{negation_of, literal_at}
 use Rattle.conflict_analysis.specs.code.Trails.{Stands}
 use Rattle.branch_search.specs.code.Search.{IsSearch}
-use Rattle.branch_search.specs.Slices.{question_of}
 use Rattle.stn_core.specs.Limits.{adds_limit}
 use Rattle.branch_search.proofs.state.State.live_place.Given as goal
 
 abbrev pub invariant-loop-q : goal.invariant-loop-q
 invariant-loop-q g l =
     let net = g.N.Net in
-    let q = question_of l.problem (g.E.Earlier.clauses l.handed) l.cube in
+    let q = l.task in
     record {
       points : net.points_of l.net ≡ net.points_of l.fn.net;
       literals : net.literals_of l.net ≡ net.literals_of l.fn.net;

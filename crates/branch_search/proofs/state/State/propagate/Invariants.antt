@@ -1,13 +1,12 @@
 use Rattle.std.proofs.Common.{◌≡◌, ◌≤◌, min}
 use Rattle.branch_search.specs.code.Search.{IsSearch}
-use Rattle.branch_search.specs.Slices.{question_of}
 use Rattle.stn_core.specs.Limits.{adds_limit}
 use Rattle.branch_search.proofs.state.State.propagate.Given as goal
 
 abbrev pub invariant-literals : goal.invariant-literals
 invariant-literals g l =
     let net = g.N.Net in
-    let q = question_of l.problem (g.E.Earlier.clauses l.handed) l.cube in
+    let q = l.task in
     record {
       points : net.points_of l.net ≡ net.points_of l.fn.net;
       levels : l.self.levels.items ≡ l.fn.self.levels.items;

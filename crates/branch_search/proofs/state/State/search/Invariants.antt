@@ -1,6 +1,5 @@
 use Rattle.std.proofs.Common.{◌≡◌, ◌≤◌, min, length}
 use Rattle.branch_search.specs.code.Search.{IsSearch}
-use Rattle.branch_search.specs.Slices.{question_of}
 use Rattle.stn_core.specs.Limits.{adds_limit}
 use Rattle.branch_search.specs.code.Turns.{weight}
 use Rattle.branch_search.proofs.state.State.search.Given as goal
@@ -8,7 +7,7 @@ use Rattle.branch_search.proofs.state.State.search.Given as goal
 abbrev pub invariant-turns : goal.invariant-turns
 invariant-turns g l =
     let net = g.N.Net in
-    let q = question_of l.problem (g.E.Earlier.clauses l.handed) l.cube in
+    let q = l.task in
     record {
       points : net.points_of l.net ≡ net.points_of l.fn.net;
       state : IsSearch q l.self.own.items l.self.entries.items l.self.levels.items (net.literals_of l.net);

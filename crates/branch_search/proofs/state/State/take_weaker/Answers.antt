@@ -1,7 +1,8 @@
 use Rattle.std.proofs.Common.{◌∙◌, ap, subst, length, [], ◌∷◌}
 use Rattle.stn_core.specs.declared.literal.Literal.{Literal}
+use Rattle.stn_core.specs.declared.problem.Problem.{Problem}
+use Rattle.stn_core.specs.Literal.{IsOver}
 use Rattle.conflict_analysis.specs.code.Trails.{Stands}
-use Rattle.branch_search.specs.Slices.{question_of}
 use Rattle.branch_search.proofs.Proposals.{pair_stuck, pair_pushed, stands_at, same_parts}
 use Rattle.branch_search.proofs.state.State.take_weaker.Goals as goal
 
@@ -9,7 +10,7 @@ pub returns-then-is_on_trail-clause-taken : goal.returns-then-is_on_trail-clause
 returns-then-is_on_trail-clause-taken g c =
     let es = c.args.self.now.entries.items in
     let tighter = c.literal_on-tighter.result in
-    pair_stuck (question_of c.args.problem.now (g.E.Earlier.clauses c.args.handed.now) c.args.cube.now)
+    pair_stuck c.args.task.now
     c.args.self.now.own.items es c.args.self.now.levels.items (g.N.Net.literals_of c.args.net.now) c.new.result tighter
     c.in-Some.weaker c.requires.state
     (stands_at es _ c.args.k _ c.deref.ensures.value c.requires.within c.literal_on-tighter.ensures)
@@ -19,7 +20,7 @@ returns-then-is_on_trail-clause-taken g c =
 
 pub returns-clause-taken : goal.returns-clause-taken
 returns-clause-taken g c =
-    let q = question_of c.args.problem.now (g.E.Earlier.clauses c.args.handed.now) c.args.cube.now in
+    let q = c.args.task.now in
     let literals = g.N.Net.literals_of c.args.net.now in
     let es = c.args.self.now.entries.items in
     same_parts q c.args.self.now.own.items c.push.new.self.own.items c.push.new.self.entries.items
@@ -28,5 +29,6 @@ returns-clause-taken g c =
     (pair_pushed q c.args.self.now.own.items es c.push.new.self.entries.items c.args.self.now.levels.items literals
     c.literal_on-tighter.result c.in-Some.weaker c.args.number c.requires.state
     (stands_at es _ c.args.k _ c.deref.ensures.value c.requires.within c.literal_on-tighter.ensures)
-    (c.is_over.ensures c.if-not-is_over.false) (c.is_weaker.ensures c.if-not-is_weaker.false)
+    (subst (λ (p : Problem). IsOver p.points c.in-Some.weaker) c.problem.ensures (c.is_over.ensures c.if-not-is_over.false))
+    (c.is_weaker.ensures c.if-not-is_weaker.false)
     c.in_ok-push.ensures.entries)
