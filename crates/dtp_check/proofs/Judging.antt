@@ -218,7 +218,7 @@ left_is used entries entry within there = drop_more entries used entry within �
 module _ {K : Type 0} (leads : Leads K) (first next : K) (question : Question) (x : Sexpr) (s : State) (number used : ℕ) (before : List Placed) (entries : List FileEntry) (counted : ℕ) (kept : Kept) (later : Earlier) where
   -- an entry without a flaw: the script goes on behind its verdict
   pub answer_right : (entry : FileEntry) (verdict : Satisfiability) (flaw : Option EntryFlaw) → Stands kept (settled verdict s) → verdict ≡ told_by entry
-      → Holds later (before ++ placed question s.context entry ∷ []) → leads first next question x s.context entry → used < length entries → entry ≡ get_or entries used entry
+      → Holds later (before ++ placed question s.context entry ∷ []) → leads first next before question x s.context entry → used < length entries → entry ≡ get_or entries used entry
       → flaw ≡ entry_flaw before question x s.context entry → flaw ≡ None → counted ≡ number + 1
       → IsAnswerTurn leads first next question x s number used before entries counted kept later (Going (used + 1))
   answer_right entry verdict flaw stands e held led within there f none more = (

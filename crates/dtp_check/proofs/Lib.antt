@@ -11,3 +11,4 @@ pub mod Making
 pub mod FreeSets
 pub mod Leasts
 pub mod Founds
+pub mod Standing

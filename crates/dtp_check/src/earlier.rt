@@ -6,6 +6,7 @@ ghost use Rattle.kept_lemmas.specs.Facts.{Shelf as Facts};
 ghost use Rattle.cert_text.specs.declared.entry.FileEntry.{FileEntry as Shown};
 ghost use Rattle.lemma_shelf.specs.code.Tables.{own_item};
 ghost use Rattle.lemma_shelf.specs.ItemFlaws.{items_flaw};
+ghost use Rattle.lemma_shelf.specs.Lowering.{StandFor};
 ghost use Rattle.cert_check.specs.Flaws.{TellsFlaw};
 ghost use Rattle.refute_tree.specs.Trees.{IsRefutation};
 ghost use Rattle.dtp_check.specs.code.Earlier.{KeepsNone, Holds, Suffices, LastRefutes, RefusesBy};
@@ -131,6 +132,8 @@ impl Earlier {
             → items_flaw (shelf_of before) problem.now.points problem.now.clauses items.now ≡ None }
         ensures refutes { IfOk result (IsRefutation problem.now.points problem.now.clauses) }
         ensures own { IfOk result (λ lemmas. All IsOwn items.now → map own_item lemmas ≡ items.now) }
+        ensures stand { IfOk result (λ lemmas. (before : List Place) → Holds self.old before → StandFor before
+            (record { points = problem.now.points; clauses = problem.now.clauses; items = items.now }) lemmas) }
         ensures held { IsOk result → (before : List Place) → Holds self.old before → Holds self.new
             (before ++ record { points = problem.now.points; clauses = problem.now.clauses; items = items.now } ∷ []) }
         ensures suffices { (entries : List Shown) → Suffices self.old entries → Suffices self.new entries }

@@ -21,9 +21,9 @@ use stn_core::Problem;
 
 /// Takes each right entry.
 pub trait Keeps {
-    /// How what is kept before an entry leads to what is kept behind it, of the question of a command, where these
-    /// assertions are active.
-    ghost leads: { Self → Self → Asked → Sexpr → Context → Shown → Type 0 };
+    /// How what is kept before an entry leads to what is kept behind it, of the question of a command, behind these entries
+    /// and where these assertions are active.
+    ghost leads: { Self → Self → List Place → Asked → Sexpr → Context → Shown → Type 0 };
 
     /// What is wrong with the entry of a question that was asked in this state. Where nothing is, it is kept, and held for those that come.
     /// The problem of the state's assertions is given where it was made before, and is held where it is made.
@@ -46,7 +46,7 @@ pub trait Keeps {
             → Holds earlier.old before → Holds earlier.new (before ++ placed question s.context entry.now ∷ [])) }
         ensures suffices { (entries : List Shown) → Suffices earlier.old entries → Suffices earlier.new entries }
         ensures kept { IfOk result (λ flaw. flaw ≡ None → (s : Meaning) (x : Sexpr) (before : List Place) → IsAsked state.now question x s
-            → Holds earlier.old before → leads self.old self.new question x s.context entry.now) };
+            → Holds earlier.old before → leads self.old self.new before question x s.context entry.now) };
 }
 
 /// Takes nothing of them.
@@ -54,7 +54,7 @@ pub trait Keeps {
 pub struct KeepsNothing;
 
 impl Keeps for KeepsNothing {
-    ghost leads = { λ _ _ _ _ _ _. Unit {0} };
+    ghost leads = { λ _ _ _ _ _ _ _. Unit {0} };
 
     fn keep(
         &mut self,

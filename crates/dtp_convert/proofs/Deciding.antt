@@ -192,9 +192,9 @@ points_below grow worth kept o x s asked points e =
     (omega (arith, e, some, first), omega (arith, e, some, second))
 
 -- an entry that was added to those before it
-pub added : (placed : List Placed) (question : Question) (x : Sexpr) (c : Context) (entry : FileEntry) (found : Result Entry EntryFlaw) (shown : Entry) (before now : List Entry) → found ≡ Ok shown → IsShown placed question x c entry found → now ≡ before ++ shown ∷ []
-    → IsAdded before now question x c entry
-added placed question x c entry found shown before now e h more =
+pub added : (placed : List Placed) (question : Question) (x : Sexpr) (c : Context) (entry : FileEntry) (found : Result Entry EntryFlaw) (shown : Entry) (first now : List Entry) → found ≡ Ok shown → IsShown placed question x c entry found → now ≡ first ++ shown ∷ []
+    → IsAdded first now placed question x c entry
+added placed question x c entry found shown first now e h more =
     let w : IsShown placed question x c entry (Ok shown) = subst (λ (r : Result Entry EntryFlaw). IsShown placed question x c entry r) e h in
     (shown, w.1, more)
 

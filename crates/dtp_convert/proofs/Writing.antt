@@ -9,6 +9,7 @@ use Rattle.cert_read.specs.Certificates.{certificate}
 use Rattle.cert_text.specs.declared.entry.Entry.{Entry}
 use Rattle.cert_text.specs.declared.entry.FileEntry.{FileEntry}
 use Rattle.cert_text.specs.Form.{entry_sexpr, end_sexpr, line_of}
+use Rattle.kept_lemmas.specs.Entries.{Placed}
 use Rattle.smt_script.specs.declared.error.Refusal.{Refusal}
 use Rattle.smt_script.specs.declared.state.Effect.{Effect}
 use Rattle.smt_script.specs.declared.state.Effect.TheVariants.{Ask, Exit, Tell}
@@ -25,7 +26,7 @@ use Rattle.dtp_entry.specs.declared.report.Report.TheVariants.{Certificate}
 use Rattle.dtp_entry.specs.Entries.{verdict_of}
 use Rattle.dtp_entry.specs.Transcripts.{DecidesIn, opening, pieces}
 use Rattle.dtp_check.specs.declared.script_part.PartEnd.{PartEnd}
-use Rattle.dtp_check.specs.Judged.{ScriptPart, CertificateBehind, told_by, turns_with}
+use Rattle.dtp_check.specs.Judged.{ScriptPart, CertificateBehind, placed, told_by, turns_with}
 use Rattle.dtp_check.specs.code.Turns.{Leads, KeptBy, AreKept}
 use Rattle.dtp_check.proofs.Judging.{step_of}
 use Rattle.dtp_convert.specs.declared.converting.Converting.{Converting}
@@ -36,7 +37,7 @@ use Rattle.dtp_convert.specs.code.Shown.{IsAdded}
 -- ---- what was kept decides the questions
 
 abbrev pub added_to : Leads Converting
-added_to before now question x c entry = IsAdded before.entries.items now.entries.items question x c entry
+added_to first now before question x c entry = IsAdded first.entries.items now.entries.items before question x c entry
 
 abbrev place_at : ℕ → State → Option Entry → List Entry → Place Entry
 place_at k s held left = record { number = k; state = s; held = held; left = left }
@@ -54,11 +55,11 @@ decided_as : (q : Place Entry) (xs : List Sexpr) (turns : List (Turn Entry)) →
 decided_as q xs turns e h = subst (λ (ts : List (Turn Entry)). AreAnswered (DecidesIn One) ts q.left) (sym e) h
 
 module _ (last : Converting) (p : Place FileEntry) (x : Sexpr) (xs : List Sexpr) (make : Place FileEntry → List (Turn FileEntry))
-    (rest : (q : Place FileEntry) (now : Converting) → AreKept added_to now last (make q) → IsFound q.state xs now.entries.items last.entries.items) (first : Converting) where
-  found_asked : (s : State) (question : Question) → after p.state x ≡ Ok (step_of s (Ask question)) → refusal_of question s x ≡ None → (left : List FileEntry) → AreKept added_to first last (asked told_by p s question x left make) → IsFound p.state (x ∷ xs) first.entries.items last.entries.items
+    (rest : (q : Place FileEntry) (now : Converting) (behind : List Placed) → AreKept added_to now last behind (make q) → IsFound q.state xs now.entries.items last.entries.items) (first : Converting) (before : List Placed) where
+  found_asked : (s : State) (question : Question) → after p.state x ≡ Ok (step_of s (Ask question)) → refusal_of question s x ≡ None → (left : List FileEntry) → AreKept added_to first last before (asked told_by p s question x left make) → IsFound p.state (x ∷ xs) first.entries.items last.entries.items
   found_asked s question e free [] h = absurd h
   found_asked s question e free (entry ∷ left) (next, (shown, (decides, same, stays), now), follows) =
-      let w = rest (behind_answer told_by p s entry left) next follows in
+      let w = rest (behind_answer told_by p s entry left) next (before ++ placed question s.context entry ∷ []) follows in
       record {
         found = shown ∷ w.found;
         added = w.added ∙ ap (λ (es : List Entry). es ++ w.found) now ∙ append_assoc first.entries.items (shown ∷ []) w.found;
@@ -71,13 +72,13 @@ module _ (last : Converting) (p : Place FileEntry) (x : Sexpr) (xs : List Sexpr)
             (record { fit = (decides, there.fit); over = there.over; used = ap (λ (es : List Entry). shown ∷ es) there.used });
       }
 
-  found_taken : (s : State) (question : Question) → after p.state x ≡ Ok (step_of s (Ask question)) → (why : Option Kind) → refusal_of question s x ≡ why → AreKept added_to first last (taken told_by p s question x why make) → IsFound p.state (x ∷ xs) first.entries.items last.entries.items
+  found_taken : (s : State) (question : Question) → after p.state x ≡ Ok (step_of s (Ask question)) → (why : Option Kind) → refusal_of question s x ≡ why → AreKept added_to first last before (taken told_by p s question x why make) → IsFound p.state (x ∷ xs) first.entries.items last.entries.items
   found_taken s question e (Some kind) free h = absurd h
   found_taken s question e None free h = found_asked s question e free p.left h
 
-  found_effect : (effect : Effect) (s : State) → after p.state x ≡ Ok (step_of s effect) → AreKept added_to first last (by_effect told_by p s x effect make) → IsFound p.state (x ∷ xs) first.entries.items last.entries.items
+  found_effect : (effect : Effect) (s : State) → after p.state x ≡ Ok (step_of s effect) → AreKept added_to first last before (by_effect told_by p s x effect make) → IsFound p.state (x ∷ xs) first.entries.items last.entries.items
   found_effect (Tell notice) s e h =
-      let w = rest (behind_told p s) first h in
+      let w = rest (behind_told p s) first before h in
       record {
         found = w.found;
         added = w.added;
@@ -96,39 +97,39 @@ module _ (last : Converting) (p : Place FileEntry) (x : Sexpr) (xs : List Sexpr)
         decided_as q (x ∷ xs) (turn q s ends ∷ []) (exit_turn verdict_of q x s e xs ended) (record { fit = (tt, tt); over = refl; used = refl });
   }
 
-  found_after : (r : Result Step Refusal) → after p.state x ≡ r → AreKept added_to first last (by_command told_by p x r make) → IsFound p.state (x ∷ xs) first.entries.items last.entries.items
+  found_after : (r : Result Step Refusal) → after p.state x ≡ r → AreKept added_to first last before (by_command told_by p x r make) → IsFound p.state (x ∷ xs) first.entries.items last.entries.items
   found_after (Err why) e h = absurd h
   found_after (Ok step) e h = found_effect step.effect step.state e h
 
-found_all : (last : Converting) (xs : List Sexpr) (p : Place FileEntry) (first : Converting) → AreKept added_to first last (course told_by p xs ended) → IsFound p.state xs first.entries.items last.entries.items
+found_all : (last : Converting) (xs : List Sexpr) (p : Place FileEntry) (first : Converting) (before : List Placed) → AreKept added_to first last before (course told_by p xs ended) → IsFound p.state xs first.entries.items last.entries.items
 unfolding course
-found_all last [] p first h = record {
+found_all last [] p first before h = record {
   found = [];
   added = ap (λ (k : Converting). k.entries.items) (sym h) ∙ sym (append-nil first.entries.items);
   decided = λ k held. (let q = place_at k p.state held [] in decided_as q [] (turn q p.state ends ∷ []) refl (record { fit = (tt, tt); over = refl; used = refl }));
 }
-found_all last (x ∷ xs) p first h =
-    found_after last p x xs (λ next. course told_by next xs ended) (λ q now more. found_all last xs q now more) first (after p.state x) refl h
+found_all last (x ∷ xs) p first before h =
+    found_after last p x xs (λ next. course told_by next xs ended) (λ q now behind more. found_all last xs q now behind more) first before (after p.state x) refl h
 
-pub all_converted : (first last : Converting) (xs : List Sexpr) (entries : List FileEntry) → first.entries.items ≡ [] → AreKept added_to first last (course told_by (start_with entries) xs ended) → AreConverted xs last.entries.items
+pub all_converted : (first last : Converting) (xs : List Sexpr) (entries : List FileEntry) → first.entries.items ≡ [] → AreKept added_to first last [] (course told_by (start_with entries) xs ended) → AreConverted xs last.entries.items
 all_converted first last xs entries none h =
-    let w = found_all last xs (start_with entries) first h in
+    let w = found_all last xs (start_with entries) first [] h in
     let same : last.entries.items ≡ w.found = w.added ∙ ap (λ (es : List Entry). es ++ w.found) none in
     subst (λ (es : List Entry). AreConverted xs es) (sym same) (w.decided 1 None)
 
 -- ---- what becomes of the entries that were read
 
-record HasShown (first last : List Entry) (turns : List (Turn FileEntry)) : Type 0 where
+record HasShown (before : List Placed) (first last : List Entry) (turns : List (Turn FileEntry)) : Type 0 where
   found : List Entry
   added : last ≡ first ++ found
-  stay : AreShown turns found
+  stay : AreShown before turns found
 
-module _ (last : Converting) (t : Turn FileEntry) (ts : List (Turn FileEntry)) (rest : (now : Converting) → AreKept added_to now last ts → HasShown now.entries.items last.entries.items ts) where
-  shown_at : (outcome : Outcome FileEntry) (first : Converting) → KeptBy added_to first last t.state outcome (λ next. AreKept added_to next last ts)
-      → (found : List Entry) × (last.entries.items ≡ first.entries.items ++ found) × ShowsBy t.state outcome found (λ others. AreShown ts others)
-  shown_at (tells x notice) first h = let w = rest first h in (w.found, w.added, w.stay)
+module _ (last : Converting) (t : Turn FileEntry) (ts : List (Turn FileEntry)) (rest : (behind : List Placed) (now : Converting) → AreKept added_to now last behind ts → HasShown behind now.entries.items last.entries.items ts) (before : List Placed) where
+  shown_at : (outcome : Outcome FileEntry) (first : Converting) → KeptBy added_to first last before t.state outcome (λ now next. AreKept added_to next last now ts)
+      → (found : List Entry) × (last.entries.items ≡ first.entries.items ++ found) × ShowsBy before t.state outcome found (λ now others. AreShown now ts others)
+  shown_at (tells x notice) first h = let w = rest before first h in (w.found, w.added, w.stay)
   shown_at (answers question x entry) first (next, (shown, (decides, same, stays), now), follows) =
-      let w = rest next follows in (
+      let w = rest (before ++ placed question t.state.context entry ∷ []) next follows in (
         shown ∷ w.found,
         w.added ∙ ap (λ (es : List Entry). es ++ w.found) now ∙ append_assoc first.entries.items (shown ∷ []) w.found,
         (stays, w.stay),
@@ -137,24 +138,24 @@ module _ (last : Converting) (t : Turn FileEntry) (ts : List (Turn FileEntry)) (
   shown_at ends first h = ([], ap (λ (k : Converting). k.entries.items) (sym h) ∙ sym (append-nil first.entries.items), refl)
   shown_at (fails kind) first h = absurd h
 
-  shown_by : (outcome : Outcome FileEntry) → t.outcome ≡ outcome → (first : Converting) → KeptBy added_to first last t.state outcome (λ next. AreKept added_to next last ts) → HasShown first.entries.items last.entries.items (t ∷ ts)
+  shown_by : (outcome : Outcome FileEntry) → t.outcome ≡ outcome → (first : Converting) → KeptBy added_to first last before t.state outcome (λ now next. AreKept added_to next last now ts) → HasShown before first.entries.items last.entries.items (t ∷ ts)
   shown_by outcome e first h =
       let w = shown_at outcome first h in
       record {
         found = w.0;
         added = w.1;
-        stay = subst (λ (o : Outcome FileEntry). ShowsBy t.state o w.0 (λ others. AreShown ts others)) (sym e) w.2;
+        stay = subst (λ (o : Outcome FileEntry). ShowsBy before t.state o w.0 (λ now others. AreShown now ts others)) (sym e) w.2;
       }
 
-shown_all : (last : Converting) (turns : List (Turn FileEntry)) (first : Converting) → AreKept added_to first last turns → HasShown first.entries.items last.entries.items turns
-shown_all last [] first h = absurd h
-shown_all last (t ∷ ts) first h = shown_by last t ts (λ now more. shown_all last ts now more) t.outcome refl first h
+shown_all : (last : Converting) (turns : List (Turn FileEntry)) (before : List Placed) (first : Converting) → AreKept added_to first last before turns → HasShown before first.entries.items last.entries.items turns
+shown_all last [] before first h = absurd h
+shown_all last (t ∷ ts) before first h = shown_by last t ts (λ behind now more. shown_all last ts behind now more) before t.outcome refl first h
 
-pub all_stay : (first last : Converting) (xs : List Sexpr) (entries : List FileEntry) → first.entries.items ≡ [] → AreKept added_to first last (turns_with entries xs) → AreShown (turns_with entries xs) last.entries.items
+pub all_stay : (first last : Converting) (xs : List Sexpr) (entries : List FileEntry) → first.entries.items ≡ [] → AreKept added_to first last [] (turns_with entries xs) → AreShown [] (turns_with entries xs) last.entries.items
 all_stay first last xs entries none h =
-    let w = shown_all last (turns_with entries xs) first h in
+    let w = shown_all last (turns_with entries xs) [] first h in
     let same : last.entries.items ≡ w.found = w.added ∙ ap (λ (es : List Entry). es ++ w.found) none in
-    subst (AreShown (turns_with entries xs)) (sym same) w.stay
+    subst (AreShown [] (turns_with entries xs)) (sym same) w.stay
 
 -- ---- what is written of them
 
@@ -198,7 +199,7 @@ written [] p h = no_entry p.left h.used
 written (x ∷ xs) p h = written_after p x (λ next. course verdict_of next xs ended) (λ q there. written xs q there) (after p.state x) h
 
 pub converted : (bytes : List ℕ) (end : PartEnd) (behind : ℕ) (xs : List Sexpr) (version : Version) (given : List FileEntry) (entries : List Entry) → ScriptPart bytes 0 xs end behind
-    → CertificateBehind bytes end behind (certificate version given) → AreConverted xs entries → AreShown (turns_with given xs) entries → IsConverted bytes (whole_text One entries)
+    → CertificateBehind bytes end behind (certificate version given) → AreConverted xs entries → AreShown [] (turns_with given xs) entries → IsConverted bytes (whole_text One entries)
 converted bytes end behind xs version given entries script reads h stay = record {
   commands = xs;
   end = end;

@@ -31,7 +31,7 @@ pub record IsConverted (bytes text : List ℕ) : Type 0 where
   pub reads : CertificateBehind bytes end behind (certificate version given)
   pub entries : List Entry
   pub decide : AreConverted commands entries
-  pub stay : AreShown (turns_with given commands) entries
+  pub stay : AreShown [] (turns_with given commands) entries
   pub is : text ≡ opening (Certificate One) ++ pieces (Certificate One) (turns_of commands entries)
 
 -- what is answered

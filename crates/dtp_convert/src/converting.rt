@@ -28,7 +28,7 @@ impl Converting {
 impl Keeps for Converting {
     ghost use Rattle.dtp_convert.specs.code.Shown.{IsAdded};
 
-    ghost leads = { λ before now question x c entry. IsAdded before.entries.items now.entries.items question x c entry };
+    ghost leads = { λ first now before question x c entry. IsAdded first.entries.items now.entries.items before question x c entry };
 
     fn keep(
         &mut self,

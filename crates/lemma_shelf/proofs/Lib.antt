@@ -1,4 +1,5 @@
 pub mod Tested
+pub mod Counting
 pub mod Unflawed
 pub mod Lists
 pub mod Books
@@ -19,3 +20,4 @@ pub mod Placing
 pub mod Written
 pub mod Lowered
 pub mod Pushing
+pub mod Standing

@@ -1,5 +1,5 @@
 -- Items that come to the table.
-use Rattle.std.proofs.Common.{arith, ◌≡◌, ℕ, ◌<◌, ◌+◌, List, [], ◌∷◌, ◌++◌, length, take, Option, Some, None, All, refl, sym, ap, subst, ◌∙◌}
+use Rattle.std.proofs.Common.{arith, ◌≡◌, ℕ, ◌<◌, ◌+◌, inl, inr, List, [], ◌∷◌, ◌++◌, length, take, Option, Some, None, All, refl, sym, ap, subst, ◌∙◌}
 use Rattle.std.specs.Prelude.{slice_get, option_map}
 use Rattle.std.proofs.lemmas.List.{map-append}
 use Rattle.std.proofs.lemmas.List.Elements.{All-nil, All-head, All-tail, All-push, All-weaker}
@@ -12,9 +12,10 @@ use Rattle.kept_lemmas.specs.Facts.{Fact, Facts, Shelf, fact_or_none, item_fact,
 use Rattle.kept_lemmas.specs.Entries.{IsItemRight, AreRight}
 use Rattle.kept_lemmas.proofs.FactLists.{facts-append}
 use Rattle.lemma_shelf.specs.declared.table.Table.{Table}
-use Rattle.lemma_shelf.specs.code.Tables.{fact_at, facts_at, number_of}
-use Rattle.lemma_shelf.specs.code.Walks.{facts_in, shelf_in, IsWhole, AreWithin, HasLemma}
+use Rattle.lemma_shelf.specs.code.Tables.{fact_at, facts_at, CountsTo, number_of}
+use Rattle.lemma_shelf.specs.code.Walks.{facts_in, shelf_in, IsWhole, AreWithin, AreCounted, HasLemma}
 use Rattle.lemma_shelf.specs.code.Additions.{GoesOn, AddsItem, HasItems}
+use Rattle.lemma_shelf.proofs.Counting.{counts_on, counted_longer}
 use Rattle.lemma_shelf.proofs.Keeping.{by_entry, kept_is, number_holds}
 use Rattle.lemma_shelf.proofs.Lists.{take_more}
 
@@ -58,6 +59,9 @@ module _ (first before now : Table) (shelf : Shelf) (clauses : List (List Litera
   next_items = record {
     goes_on = goes_further first before now so_far.goes_on adds.goes_on;
     within = subst (All (λ (n : ℕ). n < length now.lemmas.items)) (sym pushed) (All-push (λ (n : ℕ). n < length now.lemmas.items) numbers number (within_kept before now adds.goes_on numbers so_far.within) adds.within);
+    counted =
+        subst (λ (ns : List ℕ). CountsTo (length first.lemmas.items) ns (length now.lemmas.items)) (sym pushed)
+        (counts_on numbers (number ∷ []) (length first.lemmas.items) (length before.lemmas.items) (length now.lemmas.items) so_far.counted adds.counted);
     facts =
         ap (facts_at (facts_in now)) pushed
         ∙ map-append (fact_at (facts_in now)) numbers (number ∷ [])
@@ -75,6 +79,7 @@ own_added before now shelf clauses numbers lemma number e h =
     record {
       goes_on = record { whole = h.whole; longer = omega (arith, one); kept = h.kept };
       within = omega (arith, one, e);
+      counted = inr (e, sym one);
       fact = ap (fact_at (facts_in now)) e ∙ h.fact;
     }
 
@@ -83,6 +88,7 @@ pub kept_added : (table : Table) (entries : List (List ℕ)) (clauses : List (Li
 kept_added table entries clauses numbers kept number whole all is = record {
   goes_on = goes_nowhere table whole;
   within = number_holds (facts_in table) entries (λ (n : ℕ). n < length table.lemmas.items) kept.entry kept.item number all is;
+  counted = inl (number_holds (facts_in table) entries (λ (n : ℕ). n < length table.lemmas.items) kept.entry kept.item number all is, refl);
   fact = sym (ap fact_or_none (kept_is (facts_in table) entries kept number is));
 }
 
@@ -110,7 +116,7 @@ module _ (first before : Table) (entries : List (List ℕ)) (points : ℕ) (clau
       (subst (λ (shelf : Shelf). AddsItem before shelf clauses numbers item now number) (shelf_kept first before so_far.goes_on entries within) adds) pushed
 
 pub no_items : (table : Table) (shelf : Shelf) (clauses : List (List Literal)) → IsWhole table → HasItems table shelf clauses [] table []
-no_items table shelf clauses whole = record { goes_on = goes_nowhere table whole; within = All-nil (λ (n : ℕ). n < length table.lemmas.items); facts = refl }
+no_items table shelf clauses whole = record { goes_on = goes_nowhere table whole; within = All-nil (λ (n : ℕ). n < length table.lemmas.items); counted = refl; facts = refl }
 
 -- ---- the shelf with one more entry
 
@@ -122,3 +128,12 @@ shelf_longer before now shelf clauses items entries all numbers within has e is 
       ∙ ap (λ (s : Shelf). s ++ facts_of s clauses items ∷ []) is,
   subst (AreWithin now) (sym e) (All-push (λ (ns : List ℕ). All (λ (n : ℕ). n < length now.lemmas.items) ns) entries numbers (entries_kept before now has.goes_on entries within) has.within),
 )
+
+pub shelf_counted : (before now : Table) (shelf : Shelf) (clauses : List (List Literal)) (items : List Item) (entries all : List (List ℕ)) (numbers : List ℕ) → AreCounted before entries → HasItems before shelf clauses items now numbers → all ≡ entries ++ numbers ∷ [] → AreCounted now all
+shelf_counted before now shelf clauses items entries all numbers counted has e =
+    subst (AreCounted now) (sym e) (counted_longer entries numbers (length before.lemmas.items) (length now.lemmas.items) counted has.counted)
+
+-- an entry without items
+pub empty_counted : (table : Table) (entries all : List (List ℕ)) → AreCounted table entries → all ≡ entries ++ [] ∷ [] → AreCounted table all
+empty_counted table entries all counted e =
+    subst (AreCounted table) (sym e) (counted_longer entries [] (length table.lemmas.items) (length table.lemmas.items) counted refl)

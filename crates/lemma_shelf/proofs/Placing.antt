@@ -1,11 +1,14 @@
 -- What the steps of a lemma name stands before it.
 use Rattle.std.proofs.Common.{arith, ◌≡◌, ℕ, ◌<◌, ◌≤◌, ◌-◌, inl, inr, List, [], ◌∷◌, length, take, get_or, Some, All, Contains, Option, refl, sym, ap, subst, ◌∙◌}
-use Rattle.std.specs.Prelude.{slice_get, IsPermutation, IsSorted}
+use Rattle.std.specs.Prelude.{slice_get, IsPermutation, IsSorted, nat_eq}
+use Rattle.std.specs.List.{IsDistinct}
 use Rattle.std.specs.Ordering.{nat_cmp}
 use Rattle.std.proofs.lemmas.Bool.{cases_lt}
+use Rattle.std.proofs.lemmas.Bool.Decides.{nat_tests}
 use Rattle.std.proofs.lemmas.List.{length-take-le, get_or-take, get_or_default}
 use Rattle.std.proofs.lemmas.List.Elements.{All-nil, All-cons, All-head, All-tail, All-contains, All-weaker}
 use Rattle.std.proofs.lemmas.List.Sorted.{All-permutation, Contains-permutation, IsNonDecreasingBy-from_sort}
+use Rattle.std.proofs.lemmas.Map.Keys.{IsDistinct-IsPermutation}
 use Rattle.std.proofs.lemmas.Option.{slice_get-get_or}
 use Rattle.stn_core.specs.declared.literal.Literal.{Literal}
 use Rattle.refute_tree.specs.declared.step.Step.{Step}
@@ -14,6 +17,7 @@ use Rattle.refute_tree.specs.declared.lemma.Lemma.{Lemma}
 use Rattle.kept_lemmas.proofs.FactLists.{all_at}
 use Rattle.lemma_shelf.specs.code.Tables.{IsKnownStep, IsTable, steps_at, StepIsClosed, IsClosed, AreClosed}
 use Rattle.lemma_shelf.specs.code.WrittenOut.{RestsOn, itself, cited, Rises, AreWrittenOut, IsLowered}
+use Rattle.lemma_shelf.proofs.Counting.{mounts_distinct}
 use Rattle.lemma_shelf.proofs.Lists.{some_there}
 use Rattle.lemma_shelf.proofs.Walking.{steps_are}
 
@@ -111,16 +115,32 @@ closed_permuted lemmas place xs ys same c = record {
 
 -- ---- what a walk has come to, in order
 
+-- what a reached lemma rests on is reached
+all_reached : (lemmas : List Lemma) (place : ℕ → Option ℕ) (numbers : List ℕ) → AreClosed lemmas place numbers → (root : ℕ) → Contains numbers root → (n : ℕ) → RestsOn lemmas root n → Contains numbers n
+all_reached lemmas place numbers c root there n itself = there
+all_reached lemmas place numbers c root there n (cited {n = m} {j = j} h e) =
+    let in_ = all_reached lemmas place numbers c root there m h in
+    All-contains (StepIsClosed place numbers) (steps_at lemmas m) (Earlier j) (All-contains (IsClosed lemmas place numbers) numbers m c.closed in_) e
+
 module _ (book : List (List Literal)) (lemmas : List Lemma) (points : List ℕ) (table : IsTable book lemmas points) (clauses : List (List Literal)) (root : ℕ) (within : root < length lemmas)
     (reached copied numbers : List ℕ) (same : copied ≡ reached) (shuffled : IsPermutation copied numbers) (there : Contains reached root) (rests : All (RestsOn lemmas root) reached) where
   numbers_rest : All (RestsOn lemmas root) numbers
   numbers_rest = All-permutation (RestsOn lemmas root) copied numbers shuffled (subst (All (RestsOn lemmas root)) (sym same) rests)
 
+  root_there : Contains numbers root
+  root_there = Contains-permutation copied numbers root shuffled (subst (λ (xs : List ℕ). Contains xs root) (sym same) there)
+
   root_last : Rises numbers → slice_get numbers (length numbers - 1) ≡ Some root
   root_last up =
-      last_greatest numbers root up
-      (Contains-permutation copied numbers root shuffled (subst (λ (xs : List ℕ). Contains xs root) (sym same) there))
+      last_greatest numbers root up root_there
       (All-weaker (RestsOn lemmas root) (λ (n : ℕ). n ≤ root) (λ n h. rests_below book lemmas points table root n within h) numbers numbers_rest)
 
-  pub as_lowered : (made : List Lemma) → Rises numbers → AreWrittenOut clauses book lemmas numbers made → IsLowered clauses book lemmas root made
-  as_lowered made up written = record { numbers = numbers; last = root_last up; rests = numbers_rest; written = written }
+  pub as_lowered : (place : ℕ → Option ℕ) (made : List Lemma) → Rises numbers → IsDistinct nat_eq copied → AreClosed lemmas place numbers → AreWrittenOut clauses book lemmas numbers made → IsLowered clauses book lemmas root made
+  as_lowered place made up distinct closed written = record {
+    numbers = numbers;
+    last = root_last up;
+    rests = numbers_rest;
+    whole = all_reached lemmas place numbers closed root root_there;
+    mounts = mounts_distinct numbers up (IsDistinct-IsPermutation nat_eq (λ x y. grind (arith, nat_tests)) copied numbers shuffled distinct);
+    written = written;
+  }

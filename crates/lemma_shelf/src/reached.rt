@@ -1,5 +1,6 @@
 //! Lemmas that a walk has come to.
-ghost use Rattle.std.specs.Prelude.{◌≡◌, ◌≤◌, ◌<◌, ℕ, [], length, All, slice_get, Some, OnOk, OnErr, IfOk};
+ghost use Rattle.std.specs.Prelude.{◌≡◌, ◌≤◌, ◌<◌, ℕ, [], length, All, slice_get, Some, nat_eq, OnOk, OnErr, IfOk};
+ghost use Rattle.std.specs.List.{IsDistinct};
 ghost use Rattle.lemma_shelf.specs.code.Tables.{with_number};
 
 use indexmap::IndexSet;
@@ -54,7 +55,8 @@ impl Reached {
 
     /// The numbers, in the order in which they came.
     pub fn to_vec(&self, alloc: Global) -> Result<Vec<usize>, AllocError>
-        ensures { IfOk result (λ numbers. numbers.items ≡ self.now) }
+        ensures same { IfOk result (λ numbers. numbers.items ≡ self.now) }
+        ensures unique { IfOk result (λ numbers. IsDistinct nat_eq numbers.items) }
     {
         Vec::from_slice(alloc, self.set.as_slice())
     }

@@ -1,9 +1,9 @@
-ghost use Rattle.std.specs.Prelude.{◌≡◌, ◌-◌, [], ◌∷◌, ◌++◌, length, map, OnOk, OnErr, IfOk, slice_get};
+ghost use Rattle.std.specs.Prelude.{◌≡◌, ◌+◌, ◌-◌, [], ◌∷◌, ◌++◌, length, map, take, OnOk, OnErr, IfOk, slice_get};
 ghost use Rattle.cert_check.specs.Flaws.{TellsFlaw};
 ghost use Rattle.kept_lemmas.specs.Entries.{AreRight};
 ghost use Rattle.kept_lemmas.specs.Facts.{facts_of};
 ghost use Rattle.lemma_shelf.specs.ItemFlaws.{items_flaw};
-ghost use Rattle.lemma_shelf.specs.Lowering.{Refutes, StatesLast};
+ghost use Rattle.lemma_shelf.specs.Lowering.{Refutes, StatesLast, AreOfShelf, AreCited};
 ghost use Rattle.lemma_shelf.specs.code.WrittenOut.{last_of};
 ghost use Rattle.refute_tree.specs.Trees.{IsRefutation};
 
@@ -47,13 +47,14 @@ pub struct Shelf {
 impl Model for Shelf {
     ghost use Rattle.std.specs.Prelude.{map};
     ghost use Rattle.kept_lemmas.specs.Facts.{Shelf as KeptShelf};
-    ghost use Rattle.lemma_shelf.specs.code.Walks.{shelf_in, IsWhole, AreWithin};
+    ghost use Rattle.lemma_shelf.specs.code.Walks.{shelf_in, IsWhole, AreWithin, AreCounted};
 
     ghost Value = { KeptShelf };
 
     ghost view = { λ s. shelf_in s.table (map (λ n. n.items) s.entries.items) };
 
-    ghost invariant = { λ s. IsWhole s.table × AreWithin s.table (map (λ n. n.items) s.entries.items) };
+    ghost invariant = { λ s. IsWhole s.table × AreWithin s.table (map (λ n. n.items) s.entries.items)
+        × AreCounted s.table (map (λ n. n.items) s.entries.items) };
 }
 
 impl Shelf {
@@ -155,6 +156,8 @@ impl Shelf {
         requires { Refutes self.now entry problem.now.points problem.now.clauses }
         ensures refutes { IfOk result (IsRefutation problem.now.points problem.now.clauses) }
         ensures states { IfOk result (StatesLast self.now entry problem.now.clauses) }
+        ensures there { IfOk result (AreOfShelf (take (entry + 1) self.now) problem.now.clauses) }
+        ensures cited { IfOk result AreCited }
     {
         let root = last_number(self.entries.as_slice(), entry).unwrap();
         let lemmas = lowered(alloc, &self.table, problem, root)?;

@@ -24,34 +24,38 @@ use Rattle.dtp_check.specs.declared.earlier.Earlier.{Earlier}
 use Rattle.dtp_check.specs.code.Earlier.{Holds}
 use Rattle.dtp_check.specs.Judged.{entry_flaw, placed, told_by, judged_turns}
 
--- how one value leads to another at the entry of the question of a command, where these assertions are active
+-- how one value leads to another at the entry of the question of a command, behind these entries and where these assertions
+-- are active
 abbrev pub Leads : Type 0 → Type 1
-Leads K = K → K → Question → Sexpr → Context → FileEntry → Type 0
+Leads K = K → K → List Placed → Question → Sexpr → Context → FileEntry → Type 0
 
--- what the entry of a turn leads to
-abbrev pub KeptBy : {K : Type 0} → Leads K → K → K → State → Outcome FileEntry → (K → Type 0) → Type 0
-KeptBy leads first last s (tells x notice) Rest = Rest first
-KeptBy {K = K} leads first last s (answers question x entry) Rest = (next : K) × leads first next question x s.context entry × Rest next
-KeptBy leads first last s (asks question x) Rest = ⊥
-KeptBy leads first last s ends Rest = first ≡ last
-KeptBy leads first last s (fails kind) Rest = ⊥
+-- what the entry of a turn leads to, behind these entries
+abbrev pub KeptBy : {K : Type 0} → Leads K → K → K → List Placed → State → Outcome FileEntry → (List Placed → K → Type 0) → Type 0
+KeptBy leads first last before s (tells x notice) Rest = Rest before first
+KeptBy {K = K} leads first last before s (answers question x entry) Rest =
+    (next : K) × leads first next before question x s.context entry
+    × Rest (before ++ placed question s.context entry ∷ []) next
+KeptBy leads first last before s (asks question x) Rest = ⊥
+KeptBy leads first last before s ends Rest = first ≡ last
+KeptBy leads first last before s (fails kind) Rest = ⊥
 
 -- what the entries of all turns lead to, one after the other, up to the end of the script
-abbrev pub AreKept : {K : Type 0} → Leads K → K → K → List (Turn FileEntry) → Type 0
-AreKept leads first last [] = ⊥
-AreKept leads first last (t ∷ ts) = KeptBy leads first last t.state t.outcome (λ next. AreKept leads next last ts)
+abbrev pub AreKept : {K : Type 0} → Leads K → K → K → List Placed → List (Turn FileEntry) → Type 0
+AreKept leads first last before [] = ⊥
+AreKept leads first last before (t ∷ ts) =
+    KeptBy leads first last before t.state t.outcome (λ now next. AreKept leads next last now ts)
 
 -- what the turns come to, over these entries before: the judgement, and where they are accepted what is kept of them
 pub record ComesTo {K : Type 0} (leads : Leads K) (before : List Placed) (first : K) (turns : List (Turn FileEntry)) (judgement : Judgement) (last : K) : Type 0 where
   pub judged : judged_turns before turns ≡ judgement
-  pub kept : judgement ≡ Accepted → AreKept leads first last turns
+  pub kept : judgement ≡ Accepted → AreKept leads first last before turns
 
 -- a question that is taken, in a state where so many entries were used before, and what is held and kept behind its answer
 abbrev pub IsAnswerTurn : {K : Type 0} → Leads K → K → K → Question → Sexpr → State → ℕ → ℕ → List Placed → List FileEntry → ℕ → Kept → Earlier → Progress → Type 0
 IsAnswerTurn leads first next question x s number used before entries counted kept later (Going now) =
     (entry : FileEntry) × (drop used entries ≡ entry ∷ drop now entries)
     × (entry_flaw before question x s.context entry ≡ None)
-    × leads first next question x s.context entry × Stands kept (settled (told_by entry) s)
+    × leads first next before question x s.context entry × Stands kept (settled (told_by entry) s)
     × Holds later (before ++ placed question s.context entry ∷ []) × (now ≡ used + 1) × (now ≤ length entries)
     × (counted ≡ number + 1)
 IsAnswerTurn leads first next question x s number used before entries counted kept later (Judged judgement) =

@@ -1,7 +1,7 @@
 -- Of the code and not of the meaning: how a shelf is kept. The clauses that lemmas rest on stand in one list, each once, the
 -- book. The lemmas that are some entry's own stand in another, and their steps name clauses by their numbers in the book
 -- and lemmas by their numbers in the list. An entry is a list of numbers of lemmas.
-use Rattle.std.specs.Prelude.{◌≡◌, ℕ, zero, suc, ◌<◌, Bool, true, nat_le, is_some, option_and_then, List, [], ◌∷◌, ◌++◌, length, map, take, All, Contains, Option, None, Some, MatchOption, ◌==◌, if◌then◌else◌, slice_get, slice_index_or}
+use Rattle.std.specs.Prelude.{◌≡◌, ◌⊎◌, ℕ, zero, suc, ◌+◌, ◌<◌, Bool, true, nat_le, is_some, option_and_then, List, [], ◌∷◌, ◌++◌, length, map, take, All, Contains, Option, None, Some, MatchOption, ◌==◌, if◌then◌else◌, slice_get, slice_index_or}
 use Rattle.std.specs.List.{list_all, list_any, AllZip}
 use Rattle.stn_core.specs.declared.literal.Literal.{Literal}
 use Rattle.stn_core.specs.Literal.{negation_of}
@@ -64,6 +64,12 @@ pub record HasClause (before : List (List Literal)) (clause : List Literal) (num
   pub more : List (List Literal)
   pub longer : now ≡ before ++ more
   pub at : slice_get now number ≡ Some clause
+
+-- each of the numbers is below the count of those that came before, or is that count, and so one more
+abbrev pub CountsTo : ℕ → List ℕ → ℕ → Type 0
+CountsTo count [] now = count ≡ now
+CountsTo count (n ∷ numbers) now =
+    ((n < count) × CountsTo count numbers now) ⊎ ((n ≡ count) × CountsTo (count + 1) numbers now)
 
 -- for each clause of the book a number that it has among a problem's clauses, if it is one of those seen so far
 abbrev pub IsPresent : List (List Literal) → List (List Literal) → List (List Literal) → (ℕ → Option ℕ) → Type 0

@@ -1,5 +1,5 @@
 -- Of the code and not of the meaning: the table and the walk over it, as the code has them.
-use Rattle.std.specs.Prelude.{◌≡◌, ℕ, ◌<◌, ◌+◌, ◌&&◌, List, [], ◌∷◌, ◌++◌, length, All, Option, Some, nat_eq}
+use Rattle.std.specs.Prelude.{◌≡◌, ℕ, ◌<◌, ◌+◌, ◌&&◌, List, [], ◌∷◌, ◌++◌, length, flat_map, All, Option, Some, nat_eq}
 use Rattle.std.specs.List.{list_all}
 use Rattle.indexmap.specs.IndexMap.{get}
 use Rattle.stn_core.specs.declared.literal.Literal.{Literal}
@@ -15,7 +15,7 @@ use Rattle.lemma_shelf.specs.declared.check.KeptError.TheVariants.{OutOfMemory a
 use Rattle.lemma_shelf.specs.declared.present.Present.{Present}
 use Rattle.lemma_shelf.specs.declared.table.Table.{Table}
 use Rattle.lemma_shelf.specs.declared.walk.Walk.{Walk}
-use Rattle.lemma_shelf.specs.code.Tables.{table_facts, fact_at, facts_at, shelf_by, BeginsAs, NeedsOf, step_fits, IsTable, IsPresent, AreClosed}
+use Rattle.lemma_shelf.specs.code.Tables.{table_facts, fact_at, facts_at, shelf_by, BeginsAs, NeedsOf, step_fits, CountsTo, IsTable, IsPresent, AreClosed}
 
 abbrev pub facts_in : Table → Facts
 facts_in table = table_facts table.book table.lemmas.items
@@ -26,6 +26,10 @@ shelf_in table entries = shelf_by table.book table.lemmas.items entries
 -- the numbers of all entries are of lemmas of the table
 abbrev pub AreWithin : Table → List (List ℕ) → Type 0
 AreWithin table entries = All (λ numbers. All (λ n. n < length table.lemmas.items) numbers) entries
+
+-- each lemma of the table came by an item of an entry, in the order of their numbers
+abbrev pub AreCounted : Table → List (List ℕ) → Type 0
+AreCounted table entries = CountsTo 0 (flat_map (λ (numbers : List ℕ). numbers) entries) (length table.lemmas.items)
 
 abbrev pub IsWhole : Table → Type 0
 IsWhole table = IsTable table.book table.lemmas.items table.points.items

@@ -33,6 +33,10 @@ AddsPlaced place before step made next = (other : Step) × (next ≡ made ++ oth
 abbrev pub Rises : List ℕ → Type 0
 Rises xs = (i j : ℕ) → i ≤ j → j < length xs → slice_index_or xs i 0 ≤ slice_index_or xs j 0
 
+-- each number is below those behind it
+abbrev pub Mounts : List ℕ → Type 0
+Mounts xs = (i j : ℕ) → i < j → j < length xs → slice_index_or xs i 0 < slice_index_or xs j 0
+
 -- the table's lemma of this number, with its own clause, and its steps by the problem's numbers
 pub record IsPlacedLemma (lemmas : List Lemma) (place : ℕ → Option ℕ) (before : List ℕ) (number : ℕ) (other : Lemma) : Type 0 where
   pub lemma : Lemma
@@ -40,17 +44,21 @@ pub record IsPlacedLemma (lemmas : List Lemma) (place : ℕ → Option ℕ) (bef
   pub clause : other.clause ≡ lemma.clause
   pub steps : ArePlaced place before lemma.steps other.steps
 
--- the lemmas state over the problem's clauses what those with these numbers state on the table, and each has a tree over
--- those before it
+-- the lemmas state over the problem's clauses what those with these numbers state on the table, each has a tree over those
+-- before it, and cites of these those that the table's lemma cites
 pub record AreWrittenOut (clauses book : List (List Literal)) (lemmas : List Lemma) (numbers : List ℕ) (made : List Lemma) : Type 0 where
   pub facts : table_facts clauses made ≡ facts_at (table_facts book lemmas) numbers
   pub tree : (j : ℕ) (lemma : Lemma) → slice_get made j ≡ Some lemma → Tree clauses (map stated (take j made)) (map negation_of lemma.clause) lemma.steps []
+  pub cites : (k n m : ℕ) (lemma : Lemma) → slice_get made k ≡ Some lemma → slice_get numbers k ≡ Some n → Contains (steps_at lemmas n) (Earlier m)
+      → (i : ℕ) × (slice_get numbers i ≡ Some m) × Contains lemma.steps (Earlier i)
 
--- what the root rests on is written out, and the root as the last
+-- all that the root rests on is written out, each lemma once, and the root as the last
 pub record IsLowered (clauses book : List (List Literal)) (lemmas : List Lemma) (root : ℕ) (made : List Lemma) : Type 0 where
   pub numbers : List ℕ
   pub last : slice_get numbers (length numbers - 1) ≡ Some root
   pub rests : All (RestsOn lemmas root) numbers
+  pub whole : (n : ℕ) → RestsOn lemmas root n → Contains numbers n
+  pub mounts : Mounts numbers
   pub written : AreWrittenOut clauses book lemmas numbers made
 
 -- the number of an entry's last item

@@ -1,4 +1,4 @@
-use Rattle.std.proofs.Common.{◌≡◌, ◌∙◌, subst, sym, ap, refl, List, ℕ}
+use Rattle.std.proofs.Common.{◌≡◌, ◌∙◌, subst, sym, ap, refl, List, [], ℕ}
 use Rattle.cert_text.specs.declared.entry.FileEntry.{FileEntry as Shown}
 use Rattle.dtp_check.specs.declared.judgement.Judgement.TheVariants.{Accepted}
 use Rattle.dtp_check.specs.Judged.{ScriptPart, turns_with, judged_script}
@@ -25,7 +25,7 @@ returns-in-Accepted c =
       judged_entries bytes p.0 place end c.in-Read.certificate.version entries Accepted script readable behind accepted,
       converted bytes end place p.0 c.in-Read.certificate.version entries c.judge_script.new.keeps.entries.items script behind
           (all_converted c.new-converting.result c.judge_script.new.keeps p.0 c.deref.result.now c.new-converting.ensures (comes.kept c.in-Accepted.is))
-          (subst (λ (es : List Shown). AreShown (turns_with es p.0) c.judge_script.new.keeps.entries.items) c.deref.ensures.value
+          (subst (λ (es : List Shown). AreShown [] (turns_with es p.0) c.judge_script.new.keeps.entries.items) c.deref.ensures.value
           (all_stay c.new-converting.result c.judge_script.new.keeps p.0 c.deref.result.now c.new-converting.ensures (comes.kept c.in-Accepted.is))),
     )
 

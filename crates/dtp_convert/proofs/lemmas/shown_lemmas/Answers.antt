@@ -1,16 +1,16 @@
-use Rattle.std.proofs.Common.{rules, ◌≡◌, ◌∙◌, sym, ap, subst, ◌^◌, List, map, Some, None}
+use Rattle.std.proofs.Common.{rules, ◌≡◌, ◌∙◌, sym, ap, subst, ◌^◌, List, Some, None}
 use Rattle.std.specs.Prelude.{All, option_map}
 use Rattle.refute_tree.specs.declared.lemma.Lemma.{Lemma}
 use Rattle.refute_tree.specs.Trees.{IsRefutation}
 use Rattle.cert_text.specs.declared.entry.Version.TheVariants.{One}
 use Rattle.cert_text.specs.Limits.{LemmaWithin}
 use Rattle.kept_lemmas.specs.declared.item.Item.{Item}
-use Rattle.kept_lemmas.specs.declared.item.Item.TheVariants.{Own}
-use Rattle.kept_lemmas.specs.Entries.{shelf_of, IsOwn}
+use Rattle.kept_lemmas.specs.Entries.{shelf_of}
 use Rattle.cert_check.specs.declared.flaw.CheckError.{CheckError}
 use Rattle.cert_check.specs.declared.flaw.Flaw.{Flaw}
 use Rattle.dtp_check.specs.declared.judgement.EntryFlaw.TheVariants.{Flawed}
 use Rattle.lemma_shelf.specs.ItemFlaws.{items_flaw}
+use Rattle.lemma_shelf.specs.Lowering.{StandFor}
 use Rattle.dtp_check.specs.code.Earlier.{RefusesBy}
 use Rattle.dtp_convert.proofs.lemmas.shown_lemmas.Goals as goal
 
@@ -33,7 +33,7 @@ returns-clause-shown c = λ before held.
         stay = (
           c.in-Ok.refutation,
           c.in_ok-shown.ensures,
-          subst (λ (items : List Item). All IsOwn items → map (λ (lemma : Lemma). Own lemma) c.in-Ok.refutation ≡ items) c.as_slice.ensures c.in-Ok.ensures.own,
+          subst (λ (items : List Item). StandFor before (record { points = problem.points; clauses = problem.clauses; items = items }) c.in-Ok.refutation) c.as_slice.ensures (c.in-Ok.ensures.stand before held),
         );
       },
     )

@@ -17,7 +17,7 @@ lowered_lemmas-requires-clause-closed c =
     let place = places c.is_active.new.self.present in
     subst (AreClosed c.args.table.now.lemmas.items place) (sym c.as_slice.ensures.value)
     (closed_permuted c.args.table.now.lemmas.items place c.in_ok-numbers.numbers.items c.sort.new.self.items c.in_ok-sort.ensures.permutation
-    (subst (AreClosed c.args.table.now.lemmas.items place) (sym c.in_ok-numbers.ensures) knows.closed))
+    (subst (AreClosed c.args.table.now.lemmas.items place) (sym c.in_ok-numbers.ensures.same) knows.closed))
 
 pub returns : goal.returns
 returns c =
@@ -27,8 +27,12 @@ returns c =
     let clauses = c.args.problem.now.clauses in
     let knows = c.in_ok-_active.ensures.knows active in
     let rests = c.in_ok-_active.ensures.rests active (rests_none lemmas c.args.root c.in_ok-walk.walk.reached c.in_ok-walk.ensures.none) in
+    let place = places c.is_active.new.self.present in
+    let closed =
+    closed_permuted lemmas place c.in_ok-numbers.numbers.items c.sort.new.self.items c.in_ok-sort.ensures.permutation
+    (subst (AreClosed lemmas place) (sym c.in_ok-numbers.ensures.same) knows.closed) in
     as_lowered book lemmas c.args.table.now.points.items c.requires.table clauses c.args.root c.requires.root
-    c.is_active.new.self.reached c.in_ok-numbers.numbers.items c.sort.new.self.items c.in_ok-numbers.ensures c.in_ok-sort.ensures.permutation (c.in_ok-_active.ensures.there active) rests
-    c.in_ok-lemmas.lemmas.items (rises_sorted c.sort.new.self.items c.in_ok-sort.ensures.sorted)
+    c.is_active.new.self.reached c.in_ok-numbers.numbers.items c.sort.new.self.items c.in_ok-numbers.ensures.same c.in_ok-sort.ensures.permutation (c.in_ok-_active.ensures.there active) rests
+    place c.in_ok-lemmas.lemmas.items (rises_sorted c.sort.new.self.items c.in_ok-sort.ensures.sorted) c.in_ok-numbers.ensures.unique closed
     (subst (λ (cs : List (List Literal)). AreWrittenOut cs book lemmas c.sort.new.self.items c.in_ok-lemmas.lemmas.items) (knows.of ∙ c.in_ok-walk.ensures.knows.of)
     (subst (λ ns. AreWrittenOut c.is_active.new.self.present.clauses.now book lemmas ns c.in_ok-lemmas.lemmas.items) c.as_slice.ensures.value c.in_ok-lemmas.ensures))
