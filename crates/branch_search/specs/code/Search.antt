@@ -1,6 +1,6 @@
 -- Of the code and not of the meaning: trail and levels of a search in the middle of a slice, and what its end says.
-use Rattle.std.specs.Prelude.{◌≡◌, ℕ, ◌<◌, ◌≤◌, ◌+◌, List, [], ◌∷◌, ◌++◌, length, map, take, All, Contains}
-use Rattle.std.specs.Prelude.{Option, Some, None, slice_get, slice_index_or, ◌≤ℤ◌}
+use Rattle.std.specs.Prelude.{◌≡◌, ℕ, ◌<◌, ◌≤◌, ◌+◌, List, [], ◌∷◌, ◌++◌, length, map, take, All}
+use Rattle.std.specs.Prelude.{Option, Some, None, slice_index_or, ◌≤ℤ◌}
 use Rattle.stn_core.specs.declared.literal.Literal.{Literal}
 use Rattle.refute_tree.specs.declared.lemma.Lemma.{Lemma}
 use Rattle.refute_tree.specs.Trees.{stated}

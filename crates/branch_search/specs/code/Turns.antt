@@ -1,5 +1,5 @@
 -- Of the code and not of the meaning: the turns of a search, and how it ends.
-use Rattle.std.specs.Prelude.{◌≡◌, ℕ, ◌<◌, ◌≤◌, ◌+◌, ◌*◌, List, length}
+use Rattle.std.specs.Prelude.{ℕ, ◌<◌, ◌≤◌, ◌+◌, ◌*◌, List, length}
 use Rattle.stn_core.specs.declared.literal.Literal.{Literal}
 use Rattle.stn_core.specs.Solution.{IsSolution}
 use Rattle.refute_tree.specs.declared.lemma.Lemma.{Lemma}
