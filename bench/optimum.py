@@ -1,13 +1,14 @@
 #!/usr/bin/env python3
 """Times least values: job shops, open shops and random problems, beside z3's `minimize` and MiniZinc with Gecode.
 
-    bench/optimum.py [PATH OF dtp] [--only WORD] [--workers N] [--limit SECONDS]
+    bench/optimum.py [PATH OF dtp] [--only WORD] [--workers N] [--limit SECONDS] [--counted PATH]
 
 The shops of bench/shops are known ones (Fisher and Thompson 1963: ft06, ft10; Lawrence 1984: la01 to la05, la16; Adams, Balas and
 Zawack 1988: abz6), each as its numbers of jobs and machines and a line of machines and durations for each job; their least
 makespans are those of the literature. The others are drawn from the seeds in this file. Of each it prints the processor seconds of
 `solve` and `certify` by one worker, of `solve` by several (and the seconds by the clock), and those of the peers that are there
-(`apt-get install z3 minizinc`), and at the end the geometric mean of `solve` over the better peer where both end. It fails where two
+(`apt-get install z3 minizinc`); with a program that `bench/native/build.sh FOLDER dtp_main --counted` built, also the questions
+below a bound that one worker asks, and its conflicts; and at the end the geometric mean of `solve` over the better peer where both end. It fails where two
 answers differ, or one isn't the known value.
 """
 
@@ -141,22 +142,22 @@ def problems():
 
 
 def run(words, text, limit):
-    """What it prints, its processor seconds and those by the clock; None where it is stopped."""
+    """What it prints, its processor seconds and those by the clock, and what it prints as errors; None where it is stopped."""
     before, begun = resource.getrusage(resource.RUSAGE_CHILDREN), time.time()
     with tempfile.TemporaryFile("w+") as source:
         source.write(text)
         source.seek(0)
         # in a session of its own, so that what it starts ends with it
-        child = subprocess.Popen(words, stdin=source, stdout=subprocess.PIPE, stderr=subprocess.DEVNULL, text=True, start_new_session=True)
+        child = subprocess.Popen(words, stdin=source, stdout=subprocess.PIPE, stderr=subprocess.PIPE, text=True, start_new_session=True)
         try:
-            printed, _ = child.communicate(timeout=limit)
+            printed, beside = child.communicate(timeout=limit)
         except subprocess.TimeoutExpired:
             os.killpg(child.pid, signal.SIGKILL)
             child.communicate()
             return None
     after = resource.getrusage(resource.RUSAGE_CHILDREN)
     used = after.ru_utime + after.ru_stime - before.ru_utime - before.ru_stime
-    return printed, used, time.time() - begun
+    return printed, used, time.time() - begun, beside
 
 
 def value_of(text):
@@ -189,8 +190,10 @@ def main():
     plain = [w for i, w in enumerate(words) if not w.startswith("--") and (i == 0 or not words[i - 1].startswith("--"))]
     program = plain[0] if plain else BUILT
     limit, workers, only = float(option("--limit", "120")), option("--workers", "4"), option("--only", "")
+    counted = option("--counted", "")
+    counts = ["questions", "conflicts"] if counted else []
     peers = [name for name in ("z3", "minizinc") if shutil.which(name)]
-    print("\t".join(["problem", "value", "solve", "certify", f"{workers} workers", "by the clock", *peers]))
+    print("\t".join(["problem", "value", "solve", "certify", f"{workers} workers", "by the clock", *counts, *peers]))
     ratios, wrong = [], False
     for name, problem in problems():
         if only not in name:
@@ -199,6 +202,8 @@ def main():
         one = run([program, "solve", "--workers", "1"], script, limit)
         written = run([program, "certify", "--workers", "1"], script, limit)
         several = run([program, "solve", "--workers", workers], script, limit)
+        told = run([counted, "solve", "--workers", "1"], script, limit) if counted else None
+        asked = (told[3].split()[1::2] if told else ["-", "-"]) if counted else []
         others = [peer(other, problem, limit) for other in peers]
         value = value_of(one[0]) if one else None
         answers = {value_of(done[0]) for done in [one, several, *others] if done}
@@ -208,7 +213,7 @@ def main():
             wrong = True
             print(f"{name}: different answers {answers}")
         show = lambda done, at=1: f"{done[at]:.2f}" if done else "-"
-        print("\t".join([name, str(value), show(one), show(written), show(several), show(several, 2), *map(show, others)]), flush=True)
+        print("\t".join([name, str(value), show(one), show(written), show(several), show(several, 2), *asked, *map(show, others)]), flush=True)
         ended = [done[1] for done in others if done]
         if one and ended:
             ratios.append(max(one[1], 0.001) / max(min(ended), 0.001))

@@ -1,5 +1,6 @@
 #!/bin/sh
-# Runs the example program, and asserts the values that it prints back into its script; and runs dtp with its output closed: examples/test.sh [PATH OF dtp].
+# Runs the example programs, and holds what they print against what must be so; and runs dtp with its output closed:
+# examples/test.sh [PATH OF dtp].
 set -eu
 dtp=${1:-dtp}
 here=$(dirname "$0")
@@ -7,14 +8,192 @@ if ! command -v python3 > /dev/null; then
     echo "no python3: nothing was run"
     exit 0
 fi
-python3 "$here/schedule.py" "$dtp" | awk '
+# nothing is left behind beside the examples
+export PYTHONDONTWRITEBYTECODE=1
+
+failed() {
+    echo "FAILED: $1" >&2
+    exit 1
+}
+
+# held LINE PROGRAM WORD..: what the words print must bring the awk program to status 0; then the line is printed
+held() {
+    line=$1 program=$2
+    shift 2
+    printed=$("$@") || failed "$line: status $? of $*: $printed"
+    printf '%s\n' "$printed" | awk "$program" || failed "$line: this isn't so in what $* printed: $printed"
+    echo "$line"
+}
+
+# judged SCRIPT CHECKER..: what the checker says of a script with its certificate
+judged() {
+    script=$1
+    shift
+    { cat "$script" && "$dtp" certify < "$script"; } | "$@"
+}
+
+held "the schedule keeps the plan" '
     NR == 1 { sat = ($0 == "sat") }
     /^kettle on: /    { on = $NF }
     /^water boils: /  { boils = $NF }
     /^tea is ready: / { ready = $NF }
-    END { exit !(sat && NR == 4 && on == 0 && boils - on >= 4 && ready - boils >= 3 && ready <= 15) }'
-echo "the schedule keeps the plan"
+    END { exit !(sat && NR == 4 && on == 0 && boils - on >= 4 && ready - boils >= 3 && ready <= 15) }' python3 "$here/schedule.py" "$dtp"
+
+# by hand: 15 + 40 + 10 minutes are over an hour, and so are 15 + 50: each of these three may go, and the baking alone may not
+held "what clashes is named, and what may be given up" '
+    /^These/ { clash = 1 }
+    /^It can/ { clash = 0; without = 1 }
+    /^  / && clash { clashing++ }
+    /^  / && without { given[$0] = 1 }
+    END { exit !(clashing >= 2 && clashing < 8 && given["  guests come at three"] && given["  mixing takes fifteen"] &&
+        given["  nobody begins before two"] && !given["  the cake bakes for forty"]) }' python3 "$here/why_not.py" "$dtp"
+
+# 4 minutes until the water boils and 3 more: 7 is the least, and 6 are too few
+held "the kitchen is planned in seven minutes" '
+    { answers = answers $0 ";" }
+    END { exit !(answers == "sat;(minimum 7);unsat;") }' "$dtp" solve < "$here/kitchen.smt2"
+held "of two orders no schedule keeps both" '
+    { answers = answers $0 ";" }
+    END { exit !(answers == "unsat;") }' "$dtp" solve < "$here/two_orders.smt2"
+for script in kitchen two_orders; do
+    held "the certificate of $script is accepted" '$0 != "accepted" || NR > 1 { exit 1 }' judged "$here/$script.smt2" "$dtp" check
+done
+
+# 14 by hand: the oven is wanted for 12 minutes and nothing gets there before 2; each bake's steps come in its order
+held "the chart is a shortest plan" '
+    function letters(line, letter) { return gsub(letter, letter, line) }
+    function last(line, letter,  place) { for (place = length(line); place && substr(line, place, 1) != letter; place--); return place }
+    /^mixer / { mixer = $2 }
+    /^oven /  { oven = $2 }
+    /^table / { table = $2 }
+    /^all is ready after 14 minutes$/ { ready = 1 }
+    /^no plan is shorter: dtp check accepts the proof$/ { proved = 1 }
+    END {
+        whole = length(mixer) == 14 && length(oven) == 14 && length(table) == 14
+        bread = letters(mixer, "b") == 3 && letters(oven, "b") == 5 && letters(table, "b") == 1
+        cake = letters(mixer, "c") == 2 && letters(oven, "c") == 4 && letters(table, "c") == 3
+        pie = letters(table, "p") == 2 && letters(mixer, "p") == 2 && letters(oven, "p") == 3
+        together = mixer ~ /bbb/ && mixer ~ /cc/ && mixer ~ /pp/ && oven ~ /bbbbb/ && oven ~ /cccc/ && oven ~ /ppp/ &&
+            table ~ /ccc/ && table ~ /pp/
+        ordered = last(mixer, "b") < index(oven, "b") && last(oven, "b") < index(table, "b") && last(mixer, "c") < index(oven, "c") &&
+            last(oven, "c") < index(table, "c") && last(table, "p") < index(mixer, "p") && last(mixer, "p") < index(oven, "p")
+        exit !(ready && proved && whole && bread && cake && pie && together && ordered)
+    }' python3 "$here/gantt.py" "$dtp"
+
+# each printed move is made again by the rules of the protocol, with A = 5 and B = 4
+held "a delay that is too short lets two processes in" '
+    /^at [0-9]+: process [01] / {
+        now = $2 + 0
+        p = $4
+        if (now < before) wrong = 1
+        before = now
+    }
+    / asks$/   { if (place[p] != 0 || lock != "") wrong = 1; place[p] = 1; clock[p] = now }
+    / writes / { if (place[p] != 1 || now - clock[p] > 5) wrong = 1; place[p] = 2; clock[p] = now; lock = "of " p }
+    / enters$/ { if (place[p] != 2 || now - clock[p] <= 4 || lock != "of " p) wrong = 1; place[p] = 3 }
+    / back$/   { if (place[p] != 2 || lock == "of " p) wrong = 1; place[p] = 0 }
+    / leaves$/ { if (place[p] != 3) wrong = 1; place[p] = 0; lock = "" }
+    { final = $0 }
+    END { exit !(!wrong && place[0] == 3 && place[1] == 3 && final == "two processes are critical at once") }' \
+    python3 "$here/fischer.py" 2 8 unsafe "$dtp"
+
+# two ask, one writes, time passes, it enters, the other one writes, time passes, it enters: seven steps are too few
+none='NR == 1 && !/^no two of 2 processes are critical at once within (7|10) steps$/ { exit 1 }
+    NR == 2 && $0 != "dtp check accepts the certificate" { exit 1 }
+    END { if (NR != 2) exit 1 }'
+held "not within seven steps" "$none" python3 "$here/fischer.py" 2 7 unsafe "$dtp"
+held "a delay that is long enough keeps them apart" "$none" python3 "$here/fischer.py" 2 10 safe "$dtp"
+# 9 states of 9 names, 8 steps of 5 commands, the logic, 3 at the start, the question of 1 assertion, check-sat and exit; in each step
+# each process has A where it stays and where it writes, and B where it enters
+held "the script of the protocol is whole" '
+    { final = $0; late += gsub(/<= \(- t_[0-9]+ r_[01]_[0-9]+\) 5\)/, ""); waited += gsub(/> \(- t_[0-9]+ r_[01]_[0-9]+\) 4\)/, "") }
+    END { exit !(NR == 9 * 9 + 8 * 5 + 1 + 3 + 3 && final == "(exit)" && late == 8 * 2 * 2 && waited == 8 * 2) }' \
+    python3 "$here/fischer.py" 2 8 unsafe --script
+
+held "dtp.py answers, refuses and stops as it says" '$0 != "so" || NR > 1 { exit 1 }' env PYTHONPATH="$here" python3 -c '
+import os, sys, tempfile
+from dtp import DtpError, NoLeastValue, OutOfTime, Plan
+
+def refused(kind, call):
+    try:
+        call()
+    except kind as told:
+        return told
+    raise AssertionError(f"not refused: {kind}")
+
+# the plan of its first lines: 4 until the water boils, and then 5, or 3 where it is 8 from the start on
+program = sys.argv[1]
+plan = Plan(program)
+on, boils, ready = plan.event("kettle on"), plan.event("water boils"), plan.event("tea is ready")
+by_train = plan.flag("by train")
+plan.require(plan.exactly(on, 0))
+plan.require(plan.at_least(boils, 4, on), name="boiling takes four minutes")
+plan.require(plan.either(plan.at_least(ready, 5, boils), [plan.at_least(ready, 3, boils), plan.at_least(ready, 8, on)]))
+plan.require(by_train)
+found = plan.shortest(ready)
+assert found[ready] == 8 and found[on] == 0 and found[boils] in (4, 5) and found[by_train] is True
+found = plan.solve()
+assert found["kettle on"] == 0 and found[boils] >= 4 and found[ready] >= 8 and plan.why_not() == []
+assert plan.check(plan.certificate()) and plan.check(plan.certificate(ready), ready)
+assert not plan.check(plan.certificate(), ready) and not plan.check("")
+# now 7 at most, which leaves out what was required of the train alone
+plan.require(plan.at_most(ready, 7))
+clash = plan.why_not()
+assert plan.solve() is None and plan.shortest(ready) is None and plan.check(plan.certificate())
+assert len(clash) == 4 and clash[1] == "boiling takes four minutes" and clash[3] == "tea is ready at most 7 after zero"
+assert plan.without(clash[3]).shortest(ready)[ready] == 8
+# bounds hold at their ends: 2, and 5 after that
+ends = Plan(program)
+here, there = ends.event("here"), ends.event("there")
+ends.require(ends.at_least(here, 2), ends.at_most(here, 2), ends.at_least(there, 5, here), ends.at_most(there, 5, here))
+assert ends.solve() == {"here": 2, "there": 7}
+# choices: 5 to the town by train, else 3
+choice = Plan(program, workers=2)
+town, train = choice.event("town"), choice.flag("train")
+choice.require(choice.either(choice.denied(train), choice.exactly(town, 5)), choice.either(train, choice.exactly(town, 3)))
+assert choice.shortest(town) == {"town": 3, "train": False}
+assert choice.without().solve()["town"] in (3, 5)
+# names of all kinds, and those that are none
+odd = Plan(program)
+names = ["", "start", "1st", "a\nb", "\r\n", "é;\"", "(define-fun x () Int 3)", "requirement 1", "(error \"command 1: x\")\n"]
+for place, name in enumerate(names):
+    odd.require(odd.exactly(odd.event(name), place - 3))
+assert odd.solve() == {name: place - 3 for place, name in enumerate(names)}
+odd.require(odd.at_most("", -4), name="too early\n")
+assert odd.why_not() == [" exactly -3 after zero", "too early\n"]
+for name in ["a|b", "a\\b", "and", "start"]:
+    refused(ValueError, lambda: odd.event(name))
+refused(ValueError, lambda: odd.at_least("nowhere", 3))
+refused(TypeError, lambda: odd.at_least("start", 2.5))
+# what dtp refuses, with the line; no least value; and no time
+wide = Plan(program)
+wide.require(wide.at_most(wide.event("x"), 5))
+refused(NoLeastValue, lambda: wide.shortest("x"))
+wide.require(wide.at_least("x", 2**60 + 1), name="far")
+told = refused(DtpError, wide.solve)
+assert told.text == "command 4: bound too large" and told.line == f"(assert (! (>= |x| {2**60 + 1}) :named |far|))"
+with tempfile.TemporaryDirectory() as folder:
+    slow = os.path.join(folder, "slow")
+    with open(slow, "w") as file:
+        file.write("#!/bin/sh\nexec sleep 60\n")
+    os.chmod(slow, 0o755)
+    refused(OutOfTime, Plan(slow, timeout=0.2).solve)
+print("so")' "$dtp"
+
+held "the tutorial shows what dtp prints" '!/^[1-9][0-9]* answers of the tutorial compared, 0 faults$/ || NR > 1 { exit 1 }' \
+    python3 "$here/tutorial_test.py" "$dtp"
+
+if [ -e "$here/check.py" ]; then
+    for script in kitchen two_orders; do
+        held "check.py accepts the certificate of $script too" '$0 != "accepted" || NR > 1 { exit 1 }' \
+            judged "$here/$script.smt2" python3 "$here/check.py"
+    done
+fi
+if [ -e "$here/check_test.py" ]; then
+    held "check.py and dtp check say the same" 'END { exit !(NR > 0) }' python3 "$here/check_test.py" "$dtp" 500
+fi
+
 status=0
 "$dtp" solve < "$here/kitchen.smt2" >&- || status=$?
-[ "$status" = 4 ]
+[ "$status" = 4 ] || failed "a closed output ended with status $status, and not with 4 (what bench/native builds ends with 0)"
 echo "a closed output is told by status 4"

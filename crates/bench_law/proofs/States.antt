@@ -147,7 +147,7 @@ module _ (xs : List (List ℕ)) (most : ℕ) (s : State) (h : IsReady xs most s)
   pub asserts : (op : List ℕ) (x y : Sexpr) (more_nodes : ℕ) → bytes_eq op (codes "!") ≡ false → IsFormula (scope_of s.context) s.context.nodes (binary op x y) more_nodes
       → Goes s (assertion (binary op x y) ∷ []) (IsReady xs (most + more_nodes))
   asserts op x y more_nodes plain f =
-      let t : State = record s { context = with_assertion s.context (binary op x y) f.after f.root; mode = mode.Nothing } in
+      let t : State = record s { context = with_assertion s.context (binary op x y) f.after f.root; labels = s.labels ++ None ∷ []; mode = mode.Nothing } in
       record {
         t = t;
         tells = tells_one (assertion (binary op x y)) s t Success (asserts_as op x y plain ∙ ap (asserted_by s (binary op x y)) f.is);

@@ -75,7 +75,7 @@ inner_right values at b (denial m) c e = absurd cc
 inner_right values at b (conjunction ms) c e = same_is b (list_all at ms) e
 inner_right values at b (disjunction ms) c e = same_is b (list_any at ms) e
 
-right_inner : (values : List ℤ) (at : ℕ → Bool) (b : Bool) (node : NodeValue) → (is_compound node ≡ true → b ≡ node_truth values at node) → inner_truth values at b node ≡ true
+pub right_inner : (values : List ℤ) (at : ℕ → Bool) (b : Bool) (node : NodeValue) → (is_compound node ≡ true → b ≡ node_truth values at node) → inner_truth values at b node ≡ true
 right_inner values at b always h = refl
 right_inner values at b (atom l) h = refl
 right_inner values at b (denial m) h = refl
@@ -111,14 +111,14 @@ module _ (Good : Literal → Type 0) (nodes : List NodeValue) (values : List ℤ
   denied_false (conjunction ms) is e s = not_true (list_all at ms) e
   denied_false (disjunction ms) is e s = none_true at ms (each_both (λ m. m < k) (λ m. is_among m p.denied ≡ true) (λ m. at m ≡ false) ms (λ m lt h. below.denied m lt h) is s)
 
-true_asserted : (values : List ℤ) (at : ℕ → Bool) (node : NodeValue) → node_truth values at node ≡ true → asserted_truth values at node ≡ true
+pub true_asserted : (values : List ℤ) (at : ℕ → Bool) (node : NodeValue) → node_truth values at node ≡ true → asserted_truth values at node ≡ true
 true_asserted values at always e = refl
 true_asserted values at (atom l) e = e
 true_asserted values at (denial m) e = refl
 true_asserted values at (conjunction ms) e = refl
 true_asserted values at (disjunction ms) e = e
 
-false_denied : (values : List ℤ) (at : ℕ → Bool) (node : NodeValue) → node_truth values at node ≡ false → denied_truth values at node ≡ true
+pub false_denied : (values : List ℤ) (at : ℕ → Bool) (node : NodeValue) → node_truth values at node ≡ false → denied_truth values at node ≡ true
 false_denied values at always e = absurd cc
 false_denied values at (atom l) e = ap not e
 false_denied values at (denial m) e = refl
@@ -127,7 +127,7 @@ false_denied values at (disjunction ms) e = refl
 
 -- ---- truth spreads as the lists do
 
-record IsTrueOf (at : ℕ → Bool) (p : Polarity) : Type 0 where
+pub record IsTrueOf (at : ℕ → Bool) (p : Polarity) : Type 0 where
   pub asserted : (k : ℕ) → is_among k p.asserted ≡ true → at k ≡ true
   pub denied : (k : ℕ) → is_among k p.denied ≡ true → at k ≡ false
 
@@ -167,7 +167,7 @@ module _ (values : List ℤ) (at : ℕ → Bool) where
     denied = λ k g. elim (split k ms p.denied g) [ inl i ↦ at_among (λ n. at n ≡ false) k ms (true_none at ms (sym e ∙ f refl)) i | inr i ↦ h.denied k i ];
   }
 
-  spreads_below : (nodes : List NodeValue) → ((k : ℕ) → at k ≡ node_truth values at (node_at nodes k)) → (n : ℕ) (p : Polarity) → IsTrueOf at p → IsTrueOf at (polarity_below n nodes p)
+  pub spreads_below : (nodes : List NodeValue) → ((k : ℕ) → at k ≡ node_truth values at (node_at nodes k)) → (n : ℕ) (p : Polarity) → IsTrueOf at p → IsTrueOf at (polarity_below n nodes p)
   spreads_below nodes says zero p h = h
   spreads_below nodes says (suc n) p h =
       let node : NodeValue = node_at nodes n in
@@ -178,7 +178,7 @@ module _ (values : List ℤ) (at : ℕ → Bool) where
 -- ---- both directions
 
 module _ (Good : Literal → Type 0) (nodes : List NodeValue) (table : IsTableOf Good nodes) (roots : List ℕ) (points : ℕ) (values : List ℤ) where
-  members_needed : (k : ℕ) → k < length nodes → AreRightBelow Good nodes table points (inner_nodes nodes (polarity_of nodes roots)) values k
+  pub members_needed : (k : ℕ) → k < length nodes → AreRightBelow Good nodes table points (inner_nodes nodes (polarity_of nodes roots)) values k
       → needs (is_among k (polarity_of nodes roots).asserted) (is_among k (polarity_of nodes roots).denied) (is_among k (inner_nodes nodes (polarity_of nodes roots))) (node_at nodes k) ≡ true
       → MembersRight points nodes (inner_nodes nodes (polarity_of nodes roots)) values (node_at nodes k)
   members_needed k lt below e =

@@ -26,7 +26,7 @@ problem_truth values clauses = list_all (clause_truth values) clauses
 clause_is : (values : List ℤ) (clause : List Literal) → ClauseHolds values clause → clause_truth values clause ≡ true
 clause_is values clause h = list_any-from_Any (literal_truth values) clause (h.1.0, h.0, h.1.1, h.1.2, truth_from_holds values h.0 h.2)
 
-clause_from : (values : List ℤ) (clause : List Literal) → clause_truth values clause ≡ true → ClauseHolds values clause
+pub clause_from : (values : List ℤ) (clause : List Literal) → clause_truth values clause ≡ true → ClauseHolds values clause
 clause_from values clause e =
     let a = Any-from_list_any (literal_truth values) clause e in
     (a.1, (a.0, a.2, a.3), holds_from_truth values a.1 a.4)

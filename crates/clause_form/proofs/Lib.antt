@@ -12,3 +12,6 @@ pub mod Means
 pub mod Passes
 pub mod Pieces
 pub mod Problems
+pub mod Firsts
+pub mod Sourced
+pub mod Within

@@ -1,6 +1,7 @@
 pub mod Polarity
 pub mod Sets
 pub mod ClauseForm
+pub mod Sources
 pub mod Restricting
 pub mod Examples
 pub mod Laws

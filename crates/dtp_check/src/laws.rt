@@ -24,6 +24,7 @@ pub fn nothing_false_is_accepted()
     lemma_shelf::flaw_law();
     refute_tree::refutation_law();
     best_values::unbounded_law();
+    unsat_cores::core_law();
     smt_script::state_law();
     smt_script::objective_law();
 }

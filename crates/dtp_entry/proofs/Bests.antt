@@ -42,7 +42,8 @@ use Rattle.dtp_entry.specs.Laws.{RightIsSo}
 use Rattle.dtp_entry.specs.Transcripts.{IsSo}
 use Rattle.dtp_entry.specs.code.Asking.{IsAskedBy}
 use Rattle.dtp_entry.proofs.Roots.{roots_true, assertions_true}
-use Rattle.dtp_entry.proofs.Verdicts.{sorts_count, refuted_unsatisfiable}
+use Rattle.unsat_cores.specs.Laws.{CoreLaw}
+use Rattle.dtp_entry.proofs.Verdicts.{sorts_count, refuted_unsatisfiable, none_together}
 
 -- ---- an Int name's value on the schedule that values of the points give
 
@@ -79,6 +80,7 @@ pub record Laws : Type 0 where
   pub some : PointsGrow
   pub refutes : RefutationLaw
   pub unbounded : UnboundedLaw
+  pub core : CoreLaw
 
 module _ (laws : Laws) (c : Context) (context : IsContext c) where
   -- a solution of the problem is a schedule that satisfies the assertions
@@ -210,7 +212,8 @@ module _ (laws : Laws) (c : Context) (context : IsContext c) where
   pub right_is_so : (question : Question) (x : Sexpr) (entry : Entry) → IsAskedBy question x c → IsRight question x c entry → IsSo x c entry
   right_is_so CheckSat x (Sat schedule) asked h = (schedule, h.0, h.1)
   right_is_so (Minimize o) x (Sat schedule) asked h = absurd h
-  right_is_so question x (Unsat lemmas) asked h = refuted_unsatisfiable c context laws.scope laws.roots laws.exact laws.holds laws.refutes lemmas h
+  right_is_so question x (Unsat lemmas) asked h =
+      (refuted_unsatisfiable c context laws.scope laws.roots laws.exact laws.holds laws.refutes lemmas h, none_together c context laws.scope laws.exact laws.core lemmas h)
   right_is_so CheckSat x (Best m schedule lemmas) asked h = absurd h
   right_is_so (Minimize o) x (Best m schedule lemmas) asked h = least_is_best x asked.0 o asked.1 asked.2 m schedule lemmas h
   right_is_so CheckSat x (Unbounded values set) asked h = absurd h

@@ -21,7 +21,7 @@ use Rattle.smt_script.specs.declared.objective.Objective.{Objective}
 use Rattle.smt_script.specs.declared.state.Question.{Question}
 use Rattle.smt_script.specs.declared.state.Question.TheVariants.{CheckSat, Minimize}
 use Rattle.smt_script.specs.declared.state.Notice.{Notice}
-use Rattle.smt_script.specs.declared.state.Notice.TheVariants.{Success, Unsupported, Model, Values, Proof, Inform, Echo}
+use Rattle.smt_script.specs.declared.state.Notice.TheVariants.{Success, Unsupported, Model, Values, Proof, Core, Inform, Echo}
 use Rattle.smt_script.specs.declared.state.Satisfiability.{Satisfiability}
 use Rattle.smt_script.specs.Commands.{asks_verdict, minimized}
 use Rattle.smt_script.specs.Laws.{AskedIsTold}
@@ -114,19 +114,19 @@ module _ (question : Question) (x : Sexpr) (c : Context) where
 
   say_same : (e f : Entry) → Shows e → Shows f → SaySame e f
   say_same (Sat a) (Sat b) h k = (refl, refl)
-  say_same (Sat a) (Unsat b) h k = absurd (k.1 h.1)
+  say_same (Sat a) (Unsat b) h k = absurd (k.1.0 h.1)
   say_same (Sat a) (Best n b lemmas) h k = absurd (one_kind question _ _ h.0 k.0)
   say_same (Sat a) (Unbounded b set) h k = absurd (one_kind question _ _ h.0 k.0)
-  say_same (Unsat a) (Sat b) h k = absurd (h.1 k.1)
+  say_same (Unsat a) (Sat b) h k = absurd (h.1.0 k.1)
   say_same (Unsat a) (Unsat b) h k = (refl, refl)
-  say_same (Unsat a) (Best n b lemmas) h k = absurd (h.1 (best_satisfiable c (minimized x) n k.1))
-  say_same (Unsat a) (Unbounded b set) h k = absurd (h.1 k.1.satisfiable)
+  say_same (Unsat a) (Best n b lemmas) h k = absurd (h.1.0 (best_satisfiable c (minimized x) n k.1))
+  say_same (Unsat a) (Unbounded b set) h k = absurd (h.1.0 k.1.satisfiable)
   say_same (Best m a lemmas) (Sat b) h k = absurd (one_kind question _ _ k.0 h.0)
-  say_same (Best m a lemmas) (Unsat b) h k = absurd (k.1 (best_satisfiable c (minimized x) m h.1))
+  say_same (Best m a lemmas) (Unsat b) h k = absurd (k.1.0 (best_satisfiable c (minimized x) m h.1))
   say_same (Best m a lemmas) (Best n b others) h k = (refl, ap minimum_line (best_one c (minimized x) m n h.1 k.1))
   say_same (Best m a lemmas) (Unbounded b set) h k = absurd (k.1.none_best m h.1)
   say_same (Unbounded a set) (Sat b) h k = absurd (one_kind question _ _ k.0 h.0)
-  say_same (Unbounded a set) (Unsat b) h k = absurd (k.1 h.1.satisfiable)
+  say_same (Unbounded a set) (Unsat b) h k = absurd (k.1.0 h.1.satisfiable)
   say_same (Unbounded a set) (Best n b lemmas) h k = absurd (h.1.none_best n k.1)
   say_same (Unbounded a set) (Unbounded b those) h k = (refl, refl)
 
@@ -148,6 +148,7 @@ told_line k held other st s left others x Unsupported = refl
 told_line k held other st s left others x Model = refl
 told_line k held other st s left others x Values = refl
 told_line k held other st s left others x Proof = refl
+told_line k held other st s left others x Core = refl
 told_line k held other st s left others x (Inform information) = refl
 told_line k held other st s left others x Echo = refl
 
@@ -385,14 +386,15 @@ HasLine t = tells_held t.outcome ≡ false
 
 -- what is held is told
 abbrev TellsHeld : Effect → Type 0
-TellsHeld effect = (effect ≡ Tell Model) ⊎ ((effect ≡ Tell Values) ⊎ (effect ≡ Tell Proof))
+TellsHeld effect = (effect ≡ Tell Model) ⊎ ((effect ≡ Tell Values) ⊎ ((effect ≡ Tell Proof) ⊎ (effect ≡ Tell Core)))
 
 told_free : (notice : Notice) → (TellsHeld (Tell notice) → ⊥) → is_of_held notice ≡ false
 told_free Success free = refl
 told_free Unsupported free = refl
 told_free Model free = absurd (free (inl refl))
 told_free Values free = absurd (free (inr (inl refl)))
-told_free Proof free = absurd (free (inr (inr refl)))
+told_free Proof free = absurd (free (inr (inr (inl refl))))
+told_free Core free = absurd (free (inr (inr (inr refl))))
 told_free (Inform information) free = refl
 told_free Echo free = refl
 

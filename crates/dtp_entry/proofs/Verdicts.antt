@@ -18,7 +18,9 @@ use Rattle.idl_term.specs.Laws.{ContextsHaveScopes, RootsAreNodes, RootsAreExact
 use Rattle.idl_term.specs.Limits.{names_limit}
 use Rattle.idl_term.specs.Scopes.{sorts_of, Declaration}
 use Rattle.dtp_entry.specs.Entries.{points_of, problem_of}
-use Rattle.dtp_entry.proofs.Roots.{roots_true}
+use Rattle.unsat_cores.specs.Laws.{CoreLaw}
+use Rattle.dtp_entry.specs.Cores.{NoneTogether}
+use Rattle.dtp_entry.proofs.Roots.{roots_true, root_asserted}
 
 -- the table that a state lends is over the zero point and the names' points
 pub table_over : (points : ℕ) (lent nodes : List NodeValue) (sorts : List Sort) → points ≡ length sorts + 1 → lent ≡ nodes → IsTableOf (IsAtomFor sorts) nodes → IsTableOver points lent
@@ -42,6 +44,15 @@ module _ (c : Context) (context : IsContext c) where
   -- where it is refuted, none does
   pub refuted_unsatisfiable : ContextsHaveScopes → RootsAreNodes → RootsAreExact → ProblemFollows → RefutationLaw → (lemmas : List Lemma) → IsRefutation (points_of c) (problem_of c) lemmas → IsSatisfiable c → ⊥
   refuted_unsatisfiable scope roots exact law refutes lemmas h = unsolvable_unsatisfiable scope roots exact law (λ values holds. refutes (points_of c) (problem_of c) lemmas h values holds)
+
+  -- the assertions that the refutation cites are true together on no schedule
+  pub none_together : ContextsHaveScopes → RootsAreExact → CoreLaw → (lemmas : List Lemma) → IsRefutation (points_of c) (problem_of c) lemmas → NoneTogether c lemmas
+  none_together scope exact core lemmas h schedule fits all =
+      let sorts = sorts_of c.declared in
+      let refutes : IsRefutation (clause_form.points_of (length sorts + 1) c.nodes c.roots) (clause_form.clauses_of (length sorts + 1) c.nodes c.roots) lemmas =
+      subst (λ (n : ℕ). IsRefutation (clause_form.points_of (n + 1) c.nodes c.roots) (clause_form.clauses_of (n + 1) c.nodes c.roots) lemmas) (sym (sorts_count c.declared)) h in
+      core sorts c.nodes c.roots lemmas schedule (scope c context).table fits refutes
+      (λ r lt cited. root_asserted c schedule c.assertions c.roots r (exact c schedule context fits) lt (λ t at. all r t cited at))
 
   pub few_points : ContextsHaveScopes → PointsAreFew → points_of c ≤ 2 ^ 32
   few_points scope few =

@@ -35,14 +35,14 @@ OneTranscriptByEntries =
     (script : List ℕ) (a b : Output) → IsOutput Verdicts script a → IsOutput Verdicts script b
     → a.found ≡ b.found → a ≡ b
 
--- Two transcripts of a script have the same lines in the same places, but for models, values and proofs, and the same status:
+-- Two transcripts of a script have the same lines in the same places, but for models, values, proofs and cores, and the same status:
 -- the script's bytes alone decide them.
 abbrev pub OneTranscriptButGaps : Type 0
 OneTranscriptButGaps =
     (script : List ℕ) (a b : Output) (h : IsOutput Verdicts script a) (k : IsOutput Verdicts script b)
     → (lines_with_gaps h.turns ≡ lines_with_gaps k.turns) × (a.status ≡ b.status)
 
--- where the turn's command is told something, it asks for no model, for no values and for no proof
+-- where the turn's command is told something, it asks for no model, for no values, for no proof and for no core
 abbrev pub AsksNoneBy : Outcome Entry → Type 0
 AsksNoneBy (tells x notice) = asks_verdict x ≡ false
 AsksNoneBy (answers question x entry) = Unit {0}

@@ -1,5 +1,6 @@
 pub mod Reports
 pub mod Bests
+pub mod Cores
 pub mod Entries
 pub mod Laws
 pub mod Transcripts

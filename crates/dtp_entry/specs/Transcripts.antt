@@ -6,10 +6,10 @@ use Rattle.std.specs.List.{AllByRecursion}
 use Rattle.smt_sexpr.specs.Tree.{Sexpr, Items}
 use Rattle.smt_script.specs.declared.state.Question.{Question}
 use Rattle.smt_script.specs.declared.state.Notice.{Notice}
-use Rattle.smt_script.specs.declared.state.Notice.TheVariants.{Success, Unsupported, Model, Values, Proof, Inform, Echo}
+use Rattle.smt_script.specs.declared.state.Notice.TheVariants.{Success, Unsupported, Model, Values, Proof, Core, Inform, Echo}
 use Rattle.smt_script.specs.Commands.{asked_terms, echoed_text, minimized}
 use Rattle.smt_script.specs.States.{State, levels_of}
-use Rattle.smt_answer.specs.Texts.{verdict_line, minimum_line, unbounded_line, success_line, unsupported_line, model_lines, values_line, information_line, echo_line, error_line}
+use Rattle.smt_answer.specs.Texts.{verdict_line, minimum_line, unbounded_line, success_line, unsupported_line, model_lines, values_line, cited_names, core_line, information_line, echo_line, error_line}
 use Rattle.cert_text.specs.declared.entry.Version.{Version}
 use Rattle.cert_text.specs.declared.entry.Entry.{Entry}
 use Rattle.cert_text.specs.declared.entry.Entry.TheVariants.{Sat, Unsat, Best, Unbounded}
@@ -23,6 +23,7 @@ use Rattle.dtp_entry.specs.declared.report.Report.{Report}
 use Rattle.dtp_entry.specs.declared.report.Report.TheVariants.{Verdicts, Certificate}
 use Rattle.dtp_entry.specs.Reports.{version_of}
 use Rattle.dtp_entry.specs.Bests.{IsBestFor, HasNoBest}
+use Rattle.dtp_entry.specs.Cores.{cites_assertion, NoneTogether}
 use Rattle.dtp_entry.specs.Entries.{IsEntryOf, verdict_of}
 use Rattle.script_walk.specs.Course.{start_with, Turn, Outcome, tells, answers, asks, ends, fails, IsCourseOf, status_of, answers_of, IsFit}
 use Rattle.dtp_entry.specs.Written.{IsFront}
@@ -46,7 +47,7 @@ decision_line Verdicts (Best m schedule lemmas) = minimum_line m
 decision_line Verdicts (Unbounded values set) = unbounded_line
 decision_line (Certificate version) entry = line_of (entry_sexpr entry)
 
--- what the mode holds: the entry that decided the last question, of which models and proofs can be told
+-- what the mode holds: the entry that decided the last question, of which models, proofs and cores can be told
 abbrev pub Held : Type 0
 Held = Option Entry
 
@@ -81,6 +82,14 @@ told_proof (Some (Best m schedule lemmas)) = []
 told_proof (Some (Unbounded values set)) = []
 told_proof None = []
 
+-- the names of the assertions that the refutation rests on
+abbrev pub told_core : Held → State → List ℕ
+told_core (Some (Unsat lemmas)) s = core_line (cited_names (cites_assertion s.context lemmas) 0 s.labels)
+told_core (Some (Sat schedule)) s = []
+told_core (Some (Best m schedule lemmas)) s = []
+told_core (Some (Unbounded values set)) s = []
+told_core None s = []
+
 -- what is told of command x, which asks for no decision, in the state behind it; `success` where that is to be printed
 abbrev pub told : Report → Held → State → Sexpr → Notice → List ℕ
 told Verdicts held s x Success = if s.print_success then success_line else []
@@ -88,6 +97,7 @@ told Verdicts held s x Unsupported = unsupported_line
 told Verdicts held s x Model = told_model held s
 told Verdicts held s x Values = told_values held s (asked_terms x)
 told Verdicts held s x Proof = told_proof held
+told Verdicts held s x Core = told_core held s
 told Verdicts held s x (Inform information) = information_line information (levels_of s)
 told Verdicts held s x Echo = echo_line (echoed_text x)
 told (Certificate version) held s x notice = []
@@ -95,11 +105,11 @@ told (Certificate version) held s x notice = []
 -- ---- a command
 
 -- What an entry for the question of command x says is so: `sat` where some schedule satisfies all the assertions, `unsat` where
--- none does, a minimum where it is the term's best value, and `unbounded` where some schedule satisfies the assertions and no
--- value is best.
+-- none does, nor even those that the refutation cites; a minimum where it is the term's best value, and `unbounded` where some
+-- schedule satisfies the assertions and no value is best.
 abbrev pub IsSo : Sexpr → Context → Entry → Type 0
 IsSo x c (Sat schedule) = IsSatisfiable c
-IsSo x c (Unsat lemmas) = ¬ IsSatisfiable c
+IsSo x c (Unsat lemmas) = (¬ IsSatisfiable c) × NoneTogether c lemmas
 IsSo x c (Best m schedule lemmas) = IsBestFor c (minimized x) m
 IsSo x c (Unbounded values set) = HasNoBest c (minimized x)
 
@@ -128,13 +138,14 @@ abbrev pub pieces : Report → List (Turn Entry) → List ℕ
 pieces report [] = []
 pieces report (t ∷ ts) = piece_by report t t.outcome ++ pieces report ts
 
--- what the mode holds is told: a model, values or a proof
+-- what the mode holds is told: a model, values, a proof or a core
 abbrev pub is_of_held : Notice → Bool
 is_of_held Success = false
 is_of_held Unsupported = false
 is_of_held Model = true
 is_of_held Values = true
 is_of_held Proof = true
+is_of_held Core = true
 is_of_held (Inform information) = false
 is_of_held Echo = false
 
@@ -145,8 +156,8 @@ tells_held (asks question x) = false
 tells_held ends = false
 tells_held (fails kind) = false
 
--- The lines of a transcript, turn by turn, with a gap for each model, for values and for each proof: these are of the schedule
--- or the refutation that was found.
+-- The lines of a transcript, turn by turn, with a gap for each model, for values, for each proof and each core: these are of the
+-- schedule or the refutation that was found.
 abbrev pub line_with_gaps : Turn Entry → Option (List ℕ)
 line_with_gaps t = if tells_held t.outcome then None else Some (piece_by Verdicts t t.outcome)
 

@@ -8,6 +8,7 @@ pub fn right_is_so()
     idl_term::context_law();
     clause_form::clause_form_law();
     refute_tree::refutation_law();
+    unsat_cores::core_law();
     best_values::unbounded_law();
     smt_script::objective_law();
     smt_script::state_law();
@@ -15,7 +16,7 @@ pub fn right_is_so()
 
 /// A script has one list of verdicts, of minimum values among them, and one status, in the transcript and in the certificate.
 /// It has one transcript for the entries that decided its questions. All its transcripts have the same lines but for models,
-/// values and proofs; and where no command that is answered asks for these, it has one transcript at most.
+/// values, proofs and cores; and where no command that is answered asks for these, it has one transcript at most.
 pub fn one_transcript()
     ensures verdicts { OneVerdict }
     ensures entries { OneTranscriptByEntries }

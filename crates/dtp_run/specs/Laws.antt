@@ -49,7 +49,7 @@ HasLines script text status lines =
     (found : List Entry) × (h : IsReportBy Verdicts script text status found) × (lines_with_gaps h.turns ≡ lines)
 
 -- Two runs of `solve` on one script, with whatever numbers of workers and slices: their lines are the same in the same places,
--- those of questions among them, but for models, values and proofs, and their status is the same.
+-- those of questions among them, but for models, values, proofs and cores, and their status is the same.
 abbrev pub LinesOfOneThread : Type 0
 LinesOfOneThread =
     (few many : Search) (script one other : List ℕ) (m n : ℕ)

@@ -3,7 +3,7 @@ ghost use Rattle.dtp_run.specs.Laws.{LinesOfOneThread, VerdictsOfOneThread, Cert
 
 /// The verdicts are those of one thread: two runs on one script, with whatever numbers of workers and slices, that end without
 /// a fault outside and without want of memory, have the same verdicts, the same minimum values and the same status, and
-/// transcripts the same lines but for models, values and proofs.
+/// transcripts the same lines but for models, values, proofs and cores.
 pub fn verdicts_of_one_thread()
     ensures lines { LinesOfOneThread }
     ensures verdicts { VerdictsOfOneThread }

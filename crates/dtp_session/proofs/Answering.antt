@@ -19,7 +19,7 @@ use Rattle.smt_script.specs.declared.state.Notice.{Notice}
 use Rattle.smt_script.specs.declared.state.Notice.TheVariants as notice
 use Rattle.smt_script.specs.declared.state.Question.{Question}
 use Rattle.smt_script.specs.code.Kept.{Kept}
-use Rattle.smt_script.specs.Laws.{ModeIsKept, ModelNeedsSat, ValuesNeedSat, ProofNeedsUnsat}
+use Rattle.smt_script.specs.Laws.{ModeIsKept, ModelNeedsSat, ValuesNeedSat, ProofNeedsUnsat, CoreNeedsUnsat}
 use Rattle.smt_script.specs.declared.state.Satisfiability.{Satisfiability}
 use Rattle.smt_script.specs.declared.state.Satisfiability.TheVariants as verdict
 use Rattle.smt_script.specs.States.{State, Step, settled}
@@ -63,13 +63,14 @@ module _ (p : Session) (w : Walk) (s : State) (x : Sexpr) (effect : Effect) (h :
     shows = shows_kept p s h.next (law s x step h.leads) holds.shows;
   }
 
-pub may_after : (w : Walk) (s : State) (x : Sexpr) (n : Notice) (h : Leads w s x (Tell n)) → ModelNeedsSat → ValuesNeedSat → ProofNeedsUnsat → MayTell h.next x n
-may_after w s x n h model values proof =
+pub may_after : (w : Walk) (s : State) (x : Sexpr) (n : Notice) (h : Leads w s x (Tell n)) → ModelNeedsSat → ValuesNeedSat → ProofNeedsUnsat → CoreNeedsUnsat → MayTell h.next x n
+may_after w s x n h model values proof core =
     let step : Step = record { state = h.next; effect = Tell n } in
     record {
       model = λ e. model s x step h.leads (ap Tell e);
       values = λ e. values s x step h.leads (ap Tell e);
       proof = λ e. proof s x step h.leads (ap Tell e);
+      core = λ e. core s x step h.leads (ap Tell e);
     }
 
 -- text and marks aside, the session is as before

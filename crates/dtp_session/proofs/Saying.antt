@@ -6,7 +6,9 @@ use Rattle.smt_sexpr.specs.Table.{Table, Means, MeansEach}
 use Rattle.smt_sexpr.proofs.Shapes.{next_of, none_of}
 use Rattle.stn_core.specs.declared.named.NamedValue.{NamedValue}
 use Rattle.stn_core.specs.Named.{AreWithinLimit}
+use Rattle.refute_tree.specs.declared.lemma.Lemma.{Lemma}
 use Rattle.cert_text.specs.declared.entry.Entry.{Entry}
+use Rattle.cert_text.specs.declared.entry.Entry.TheVariants.{Unsat}
 use Rattle.idl_node.specs.Nodes.{NodeValue}
 use Rattle.idl_node.specs.Truth.{point_values, AreTruths}
 use Rattle.idl_term.specs.Applied.{Made}
@@ -16,8 +18,9 @@ use Rattle.idl_term.specs.Scopes.{Scope, Declaration}
 use Rattle.idl_term.specs.Values.{Value, value}
 use Rattle.idl_term.specs.declared.error.TermRefusal.{TermRefusal}
 use Rattle.idl_term.proofs.Evaluating.{values_count}
-use Rattle.smt_answer.specs.code.Answers.{AreAnswers}
-use Rattle.smt_answer.specs.Texts.{information_line, model_lines, values_line}
+use Rattle.smt_answer.specs.code.Answers.{AreAnswers, is_marked}
+use Rattle.smt_answer.specs.Texts.{information_line, model_lines, values_line, cited_names, core_line}
+use Rattle.smt_answer.proofs.Cores.{names_same}
 use Rattle.smt_script.specs.code.Kept.{Kept}
 use Rattle.smt_script.specs.States.{State, first_refusal, terms_refusal}
 use Rattle.smt_script.specs.code.TermValues.{value_shown}
@@ -28,13 +31,15 @@ use Rattle.smt_script.specs.declared.state.Notice.TheVariants as notice
 use Rattle.smt_script.specs.declared.value.TermValue.{TermValue}
 use Rattle.smt_script.proofs.Levels.{levels_count}
 use Rattle.script_walk.specs.code.Standing.{Stands}
-use Rattle.dtp_entry.specs.Transcripts.{Held, schedule_held, told_of, told, told_model, told_values}
+use Rattle.unsat_cores.specs.Cores.{is_cited_root}
+use Rattle.dtp_entry.specs.Cores.{cites_assertion}
+use Rattle.dtp_entry.specs.Transcripts.{Held, schedule_held, told_of, told, told_model, told_values, told_core}
 use Rattle.dtp_entry.specs.declared.report.Report.TheVariants.{Verdicts}
 use Rattle.dtp_entry.proofs.Verdicts.{sorts_count}
 use Rattle.dtp_session.specs.declared.session.Session.{Session}
-use Rattle.dtp_session.specs.code.Forms.{schedule_shown}
+use Rattle.dtp_session.specs.code.Forms.{schedule_shown, CiteSame}
 use Rattle.dtp_session.specs.code.Sessions.{Holds}
-use Rattle.dtp_session.proofs.Answering.{held_schedule}
+use Rattle.dtp_session.proofs.Answering.{held_schedule, held_refutation}
 
 -- ---- information
 
@@ -107,6 +112,34 @@ pub values_are : (held : Held) (s : State) (values : List NamedValue) (terms : I
 values_are held s values terms old now e empty is =
     is ∙ ap (λ (t : List ℕ). t ++ values_line (value (environment s.context values)) terms) empty
     ∙ sym (ap (λ (found : Option (List NamedValue)). told_of found (λ schedule. values_line (value (environment s.context schedule)) terms)) e)
+
+-- ---- a refutation that is held
+
+pub refutation_held : (p : Session) (s : State) → Holds p s → s.mode ≡ mode.Unsat → p.held ≡ None → ⊥
+refutation_held p s holds unsat gone =
+    let w = held_refutation p s holds unsat in
+    let both : ◌≡◌ {A = Held} None (Some (Unsat w.lemmas)) = sym gone ∙ w.held in
+    cc
+
+pub refutation_there : (p : Session) (s : State) (found : Entry) → Holds p s → s.mode ≡ mode.Unsat → p.held ≡ Some found → ((lemmas : List Lemma) → found ≡ Unsat lemmas → ⊥) → ⊥
+refutation_there p s found holds unsat held none_ =
+    let w = held_refutation p s holds unsat in
+    none_ w.lemmas (same_entry found (Unsat w.lemmas) (sym held ∙ w.held))
+
+module _ (kept : Kept) (s : State) (lemmas others : List Lemma) (same : CiteSame lemmas others) (stands : Stands kept s) (nodes : List NodeValue) (roots : List ℕ) (cited : List Bool)
+    (same_nodes : nodes ≡ kept.nodes) (same_roots : roots ≡ kept.roots) (each : (r : ℕ) → is_marked cited r ≡ is_cited_root nodes roots others r) where
+  cited_as : (r : ℕ) → is_marked cited r ≡ cites_assertion s.context lemmas r
+  cited_as r =
+      each r ∙ ap (λ (ns : List NodeValue). is_cited_root ns roots others r) (same_nodes ∙ stands.stands.nodes)
+      ∙ ap (λ (ks : List ℕ). is_cited_root s.context.nodes ks others r) (same_roots ∙ stands.stands.roots) ∙ sym (same s.context.nodes s.context.roots r)
+
+  pub core_is : (held : Held) (x : Sexpr) (found : Entry) (old now : List ℕ) → held ≡ Some found → found ≡ Unsat lemmas → old ≡ [] → now ≡ old ++ core_line (cited_names (is_marked cited) 0 kept.labels)
+      → now ≡ told Verdicts held s x notice.Core
+  core_is held x found old now is_held is_refutation empty is =
+      is ∙ ap (λ (t : List ℕ). t ++ core_line (cited_names (is_marked cited) 0 kept.labels)) empty
+      ∙ ap core_line (names_same (is_marked cited) (cites_assertion s.context lemmas) cited_as 0 kept.labels)
+      ∙ ap (λ (labels : List (Option (List ℕ))). core_line (cited_names (cites_assertion s.context lemmas) 0 labels)) stands.stands.labels
+      ∙ sym (ap (λ (h : Held). told_core h s) (is_held ∙ ap Some is_refutation))
 
 -- ---- terms that were tested
 

@@ -7,7 +7,7 @@ use Rattle.smt_script.specs.declared.state.Effect.TheVariants.{Ask, Tell}
 use Rattle.smt_script.specs.declared.state.Notice.{Notice}
 use Rattle.smt_script.specs.declared.state.Question.{Question}
 use Rattle.smt_script.specs.declared.state.Question.TheVariants.{CheckSat, Minimize}
-use Rattle.smt_script.specs.Laws.{ModeIsKept, ModelNeedsSat, ValuesNeedSat, ProofNeedsUnsat, MinimizedIsWorth}
+use Rattle.smt_script.specs.Laws.{ModeIsKept, ModelNeedsSat, ValuesNeedSat, ProofNeedsUnsat, CoreNeedsUnsat, MinimizedIsWorth}
 use Rattle.smt_script.specs.States.{State, settled}
 use Rattle.script_walk.specs.code.Events.{IsEvent, GoesOn, Asks, IsReady as IsWalkReady}
 use Rattle.script_walk.specs.declared.walk.Event.{Event}
@@ -33,14 +33,14 @@ module _ (p : Session) (w : Walk) (s : State) (event : Event) (h : IsEvent p.wal
     told_holds : Holds (record p { walk = w }) told_event.carries.1.next
     told_holds = holds_after p w s told_event.x (Tell n) told_event.carries.1 kept holds
 
-    module _ (model : ModelNeedsSat) (values : ValuesNeedSat) (proof : ProofNeedsUnsat) where
+    module _ (model : ModelNeedsSat) (values : ValuesNeedSat) (proof : ProofNeedsUnsat) (core : CoreNeedsUnsat) where
       pub may_tell : (s : State) × (x : Sexpr) × Holds (record p { walk = w }) s × Means w.sexprs id x × MayTell s x n
-      may_tell = (told_event.carries.1.next, told_event.x, told_holds, told_event.carries.0, may_after w s told_event.x n told_event.carries.1 model values proof)
+      may_tell = (told_event.carries.1.next, told_event.x, told_holds, told_event.carries.0, may_after w s told_event.x n told_event.carries.1 model values proof core)
 
       module _ (q : Session) (piece : Piece) (keeps : KeepsReading (record p { walk = w }) q)
           (tells : (s : State) (x : Sexpr) → Holds (record p { walk = w }) s → Means w.sexprs id x → MayTell s x n → Tells (record p { walk = w }) q s x n piece) where
         told_so : Tells (record p { walk = w }) q told_event.carries.1.next told_event.x n piece
-        told_so = tells told_event.carries.1.next told_event.x told_holds told_event.carries.0 (may_after w s told_event.x n told_event.carries.1 model values proof)
+        told_so = tells told_event.carries.1.next told_event.x told_holds told_event.carries.0 (may_after w s told_event.x n told_event.carries.1 model values proof core)
 
         pub told_step : w.lexer.bytes ≡ p.walk.lexer.bytes → IsNext p q s piece
         told_step bytes = told_next p q w s bytes keeps id n piece told_event told_so

@@ -69,6 +69,7 @@ fn satisfy<R: Threads + Wait + Sync, G: Gate>(
     refute_tree::lengths_law();
     stn_core::negation_kept();
     best_values::unbounded_law();
+    unsat_cores::core_law();
     match search(rt, alloc, &problem, options, gate)? {
         Verdict::Sat(schedule) => {
             let values = restrict(alloc, schedule.as_slice(), state.names().sorts())?;

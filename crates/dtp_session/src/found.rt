@@ -1,20 +1,22 @@
 //! What decided a question, as it is held until the next one.
-ghost use Rattle.std.specs.Prelude.{◌≡◌, ◌++◌, ℕ, List, Some, None, MatchOption, OnOk};
+ghost use Rattle.std.specs.Prelude.{◌≡◌, ◌≢◌, ◌++◌, ℕ, List, Some, None, MatchOption, OnOk};
 ghost use Rattle.stn_core.specs.declared.named.NamedValue.{NamedValue};
 ghost use Rattle.cert_text.specs.declared.entry.Version.TheVariants.{One};
-ghost use Rattle.cert_text.specs.declared.entry.Entry.TheVariants.{Sat};
+ghost use Rattle.cert_text.specs.declared.entry.Entry.TheVariants.{Sat, Unsat};
 ghost use Rattle.cert_text.specs.Form.{entry_sexpr, line_of};
 ghost use Rattle.dtp_entry.specs.declared.report.Report.TheVariants.{Verdicts};
 ghost use Rattle.dtp_entry.specs.Entries.{verdict_of};
 ghost use Rattle.dtp_entry.specs.Transcripts.{decision_line};
 ghost use Rattle.dtp_entry.specs.Written.{WritesOne};
-ghost use Rattle.dtp_session.specs.code.Forms.{shown_in, schedule_shown};
+ghost use Rattle.refute_tree.specs.declared.lemma.Lemma.{Lemma};
+ghost use Rattle.dtp_session.specs.code.Forms.{shown_in, schedule_shown, CiteSame};
 
 use crate::form::forms_of;
 use cert_stream::write_entry;
 use cert_text::{Entry, Version};
 use dtp_entry::SessionError;
 use dtp_io::Sink;
+use refute_tree::Refutation;
 use smt_answer::{minimum_text, unbounded_text, verdict_text};
 use smt_script::Satisfiability;
 use std::alloc::{AllocError, Global};
@@ -80,6 +82,18 @@ impl Found {
             Entry::Best(_, values, _) => Some(values),
             Entry::Unbounded(_, _) => given.as_ref(),
             Entry::Unsat(_) => None,
+        }
+    }
+
+    /// The refutation, where the entry is one: as the search left it, or as it is written. Both cite the same roots.
+    pub fn refutation(&self) -> Option<&Refutation>
+        ensures { MatchOption result ((lemmas : List Lemma) → self.now ≢ Unsat lemmas)
+            (λ refutation. (lemmas : List Lemma) × (self.now ≡ Unsat lemmas) × CiteSame lemmas refutation.now) }
+    {
+        unsat_cores::lengthened_law();
+        match &self.entry {
+            Entry::Unsat(refutation) => Some(refutation),
+            Entry::Sat(_) | Entry::Best(_, _, _) | Entry::Unbounded(_, _) => None,
         }
     }
 

@@ -100,6 +100,7 @@ pub fn minimize<R: Threads + Wait + Sync, G: Gate>(
     refute_tree::lengths_law();
     stn_core::negation_kept();
     best_values::unbounded_law();
+    unsat_cores::core_law();
     match search(rt, alloc, &problem, objective, options, gate)? {
         Best::Nothing(refutation) => {
             let found = refuted(alloc, wanted, problem, refutation)?;

@@ -18,12 +18,15 @@ ghost use Rattle.dtp_session.specs.code.Sessions.{Holds, MayTell, KeepsReading, 
 use crate::piece::Piece;
 use crate::session::Session;
 use dtp_entry::Report;
-use idl_term::TermError;
-use smt_answer::{echo_text, info_text, model_text, success_text, unsupported_text, values_text};
+use idl_term::{TermError, context_law};
+use smt_answer::{
+    core_text, echo_text, info_text, model_text, success_text, unsupported_text, values_text,
+};
 use smt_script::{Notice, State, TermValue, asked_terms, echoed_text};
 use smt_sexpr::{SexprId, Sexprs};
 use std::alloc::{AllocError, Global};
 use stn_core::NamedValues;
+use unsat_cores::cited_roots;
 
 /// The values of the terms, which were tested before. No node of theirs is kept.
 fn values_of<'a>(
@@ -107,12 +110,35 @@ impl<'a> Session<'a> {
         Ok(())
     }
 
+    /// `get-unsat-core`.
+    fn tell_core(&mut self) -> Result<(), AllocError>
+        requires may { (s : Meaning) × (x : Sexpr) × Holds self.old s × MayTell s x told_of.Core }
+        requires empty { self.old.text.items ≡ [] }
+        ensures told { OnOk result ((s : Meaning) (x : Sexpr) → Holds self.old s → MayTell s x told_of.Core
+            → self.new.text.items ≡ told Verdicts self.old.held s x told_of.Core) }
+        ensures keeps { KeepsVerdict self.old self.new }
+        ensures marks { self.new.marks ≡ self.old.marks }
+    {
+        context_law();
+        let Some(found) = &self.held else {
+            unreachable!()
+        };
+        let Some(refutation) = found.refutation() else {
+            unreachable!()
+        };
+        let state = &self.walk.state;
+        let cited = cited_roots(self.alloc, state.nodes(), state.roots(), refutation)?;
+        core_text(state, cited.as_slice(), &mut self.text)?;
+        Ok(())
+    }
+
     /// What rests on no verdict.
     fn tell_plain(&mut self, id: SexprId, notice: Notice) -> Result<(), AllocError>
         requires meaning { HasMeaning self.old.walk.sexprs id }
         requires model { notice ≢ told_of.Model }
         requires values { notice ≢ told_of.Values }
         requires proof { notice ≢ told_of.Proof }
+        requires core { notice ≢ told_of.Core }
         requires empty { self.old.text.items ≡ [] }
         ensures told { OnOk result ((s : Meaning) (x : Sexpr) → Holds self.old s → Means self.old.walk.sexprs id x
             → self.new.text.items ≡ told Verdicts self.old.held s x notice) }
@@ -134,7 +160,7 @@ impl<'a> Session<'a> {
                 Ok(())
             }
             Notice::Echo => echo_text(echoed_text(&self.walk.sexprs, id), &mut self.text),
-            Notice::Model | Notice::Values | Notice::Proof => unreachable!(),
+            Notice::Model | Notice::Values | Notice::Proof | Notice::Core => unreachable!(),
         }
     }
 
@@ -153,6 +179,7 @@ impl<'a> Session<'a> {
             Notice::Proof => return Ok(Piece::Proof),
             Notice::Model => self.tell_model()?,
             Notice::Values => self.tell_values(id)?,
+            Notice::Core => self.tell_core()?,
             _ => self.tell_plain(id, notice)?,
         }
         Ok(Piece::Told)

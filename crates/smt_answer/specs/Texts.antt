@@ -1,6 +1,6 @@
 -- The texts of the answers. Each is a line (SMT-LIB 2.6, section 3.9: `success`, `unsupported`, `sat`, `unsat`, and `(error text)`
 -- in general). What stands in the text of an error is this project's choice.
-use Rattle.std.specs.Prelude.{ℕ, suc, ℤ, pos, negsuc, List, [], ◌∷◌, ◌++◌, codes, decimal, Bool, true, false}
+use Rattle.std.specs.Prelude.{ℕ, suc, ℤ, pos, negsuc, List, [], ◌∷◌, ◌++◌, codes, decimal, Bool, true, false, Option, Some}
 use Rattle.smt_lex.specs.declared.token.TokenKind.TheVariants.{Symbol}
 use Rattle.smt_sexpr.specs.Tree.{Sexpr, Items, none, more}
 use Rattle.smt_sexpr.specs.Printing.{text_of, written}
@@ -89,6 +89,7 @@ refusal_text refused.TooManyLevels = codes "too many levels"
 refusal_text refused.PopBelowTheBottom = codes "pop below the bottom"
 refusal_text refused.NoModel = codes "no model"
 refusal_text refused.NoProof = codes "no proof"
+refusal_text refused.NoCore = codes "no core"
 refusal_text refused.ObjectiveTooLarge = codes "objective too large"
 refusal_text (refused.LeftOut c) = codes "left out: " ++ command_text c
 refusal_text (refused.Term why) = term_refusal_text why
@@ -164,6 +165,31 @@ pairs_text value_of (more t ts) = pair_text t (value_of t) ++ pairs_behind value
 -- the terms with their values, in order
 abbrev pub values_line : (Sexpr → Value) → Items → List ℕ
 values_line value_of ts = codes "(" ++ pairs_text value_of ts
+
+-- ---- unsatisfiable cores (SMT-LIB 2.6, section 4.2.7)
+
+-- a name in front of others, of an assertion that is cited and has one
+abbrev pub with_name : Bool → Option (List ℕ) → List (List ℕ) → List (List ℕ)
+with_name true (Some name) names = name ∷ names
+with_name _ _ names = names
+
+-- the names of the cited assertions, in order, where the first of the assertions has this number
+abbrev pub cited_names : (ℕ → Bool) → ℕ → List (Option (List ℕ)) → List (List ℕ)
+cited_names cited number [] = []
+cited_names cited number (label ∷ labels) = with_name (cited number) label (cited_names cited (suc number) labels)
+
+-- the names behind another, each behind a space, and what ends the line
+abbrev pub names_behind : List (List ℕ) → List ℕ
+names_behind [] = codes ")\n"
+names_behind (name ∷ names) = codes " " ++ (written Symbol name ++ names_behind names)
+
+abbrev pub names_text : List (List ℕ) → List ℕ
+names_text [] = codes ")\n"
+names_text (name ∷ names) = written Symbol name ++ names_behind names
+
+-- names, written as symbols are
+abbrev pub core_line : List (List ℕ) → List ℕ
+core_line names = codes "(" ++ names_text names
 
 -- ---- information and echoes
 

@@ -96,7 +96,7 @@ fn write_named(value: NamedValue, out: &mut Vec<u8>) -> Result<(), AllocError>
 }
 
 /// Appends a symbol, in bars where it needs them.
-fn write_symbol(name: &[u8], out: &mut Vec<u8>) -> Result<(), AllocError>
+pub fn write_symbol(name: &[u8], out: &mut Vec<u8>) -> Result<(), AllocError>
     ensures ok { OnOk result (out.new.items ≡ out.old.items ++ written Symbol name.now) }
     ensures front { take (vec_len out.old) out.new.items ≡ out.old.items }
 {

@@ -1,5 +1,5 @@
 -- What is kept stands for the state behind a command.
-use Rattle.std.proofs.Common.{refl, sym, ap, subst, arith, ◌∙◌, ◌≡◌, ◌<◌, ◌≤◌, ◌+◌, ◌-◌, ◌++◌, ℕ, List, [], ◌∷◌, length, take, replicate, get_or, map, Some, slice_get, Bool}
+use Rattle.std.proofs.Common.{refl, sym, ap, subst, arith, ◌∙◌, ◌≡◌, ◌<◌, ◌≤◌, ◌+◌, ◌-◌, ◌++◌, ℕ, List, [], ◌∷◌, length, take, replicate, get_or, map, Some, None, slice_get, Bool, Option}
 use Rattle.std.proofs.lemmas.List.{take_all}
 use Rattle.std.proofs.lemmas.Option.{slice_get-get_or}
 use Rattle.idl_node.specs.Nodes.{NodeValue}
@@ -25,10 +25,10 @@ abbrev pub defined_in : Kept → List NodeValue → List ℕ → LoweredTerm →
 defined_in kept nodes name stands = record kept { scope = record { declared = kept.scope.declared; bound = kept.scope.bound ++ record { name = name; stands = stands } ∷ [] }; nodes = nodes; mode = mode.Nothing }
 
 abbrev pub asserted_in : Kept → List NodeValue → ℕ → Kept
-asserted_in kept nodes root = record kept { nodes = nodes; roots = kept.roots ++ root ∷ []; mode = mode.Nothing }
+asserted_in kept nodes root = record kept { nodes = nodes; roots = kept.roots ++ root ∷ []; labels = kept.labels ++ None ∷ []; mode = mode.Nothing }
 
 abbrev pub named_in : Kept → List NodeValue → ℕ → List ℕ → Kept
-named_in kept nodes root name = record kept { scope = record { declared = kept.scope.declared; bound = kept.scope.bound ++ record { name = name; stands = formula root } ∷ [] }; nodes = nodes; roots = kept.roots ++ root ∷ []; mode = mode.Nothing }
+named_in kept nodes root name = record kept { scope = record { declared = kept.scope.declared; bound = kept.scope.bound ++ record { name = name; stands = formula root } ∷ [] }; nodes = nodes; roots = kept.roots ++ root ∷ []; labels = kept.labels ++ Some name ∷ []; mode = mode.Nothing }
 
 abbrev pub pushed_in : Kept → ℕ → Kept
 pushed_in kept n = record kept { levels = kept.levels ++ replicate n (amount_of kept); mode = mode.Nothing }
@@ -52,29 +52,32 @@ front_mode kept m print levels = record { names = take_own kept.scope.declared; 
 
 -- ---- what holds of all that is kept
 
-kept_grown : (kept new : Kept) → IsKept kept → IsFront kept new → new.levels ≡ kept.levels → length new.scope.declared ≤ names_limit → IsKept new
-kept_grown kept new h front same few = record { few = few; ascend = rw same (ascend_grown kept.levels (amount_of kept) (amount_of new) h.ascend (amount_grown kept new front)) }
+kept_grown : (kept new : Kept) → IsKept kept → IsFront kept new → new.levels ≡ kept.levels → length new.scope.declared ≤ names_limit → length new.labels ≡ length new.roots → IsKept new
+kept_grown kept new h front same few labelled = record { few = few; labelled = labelled; ascend = rw same (ascend_grown kept.levels (amount_of kept) (amount_of new) h.ascend (amount_grown kept new front)) }
 
 length_added : {A : Type 0} (xs : List A) (x : A) → length (xs ++ x ∷ []) ≡ length xs + 1
 length_added [] x = refl
 length_added (y ∷ ys) x = let r = length_added ys x in omega arith
 
+labelled_more : (kept : Kept) (root : ℕ) (label : Option (List ℕ)) → length kept.labels ≡ length kept.roots → length (kept.labels ++ label ∷ []) ≡ length (kept.roots ++ root ∷ [])
+labelled_more kept root label same = length_added kept.labels label ∙ ap (λ (n : ℕ). n + 1) same ∙ sym (length_added kept.roots root)
+
 pub kept_declared : (kept : Kept) (name : List ℕ) (sort : Sort) → IsKept kept → length kept.scope.declared < names_limit → IsKept (declared_in kept name sort)
 kept_declared kept name sort h few =
     let more = length_added kept.scope.declared (record { name = name; sort = sort }) in
-    kept_grown kept (declared_in kept name sort) h (front_declared kept name sort) refl (omega arith)
+    kept_grown kept (declared_in kept name sort) h (front_declared kept name sort) refl (omega arith) h.labelled
 
 pub kept_defined : (kept : Kept) (nodes : List NodeValue) (name : List ℕ) (stands : LoweredTerm) → IsKept kept → take (length kept.nodes) nodes ≡ kept.nodes → IsKept (defined_in kept nodes name stands)
-kept_defined kept nodes name stands h front = kept_grown kept (defined_in kept nodes name stands) h (front_defined kept nodes name stands front) refl h.few
+kept_defined kept nodes name stands h front = kept_grown kept (defined_in kept nodes name stands) h (front_defined kept nodes name stands front) refl h.few h.labelled
 
 pub kept_asserted : (kept : Kept) (nodes : List NodeValue) (root : ℕ) → IsKept kept → take (length kept.nodes) nodes ≡ kept.nodes → IsKept (asserted_in kept nodes root)
-kept_asserted kept nodes root h front = kept_grown kept (asserted_in kept nodes root) h (front_asserted kept nodes root front) refl h.few
+kept_asserted kept nodes root h front = kept_grown kept (asserted_in kept nodes root) h (front_asserted kept nodes root front) refl h.few (labelled_more kept root None h.labelled)
 
 pub kept_named : (kept : Kept) (nodes : List NodeValue) (root : ℕ) (name : List ℕ) → IsKept kept → take (length kept.nodes) nodes ≡ kept.nodes → IsKept (named_in kept nodes root name)
-kept_named kept nodes root name h front = kept_grown kept (named_in kept nodes root name) h (front_named kept nodes root name front) refl h.few
+kept_named kept nodes root name h front = kept_grown kept (named_in kept nodes root name) h (front_named kept nodes root name front) refl h.few (labelled_more kept root (Some name) h.labelled)
 
 pub kept_pushed : (kept : Kept) (n : ℕ) → IsKept kept → IsKept (pushed_in kept n)
-kept_pushed kept n h = record { few = h.few; ascend = ascend_pushed kept.levels n (amount_of kept) h.ascend }
+kept_pushed kept n h = record { few = h.few; labelled = h.labelled; ascend = ascend_pushed kept.levels n (amount_of kept) h.ascend }
 
 pub kept_cut : (kept : Kept) (i : ℕ) (level : Level) → IsKept kept → slice_get kept.levels i ≡ Some level → IsKept (cut_to kept i level)
 kept_cut kept i level h at =
@@ -86,8 +89,10 @@ kept_cut kept i level h at =
     let r = take_length level.roots kept.roots within.roots in
     let few = h.few in
     let names = within.names in
+    let labels = take_length level.roots kept.labels (let labelled = h.labelled in let asserted = within.roots in omega arith) in
     record {
       few = rw n (omega arith);
+      labelled = labels ∙ sym r;
       ascend = ascend_grown (take i kept.levels) level (amount_of (cut_to kept i level)) below (record { names = omega (arith, n); defined = omega (arith, d); nodes = omega (arith, t); roots = omega (arith, r) });
     }
 
@@ -107,11 +112,12 @@ pushed_is levels count n depth level now same_count is same =
 
 -- ---- it stands for the state
 
-stands_grown : (kept new : Kept) (s t : State) → StandsFor kept s → IsFront kept new → new.levels ≡ kept.levels → t.below ≡ s.below → new.scope ≡ scope_of t.context → new.nodes ≡ t.context.nodes → new.roots ≡ t.context.roots → new.mode ≡ t.mode → new.print_success ≡ t.print_success → StandsFor new t
-stands_grown kept new s t h front same_levels same_below scope nodes roots m print = record {
+stands_grown : (kept new : Kept) (s t : State) → StandsFor kept s → IsFront kept new → new.levels ≡ kept.levels → t.below ≡ s.below → new.scope ≡ scope_of t.context → new.nodes ≡ t.context.nodes → new.roots ≡ t.context.roots → new.labels ≡ t.labels → new.mode ≡ t.mode → new.print_success ≡ t.print_success → StandsFor new t
+stands_grown kept new s t h front same_levels same_below scope nodes roots labels m print = record {
   scope = scope;
   nodes = nodes;
   roots = roots;
+  labels = labels;
   levels = subst (λ (levels : List Level). AreLevels new levels t.below) (sym same_levels) (subst (λ (below : List Context). AreLevels new kept.levels below) (sym same_below) (levels_grown kept new kept.levels s.below front h.levels));
   ascend = rw same_levels h.ascend;
   mode = m;
@@ -119,10 +125,10 @@ stands_grown kept new s t h front same_levels same_below scope nodes roots m pri
 }
 
 pub stands_mode : (kept : Kept) (s : State) (m : Mode) → StandsFor kept s → StandsFor (record kept { mode = m }) (record s { mode = m })
-stands_mode kept s m h = stands_grown kept (record kept { mode = m }) s (record s { mode = m }) h (front_mode kept m kept.print_success kept.levels) refl refl h.scope h.nodes h.roots refl h.print_success
+stands_mode kept s m h = stands_grown kept (record kept { mode = m }) s (record s { mode = m }) h (front_mode kept m kept.print_success kept.levels) refl refl h.scope h.nodes h.roots h.labels refl h.print_success
 
 pub stands_printing : (kept : Kept) (s : State) (on : Bool) → StandsFor kept s → StandsFor (record kept { print_success = on }) (record s { print_success = on })
-stands_printing kept s on h = stands_grown kept (record kept { print_success = on }) s (record s { print_success = on }) h (front_mode kept kept.mode on kept.levels) refl refl h.scope h.nodes h.roots h.mode refl
+stands_printing kept s on h = stands_grown kept (record kept { print_success = on }) s (record s { print_success = on }) h (front_mode kept kept.mode on kept.levels) refl refl h.scope h.nodes h.roots h.labels h.mode refl
 
 map_added : (ds : List Definition) (d : Definition) → map binding_of (ds ++ d ∷ []) ≡ map binding_of ds ++ binding_of d ∷ []
 map_added [] d = refl
@@ -137,23 +143,23 @@ module _ (kept : Kept) (s : State) (h : StandsFor kept s) where
   pub stands_declared : (name : List ℕ) (sort : Sort) → StandsFor (declared_in kept name sort) (record s { context = with_declaration s.context name sort; mode = mode.Nothing })
   stands_declared name sort =
       stands_grown kept (declared_in kept name sort) s (record s { context = with_declaration s.context name sort; mode = mode.Nothing }) h (front_declared kept name sort) refl refl
-      (ap (λ (sc : Scope). record { declared = sc.declared ++ record { name = name; sort = sort } ∷ []; bound = sc.bound }) h.scope) h.nodes h.roots refl h.print_success
+      (ap (λ (sc : Scope). record { declared = sc.declared ++ record { name = name; sort = sort } ∷ []; bound = sc.bound }) h.scope) h.nodes h.roots h.labels refl h.print_success
 
   pub stands_defined : (name : List ℕ) (t : Sexpr) (made : Made) → take (length kept.nodes) made.nodes ≡ kept.nodes → StandsFor (defined_in kept made.nodes name made.is) (record s { context = with_definition s.context name t made; mode = mode.Nothing })
   stands_defined name t made front =
       stands_grown kept (defined_in kept made.nodes name made.is) s (record s { context = with_definition s.context name t made; mode = mode.Nothing }) h (front_defined kept made.nodes name made.is front) refl refl
-      (bound_added kept.scope s.context (record { name = name; term = t; stands = made.is }) h.scope) refl h.roots refl h.print_success
+      (bound_added kept.scope s.context (record { name = name; term = t; stands = made.is }) h.scope) refl h.roots h.labels refl h.print_success
 
-  pub stands_asserted : (t : Sexpr) (nodes : List NodeValue) (root : ℕ) → take (length kept.nodes) nodes ≡ kept.nodes → StandsFor (asserted_in kept nodes root) (record s { context = with_assertion s.context t nodes root; mode = mode.Nothing })
+  pub stands_asserted : (t : Sexpr) (nodes : List NodeValue) (root : ℕ) → take (length kept.nodes) nodes ≡ kept.nodes → StandsFor (asserted_in kept nodes root) (record s { context = with_assertion s.context t nodes root; labels = s.labels ++ None ∷ []; mode = mode.Nothing })
   stands_asserted t nodes root front =
-      stands_grown kept (asserted_in kept nodes root) s (record s { context = with_assertion s.context t nodes root; mode = mode.Nothing }) h (front_asserted kept nodes root front) refl refl
-      h.scope refl (ap (λ (ks : List ℕ). ks ++ root ∷ []) h.roots) refl h.print_success
+      stands_grown kept (asserted_in kept nodes root) s (record s { context = with_assertion s.context t nodes root; labels = s.labels ++ None ∷ []; mode = mode.Nothing }) h (front_asserted kept nodes root front) refl refl
+      h.scope refl (ap (λ (ks : List ℕ). ks ++ root ∷ []) h.roots) (ap (λ (ls : List (Option (List ℕ))). ls ++ None ∷ []) h.labels) refl h.print_success
 
   pub stands_named : (t : Sexpr) (nodes : List NodeValue) (root : ℕ) (name : List ℕ) → take (length kept.nodes) nodes ≡ kept.nodes
-      → StandsFor (named_in kept nodes root name) (record s { context = with_definition (with_assertion s.context t nodes root) name t (record { nodes = nodes; is = formula root }); mode = mode.Nothing })
+      → StandsFor (named_in kept nodes root name) (record s { context = with_definition (with_assertion s.context t nodes root) name t (record { nodes = nodes; is = formula root }); labels = s.labels ++ Some name ∷ []; mode = mode.Nothing })
   stands_named t nodes root name front =
-      stands_grown kept (named_in kept nodes root name) s (record s { context = with_definition (with_assertion s.context t nodes root) name t (record { nodes = nodes; is = formula root }); mode = mode.Nothing }) h (front_named kept nodes root name front) refl refl
-      (bound_added kept.scope s.context (record { name = name; term = t; stands = formula root }) h.scope) refl (ap (λ (ks : List ℕ). ks ++ root ∷ []) h.roots) refl h.print_success
+      stands_grown kept (named_in kept nodes root name) s (record s { context = with_definition (with_assertion s.context t nodes root) name t (record { nodes = nodes; is = formula root }); labels = s.labels ++ Some name ∷ []; mode = mode.Nothing }) h (front_named kept nodes root name front) refl refl
+      (bound_added kept.scope s.context (record { name = name; term = t; stands = formula root }) h.scope) refl (ap (λ (ks : List ℕ). ks ++ root ∷ []) h.roots) (ap (λ (ls : List (Option (List ℕ))). ls ++ Some name ∷ []) h.labels) refl h.print_success
 
   pub stands_pushed : (n : ℕ) → IsKept kept → StandsFor (pushed_in kept n) (record s { below = s.below ++ replicate n s.context; mode = mode.Nothing })
   stands_pushed n sound =
@@ -163,6 +169,7 @@ module _ (kept : Kept) (s : State) (h : StandsFor kept s) where
         scope = h.scope;
         nodes = h.nodes;
         roots = h.roots;
+        labels = h.labels;
         levels = levels_grown kept (pushed_in kept n) levels below (front_mode kept mode.Nothing kept.print_success levels) (levels_pushed kept kept.levels s.below n (amount_of kept) s.context h.levels (level_now kept s.context h.scope h.nodes h.roots));
         ascend = ascend_front levels (amount_of kept) (ascend_pushed kept.levels n (amount_of kept) sound.ascend);
         mode = refl;
@@ -174,10 +181,13 @@ module _ (kept : Kept) (s : State) (h : StandsFor kept s) where
       let c = level_at kept kept.levels s.below i level h.levels at in
       let within = level_within kept.levels i level (amount_of kept) at sound.ascend in
       let below = ascend_popped kept.levels i level (amount_of kept) at sound.ascend in
+      let count : length (get_or s.below i s.context).roots ≡ level.roots =
+      ap (λ (context : Context). length context.roots) (c.at s.context) ∙ ap (λ (roots : List ℕ). length roots) c.is.roots ∙ take_length level.roots kept.roots c.is.asserted in
       rw (← is) (record {
         scope = rw (c.at s.context) (sym c.is.scope);
         nodes = rw (c.at s.context) (sym c.is.nodes);
         roots = rw (c.at s.context) (sym c.is.roots);
+        labels = ap (take level.roots) h.labels ∙ ap (λ (m : ℕ). take m s.labels) (sym count);
         levels = levels_cut kept i level (take i kept.levels) (take i s.below) within below (levels_taken kept i kept.levels s.below h.levels);
         ascend = ascend_front (take i kept.levels) level below;
         mode = refl;
@@ -188,7 +198,7 @@ get_or_end : {A : Type 0} (xs : List A) (d : A) → get_or xs (length xs) d ≡ 
 get_or_end [] d = refl
 get_or_end (x ∷ xs) d = get_or_end xs d
 
-pub popped_none : (s : State) (n : ℕ) → n ≡ 0 → popped s n ≡ record s { mode = mode.Nothing }
-popped_none s n none =
+pub popped_none : (s : State) (n : ℕ) → n ≡ 0 → length s.labels ≡ length s.context.roots → popped s n ≡ record s { mode = mode.Nothing }
+popped_none s n none labelled =
     let is : length s.below - n ≡ length s.below = omega (arith, none) in
-    rw (is, get_or_end s.below s.context, take_own s.below) refl
+    rw (is, get_or_end s.below s.context, take_own s.below, ← labelled, take_own s.labels) refl

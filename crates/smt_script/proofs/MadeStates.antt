@@ -18,7 +18,7 @@ use Rattle.smt_script.specs.Commands.{Command, command_of}
 use Rattle.smt_script.specs.Limits.{levels_limit}
 use Rattle.smt_script.specs.Objectives.{minimized_by}
 use Rattle.smt_script.specs.Options.{OptionEffect, printing_success, no_effect, not_supported, ill_formed_value, option_effect}
-use Rattle.smt_script.specs.States.{State, Step, start_state, carried_out, is_of_sort, is_taken, sort_of, with_model, with_proof, telling, asking_for, valued_by, informed_by, after_logic, after_option, after_declaration, defined_by, after_definition, asserted_by, named_by, after_push, popped, after_pop, after_command, after_by, after, settled, IsMadeState}
+use Rattle.smt_script.specs.States.{State, Step, start_state, carried_out, is_of_sort, is_taken, sort_of, with_model, with_proof, with_core, telling, asking_for, valued_by, informed_by, after_logic, after_option, after_declaration, defined_by, after_definition, asserted, asserted_by, named_by, after_push, popped, after_pop, after_command, after_by, after, settled, IsMadeState}
 use Rattle.smt_script.specs.Informing.{information_of}
 use Rattle.smt_script.specs.declared.information.Information.{Information}
 use Rattle.smt_script.specs.declared.objective.Objective.{Objective}
@@ -82,6 +82,9 @@ module _ (s : State) (h : IsMadeState s) where
   option_made not_supported = leads_to s _ h
   option_made ill_formed_value = refuses _
 
+  asserted_made : (c : Context) (label : Option (List ℕ)) → IsContext c → LeadsWell (asserted s c label)
+  asserted_made c label k = leads_to (record s { context = c; labels = s.labels ++ label ∷ []; mode = mode.Nothing }) _ (record { context = k; below = h.below })
+
   changed_made : (c : Context) → IsContext c → LeadsWell (carried_out (record s { context = c; mode = mode.Nothing }))
   changed_made c k = leads_to (record s { context = c; mode = mode.Nothing }) _ (record { context = k; below = h.below })
 
@@ -105,7 +108,7 @@ module _ (s : State) (h : IsMadeState s) where
   definition_made name none (Some sort) t = leads_if (is_taken s.context name) _ _ (λ e. refuses _) (λ free. defined_made name sort t _ refl free)
 
   assertion_by : (t : Sexpr) (nodes : List NodeValue) (is : LoweredTerm) → lowered (scope_of s.context) s.context.nodes t ≡ Ok (record { nodes = nodes; is = is }) → LeadsWell (asserted_by s t (Ok (record { nodes = nodes; is = is })))
-  assertion_by t nodes (formula root) e = changed_made _ (asserts s.context t nodes root h.context e)
+  assertion_by t nodes (formula root) e = asserted_made _ None (asserts s.context t nodes root h.context e)
   assertion_by t nodes (numeric cases) e = refuses _
 
   assertion_made : (t : Sexpr) (made : Result Made TermRefusal) → lowered (scope_of s.context) s.context.nodes t ≡ made → LeadsWell (asserted_by s t made)
@@ -114,7 +117,7 @@ module _ (s : State) (h : IsMadeState s) where
 
   naming_by : (t : Sexpr) (name : List ℕ) (nodes : List NodeValue) (is : LoweredTerm) → lowered (scope_of s.context) s.context.nodes t ≡ Ok (record { nodes = nodes; is = is }) → LeadsWell (named_by s t name (Ok (record { nodes = nodes; is = is })))
   naming_by t name nodes (formula root) e =
-      leads_if (is_taken s.context name) _ _ (λ k. refuses _) (λ free. changed_made _ (names s.context name t nodes root h.context (free_by s.context name free) e))
+      leads_if (is_taken s.context name) _ _ (λ k. refuses _) (λ free. asserted_made _ (Some name) (names s.context name t nodes root h.context (free_by s.context name free) e))
   naming_by t name nodes (numeric cases) e = refuses _
 
   naming_made : (t : Sexpr) (name : List ℕ) (made : Result Made TermRefusal) → lowered (scope_of s.context) s.context.nodes t ≡ made → LeadsWell (named_by s t name made)
@@ -143,6 +146,11 @@ module _ (s : State) (h : IsMadeState s) where
   proof_made mode.Sat found well = refuses _
   proof_made mode.Nothing found well = refuses _
 
+  core_made : (m : Mode) (found : Result Step Refusal) → LeadsWell found → LeadsWell (with_core m found)
+  core_made mode.Unsat found well = well
+  core_made mode.Sat found well = refuses _
+  core_made mode.Nothing found well = refuses _
+
   asking_made : (found : Result Objective Refusal) → LeadsWell (asking_for s found)
   asking_made (Ok o) = leads_to s _ h
   asking_made (Err why) = refuses why
@@ -170,6 +178,7 @@ module _ (s : State) (h : IsMadeState s) where
   command_made Commands.asking_model = model_made s.mode _ (telling_made _)
   command_made (Commands.asking_values terms) = model_made s.mode _ (valued_made _)
   command_made Commands.asking_proof = proof_made s.mode _ (telling_made _)
+  command_made Commands.asking_core = core_made s.mode _ (telling_made _)
   command_made (Commands.asking_information keyword) = informed_made (information_of keyword)
   command_made (Commands.echoing text) = telling_made _
   command_made Commands.resetting_assertions = leads_to _ _ (record { context = start; below = tt })

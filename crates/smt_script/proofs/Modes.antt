@@ -14,11 +14,11 @@ use Rattle.idl_term.specs.declared.error.TermRefusal.{TermRefusal}
 use Rattle.smt_script.specs.Commands
 use Rattle.smt_script.specs.Commands.{Command, command_of, is_exiting, is_exit, terms_in, is_asking, asked_terms, asks_verdict, minimized_in, minimized}
 use Rattle.smt_script.specs.Informing.{information_of}
-use Rattle.smt_script.specs.Laws.{OnlyExitEnds, ExitIsCarriedOut, ModeIsKept, ModelNeedsSat, ValuesNeedSat, ProofNeedsUnsat, AskedIsTold}
+use Rattle.smt_script.specs.Laws.{OnlyExitEnds, ExitIsCarriedOut, ModeIsKept, ModelNeedsSat, ValuesNeedSat, ProofNeedsUnsat, CoreNeedsUnsat, AskedIsTold}
 use Rattle.smt_script.specs.Limits.{levels_limit}
 use Rattle.smt_script.specs.Objectives.{minimized_by}
 use Rattle.smt_script.specs.Options.{OptionEffect, printing_success, no_effect, not_supported, ill_formed_value, option_effect}
-use Rattle.smt_script.specs.States.{State, Step, with_model, with_proof, telling, asking_for, valued_by, informed_by, terms_refusal, after_option, is_taken, sort_of, after_declaration, is_of_sort, defined_by, after_definition, asserted_by, named_by, levels_of, after_by, after}
+use Rattle.smt_script.specs.States.{State, Step, with_model, with_proof, with_core, telling, asking_for, valued_by, informed_by, terms_refusal, after_option, is_taken, sort_of, after_declaration, is_of_sort, defined_by, after_definition, asserted_by, named_by, levels_of, after_by, after}
 use Rattle.smt_script.specs.declared.error.Refusal.{Refusal}
 use Rattle.smt_script.specs.declared.error.Refusal.TheVariants.{AlreadyDeclared, LogicNotSupported, TooManyNames, TooManyLevels, PopBelowTheBottom}
 use Rattle.smt_script.specs.declared.information.Information.{Information}
@@ -29,14 +29,15 @@ use Rattle.smt_script.specs.declared.state.Mode.TheVariants as mode
 use Rattle.smt_script.specs.declared.state.Notice.{Notice}
 use Rattle.smt_script.specs.declared.state.Question.TheVariants.{CheckSat, Minimize}
 use Rattle.smt_script.specs.declared.objective.Objective.{Objective}
-use Rattle.smt_script.specs.declared.state.Notice.TheVariants.{Success, Unsupported, Model, Values, Proof, Inform, Echo}
+use Rattle.smt_script.specs.declared.state.Notice.TheVariants.{Success, Unsupported, Model, Values, Proof, Core, Inform, Echo}
 
 -- what may be told in a state of this mode, of a command that asks this
 record MayTell (s : State) (command : Command) (notice : Notice) : Type 0 where
   model : notice ≡ Model → s.mode ≡ mode.Sat
   values : notice ≡ Values → (s.mode ≡ mode.Sat) × (terms_refusal (scope_of s.context) s.context.nodes (terms_in (Ok command)) ≡ None)
   proof : notice ≡ Proof → s.mode ≡ mode.Unsat
-  asked : is_asking (Ok command) ≡ false → (notice ≢ Model) × ((notice ≢ Values) × (notice ≢ Proof))
+  core : notice ≡ Core → s.mode ≡ mode.Unsat
+  asked : is_asking (Ok command) ≡ false → (notice ≢ Model) × ((notice ≢ Values) × ((notice ≢ Proof) × (notice ≢ Core)))
 
 abbrev MayAnswer : State → Command → Effect → Type 0
 MayAnswer s command (Tell notice) = MayTell s command notice
@@ -67,16 +68,16 @@ module _ (s : State) (command : Command) where
   keeps_unless false found why h = h
 
   success_told : (t : State) → MayTell t command Success
-  success_told t = record { model = λ e. absurd cc; values = λ e. absurd cc; proof = λ e. absurd cc; asked = λ e. ((λ f. absurd cc), (λ f. absurd cc, λ f. absurd cc)) }
+  success_told t = record { model = λ e. absurd cc; values = λ e. absurd cc; proof = λ e. absurd cc; core = λ e. absurd cc; asked = λ e. ((λ f. absurd cc), (λ f. absurd cc, (λ f. absurd cc, λ f. absurd cc))) }
 
   unsupported_told : (t : State) → MayTell t command Unsupported
-  unsupported_told t = record { model = λ e. absurd cc; values = λ e. absurd cc; proof = λ e. absurd cc; asked = λ e. ((λ f. absurd cc), (λ f. absurd cc, λ f. absurd cc)) }
+  unsupported_told t = record { model = λ e. absurd cc; values = λ e. absurd cc; proof = λ e. absurd cc; core = λ e. absurd cc; asked = λ e. ((λ f. absurd cc), (λ f. absurd cc, (λ f. absurd cc, λ f. absurd cc))) }
 
   inform_told : (t : State) (information : Information) → MayTell t command (Inform information)
-  inform_told t information = record { model = λ e. absurd cc; values = λ e. absurd cc; proof = λ e. absurd cc; asked = λ e. ((λ f. absurd cc), (λ f. absurd cc, λ f. absurd cc)) }
+  inform_told t information = record { model = λ e. absurd cc; values = λ e. absurd cc; proof = λ e. absurd cc; core = λ e. absurd cc; asked = λ e. ((λ f. absurd cc), (λ f. absurd cc, (λ f. absurd cc, λ f. absurd cc))) }
 
   echo_told : (t : State) → MayTell t command Echo
-  echo_told t = record { model = λ e. absurd cc; values = λ e. absurd cc; proof = λ e. absurd cc; asked = λ e. ((λ f. absurd cc), (λ f. absurd cc, λ f. absurd cc)) }
+  echo_told t = record { model = λ e. absurd cc; values = λ e. absurd cc; proof = λ e. absurd cc; core = λ e. absurd cc; asked = λ e. ((λ f. absurd cc), (λ f. absurd cc, (λ f. absurd cc, λ f. absurd cc))) }
 
   -- carried out, with no mode any more
   keeps_changed : (t : State) → t.mode ≡ mode.Nothing → KeepsBy s command (Ok (record { state = t; effect = Tell Success }))
@@ -138,16 +139,24 @@ module _ (s : State) (command : Command) where
   with_proof_keeps mode.Sat found h = tt
   with_proof_keeps mode.Nothing found h = tt
 
+  with_core_keeps : (m : Mode) (found : Result Step Refusal) → (m ≡ mode.Unsat → KeepsBy s command found) → KeepsBy s command (with_core m found)
+  with_core_keeps mode.Unsat found h = h refl
+  with_core_keeps mode.Sat found h = tt
+  with_core_keeps mode.Nothing found h = tt
+
 model_told : (s : State) → s.mode ≡ mode.Sat → MayTell s Commands.asking_model Model
-model_told s e = record { model = λ f. e; values = λ f. absurd cc; proof = λ f. absurd cc; asked = λ f. absurd cc }
+model_told s e = record { model = λ f. e; values = λ f. absurd cc; proof = λ f. absurd cc; core = λ f. absurd cc; asked = λ f. absurd cc }
 
 proof_told : (s : State) → s.mode ≡ mode.Unsat → MayTell s Commands.asking_proof Proof
-proof_told s e = record { model = λ f. absurd cc; values = λ f. absurd cc; proof = λ f. e; asked = λ f. absurd cc }
+proof_told s e = record { model = λ f. absurd cc; values = λ f. absurd cc; proof = λ f. e; core = λ f. absurd cc; asked = λ f. absurd cc }
+
+core_told : (s : State) → s.mode ≡ mode.Unsat → MayTell s Commands.asking_core Core
+core_told s e = record { model = λ f. absurd cc; values = λ f. absurd cc; proof = λ f. absurd cc; core = λ f. e; asked = λ f. absurd cc }
 
 values_keep : (s : State) (terms : Items) (found : Option TermRefusal) → terms_refusal (scope_of s.context) s.context.nodes terms ≡ found → s.mode ≡ mode.Sat → KeepsBy s (Commands.asking_values terms) (valued_by s found)
 values_keep s terms (Some why) e sat = tt
 values_keep s terms None e sat =
-    keeps_told s (Commands.asking_values terms) Values (record { model = λ f. absurd cc; values = λ f. (sat, e); proof = λ f. absurd cc; asked = λ f. absurd cc })
+    keeps_told s (Commands.asking_values terms) Values (record { model = λ f. absurd cc; values = λ f. (sat, e); proof = λ f. absurd cc; core = λ f. absurd cc; asked = λ f. absurd cc })
 
 minimizing_keeps : (s : State) (term : Sexpr) (found : Result Objective Refusal) → minimized_by (lowered (scope_of s.context) s.context.nodes term) ≡ found → KeepsBy s (Commands.minimizing term) (asking_for s found)
 minimizing_keeps s term (Ok o) e = record { mode = inr (refl, refl); answer = (term, refl, e) }
@@ -168,6 +177,7 @@ command_keeps s (Commands.minimizing term) = minimizing_keeps s term _ refl
 command_keeps s Commands.asking_model = with_model_keeps s _ s.mode _ (λ e. keeps_told s Commands.asking_model Model (model_told s e))
 command_keeps s (Commands.asking_values terms) = with_model_keeps s _ s.mode _ (λ e. values_keep s terms _ refl e)
 command_keeps s Commands.asking_proof = with_proof_keeps s _ s.mode _ (λ e. keeps_told s Commands.asking_proof Proof (proof_told s e))
+command_keeps s Commands.asking_core = with_core_keeps s _ s.mode _ (λ e. keeps_told s Commands.asking_core Core (core_told s e))
 command_keeps s (Commands.asking_information keyword) = informed_keeps s _ (information_of keyword)
 command_keeps s (Commands.echoing text) = keeps_told s _ Echo (echo_told s _ s)
 command_keeps s Commands.resetting_assertions = keeps_changed s _ _ refl
@@ -220,14 +230,20 @@ proof_needs_unsat s x step e f =
     let k = kept s x step e in
     (tells s k.command step Proof k.keeps f).proof refl
 
+pub core_needs_unsat : CoreNeedsUnsat
+core_needs_unsat s x step e f =
+    let k = kept s x step e in
+    (tells s k.command step Core k.keeps f).core refl
+
 module _ (s : State) (x : Sexpr) (step : Step) (k : Kept s (command_of x) step) (free : asks_verdict x ≡ false) where
   not_asking : is_asking (Ok k.command) ≡ false
   not_asking = sym (ap is_asking k.is) ∙ free
 
-  told_not : (step.effect ≡ Tell Model) ⊎ ((step.effect ≡ Tell Values) ⊎ (step.effect ≡ Tell Proof)) → ⊥
+  told_not : (step.effect ≡ Tell Model) ⊎ ((step.effect ≡ Tell Values) ⊎ ((step.effect ≡ Tell Proof) ⊎ (step.effect ≡ Tell Core))) → ⊥
   told_not (inl e) = ((tells s k.command step Model k.keeps e).asked not_asking).0 refl
   told_not (inr (inl e)) = ((tells s k.command step Values k.keeps e).asked not_asking).1.0 refl
-  told_not (inr (inr e)) = ((tells s k.command step Proof k.keeps e).asked not_asking).1.1 refl
+  told_not (inr (inr (inl e))) = ((tells s k.command step Proof k.keeps e).asked not_asking).1.1.0 refl
+  told_not (inr (inr (inr e))) = ((tells s k.command step Core k.keeps e).asked not_asking).1.1.1 refl
 
 pub asked_is_told : AskedIsTold
 asked_is_told s x step e free = told_not s x step (kept s x step e) free

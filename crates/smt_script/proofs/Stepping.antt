@@ -1,5 +1,5 @@
 -- One command on what is kept is the command on the state.
-use Rattle.std.proofs.Common.{refl, sym, ap, subst, arith, ◌∙◌, ◌≡◌, ◌<◌, ◌≤◌, ◌+◌, ◌-◌, ◌++◌, ◌||◌, ℕ, List, length, take, replicate, Some, None, slice_get, Bool, true, false, Option, Result, Ok, Err, nat_le, nat_lt}
+use Rattle.std.proofs.Common.{refl, sym, ap, subst, arith, ◌∙◌, ◌≡◌, ◌<◌, ◌≤◌, ◌+◌, ◌-◌, ◌++◌, ◌||◌, ℕ, List, [], ◌∷◌, length, take, replicate, Some, None, slice_get, Bool, true, false, Option, Result, Ok, Err, nat_le, nat_lt}
 use Rattle.std.specs.Prelude.{if◌then◌else◌}
 use Rattle.std.proofs.lemmas.Bool.Decides.{nat_tests}
 use Rattle.idl_node.specs.Nodes.{NodeValue}
@@ -203,7 +203,7 @@ module _ (kept : Kept) (s : State) (h : StandsFor kept s) where
     pub assertion_steps : (nodes : List NodeValue) (root : ℕ) → only_formula (lowered kept.scope kept.nodes t) ≡ Ok (record { nodes = nodes; is = formula root }) → take (length kept.nodes) nodes ≡ kept.nodes
         → Agrees (asserted_by s t (lowered (scope_of s.context) s.context.nodes t)) (asserted_in kept nodes root) (Ok (Tell Success))
     assertion_steps nodes root e front = (
-      record s { context = with_assertion s.context t nodes root; mode = mode.Nothing },
+      record s { context = with_assertion s.context t nodes root; labels = s.labels ++ None ∷ []; mode = mode.Nothing },
       ap (asserted_by s t) (term_same t ∙ made_formula (lowered kept.scope kept.nodes t) (record { nodes = nodes; is = formula root }) e),
       stands_asserted kept s h t nodes root front,
     )
@@ -221,7 +221,7 @@ module _ (kept : Kept) (s : State) (h : StandsFor kept s) where
 
         pub naming_steps : false ≡ (is_reserved name || is_known kept.scope name) → take (length kept.nodes) nodes ≡ kept.nodes → Agrees (named_by s t name (lowered (scope_of s.context) s.context.nodes t)) (named_in kept nodes root name) (Ok (Tell Success))
         naming_steps free front = (
-          record s { context = with_definition (with_assertion s.context t nodes root) name t (record { nodes = nodes; is = formula root }); mode = mode.Nothing },
+          record s { context = with_definition (with_assertion s.context t nodes root) name t (record { nodes = nodes; is = formula root }); labels = s.labels ++ Some name ∷ []; mode = mode.Nothing },
           naming_made ∙ passed (is_taken s.context name) _ _ (taken_same name false free),
           stands_named kept s h t nodes root name front,
         )
@@ -250,9 +250,12 @@ module _ (kept : Kept) (s : State) (h : StandsFor kept s) where
       let test : nat_le n (length s.below) ≡ true = grind (arith, nat_tests, same) in
       chosen (nat_le n (length s.below)) _ _ test
 
-  pub pop_stays : (n : ℕ) → n ≡ 0 → Agrees (after_pop s n) (record kept { mode = mode.Nothing }) (Ok (Tell Success))
-  pop_stays n zero =
-      (record s { mode = mode.Nothing }, pop_is n (omega (arith, zero)) ∙ ap carried_out (popped_none s n zero), stands_mode kept s mode.Nothing h)
+  labelled_same : IsKept kept → length s.labels ≡ length s.context.roots
+  labelled_same sound = ap (λ (labels : List (Option (List ℕ))). length labels) (sym h.labels) ∙ sound.labelled ∙ ap (λ (roots : List ℕ). length roots) h.roots
+
+  pub pop_stays : (n : ℕ) → IsKept kept → n ≡ 0 → Agrees (after_pop s n) (record kept { mode = mode.Nothing }) (Ok (Tell Success))
+  pop_stays n sound zero =
+      (record s { mode = mode.Nothing }, pop_is n (omega (arith, zero)) ∙ ap carried_out (popped_none s n zero (labelled_same sound)), stands_mode kept s mode.Nothing h)
 
   pub pop_steps : (n i : ℕ) (level : Level) → IsKept kept → n ≤ length kept.levels → i ≡ length kept.levels - n → slice_get kept.levels i ≡ Some level → Agrees (after_pop s n) (cut_to kept i level) (Ok (Tell Success))
   pop_steps n i level sound few place at =

@@ -37,6 +37,8 @@ pub data Command : Type 0 where
   -- (get-model), (get-proof)
   asking_model : Command
   asking_proof : Command
+  -- (get-unsat-core)
+  asking_core : Command
   -- (get-value (t ..))
   asking_values : (terms : Items) → Command
   -- (get-info k)
@@ -80,9 +82,10 @@ asking_command text =
     else (if bytes_eq text (codes "get-model") then Some name.GetModel
     else (if bytes_eq text (codes "get-value") then Some name.GetValue
     else (if bytes_eq text (codes "get-proof") then Some name.GetProof
+    else (if bytes_eq text (codes "get-unsat-core") then Some name.GetUnsatCore
     else (if bytes_eq text (codes "get-info") then Some name.GetInfo
     else (if bytes_eq text (codes "echo") then Some name.Echo
-    else None))))))
+    else None)))))))
 
 abbrev pub or_else : Option CommandName → Option CommandName → Option CommandName
 or_else (Some found) other = Some found
@@ -99,8 +102,7 @@ is_unsupported text =
     else (if bytes_eq text (codes "get-assignment") then true
     else (if bytes_eq text (codes "get-option") then true
     else (if bytes_eq text (codes "check-sat-assuming") then true
-    else (if bytes_eq text (codes "get-unsat-assumptions") then true
-    else bytes_eq text (codes "get-unsat-core")))))
+    else bytes_eq text (codes "get-unsat-assumptions"))))
 
 -- the commands that are left out
 unfoldable pub left_out_of : List ℕ → Option LeftOutCommand
@@ -242,6 +244,7 @@ command_by name.Minimize arguments = minimize_command arguments
 command_by name.GetModel arguments = alone asking_model arguments
 command_by name.GetValue arguments = values_command arguments
 command_by name.GetProof arguments = alone asking_proof arguments
+command_by name.GetUnsatCore arguments = alone asking_core arguments
 command_by name.GetInfo arguments = information_command arguments
 command_by name.Echo arguments = echo_command arguments
 command_by name.ResetAssertions arguments = alone resetting_assertions arguments
@@ -305,6 +308,7 @@ abbrev pub is_asking : Result Command Refusal → Bool
 is_asking (Ok asking_model) = true
 is_asking (Ok (asking_values terms)) = true
 is_asking (Ok asking_proof) = true
+is_asking (Ok asking_core) = true
 is_asking _ = false
 
 -- the command asks for a model, for values or for a proof

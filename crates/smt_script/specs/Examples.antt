@@ -1,5 +1,5 @@
 -- The commands and states of the worked examples.
-use Rattle.std.specs.Prelude.{ℕ, List, [], ◌∷◌, codes, ℤ, pos, Result, Ok}
+use Rattle.std.specs.Prelude.{ℕ, List, [], ◌∷◌, codes, ℤ, pos, Some, Result, Ok}
 use Rattle.smt_lex.specs.Symbols.{symbol_content}
 use Rattle.smt_lex.specs.declared.token.TokenKind.TheVariants.{Keyword}
 use Rattle.smt_sexpr.specs.Tree.{Sexpr, leaf}
@@ -64,7 +64,7 @@ context_n = record context_p {
 }
 
 abbrev pub with_n : State
-with_n = in_context context_n
+with_n = record (in_context context_n) { labels = Some (codes "n") ∷ [] }
 
 -- (declare-const p Bool) and (push 2)
 abbrev pub with_levels : State

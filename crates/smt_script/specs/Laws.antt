@@ -8,7 +8,7 @@ use Rattle.smt_script.specs.States.{State, start_state, Step, IsMadeState, after
 use Rattle.smt_script.specs.declared.objective.Objective.{Objective}
 use Rattle.smt_script.specs.declared.state.Effect.TheVariants.{Ask, Exit, Tell}
 use Rattle.smt_script.specs.declared.state.Mode.TheVariants as mode
-use Rattle.smt_script.specs.declared.state.Notice.TheVariants.{Model, Values, Proof}
+use Rattle.smt_script.specs.declared.state.Notice.TheVariants.{Model, Values, Proof, Core}
 use Rattle.smt_script.specs.declared.state.Question.TheVariants.{Minimize}
 use Rattle.smt_script.specs.declared.state.Satisfiability.{Satisfiability}
 
@@ -40,7 +40,8 @@ ModeIsKept =
     (s : State) (x : Sexpr) (step : Step) → after s x ≡ Ok step
     → (step.state.mode ≡ mode.Nothing) ⊎ ((step.state.mode ≡ s.mode) × (step.state.context ≡ s.context))
 
--- a model is told behind a `sat` alone, and so are values, of terms that are all accepted; a proof is told behind an `unsat` alone
+-- a model is told behind a `sat` alone, and so are values, of terms that are all accepted; a proof is told behind an `unsat` alone,
+-- and so is a core
 abbrev pub ModelNeedsSat : Type 0
 ModelNeedsSat =
     (s : State) (x : Sexpr) (step : Step) → after s x ≡ Ok step → step.effect ≡ Tell Model
@@ -57,6 +58,11 @@ ProofNeedsUnsat =
     (s : State) (x : Sexpr) (step : Step) → after s x ≡ Ok step → step.effect ≡ Tell Proof
     → step.state.mode ≡ mode.Unsat
 
+abbrev pub CoreNeedsUnsat : Type 0
+CoreNeedsUnsat =
+    (s : State) (x : Sexpr) (step : Step) → after s x ≡ Ok step → step.effect ≡ Tell Core
+    → step.state.mode ≡ mode.Unsat
+
 -- where the least value of an objective is asked for, the command is a `minimize`, and its term is worth the objective
 abbrev pub MinimizedIsWorth : Type 0
 MinimizedIsWorth =
@@ -67,4 +73,4 @@ MinimizedIsWorth =
 abbrev pub AskedIsTold : Type 0
 AskedIsTold =
     (s : State) (x : Sexpr) (step : Step) → after s x ≡ Ok step → asks_verdict x ≡ false
-    → ¬ ((step.effect ≡ Tell Model) ⊎ ((step.effect ≡ Tell Values) ⊎ (step.effect ≡ Tell Proof)))
+    → ¬ ((step.effect ≡ Tell Model) ⊎ ((step.effect ≡ Tell Values) ⊎ ((step.effect ≡ Tell Proof) ⊎ (step.effect ≡ Tell Core))))

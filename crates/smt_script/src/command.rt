@@ -42,6 +42,7 @@ pub enum Request<'a> {
     /// The list of the terms.
     Values(SexprId),
     Proof,
+    Core,
     /// A keyword.
     Information(&'a [u8]),
     /// A text in its quotation marks.
@@ -321,6 +322,7 @@ fn command_by<'a>(
         CommandName::GetModel => alone(Request::Model, arguments),
         CommandName::GetValue => values_command(sexprs, arguments),
         CommandName::GetProof => alone(Request::Proof, arguments),
+        CommandName::GetUnsatCore => alone(Request::Core, arguments),
         CommandName::GetInfo => information_command(sexprs, arguments),
         CommandName::Echo => echo_command(sexprs, arguments),
         CommandName::ResetAssertions => alone(Request::ResetAssertions, arguments),

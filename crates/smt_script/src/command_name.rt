@@ -21,6 +21,7 @@ pub enum CommandName {
     GetModel,
     GetValue,
     GetProof,
+    GetUnsatCore,
     GetInfo,
     Echo,
     ResetAssertions,
@@ -87,6 +88,8 @@ fn asking_command(name: &[u8]) -> Option<CommandName>
         Some(CommandName::GetValue)
     } else if name == b"get-proof".as_slice() {
         Some(CommandName::GetProof)
+    } else if name == b"get-unsat-core".as_slice() {
+        Some(CommandName::GetUnsatCore)
     } else if name == b"get-info".as_slice() {
         Some(CommandName::GetInfo)
     } else if name == b"echo".as_slice() {
@@ -119,7 +122,6 @@ pub fn is_unsupported(name: &[u8]) -> bool
         || name == b"get-option".as_slice()
         || name == b"check-sat-assuming".as_slice()
         || name == b"get-unsat-assumptions".as_slice()
-        || name == b"get-unsat-core".as_slice()
 }
 
 /// The command that is left out, where the symbol names one.

@@ -36,6 +36,8 @@ pub enum Refusal {
     NoModel,
     /// The last verdict isn't `unsat`, or something was changed since.
     NoProof,
+    /// As for a proof: there is no core to tell.
+    NoCore,
     /// What is asked to be least may have no best value within 2^60. No command of a state is refused for this: the question is,
     /// by whoever makes the problem of the assertions.
     ObjectiveTooLarge,

@@ -8,7 +8,7 @@ ghost use Rattle.smt_sexpr.specs.Shapes.{symbol, list_of, form};
 ghost use Rattle.smt_script.specs.Examples.{keyword, written, no_parameters, declares, asserts_p, named, with_x, with_p, context_p, context_n, with_n, with_levels, with_n_on_top, minimizes, minimizing};
 ghost use Rattle.smt_script.specs.States.{start_state, after, carried_out};
 ghost use Rattle.smt_script.specs.declared.error.LeftOutCommand.TheVariants.{Parameters, Sort, Ite, DefineSort};
-ghost use Rattle.smt_script.specs.declared.error.Refusal.TheVariants.{UnknownCommand, IllFormedCommand, LogicNotSupported, AlreadyDeclared, TooManyLevels, PopBelowTheBottom, NoModel, LeftOut, Term};
+ghost use Rattle.smt_script.specs.declared.error.Refusal.TheVariants.{UnknownCommand, IllFormedCommand, LogicNotSupported, AlreadyDeclared, TooManyLevels, PopBelowTheBottom, NoModel, NoCore, LeftOut, Term};
 ghost use Rattle.smt_script.specs.declared.state.Effect.TheVariants.{Ask, Exit, Tell};
 ghost use Rattle.smt_script.specs.declared.state.Question.TheVariants.{CheckSat};
 ghost use Rattle.smt_script.specs.declared.state.Notice.TheVariants.{Success, Unsupported};
@@ -110,6 +110,7 @@ pub fn worked_commands()
     ensures unknown { after start_state (form (codes "frob") []) ≡ Err UnknownCommand }
     ensures no_list { after start_state (numeral (codes "5")) ≡ Err IllFormedCommand }
     ensures no_model { after start_state (form (codes "get-model") []) ≡ Err NoModel }
+    ensures no_core { after with_n (form (codes "get-unsat-core") []) ≡ Err NoCore }
     ensures no_terms { after start_state (form (codes "get-value") (list_of [] ∷ [])) ≡ Err IllFormedCommand }
     ensures left_out { after start_state
         (form (codes "define-sort") (symbol (codes "A") ∷ no_parameters ∷ symbol (codes "Int") ∷ []))

@@ -1,5 +1,5 @@
 //! Laws of the definitions alone.
-ghost use Rattle.smt_script.specs.Laws.{StartMade, StepMade, SettledMade, OnlyExitEnds, ExitIsCarriedOut, ModeIsKept, ModelNeedsSat, ValuesNeedSat, ProofNeedsUnsat, AskedIsTold, MinimizedIsWorth};
+ghost use Rattle.smt_script.specs.Laws.{StartMade, StepMade, SettledMade, OnlyExitEnds, ExitIsCarriedOut, ModeIsKept, ModelNeedsSat, ValuesNeedSat, ProofNeedsUnsat, CoreNeedsUnsat, AskedIsTold, MinimizedIsWorth};
 
 use idl_linear::linear_law;
 use idl_term::{context_law, lowered_law};
@@ -33,5 +33,6 @@ pub fn mode_law()
     ensures model { ModelNeedsSat }
     ensures values { ValuesNeedSat }
     ensures proof { ProofNeedsUnsat }
+    ensures core { CoreNeedsUnsat }
     ensures asked { AskedIsTold }
 {}

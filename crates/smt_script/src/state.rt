@@ -1,5 +1,5 @@
 //! The state after the commands.
-ghost use Rattle.std.specs.Prelude.{◌≡◌, ◌≤◌, ◌<◌, ℕ, length, [], false, Some, slice_get, IfOk, OnErr, Err, Option, Result};
+ghost use Rattle.std.specs.Prelude.{◌≡◌, ◌≤◌, ◌<◌, ℕ, length, [], false, Some, slice_get, slice_index_or, None, IfOk, OnErr, Err, Option, Result};
 ghost use Rattle.smt_sexpr.specs.Tree.{Sexpr, Items, list};
 ghost use Rattle.smt_sexpr.specs.Table.{Means, HasMeaning};
 ghost use Rattle.stn_core.specs.Named.{AreWithinLimit};
@@ -11,10 +11,10 @@ ghost use Rattle.idl_term.specs.declared.error.TermRefusal.{TermRefusal};
 ghost use Rattle.smt_script.specs.Commands.{Command};
 ghost use Rattle.smt_script.specs.code.Kept.{StandsFor, Steps, nothing_kept, cut_to};
 ghost use Rattle.smt_script.specs.Options.{option_effect};
-ghost use Rattle.smt_script.specs.code.Shapes.{ValueIs, HasValue, IsSignature, HasSignature, CountIs, CommandIs, Agrees, Carries};
-ghost use Rattle.smt_script.specs.States.{State as Meaning, start_state, after_logic, after_option, sort_of, after_declaration, after_definition, after_assertion, after_naming, after_push, after_pop, with_model, with_proof, telling, after_minimizing, after_values, informed_by, after_by, after, settled, IsMadeState};
+ghost use Rattle.smt_script.specs.code.Shapes.{shown_name, ValueIs, HasValue, IsSignature, HasSignature, CountIs, CommandIs, Agrees, Carries};
+ghost use Rattle.smt_script.specs.States.{State as Meaning, start_state, after_logic, after_option, sort_of, after_declaration, after_definition, after_assertion, after_naming, after_push, after_pop, with_model, with_proof, with_core, telling, after_minimizing, after_values, informed_by, after_by, after, settled, IsMadeState};
 ghost use Rattle.smt_script.specs.Informing.{information_of};
-ghost use Rattle.smt_script.specs.declared.state.Notice.TheVariants.{Model, Proof};
+ghost use Rattle.smt_script.specs.declared.state.Notice.TheVariants.{Model, Proof, Core};
 ghost use Rattle.smt_script.specs.code.TermValues.{IsAccepted, IsRefused, IsValue};
 ghost use Rattle.smt_script.specs.declared.error.Refusal.{Refusal as Why};
 ghost use Rattle.smt_script.specs.declared.state.Level.{Level as Before};
@@ -51,6 +51,8 @@ pub enum Notice {
     Values,
     /// Why the assertions have no solution.
     Proof,
+    /// The names of assertions that have no solution together.
+    Core,
     Inform(Information),
     /// The text that was given ([`crate::echoed_text`]).
     Echo,
@@ -111,13 +113,17 @@ pub struct State<'a> {
     nodes: Nodes,
     // the number of each assertion's node, in order
     roots: Vec<u32>,
+    // its name, where it has one
+    labels: Vec<Option<&'a [u8]>>,
     levels: Vec<Level>,
     mode: Mode,
     print_success: bool,
 }
 
 impl<'a> Model for State<'a> {
+    ghost use Rattle.std.specs.Prelude.{map};
     ghost use Rattle.smt_script.specs.code.Kept.{Kept, IsKept};
+    ghost use Rattle.smt_script.specs.code.Shapes.{shown_name};
 
     ghost Value = { Kept };
 
@@ -125,6 +131,7 @@ impl<'a> Model for State<'a> {
       scope = s.scope;
       nodes = s.nodes;
       roots = s.roots.items;
+      labels = map shown_name s.labels.items;
       levels = s.levels.items;
       mode = s.mode;
       print_success = s.print_success;
@@ -134,6 +141,7 @@ impl<'a> Model for State<'a> {
       scope = s.scope;
       nodes = s.nodes;
       roots = s.roots.items;
+      labels = map shown_name s.labels.items;
       levels = s.levels.items;
       mode = s.mode;
       print_success = s.print_success;
@@ -150,6 +158,7 @@ impl<'a> State<'a> {
             scope: Scope::new(alloc),
             nodes: Nodes::new(alloc),
             roots: Vec::new(alloc),
+            labels: Vec::new(alloc),
             levels: Vec::new(alloc),
             mode: Mode::Nothing,
             print_success: false,
@@ -256,8 +265,10 @@ impl<'a> State<'a> {
         ensures err { OnErr result (self.new ≡ self.old) }
     {
         self.roots.reserve(1)?;
+        self.labels.reserve(1)?;
         let root = lower_formula(self.alloc, sexprs, term, &self.scope, &mut self.nodes)?;
         self.roots.push_reserved(root);
+        self.labels.push_reserved(None);
         self.mode = Mode::Nothing;
         Ok(SUCCESS)
     }
@@ -275,6 +286,7 @@ impl<'a> State<'a> {
         ensures err { OnErr result (self.new ≡ self.old) }
     {
         self.roots.reserve(1)?;
+        self.labels.reserve(1)?;
         let before = self.nodes.len();
         let root = lower_formula(self.alloc, sexprs, term, &self.scope, &mut self.nodes)?;
         if is_taken(&self.scope, name) {
@@ -284,6 +296,7 @@ impl<'a> State<'a> {
         match self.scope.define(name, Lowered::Truth(root)) {
             Ok(()) => {
                 self.roots.push_reserved(root);
+                self.labels.push_reserved(Some(name));
                 self.mode = Mode::Nothing;
                 Ok(SUCCESS)
             }
@@ -327,6 +340,7 @@ impl<'a> State<'a> {
         self.scope.cut(level.names, level.defined);
         self.nodes.cut(level.nodes);
         self.roots.truncate(level.roots);
+        self.labels.truncate(level.roots);
         self.levels.truncate(left);
         self.mode = Mode::Nothing;
     }
@@ -357,6 +371,7 @@ impl<'a> State<'a> {
         self.scope.cut(0, 0);
         self.nodes.cut(0);
         self.roots.truncate(0);
+        self.labels.truncate(0);
         self.levels.truncate(0);
         self.mode = Mode::Nothing;
         self.print_success = print_success;
@@ -407,6 +422,17 @@ impl<'a> State<'a> {
         match self.mode {
             Mode::Unsat => Ok(Effect::Tell(Notice::Proof)),
             _ => Err(ScriptError::Refused(Refusal::NoProof)),
+        }
+    }
+
+    /// `get-unsat-core`.
+    fn ask_core(&self) -> Result<Effect, ScriptError>
+        ensures { (s : Meaning) → StandsFor self.now s
+            → Agrees (with_core s.mode (telling s Core)) self.now result }
+    {
+        match self.mode {
+            Mode::Unsat => Ok(Effect::Tell(Notice::Core)),
+            _ => Err(ScriptError::Refused(Refusal::NoCore)),
         }
     }
 
@@ -461,6 +487,7 @@ impl<'a> State<'a> {
             Request::Model => self.ask_model(),
             Request::Values(terms) => self.ask_values(sexprs, terms),
             Request::Proof => self.ask_proof(),
+            Request::Core => self.ask_core(),
             Request::Information(keyword) => self.ask_information(keyword),
             Request::Echo(_) => Ok(Effect::Tell(Notice::Echo)),
             Request::ResetAssertions => {
@@ -561,6 +588,16 @@ impl<'a> State<'a> {
         ensures { result.now ≡ self.now.roots }
     {
         &self.roots
+    }
+
+    /// The name of the assertion of this number, from 0, where it has one. It takes no memory.
+    pub fn label(&self, number: usize) -> Option<&[u8]>
+        ensures { shown_name result ≡ slice_index_or self.now.labels number None }
+    {
+        match self.labels.get(number) {
+            Some(label) => *label,
+            None => None,
+        }
     }
 
     /// Whether `success` is to be printed.

@@ -1,9 +1,11 @@
 -- Entries and their lemmas as a version of certificates shows them.
-use Rattle.std.specs.Prelude.{List, map, Option, Some, None}
+use Rattle.std.specs.Prelude.{◌≡◌, ℕ, List, map, Option, Some, None}
 use Rattle.stn_core.specs.declared.literal.Literal.{Literal}
 use Rattle.refute_tree.specs.declared.lemma.Lemma.{Lemma}
 use Rattle.refute_tree.specs.Lengths.{lengthened_lemma, shortened_lemma}
 use Rattle.stn_core.specs.declared.named.NamedValue.{NamedValue}
+use Rattle.idl_node.specs.Nodes.{NodeValue}
+use Rattle.unsat_cores.specs.Cores.{is_cited_root}
 use Rattle.stn_core.specs.declared.problem.Problem.{Problem}
 use Rattle.cert_text.specs.declared.entry.Entry.{Entry}
 use Rattle.cert_text.specs.declared.entry.Entry.TheVariants.{Sat, Unsat, Best, Unbounded}
@@ -40,3 +42,8 @@ schedule_shown given (Sat schedule) = Some schedule
 schedule_shown given (Unsat lemmas) = None
 schedule_shown given (Best m schedule lemmas) = Some schedule
 schedule_shown given (Unbounded values set) = given
+
+-- the same roots of any are cited
+abbrev pub CiteSame : List Lemma → List Lemma → Type 0
+CiteSame lemmas others =
+    (nodes : List NodeValue) (roots : List ℕ) (r : ℕ) → is_cited_root nodes roots lemmas r ≡ is_cited_root nodes roots others r

@@ -77,6 +77,7 @@ pub record MayTell (s : State) (x : Sexpr) (n : Notice) : Type 0 where
   pub values : n ≡ notice.Values → (s.mode ≡ mode.Sat)
       × (terms_refusal (scope_of s.context) s.context.nodes (asked_terms x) ≡ None)
   pub proof : n ≡ notice.Proof → s.mode ≡ mode.Unsat
+  pub core : n ≡ notice.Core → s.mode ≡ mode.Unsat
 
 -- ready to go on
 pub record IsReady (p : Session) : Type 0 where

@@ -1,5 +1,5 @@
 -- What the code keeps of a state, which has no terms. These are words of the code's contracts, and no part of the meaning.
-use Rattle.std.specs.Prelude.{◌≡◌, ℕ, ◌≤◌, List, [], ◌∷◌, ◌++◌, length, take, Bool, false, Ok}
+use Rattle.std.specs.Prelude.{◌≡◌, ℕ, ◌≤◌, List, [], ◌∷◌, ◌++◌, length, take, Bool, false, Option, Ok}
 use Rattle.smt_sexpr.specs.Tree.{Sexpr}
 use Rattle.idl_node.specs.Nodes.{NodeValue}
 use Rattle.idl_term.specs.Contexts.{Context, scope_of}
@@ -16,6 +16,8 @@ pub record Kept : Type 0 where
   pub nodes : List NodeValue
   -- the numbers of the assertions' nodes
   pub roots : List ℕ
+  -- for each assertion its name, where it has one
+  pub labels : List (Option (List ℕ))
   -- how much there was of each at each push, the first push first
   pub levels : List Level
   pub mode : Mode
@@ -27,6 +29,7 @@ nothing_kept = record {
   scope = record { declared = []; bound = [] };
   nodes = [];
   roots = [];
+  labels = [];
   levels = [];
   mode = mode.Nothing;
   print_success = false;
@@ -78,6 +81,7 @@ amount_of kept = record {
 -- what holds of what is kept whatever the commands were: there is no less now than at the last push
 pub record IsKept (kept : Kept) : Type 0 where
   pub few : length kept.scope.declared ≤ names_limit
+  pub labelled : length kept.labels ≡ length kept.roots
   pub ascend : Ascend (kept.levels ++ amount_of kept ∷ [])
 
 -- back to what there was at a push, with so many levels left
@@ -86,6 +90,7 @@ cut_to kept left level = record {
   scope = scope_at kept level;
   nodes = take level.nodes kept.nodes;
   roots = take level.roots kept.roots;
+  labels = take level.roots kept.labels;
   levels = take left kept.levels;
   mode = mode.Nothing;
   print_success = kept.print_success;
@@ -96,6 +101,7 @@ pub record StandsFor (kept : Kept) (s : State) : Type 0 where
   pub scope : kept.scope ≡ scope_of s.context
   pub nodes : kept.nodes ≡ s.context.nodes
   pub roots : kept.roots ≡ s.context.roots
+  pub labels : kept.labels ≡ s.labels
   pub levels : AreLevels kept kept.levels s.below
   pub ascend : Ascend kept.levels
   pub mode : kept.mode ≡ s.mode

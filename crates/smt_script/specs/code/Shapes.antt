@@ -15,7 +15,7 @@ use Rattle.idl_term.specs.declared.error.TermRefusal.TheVariants.{WrongSort}
 use Rattle.idl_term.specs.declared.error.TermError.{TermError}
 use Rattle.idl_term.specs.declared.error.TermError.TheVariants as term
 use Rattle.smt_script.specs.Attributes.{Named, unnamed, named}
-use Rattle.smt_script.specs.Commands.{Command, setting_logic, setting_option, informing, declaring, defining, asserting, naming, pushing, popping, checking, minimizing, asking_model, asking_values, asking_proof, asking_information, echoing, resetting_assertions, resetting, exiting, unsupported, function_command, definition_command}
+use Rattle.smt_script.specs.Commands.{Command, setting_logic, setting_option, informing, declaring, defining, asserting, naming, pushing, popping, checking, minimizing, asking_model, asking_values, asking_proof, asking_core, asking_information, echoing, resetting_assertions, resetting, exiting, unsupported, function_command, definition_command}
 use Rattle.smt_script.specs.code.Kept.{Kept, StandsFor}
 use Rattle.smt_script.specs.Options
 use Rattle.smt_script.specs.States.{State, Step, is_of_sort}
@@ -23,7 +23,7 @@ use Rattle.smt_script.specs.declared.attribute.Attributes.{Attributes as Attribu
 use Rattle.smt_script.specs.declared.attribute.Awaited.{Awaited}
 use Rattle.smt_script.specs.declared.attribute.Awaited.TheVariants as awaited
 use Rattle.smt_script.specs.declared.command.Request.{Request}
-use Rattle.smt_script.specs.declared.command.Request.TheVariants.{SetLogic, SetOption, SetInfo, Declare, Define, Assert, AssertNamed, Push, Pop, CheckSat, Minimize, Model, Values, Proof, Information, Echo, ResetAssertions, Reset, Exit, Unsupported}
+use Rattle.smt_script.specs.declared.command.Request.TheVariants.{SetLogic, SetOption, SetInfo, Declare, Define, Assert, AssertNamed, Push, Pop, CheckSat, Minimize, Model, Values, Proof, Core, Information, Echo, ResetAssertions, Reset, Exit, Unsupported}
 use Rattle.smt_script.specs.declared.command.Signature.{Signature}
 use Rattle.smt_script.specs.declared.error.Refusal.{Refusal}
 use Rattle.smt_script.specs.declared.error.Refusal.TheVariants.{IllFormedCommand, LeftOut, Term}
@@ -164,6 +164,7 @@ CommandIs t (Minimize id) meant = (x : Sexpr) × Means t id x × (meant ≡ Ok (
 CommandIs t Model meant = meant ≡ Ok asking_model
 CommandIs t (Values id) meant = (terms : Items) × Means t id (list terms) × (meant ≡ Ok (asking_values terms))
 CommandIs t Proof meant = meant ≡ Ok asking_proof
+CommandIs t Core meant = meant ≡ Ok asking_core
 CommandIs t (Information keyword) meant = meant ≡ Ok (asking_information keyword.now)
 CommandIs t (Echo text) meant = meant ≡ Ok (echoing text.now)
 CommandIs t ResetAssertions meant = meant ≡ Ok resetting_assertions

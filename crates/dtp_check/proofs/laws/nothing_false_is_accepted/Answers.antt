@@ -16,5 +16,6 @@ returns c =
       some = forms.some;
       refutes = c.refutation_law.ensures;
       unbounded = c.unbounded_law.ensures;
+      core = c.core_law.ensures;
     } in
     accepted_told c.flaw_law.ensures.items c.entries_law.ensures.items c.entries_law.ensures.goes_on laws forms.over forms.few c.objective_law.ensures states.step states.settled states.start

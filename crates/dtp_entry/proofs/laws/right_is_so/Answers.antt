@@ -14,5 +14,6 @@ returns c =
       some = of_form.some;
       refutes = c.refutation_law.ensures;
       unbounded = c.unbounded_law.ensures;
+      core = c.core_law.ensures;
     } in
     right_of_command laws c.objective_law.ensures c.state_law.ensures.step

@@ -44,6 +44,7 @@ returns-in_ok-values-in-Sat g c = λ s x stands taken.
       some = of_form.some;
       refutes = c.refutation_law.ensures;
       unbounded = c.unbounded_law.ensures;
+      core = c.core_law.ensures;
     } in
     let names : c.sorts.result.now ≡ sorts_of s.context.declared = c.sorts.ensures ∙ ap sorts_of (c.names.ensures.names ∙ ap (λ (t : Scope). t.declared) stands.stands.scope) in
     let values : c.in_ok-values-in-Sat.values ≡ restricted (sorts_of s.context.declared) c.in-Sat.schedule =
@@ -65,6 +66,7 @@ returns-in_ok-found-in-Unsat g c = λ s x stands taken.
       some = of_form.some;
       refutes = c.refutation_law.ensures;
       unbounded = c.unbounded_law.ensures;
+      core = c.core_law.ensures;
     } in
     let forms : FormLaws = record { negation = c.negation_kept.ensures; plain = lengths.no_clash; longer = lengths.lengthened; shorter = lengths.shortened } in
     unsat_decision laws s.context stands.made.context c.args.problem taken.is_problem forms (version_wanted c.args.wanted) CheckSat x c.in-Unsat.refutation c.in_ok-found-in-Unsat.found taken.asked found c.in_ok-found-in-Unsat.ensures

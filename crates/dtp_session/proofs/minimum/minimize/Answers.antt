@@ -79,6 +79,7 @@ returns-in_ok-found-in-Nothing g c = λ s x stands taken.
       some = of_form.some;
       refutes = c.refutation_law.ensures;
       unbounded = c.unbounded_law.ensures;
+      core = c.core_law.ensures;
     } in
     let lengths = c.lengths_law.ensures in
     let forms : FormLaws = record { negation = c.negation_kept.ensures; plain = lengths.no_clash; longer = lengths.lengthened; shorter = lengths.shortened } in
@@ -98,6 +99,7 @@ returns-in_ok-found-in-Least g c = λ s x stands taken.
       some = of_form.some;
       refutes = c.refutation_law.ensures;
       unbounded = c.unbounded_law.ensures;
+      core = c.core_law.ensures;
     } in
     let lengths = c.lengths_law.ensures in
     let forms : FormLaws = record { negation = c.negation_kept.ensures; plain = lengths.no_clash; longer = lengths.lengthened; shorter = lengths.shortened } in
@@ -125,6 +127,7 @@ returns-in_ok-schedule-in-Unbounded g c = λ s x stands taken.
       some = of_form.some;
       refutes = c.refutation_law.ensures;
       unbounded = c.unbounded_law.ensures;
+      core = c.core_law.ensures;
     } in
     let names : c.sorts-in-Unbounded.result.now ≡ sorts_of s.context.declared = c.sorts-in-Unbounded.ensures ∙ ap sorts_of (c.names-in-Unbounded.ensures.names ∙ ap (λ (t : Scope). t.declared) stands.stands.scope) in
     let values : c.in_ok-schedule-in-Unbounded.schedule ≡ restricted (sorts_of s.context.declared) c.in-Unbounded.values =

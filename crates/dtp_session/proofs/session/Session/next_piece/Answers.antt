@@ -5,7 +5,7 @@ pub tell-requires : goal.tell-requires
 tell-requires g c =
     let law = c.mode_law.ensures in
     let s = c.requires.stands in
-    may_tell c.args.self.now c.next.new.self s.0 c.in_ok-id.field-0 (c.in_ok-id.ensures.event s.0 s.1.stands) s.1 law.kept c.in-Told.id c.in-Told.notice c.in-Told.is law.model law.values law.proof
+    may_tell c.args.self.now c.next.new.self s.0 c.in_ok-id.field-0 (c.in_ok-id.ensures.event s.0 s.1.stands) s.1 law.kept c.in-Told.id c.in-Told.notice c.in-Told.is law.model law.values law.proof law.core
 
 pub ask-requires-clause-holds : goal.ask-requires-clause-holds
 ask-requires-clause-holds g c = λ lifetimes outlives.
@@ -22,14 +22,14 @@ ask-requires-clause-few g c = λ lifetimes outlives.
 pub returns-in_ok-piece-in-Told-clause-next : goal.returns-in_ok-piece-in-Told-clause-next
 returns-in_ok-piece-in-Told-clause-next g c = λ s holds.
     let law = c.mode_law.ensures in
-    told_step c.args.self.now c.next.new.self s c.in_ok-id.field-0 (c.in_ok-id.ensures.event s holds.stands) holds law.kept c.in-Told.id c.in-Told.notice c.in-Told.is law.model law.values law.proof
+    told_step c.args.self.now c.next.new.self s c.in_ok-id.field-0 (c.in_ok-id.ensures.event s holds.stands) holds law.kept c.in-Told.id c.in-Told.notice c.in-Told.is law.model law.values law.proof law.core
     c.tell.new.self c.in_ok-piece-in-Told.piece c.in_ok-piece-in-Told.ensures.keeps c.in_ok-piece-in-Told.ensures.tells c.in_ok-id.ensures.bytes
 
 pub returns-in_ok-piece-in-Told-clause-ready : goal.returns-in_ok-piece-in-Told-clause-ready
 returns-in_ok-piece-in-Told-clause-ready g c = λ going.
     let law = c.mode_law.ensures in
     let s = c.requires.stands in
-    told_ready c.args.self.now c.next.new.self s.0 c.in_ok-id.field-0 (c.in_ok-id.ensures.event s.0 s.1.stands) s.1 law.kept c.in-Told.id c.in-Told.notice c.in-Told.is law.model law.values law.proof
+    told_ready c.args.self.now c.next.new.self s.0 c.in_ok-id.field-0 (c.in_ok-id.ensures.event s.0 s.1.stands) s.1 law.kept c.in-Told.id c.in-Told.notice c.in-Told.is law.model law.values law.proof law.core
     c.tell.new.self c.in_ok-piece-in-Told.piece c.in_ok-piece-in-Told.ensures.keeps c.in_ok-piece-in-Told.ensures.tells c.in_ok-id.ensures.ready
 
 pub returns-in_ok-piece-in-Asked-clause-next : goal.returns-in_ok-piece-in-Asked-clause-next

@@ -22,6 +22,15 @@ returns-in_ok-tell_model-in-Model-clause-tells c = λ s x holds means may.
     (told_tells p q s x notice.Model (holds_kept p q s c.in_ok-tell_model-in-Model.ensures.keeps c.in_ok-tell_model-in-Model.ensures.marks holds) c.in_ok-tell_model-in-Model.ensures.keeps.held
     (c.in_ok-tell_model-in-Model.ensures.told s x holds may_model ∙ ap (λ (r : Report). told r p.held s x notice.Model) (sym c.requires.report)))
 
+pub returns-in_ok-tell_core-in-Core-clause-tells : goal.returns-in_ok-tell_core-in-Core-clause-tells
+returns-in_ok-tell_core-in-Core-clause-tells c = λ s x holds means may.
+    let p = c.args.self.now in
+    let q = c.tell_core.new.self in
+    let may_core = subst (λ (n : Notice). MayTell s x n) c.in-Core.is may in
+    tells_as p q s x c.args.notice notice.Core Told c.in-Core.is
+    (told_tells p q s x notice.Core (holds_kept p q s c.in_ok-tell_core-in-Core.ensures.keeps c.in_ok-tell_core-in-Core.ensures.marks holds) c.in_ok-tell_core-in-Core.ensures.keeps.held
+    (c.in_ok-tell_core-in-Core.ensures.told s x holds may_core ∙ ap (λ (r : Report). told r p.held s x notice.Core) (sym c.requires.report)))
+
 pub returns-in_ok-tell_values-in-Values-clause-tells : goal.returns-in_ok-tell_values-in-Values-clause-tells
 returns-in_ok-tell_values-in-Values-clause-tells c = λ s x holds means may.
     let p = c.args.self.now in

@@ -15,7 +15,7 @@ returns-in-Some-eq0-clause-agrees c = λ s n stands is.
     let h = subst (λ (k : Kept). StandsFor k s) (sym c.self.view_is) stands in
     let count : n ≡ c.in-Some-eq0.field-0 = subst (λ (o : Option ℕ). CountIs o n) c.in-Some-eq0.is is in
     let zero : n ≡ 0 = omega (arith, count, c.in-Some-eq0.field-0-test) in
-    pop_stays _ s h n zero
+    pop_stays _ s h n c.self.invariant zero
 
 pub returns-in-Some-clause-agrees : goal.returns-in-Some-clause-agrees
 returns-in-Some-clause-agrees c = λ s n stands is.

@@ -1,0 +1,4 @@
+pub mod Cited
+pub mod Cores
+pub mod Laws
+pub mod code
