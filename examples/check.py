@@ -40,7 +40,7 @@ def reached(start, following, known=()):
     return found
 
 # ---- The text: LANGUAGE, "Text" ----
-# A numeral is read as an int, a symbol as a str, a list as a list, and any other token as a Token.
+# A numeral is read as an int, a symbol as a str, a list as a list, any other token as a Token. Of the kinds the first that fits is taken.
 Token = namedtuple("Token", "kind text")
 LETTERS = r"A-Za-z~!@$%^&*_\-+=<>.?/"
 TOKENS = {"open": r"\(", "close": r"\)", "symbol": f"[{LETTERS}][0-9{LETTERS}]*", "keyword": f":[0-9{LETTERS}]+",
@@ -108,7 +108,7 @@ def part_of(item, form, fault):
     return item == "true" if form == "value" else item
 
 def parts_of(items, form, fault):
-    """What the s-expressions of a list are that has the form."""
+    """What the s-expressions of a list are that has the form. It goes no deeper than the form."""
     require(isinstance(items, list), fault)
     if form[-1:] == ("*",): form = form[:-2] + form[-2:-1] * (len(items) - len(form) + 2)
     if form[-1:] == ("?",): form = form[:-1] if len(items) == len(form) - 1 else form[:-2]
@@ -252,7 +252,7 @@ class Terms:
         for variable in variables: del self.meanings[variable]
         self.meanings.update(outside)
         return result
-    def sum(self, sign, *values):
+    def added(self, sign, *values):
         """The cases of a sum: one for each choice of a case of each summand, the first summand's outside."""
         require(all(count <= MOST_CASES for count in accumulate(map(len, values), int.__mul__)), "too many cases")
         cases = tuple(total(choice, sign) for choice in product(*values))
@@ -294,8 +294,8 @@ OPERATORS = {   # the least number of arguments, whether more may stand, whether
     "or": (1, True, True, lambda terms, *values: terms.joined(OR, *values)),
     "=>": (2, True, True, lambda terms, *values: terms.joined(OR, *map(terms.denied, values[:-1]), values[-1])),
     "xor": (2, True, True, lambda terms, *values: reduce(lambda first, second: terms.pair("distinct", first, second), values)),
-    "+": (1, True, False, lambda terms, *values: terms.sum(1, *values)),
-    "-": (1, True, False, lambda terms, *values: terms.sum(-1, *(values if values[1:] else ((NOTHING,), *values)))),
+    "+": (1, True, False, lambda terms, *values: terms.added(1, *values)),
+    "-": (1, True, False, lambda terms, *values: terms.added(-1, *(values if values[1:] else ((NOTHING,), *values)))),
     **{comparison: (2, True, None, lambda terms, *values, comparison=comparison: terms.compared(comparison, *values))
        for comparison in ("=", "distinct", "<=", "<", ">=", ">")}}
 
@@ -521,7 +521,7 @@ class Script(Terms):
         require(self.problem().points * (self.problem().greatest_bound + 1) <= GREATEST_OBJECTIVE, "objective too large")
         return x, y, -number
     def problem(self, *last):
-        """The problem of the active assertions, with this clause more, the last."""
+        """The problem of the active assertions, and where a clause is given with this one more, the last."""
         if last not in self.problems:
             problem = self.problem() if last else problem_of(self.nodes, self.assertions, len(self.sorts))
             self.problems[last] = Problem(problem.points, [*problem.clauses, *last]) if last else problem
@@ -531,9 +531,9 @@ class Script(Terms):
         require(kind in (("unsat", "best", "unbounded") if objective else ("sat", "unsat")), "wrong kind of entry")
         self.mode = UNSAT if kind == "unsat" else SAT
         if kind == "unsat": return refutation(content, self.problem(), earlier)
-        if kind == "unbounded": return check_unbounded(*content, self.problem(), *objective[:2]) or []
-        heights = self.heights_of(content if kind == "sat" else content[1])
-        if kind == "sat": return []
+        if kind == "unbounded": check_unbounded(*content, self.problem(), *objective[:2])
+        else: heights = self.heights_of(content if kind == "sat" else content[1])
+        if kind != "best": return []
         (x, y, constant), (least, _, *items) = objective, content
         require(heights[x] - heights[y] + constant == least, "value is not attained")
         require(abs(least - constant) <= GREATEST_OBJECTIVE, "value is out of range")

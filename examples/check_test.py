@@ -14,20 +14,27 @@ import sys
 import tempfile
 from concurrent.futures import ThreadPoolExecutor
 
+HERE = os.path.dirname(os.path.abspath(__file__))
 sys.dont_write_bytecode = True
-sys.path.insert(0, os.path.dirname(os.path.abspath(__file__)))
+sys.path.insert(0, HERE)
 import check  # noqa: E402
 
-ROWS = os.path.join(os.path.dirname(os.path.abspath(__file__)), "..", "crates", "worked_rows", "stdin")
+ROWS = os.path.join(HERE, "..", "crates", "worked_rows", "stdin")
 COUNT = 5000
 SEED = 1
 THREADS = 2
 BATCH = 200
-LONGEST_CHANGED = 5000   # longer sources are only judged as they are
-MOST_CHANGES = 3
+MOST_CHANGES = 2
+LONGEST_CHANGED = 5000      # longer sources are judged only as they are
+LONGEST_TWICE = 100000      # longer ones are certified in one version alone
 
-# What a row may have besides its source: what comes of it, and how it is run.
+
+# ---- The rows ----
+
+# What a row may have besides its words and its source: what comes of it, and how it is run.
 IGNORED_KEYS = ("<", "<-", "status", "fails-anywhere", "cut-anywhere")
+JUDGED_WORDS = ("check", "convert")
+CERTIFIED_WORDS = ("solve", "certify")
 
 
 class Row:
@@ -51,7 +58,7 @@ class Row:
             self.source += bytes.fromhex(text.decode())
         elif key == ">*":
             count, _, text = text.partition(b" ")
-            self.source += b"".join(with_number(text, number) + b"\n" for number in range(int(count)))
+            self.source += b"".join(copy_of(text, number) + b"\n" for number in range(int(count)))
         elif key == "words":
             self.words = text.decode().split()
         elif key == "certified":
@@ -60,13 +67,13 @@ class Row:
             self.is_understood = False
 
 
-def with_number(text, number):
-    """The text of a copy: @0 is its number, counted from 0, @1 is one more, and so on."""
+def copy_of(text, number):
+    """The copy of this number, counted from 0: @0 is the number, @1 is one more, and so on."""
     return re.sub(rb"@([0-9])", lambda match: b"%d" % (number + int(match[1])), text)
 
 
 def rows():
-    """The rows that are understood."""
+    """The rows that are understood and have a script."""
     found = []
     with open(ROWS, "rb") as file:
         for line in file.read().split(b"\n"):
@@ -74,7 +81,7 @@ def rows():
                 found.append(Row())
             elif line and not line.startswith(b"#"):
                 found[-1].read(line)
-    return [row for row in found if row.is_understood and row.words and row.words[0] in ("solve", "certify", "check", "convert")]
+    return [row for row in found if row.is_understood and row.words and row.words[0] in JUDGED_WORDS + CERTIFIED_WORDS]
 
 
 def run(dtp, words, source):
@@ -87,31 +94,32 @@ def sources(dtp, pool):
     """The sources of the rows, each with the certificates that there are for it."""
     found, wanted = [], []
     for row in rows():
-        if row.words[0] in ("check", "convert") and row.certified is None:
+        if row.words[0] in JUDGED_WORDS and row.certified is None:
             found.append(row.source)
         elif row.certified is not None:
             wanted.append((row.source, row.certified))
         else:
-            wanted.extend((row.source, ["--workers", "1", "--format", version]) for version in "12")
-    written = pool.map(lambda pair: run(dtp, ["certify", *pair[1]], pair[0]), wanted)
-    return found + [source + certificate for (source, _), (certificate, _) in zip(wanted, written)]
+            versions = "12" if len(row.source) <= LONGEST_TWICE else "1"
+            wanted.extend((row.source, ["--workers", "1", "--format", version]) for version in versions)
+    written = pool.map(lambda pair: run(dtp, ["certify", *pair[1]], pair[0])[0], wanted)
+    return found + [source + certificate for (source, _), certificate in zip(wanted, written)]
 
 
 # ---- Changes ----
 
-WORDS = re.compile(rb'"(?:[^"]|"")*"|\|[^|]*\||[()]|[^\s()"|;]+|;[^\n]*|\s+')
+WORDS = re.compile(rb'"(?:[^"]|"")*"|\|[^|]*\||[()]|[^\s()"|;]+|;[^\n]*')
 NUMBERS = re.compile(rb"[0-9]+")
-SOME_NUMBERS = [0, 1, 2, 3, 4, 5, 7, 2 ** 20, 2 ** 32 - 1, 2 ** 32, 2 ** 60, 2 ** 60 + 1, 2 ** 61, 2 ** 61 + 1, 2 ** 62, 2 ** 62 + 1,
-                2 ** 64, 2 ** 90, 2 ** 90 + 1]
-SOME_WORDS = """( ) () sat unsat best unbounded lemma keep clash input either cycle - (-_1) true false 0 1 2 |x| x y p (push) (pop) (check-sat)
-    (minimize_x) (get-model) (get-proof) (get-value_(true)) (get-unsat-core) (exit) (end) (dtp-certificate_1) (dtp-certificate_2) (assert_false)
-    (assert_true) (declare-const_z_Int) (declare-const_r_Bool) (reset) (reset-assertions) and or not xor => ite = distinct <= < >= > + let Int Bool
-    :named ! * 1.5 01 #b1 #x1 : "s" "s ; \\ \x80 declare-const assert minimize define-fun""".replace("_", " ")
-
-
-def some_words():
-    """Words to put into a source."""
-    return [word.encode("latin-1") for word in SOME_WORDS.split()] + [b"(- 1)", b"(minimize x)", b"(get-value (true))", b"(assert (< x 0))"]
+MOST_DIGITS = 100
+SOME_BYTES = b"()|\"; 0123456789-xy\\\n"
+SOME_NUMBERS = [0, 1, 2, 3, 4, 5, 7] + [2 ** power + more for power in (20, 32, 60, 61, 62, 64, 90) for more in (-1, 0, 1)]
+# Words and lists to put into a source, with two blanks between them.
+SOME_TEXTS = rb"""(  )  ()  sat  unsat  best  unbounded  lemma  keep  clash  input  either  cycle  -  (- 1)  (- 0)  true  false  0  1  2
+|x|  x  y  p  (push)  (pop)  (push 2)  (pop 0)  (check-sat)  (minimize x)  (minimize (- y x))  (minimize 3)  (get-model)  (get-proof)
+(get-unsat-core)  (get-value (true))  (get-value (x))  (exit)  (end)  (dtp-certificate 1)  (dtp-certificate 2)  (assert false)
+(assert true)  (assert (< x 0))  (declare-const z Int)  (declare-const r Bool)  (reset)  (reset-assertions)  and  or  not  xor  =>  ite
+=  distinct  <=  <  >=  >  +  let  Int  Bool  :named  !  *  1.5  01  #b1  #x1  :  "s"  "s  ;  \  declare-const  assert  minimize
+define-fun  (keep 1 0)  (clash 0)  (input 0)  (lemma 0)  (either 1 0 0)  (lemma ())  (cycle (0 0 (- 1)))  (unsat)  (sat)  (sat true)
+(sat 0)  (set-info :a b)  (echo "a")  (ite p 1 2)  (not p)  (and p)"""
 
 
 class Changer:
@@ -120,25 +128,41 @@ class Changer:
     def __init__(self, given, generator):
         self.given = given
         self.generator = generator
-        self.words = some_words()
-        self.ways = [self.flip, self.cut, self.cut_word, self.double, self.exchange, self.exchange, self.number, self.number, self.number,
-                     self.swap_lines, self.drop_line, self.double_line, self.word, self.word, self.other_version, self.part_of_another]
+        self.texts = re.split(rb"  |\n", SOME_TEXTS)
+        self.ways = [
+            self.flip, self.cut, self.double, self.drop, self.swap_lines, self.drop_line, self.double_line, self.other_version,
+            self.part_of_another] + 2 * [self.exchange, self.replace] + 6 * [self.number]
 
     def changed(self):
-        """One changed source."""
+        """One changed source; half of the changes are in its certificate."""
         source = self.generator.choice(self.given)
         for _ in range(self.generator.randint(1, MOST_CHANGES)):
-            source = self.generator.choice(self.ways)(source)
+            way = self.generator.choice(self.ways)
+            start = max(0, source.rfind(b"(dtp-certificate ")) if self.generator.random() < 0.5 else 0
+            source = source[:start] + way(source[start:])
         return source
 
     def place(self, source):
         """A place in the source."""
         return self.generator.randrange(len(source) + 1)
 
+    def part(self, source):
+        """The start and the end of a word or a list."""
+        places, opened = [], []
+        for match in WORDS.finditer(source):
+            if match[0] == b"(":
+                opened.append(match.start())
+            elif match[0] != b")":
+                places.append(match.span())
+            elif opened:
+                places.append((opened.pop(), match.end()))
+        return self.generator.choice(places) if places else (0, len(source))
+
     def flip(self, source):
         """One byte is another."""
         at = self.place(source)
-        return source[:at] + bytes([self.generator.choice([self.generator.randrange(256), ord(self.generator.choice("()|\"; 0123456789-xy"))])]) + source[at + 1:]
+        byte = self.generator.choice(SOME_BYTES) if self.generator.random() < 0.5 else self.generator.randrange(256)
+        return source[:at] + bytes([byte]) + source[at + 1:]
 
     def cut(self, source):
         """A few bytes are gone, or all behind a place."""
@@ -146,57 +170,46 @@ class Changer:
         return source[:at] + (source[at + self.generator.randint(1, 9):] if self.generator.random() < 0.8 else b"")
 
     def double(self, source):
-        """A part stands twice."""
+        """A piece stands twice."""
         start, end = sorted((self.place(source), self.place(source)))
         return source[:end] + source[start:]
 
-    def word_places(self, source):
-        """The places of the words that aren't blank."""
-        return [match.span() for match in WORDS.finditer(source) if match[0].strip()]
-
-    def expression_places(self, source):
-        """The places of lists and other words."""
-        places, opened = [], []
-        for start, end in self.word_places(source):
-            if source[start:end] == b"(":
-                opened.append(start)
-            elif source[start:end] != b")":
-                places.append((start, end))
-            elif opened:
-                places.append((opened.pop(), end))
-        return places
-
-    def some_place(self, places, source):
-        """One of these, or the whole source."""
-        return self.generator.choice(places) if places else (0, len(source))
-
-    def cut_word(self, source):
+    def drop(self, source):
         """A word or a list is gone."""
-        start, end = self.some_place(self.expression_places(source), source)
+        start, end = self.part(source)
         return source[:start] + source[end:]
 
     def exchange(self, source):
-        """Two words or lists stand in each other's place."""
-        places = self.expression_places(source)
-        first, second = sorted((self.some_place(places, source), self.some_place(places, source)))
-        if first[1] > second[0]:
-            return source[:first[0]] + source[second[0]:second[1]] + source[first[1]:]
-        return source[:first[0]] + source[second[0]:second[1]] + source[first[1]:second[0]] + source[first[0]:first[1]] + source[second[1]:]
+        """Two words or lists stand in each other's place; of two in one another the outer one is the inner."""
+        first, second = sorted((self.part(source), self.part(source)))
+        middle = source[first[1]:second[0]] + source[first[0]:first[1]] if first[1] <= second[0] else b""
+        return source[:first[0]] + source[second[0]:second[1]] + middle + source[max(first[1], second[1]):]
 
     def number(self, source):
-        """A number is another."""
-        start, end = self.some_place([match.span() for match in NUMBERS.finditer(source)], source)
-        near = int(source[start:end]) + self.generator.choice((-1, 1)) if source[start:end].isdigit() and end - start < 100 else 0
-        return source[:start] + b"%d" % self.generator.choice((abs(near), abs(near), self.generator.choice(SOME_NUMBERS))) + source[end:]
+        """A number is another, often the next one."""
+        places = [match.span() for match in NUMBERS.finditer(source)]
+        if not places:
+            return source
+        start, end = self.generator.choice(places)
+        near = abs(int(source[start:end][:MOST_DIGITS]) + self.generator.choice((-1, 1)))
+        number = near if self.generator.random() < 0.6 else self.generator.choice(SOME_NUMBERS)
+        return source[:start] + b"%d" % number + source[end:]
 
-    def word(self, source):
+    def replace(self, source):
         """A word or a list is another, or one more stands before it."""
-        start, end = self.some_place(self.expression_places(source), source)
-        word = self.generator.choice(self.words)
-        return source[:start] + word + (b" " + source[start:] if self.generator.random() < 0.4 else source[end:])
+        start, end = self.part(source)
+        text = self.generator.choice(self.texts)
+        return source[:start] + text + (b" " + source[start:] if self.generator.random() < 0.4 else source[end:])
+
+    def part_of_another(self, source):
+        """A word or a list is one of another source."""
+        other = self.generator.choice(self.given)
+        start, end = self.part(source)
+        other_start, other_end = self.part(other)
+        return source[:start] + other[other_start:other_end] + source[end:]
 
     def swap_lines(self, source):
-        """Two lines stand in each other's place: often two entries."""
+        """Two lines stand in each other's place, of a certificate two entries."""
         lines = source.split(b"\n")
         first, second = self.generator.randrange(len(lines)), self.generator.randrange(len(lines))
         lines[first], lines[second] = lines[second], lines[first]
@@ -216,15 +229,8 @@ class Changer:
 
     def other_version(self, source):
         """The header says the other version."""
-        at = source.find(b"(dtp-certificate ") + len(b"(dtp-certificate ")
-        return source[:at] + {b"1": b"2", b"2": b"1"}.get(source[at:at + 1], source[at:at + 1]) + source[at + 1:]
-
-    def part_of_another(self, source):
-        """A word or a list is one of another source."""
-        other = self.generator.choice(self.given)
-        start, end = self.some_place(self.expression_places(source), source)
-        other_start, other_end = self.some_place(self.expression_places(other), other)
-        return source[:start] + other[other_start:other_end] + source[end:]
+        old, new = self.generator.choice(((b"1", b"2"), (b"2", b"1")))
+        return source.replace(b"(dtp-certificate %s)" % old, b"(dtp-certificate %s)" % new)
 
 
 # ---- The comparison ----
@@ -238,7 +244,7 @@ class Comparison:
         self.directory = None
         self.compared = 0
         self.differences = 0
-        self.answers = {}
+        self.answers = {}   # how often each answer came, but for its numbers
 
     def compare(self, given):
         """Both judge these sources."""
@@ -251,33 +257,31 @@ class Comparison:
     def tell(self, source, theirs):
         """Compares one answer of dtp with that of check.py."""
         line, status = check.answer_to(source)
-        ours = line.encode() + b"\n", status
         kind = re.sub(r"[0-9]+", "N", line)
         self.answers[kind] = self.answers.get(kind, 0) + 1
         self.compared += 1
-        if ours != theirs:
+        if (line.encode() + b"\n", status) != theirs:
             self.differences += 1
             self.directory = self.directory or tempfile.mkdtemp(prefix="check_test.")
             path = os.path.join(self.directory, f"{self.differences}.smt2")
             with open(path, "wb") as file:
                 file.write(source)
-            print(f"{path}: check.py {ours}, dtp {theirs}")
+            print(f"{path}: check.py {line!r}, status {status}; dtp {theirs[0]!r}, status {theirs[1]}")
 
 
 def main():
     """Compares, and says how many sources were compared."""
     dtp = sys.argv[1] if len(sys.argv) > 1 else "dtp"
     count = int(sys.argv[2]) if len(sys.argv) > 2 else COUNT
-    generator = random.Random(SEED)
     with ThreadPoolExecutor(THREADS) as pool:
         comparison = Comparison(dtp, pool)
         given = sources(dtp, pool)
         comparison.compare(given)
-        changer = Changer([source for source in given if len(source) <= LONGEST_CHANGED], generator)
+        changer = Changer([source for source in given if len(source) <= LONGEST_CHANGED], random.Random(SEED))
         for made in range(0, count, BATCH):
             comparison.compare([changer.changed() for _ in range(min(BATCH, count - made))])
-    print(f"{comparison.compared} sources compared, {len(given)} of the rows and {count} changed ones, with {len(comparison.answers)} kinds of "
-          f"answers: {comparison.differences} differences")
+    print(f"{comparison.compared} sources compared, {len(given)} of the rows and {count} changed ones, with "
+          f"{len(comparison.answers)} kinds of answers: {comparison.differences} differences")
     return 1 if comparison.differences else 0
 
 
