@@ -363,7 +363,6 @@ class Lemma:
             require(all(map(assumed.get, content)), "not assumed")
             joints = zip(content, content[1:] + content[:1])
             require(all(before[1] == after[0] for before, after in joints) and sum(literal[2] for literal in content) < 0, "not a cycle")
-            self.name_points(*content)
             return ()
         if name == "either":
             require(max(content[:2]) < problem.points, "no such point")
