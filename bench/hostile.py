@@ -22,7 +22,7 @@ TIME = 20
 MEMORY = 400 << 20
 KINDS = (
     r"bad byte|unclosed string|unclosed quoted symbol|leading zero|unclosed list|stray close|unknown command|ill-formed command|"
-    r"logic not supported|already declared|too many names|too many levels|pop below the bottom|no model|no proof|no core|unknown symbol|ill-formed term|too many cases|"
+    r"logic not supported|already declared|too many names|too many levels|pop below the bottom|no model|no proof|no core|no assumptions|unknown symbol|ill-formed term|too many cases|"
     r"wrong count of arguments|wrong sort|not a difference|bound too large|objective too large|too large|left out: [!-~]+?"
 )
 ERROR = re.compile(rb'\(error "command [1-9][0-9]*: (' + KINDS.encode() + rb')"\)\n\Z')

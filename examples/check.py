@@ -104,6 +104,9 @@ def part_of(item, form, fault):
         require(head_of(item) in CHOICES[form], fault)
         return (item[0], *parts_of(item[1:], CHOICES[form][item[0]], fault))
     if form in ("natural", "number", "height") or form == "value" and item not in ("true", "false"): return number_of(item, form, fault)
+    if form == "assumption":   # a symbol, or the `not` of one
+        require(isinstance(item[1] if head_of(item) == "not" and len(item) == 2 else item, str), fault)
+        return item
     require(form in ("any", "value", kind_of(item)), fault)
     return item == "true" if form == "value" else item
 
@@ -425,9 +428,9 @@ def check_unbounded(heights, points, problem, x, y):
 
 # ---- Commands: LANGUAGE, "Commands" ----
 LEFT_OUT_COMMANDS = ("define-fun-rec", "define-funs-rec", "define-sort", "declare-sort", "declare-datatype", "declare-datatypes")
-UNSUPPORTED_COMMANDS = ("get-assertions", "get-assignment", "get-option", "check-sat-assuming", "get-unsat-assumptions")
+UNSUPPORTED_COMMANDS = ("get-assertions", "get-assignment", "get-option")
 TRUTH_OPTION = re.compile(":(print-success|produce-(models|proofs|unsat-cores|unsat-assumptions|assertions|assignments))")
-SAT, UNSAT, ILL_FORMED = "sat", "unsat", "ill-formed command"   # two modes, and the refusal of a command's shape
+ILL_FORMED = "ill-formed command"   # the refusal of a command's shape
 
 def label_of(attributes):
     """The symbol of `:named` among the attributes behind a term; None without one."""
@@ -443,12 +446,13 @@ class Script(Terms):
         super().__init__()
         self.names, self.sorts, self.assertions = [], [], []   # all names; the sorts of the declared ones; the asserted nodes
         self.marks = []   # of each level: how many names, sorts, assertions and nodes there were before it
+        self.assuming = False   # whether the last level is of assumptions, until their question is answered
         self.change()
     def change(self):
         """The names, the assertions or the levels are no longer those of the last answer."""
-        self.mode, self.problems, self.true_heights = None, {}, None
+        self.mode, self.problems, self.true_heights = (), {}, None   # the mode is what may be asked for
     def do(self, command):
-        """One command. A question gives its objective: (x, y, k) for a minimize of x - y + k, and () for a check-sat."""
+        """One command. A question gives its objective: (x, y, k) for a minimize of x - y + k, and () for the other ones."""
         name = head_of(command)
         require(name not in LEFT_OUT_COMMANDS, f"left out: {name}")
         require(name in COMMANDS, ILL_FORMED if name is None else "unknown command")
@@ -456,7 +460,7 @@ class Script(Terms):
         return action(self, *parts_of(command[1:], form, ILL_FORMED))
     def get_value(self, terms):
         """(get-value (t ..))"""
-        require(self.mode == SAT, "no model")
+        require("model" in self.mode, "no model")
         for term in terms: self.read_apart(term)
     def read_apart(self, term):
         """What the term is read as; its nodes are cut off again."""
@@ -500,6 +504,9 @@ class Script(Terms):
     def push(self, count=1):
         """(push n)"""
         require(len(self.marks) + count <= MOST_LEVELS, "too many levels")
+        self.mark(count)
+    def mark(self, count=1):
+        """So many levels more."""
         self.marks += [(len(self.names), len(self.sorts), len(self.assertions), len(self.nodes))] * count
         self.change()
     def pop(self, count=1):
@@ -511,6 +518,12 @@ class Script(Terms):
         del self.marks[-count:], self.sorts[sorts:], self.assertions[assertions:]
         cut(self.names, self.meanings, names)
         cut(self.nodes, self.numbers, nodes)
+    def assume(self, assumptions):
+        """(check-sat-assuming (a ..)): the assumptions are asserted, on a level of their own that isn't counted."""
+        self.mark()
+        for assumption in assumptions: self.assert_term(assumption)
+        self.assuming = True
+        return ()
     def minimize(self, term):
         """(minimize t)"""
         value = self.read_apart(term)
@@ -525,10 +538,16 @@ class Script(Terms):
             problem = self.problem() if last else problem_of(self.nodes, self.assertions, len(self.sorts))
             self.problems[last] = Problem(problem.points, [*problem.clauses, *last]) if last else problem
         return self.problems[last]
+    def answer(self, objective, earlier, entry):
+        """The lemmas of the entry, which is right, else a fault. Behind it assumptions are gone, and the mode is the entry's."""
+        lemmas, assuming = self.judge(objective, earlier, *entry), self.assuming
+        if assuming: self.pop()
+        self.assuming = False
+        self.mode = ("model",) if entry[0] != "unsat" else ("proof", "core", "assumptions") if assuming else ("proof", "core")
+        return lemmas
     def judge(self, objective, earlier, kind, *content):
         """The lemmas of the entry of this kind, which is right, else a fault. `earlier` has those of each earlier entry."""
         require(kind in (("unsat", "best", "unbounded") if objective else ("sat", "unsat")), "wrong kind of entry")
-        self.mode = UNSAT if kind == "unsat" else SAT
         if kind == "unsat": return refutation(content, self.problem(), earlier)
         if kind == "unbounded": check_unbounded(*content, self.problem(), *objective[:2])
         else: heights = self.heights_of(content if kind == "sat" else content[1])
@@ -553,8 +572,8 @@ class Script(Terms):
             self.true_heights = heights
         return heights
 
-def in_mode(mode, kind):   # a command that only needs this mode
-    return (), lambda script: require(script.mode == mode, kind)
+def in_mode(wanted):   # a command that only needs a mode in which this may be asked for
+    return (), lambda script: require(wanted in script.mode, f"no {wanted}")
 def ignored(*form):   # a command that only needs this form
     return form, lambda script, *parts: None
 
@@ -567,8 +586,10 @@ COMMANDS = {   # the form of each, and what is done
     "declare-const": (("symbol", "any"), lambda script, name, sort: script.declare(name, (), sort)),
     "declare-fun": (("symbol", "list", "any"), Script.declare), "define-fun": (("symbol", "list", "any", "any"), Script.define),
     "assert": (("any",), Script.assert_term), "push": (("numeral", "?"), Script.push), "pop": (("numeral", "?"), Script.pop),
-    "check-sat": ((), lambda script: ()), "minimize": (("any",), Script.minimize),
-    "get-model": in_mode(SAT, "no model"), "get-proof": in_mode(UNSAT, "no proof"), "get-unsat-core": in_mode(UNSAT, "no core"),
+    "check-sat": ((), lambda script: ()), "check-sat-assuming": ((("assumption", "*"),), Script.assume),
+    "minimize": (("any",), Script.minimize),
+    "get-model": in_mode("model"), "get-proof": in_mode("proof"), "get-unsat-core": in_mode("core"),
+    "get-unsat-assumptions": in_mode("assumptions"),
     "get-value": ((("any", "any", "*"),), Script.get_value), "reset-assertions": ((), Script.__init__), "reset": ((), Script.__init__)}
 
 def answer_to(source):
@@ -581,7 +602,7 @@ def answer_to(source):
             if objective is not None:
                 with placed(f"entry {len(answered) + 1}"):
                     require(len(answered) < len(entries), "missing")
-                    answered.append(script.judge(objective, answered, *entries[len(answered)]))
+                    answered.append(script.answer(objective, answered, entries[len(answered)]))
         require(len(answered) == len(entries), f"entry {len(answered) + 1}: surplus")
     except Fault as reason:
         return f"refused: {reason}", REFUSED

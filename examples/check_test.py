@@ -115,7 +115,9 @@ SOME_NUMBERS = [0, 1, 2, 3, 4, 5, 7] + [2 ** power + more for power in (20, 32, 
 # Words and lists to put into a source, with two blanks between them.
 SOME_TEXTS = rb"""(  )  ()  sat  unsat  best  unbounded  lemma  keep  clash  input  either  cycle  -  (- 1)  (- 0)  true  false  0  1  2
 |x|  x  y  p  (push)  (pop)  (push 2)  (pop 0)  (check-sat)  (minimize x)  (minimize (- y x))  (minimize 3)  (get-model)  (get-proof)
-(get-unsat-core)  (get-value (true))  (get-value (x))  (exit)  (end)  (dtp-certificate 1)  (dtp-certificate 2)  (assert false)
+(get-unsat-core)  (check-sat-assuming ())  (check-sat-assuming (p))  (check-sat-assuming (p (not p)))  (check-sat-assuming ((not x)))
+(check-sat-assuming (3))  (check-sat-assuming (false))  (get-unsat-assumptions)
+(get-value (true))  (get-value (x))  (exit)  (end)  (dtp-certificate 1)  (dtp-certificate 2)  (assert false)
 (assert true)  (assert (< x 0))  (declare-const z Int)  (declare-const r Bool)  (reset)  (reset-assertions)  and  or  not  xor  =>  ite
 =  distinct  <=  <  >=  >  +  let  Int  Bool  :named  !  *  1.5  01  #b1  #x1  :  "s"  "s  ;  \  declare-const  assert  minimize
 define-fun  (keep 1 0)  (clash 0)  (input 0)  (lemma 0)  (either 1 0 0)  (lemma ())  (cycle (0 0 (- 1)))  (unsat)  (sat)  (sat true)

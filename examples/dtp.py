@@ -156,9 +156,7 @@ class Plan:
 
     def without(self, *told: str) -> Plan:
         """The same plan as one of its own, without the requirements that `why_not` tells so."""
-        unknown = set(told).difference(map(str, self._requirements))
-        if unknown:
-            raise ValueError(f"no requirement is told so: {', '.join(sorted(unknown))}")
+        self._refuse_unknown(told)
         other = copy.copy(self)
         other._requirements = [requirement for requirement in self._requirements if str(requirement) not in told]
         kept = {requirement.name for requirement in other._requirements}
@@ -184,6 +182,16 @@ class Plan:
         told = {symbol: str(requirement) for symbol, requirement in self._named()}
         return [told[symbol.strip("|")] for symbol in re.findall(SYMBOL, core)] if verdict == "unsat" else []
 
+    def possible_without(self, *told: str) -> List[str]:
+        """Of these requirements, told as `why_not` tells them, those that can each be given up alone so that all others can be met, in
+        this order. One run of dtp answers a question for each of them, and all these count against its one timeout."""
+        self._refuse_unknown(told)
+        switches = [(quoted(name), str(requirement)) for name, requirement in self._named() if str(requirement) in told]
+        kept = [" ".join(switch for switch, words in switches if words != given_up) for given_up in told]
+        commands = self._stated(told) + [f"(check-sat-assuming ({assumed}))" for assumed in kept]
+        verdicts = run(self.program, "solve", commands, "", self.timeout, self.workers).split()
+        return [given_up for given_up, verdict in zip(told, verdicts) if verdict == "sat"]
+
     def certificate(self, shortest: Optional[str] = None) -> str:
         """What shows whoever checks it that `solve` answers rightly; or `shortest`, of this event."""
         return run(self.program, "certify", self._commands(shortest), "", self.timeout, self.workers)
@@ -195,6 +203,11 @@ class Plan:
     def script(self, shortest: Optional[str] = None) -> str:
         """The script that `certificate` and `check` speak of."""
         return "\n".join(self._commands(shortest)) + "\n"
+
+    def _refuse_unknown(self, told: Sequence[str]) -> None:
+        unknown = set(told).difference(map(str, self._requirements))
+        if unknown:
+            raise ValueError(f"no requirement is told so: {', '.join(sorted(unknown))}")
 
     def _take(self, name: str, kind: str) -> str:
         quoted(name)
@@ -235,11 +248,21 @@ class Plan:
                 name += "'"
             yield name, requirement
 
+    def _stated(self, switched: Sequence[str] = ()) -> List[str]:
+        """The plan without a question. Each requirement that is told so stands behind a switch, a Bool with the name that would be the
+        requirement's: it has to be met where the switch is assumed."""
+        commands = ["(set-logic QF_IDL)"]
+        commands += [f"(declare-const {quoted(name)} {kind})" for name, kind in self._kinds.items() if kind != "requirement"]
+        for name, requirement in self._named():
+            if str(requirement) in switched:
+                commands += [f"(declare-const {quoted(name)} Bool)", f"(assert (=> {quoted(name)} {requirement.formula}))"]
+            else:
+                commands.append(f"(assert (! {requirement.formula} :named {quoted(name)}))")
+        return commands
+
     def _commands(self, shortest: Optional[str] = None, asked: str = "(exit)") -> List[str]:
-        declared = [f"(declare-const {quoted(name)} {kind})" for name, kind in self._kinds.items() if kind != "requirement"]
-        asserted = [f"(assert (! {requirement.formula} :named {quoted(name)}))" for name, requirement in self._named()]
         question = "(check-sat)" if shortest is None else f"(minimize {self._symbol(shortest, 'Int')})"
-        return ["(set-logic QF_IDL)", *declared, *asserted, question, asked]
+        return [*self._stated(), question, asked]
 
     def _answers(self, asked: str, shortest: Optional[str] = None) -> Tuple[str, str]:
         """The verdict, and what was asked behind it."""

@@ -142,11 +142,31 @@ clash = plan.why_not()
 assert plan.solve() is None and plan.shortest(ready) is None and plan.check(plan.certificate())
 assert len(clash) == 4 and clash[1] == "boiling takes four minutes" and clash[3] == "tea is ready at most 7 after zero"
 assert plan.without(clash[3]).shortest(ready)[ready] == 8
+# each of the four may go: the kettle is on at -2, or boils at once, or the tea takes no time, or is ready at 8; the train is no help
+assert plan.possible_without(*clash) == clash and plan.possible_without(clash[3], "by train", clash[1]) == [clash[3], clash[1]]
+told = refused(ValueError, lambda: plan.possible_without(clash[3], "boils"))
+assert str(told) == str(refused(ValueError, lambda: plan.without(clash[3], "boils"))) == "no requirement is told so: boils"
 # bounds hold at their ends: 2, and 5 after that
 ends = Plan(program)
 here, there = ends.event("here"), ends.event("there")
 ends.require(ends.at_least(here, 2), ends.at_most(here, 2), ends.at_least(there, 5, here), ends.at_most(there, 5, here))
 assert ends.solve() == {"here": 2, "there": 7}
+# all can be met, and so they can without any one of them
+told = ["there at most 5 after here", "here at least 2 after zero"]
+assert ends.possible_without(*told) == told and ends.possible_without() == []
+# here at 2 and at 3, there at 7 and at 8: two clashes, and no requirement is in both
+two = Plan(program)
+here, there = two.event("here"), two.event("there")
+told = [f"{event} exactly {time} after zero" for event, time in [("here", 2), ("here", 3), ("there", 7), ("there", 8)]]
+two.require(two.exactly(here, 2), two.exactly(here, 3), two.exactly(there, 7), two.exactly(there, 8))
+assert two.possible_without(*told) == []
+assert two.without(told[0]).possible_without(*told[1:]) == told[2:]
+# two requirements that are told the same are given up together: one of them alone would be no help
+same = Plan(program)
+here = same.event("here")
+same.require(same.at_least(here, 2), same.at_least(here, 2), same.at_most(here, 1))
+told = ["here at most 1 after zero", "here at least 2 after zero"]
+assert same.possible_without(*told) == told
 # choices: 5 to the town by train, else 3
 choice = Plan(program, workers=2)
 town, train = choice.event("town"), choice.flag("train")
@@ -160,7 +180,7 @@ for place, name in enumerate(names):
     odd.require(odd.exactly(odd.event(name), place - 3))
 assert odd.solve() == {name: place - 3 for place, name in enumerate(names)}
 odd.require(odd.at_most("", -4), name="too early\n")
-assert odd.why_not() == [" exactly -3 after zero", "too early\n"]
+assert odd.why_not() == odd.possible_without(*odd.why_not()) == [" exactly -3 after zero", "too early\n"]
 for name in ["a|b", "a\\b", "and", "start"]:
     refused(ValueError, lambda: odd.event(name))
 refused(ValueError, lambda: odd.at_least("nowhere", 3))
@@ -172,12 +192,15 @@ refused(NoLeastValue, lambda: wide.shortest("x"))
 wide.require(wide.at_least("x", 2**60 + 1), name="far")
 told = refused(DtpError, wide.solve)
 assert told.text == "command 4: bound too large" and told.line == f"(assert (! (>= |x| {2**60 + 1}) :named |far|))"
+told = refused(DtpError, lambda: wide.possible_without("far"))
+assert told.text == "command 5: bound too large" and told.line == f"(assert (=> |far| (>= |x| {2**60 + 1})))"
 with tempfile.TemporaryDirectory() as folder:
     slow = os.path.join(folder, "slow")
     with open(slow, "w") as file:
         file.write("#!/bin/sh\nexec sleep 60\n")
     os.chmod(slow, 0o755)
     refused(OutOfTime, Plan(slow, timeout=0.2).solve)
+    refused(OutOfTime, Plan(slow, timeout=0.2).possible_without)
 print("so")' "$dtp"
 
 held "the tutorial shows what dtp prints" '!/^[1-9][0-9]* answers of the tutorial compared, 0 faults$/ || NR > 1 { exit 1 }' \

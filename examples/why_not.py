@@ -20,4 +20,4 @@ plan.require(*in_order, plan.at_most(guests, 60), name="guests come at three")
 clash = plan.why_not()
 print("These can't all be met:", *clash, sep="\n  ")
 # only one of them can make the difference
-print("It can be done without:", *(name for name in clash if plan.without(name).solve() is not None), sep="\n  ")
+print("It can be done without:", *plan.possible_without(*clash), sep="\n  ")

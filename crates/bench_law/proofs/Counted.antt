@@ -1,16 +1,15 @@
 -- Where the commands of a plan's script lead before its check-sat.
-use Rattle.std.proofs.Common.{◌≡◌, ◌∙◌, refl, sym, ap, subst, arith, ℕ, zero, suc, ◌+◌, ◌*◌, List, [], ◌∷◌, ◌++◌, length, length-append, suc-mul, Option, Some, None}
+use Rattle.std.proofs.Common.{◌≡◌, ◌∙◌, refl, sym, ap, arith, ℕ, zero, suc, ◌+◌, ◌*◌, List, [], ◌∷◌, length, length-append, suc-mul, Option, Some, None}
 use Rattle.std.specs.Prelude.{option_map}
 use Rattle.smt_sexpr.specs.Laws.{OneOutcome, SexprReadsBack}
 use Rattle.smt_script.specs.declared.state.Satisfiability.{Satisfiability}
-use Rattle.smt_script.specs.States.{State, start_state}
-use Rattle.script_walk.specs.Course.{start_with, Turn, IsCourseOf, last_of}
+use Rattle.smt_script.specs.States.{State}
+use Rattle.script_walk.specs.Course.{start_with, Turn, last_of}
 use Rattle.dtp_gen.specs.Scripts.{name, script}
-use Rattle.script_counts.specs.Counting.{last_state}
 use Rattle.bench_law.specs.Laws.{NamesAreOperations}
 use Rattle.bench_law.proofs.Printing.{lists}
 use Rattle.bench_law.proofs.Commands.{logic, told}
-use Rattle.bench_law.proofs.Ending.{IsOver, ends_asked}
+use Rattle.bench_law.proofs.Ending.{ends_asked}
 use Rattle.bench_law.proofs.Loops.{length_ones}
 use Rattle.bench_law.proofs.NoError.{script_reads}
 use Rattle.bench_law.proofs.Plans.{names, job_names, told_of}
@@ -43,7 +42,7 @@ counted back one p jobs some machines deadline counts h =
     let mine = script_reads back p jobs some machines deadline in
     let w = h.leads in
     let over = over_by (last_of w.turns) h.last w.is_last in
-    let e = ends_asked says one (script p) (logic ∷ told p) path.t mine.here (start_with []) path.tells mine.reads w.turns w.are over refl in
+    let e = ends_asked says one (script p) (logic ∷ told p) path.t mine.here (start_with []) path.tells path.holds.alone mine.reads w.turns w.are over refl in
     let same : h.last ≡ path.t = state_of (last_of w.turns) e.0 h.last w.is_last e.1 ∙ e.2 in
     h.names ∙ ap (λ (s : State). length s.context.declared) same ∙ ap length path.holds.declared ∙ ints_length (names p jobs some machines deadline)
     ∙ length_rows p.jobs p.machines (job_names p jobs some machines deadline) (λ job. length_ones p.machines (λ k. name job k))

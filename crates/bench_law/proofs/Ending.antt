@@ -1,5 +1,5 @@
 -- The course of commands that are told of, up to a check-sat and an exit.
-use Rattle.std.proofs.Common.{◌≡◌, ◌∙◌, refl, sym, ap, subst, ℕ, ◌+◌, List, [], ◌∷◌, ◌++◌, Option, Some, None, Result, Ok, Err}
+use Rattle.std.proofs.Common.{◌≡◌, ◌∙◌, refl, sym, ap, subst, ℕ, List, [], ◌∷◌, ◌++◌, Option, Some, None, Result, Ok, Err}
 use Rattle.smt_sexpr.specs.Tree.{Sexpr}
 use Rattle.smt_sexpr.specs.Reading.{Spells, Outcomes, expression, finished, refused}
 use Rattle.smt_sexpr.specs.Commands.{Commands, Ending, ended, stopped, unread, EndsAs}
@@ -13,7 +13,7 @@ use Rattle.smt_script.specs.declared.state.Question.{Question}
 use Rattle.smt_script.specs.declared.state.Question.TheVariants.{CheckSat}
 use Rattle.smt_script.specs.declared.state.Satisfiability.{Satisfiability}
 use Rattle.smt_script.specs.declared.error.Refusal.{Refusal}
-use Rattle.smt_script.specs.States.{State, Step, after}
+use Rattle.smt_script.specs.States.{State, Step, Assumed, without_assumptions, after}
 use Rattle.smt_answer.specs.declared.kind.Kind.{Kind}
 use Rattle.script_walk.specs.Questions.{refusal_of}
 use Rattle.script_walk.specs.Course.{Place, Turn, turn, tells, answers, asks, ends, behind_told, behind_answer, asked, taken, by_effect, by_command, last_turn, course, IsCourseOf, last_of, status_at, status_of, answers_of}
@@ -35,9 +35,9 @@ tells_append (x ∷ xs) ys s t u (next, notice, e, h) k = (next, notice, e, tell
 pub tells_one : (x : Sexpr) (s t : State) (notice : Notice) → after s x ≡ Ok (step_of t (Tell notice)) → Tells s (x ∷ []) t
 tells_one x s t notice e = (t, notice, e, refl)
 
-pub after_check : (s : State) → after s check ≡ Ok (step_of s (Ask CheckSat))
+pub after_check : (s : State) → s.assumed ≡ None → after s check ≡ Ok (step_of s (Ask CheckSat))
 unfolding after command_of naming_command changing_command asking_command
-after_check s = refl
+after_check s alone = ap (λ (a : Option Assumed). Ok (step_of (without_assumptions s a) (Ask CheckSat))) alone
 
 pub after_exit : (s : State) → after s exit ≡ Ok (step_of s Exit)
 unfolding after command_of naming_command changing_command asking_command
@@ -130,22 +130,22 @@ module _ {A : Type 0} (says : A → Satisfiability) where
       }
 
   -- a check-sat without an answer
-  check_asked : (q : Place A) → q.left ≡ [] → course says q (check ∷ exit ∷ []) stopped ≡ turn q q.state (asks CheckSat check) ∷ []
-  check_asked q e = unanswered_turn says q check q.state CheckSat (after_check q.state) refl e (exit ∷ []) stopped
+  check_asked : (q : Place A) → q.state.assumed ≡ None → q.left ≡ [] → course says q (check ∷ exit ∷ []) stopped ≡ turn q q.state (asks CheckSat check) ∷ []
+  check_asked q alone e = unanswered_turn says q check q.state CheckSat (after_check q.state alone) refl e (exit ∷ []) stopped
 
   -- and with one
-  check_answered : (q : Place A) (a : A) (left : List A) → q.left ≡ a ∷ left
+  check_answered : (q : Place A) (a : A) (left : List A) → q.state.assumed ≡ None → q.left ≡ a ∷ left
       → (now : Place A) × (last : State) × (course says q (check ∷ exit ∷ []) stopped ≡ turn q q.state (answers CheckSat check a) ∷ turn now last ends ∷ [])
-  check_answered q a left e =
+  check_answered q a left alone e =
       let now = behind_answer says q q.state a left in (
         now,
         now.state,
-        answered_turn says q check q.state CheckSat a left (after_check q.state) refl e (exit ∷ []) stopped
+        answered_turn says q check q.state CheckSat a left (after_check q.state alone) refl e (exit ∷ []) stopped
             ∙ ap (λ (ts : List (Turn A)). turn q q.state (answers CheckSat check a) ∷ ts) (exit_turn says now exit now.state (after_exit now.state) [] stopped),
       )
 
   -- the course of a text of tells, a check-sat and an exit
-  module _ (one : OneOutcome) (bytes : List ℕ) (done : List Sexpr) (t : State) (there : ℕ) (p : Place A) (leading : Tells p.state done t) (reads : Commands bytes 0 (done ++ (check ∷ exit ∷ [])) there) (turns : List (Turn A)) (are : IsCourseOf says bytes 0 p turns) (over : IsOver turns) where
+  module _ (one : OneOutcome) (bytes : List ℕ) (done : List Sexpr) (t : State) (there : ℕ) (p : Place A) (leading : Tells p.state done t) (alone : t.assumed ≡ None) (reads : Commands bytes 0 (done ++ (check ∷ exit ∷ [])) there) (turns : List (Turn A)) (are : IsCourseOf says bytes 0 p turns) (over : IsOver turns) where
     is_mine : IsOver (course says p (done ++ (check ∷ exit ∷ [])) stopped) → turns ≡ course says p (done ++ (check ∷ exit ∷ [])) stopped
     is_mine mine = are.are ∙ one_course one bytes (done ++ (check ∷ exit ∷ [])) are.commands 0 there are.behind are.ending p reads are.reads are.ends (subst IsOver are.are over) mine
 
@@ -154,7 +154,7 @@ module _ {A : Type 0} (says : A → Satisfiability) where
     ends_asked none =
         let w = told_course done (check ∷ exit ∷ []) stopped p t leading in
         let last = turn w.q w.q.state (asks CheckSat check) in
-        let mine : last_of (course says p (done ++ (check ∷ exit ∷ [])) stopped) ≡ Some last = w.last ∙ ap (λ (ts : List (Turn A)). last_of ts) (check_asked w.q (w.left ∙ none)) in
+        let mine : last_of (course says p (done ++ (check ∷ exit ∷ [])) stopped) ≡ Some last = w.last ∙ ap (λ (ts : List (Turn A)). last_of ts) (check_asked w.q (ap (λ (s : State). s.assumed) w.state ∙ alone) (w.left ∙ none)) in
         let same : last_of turns ≡ Some last = ap (λ (ts : List (Turn A)). last_of ts) (is_mine (last, mine)) ∙ mine in
         (last, same, w.state, ap (λ (l : Option (Turn A)). status_at l) same)
 
@@ -162,7 +162,7 @@ module _ {A : Type 0} (says : A → Satisfiability) where
     pub ends_answered : (a : A) (left : List A) → p.left ≡ a ∷ left → (status_of turns ≡ Some 0) × (answers_of turns ≡ a ∷ [])
     ends_answered a left some =
         let w = told_course done (check ∷ exit ∷ []) stopped p t leading in
-        let c = check_answered w.q a left (w.left ∙ some) in
+        let c = check_answered w.q a left (ap (λ (s : State). s.assumed) w.state ∙ alone) (w.left ∙ some) in
         let last = turn c.0 c.1 ends in
         let mine : last_of (course says p (done ++ (check ∷ exit ∷ [])) stopped) ≡ Some last = w.last ∙ ap (λ (ts : List (Turn A)). last_of ts) c.2 in
         let same = is_mine (last, mine) in (

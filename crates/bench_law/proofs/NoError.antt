@@ -52,5 +52,5 @@ no_error back one p jobs some machines deadline report out h =
     let mine = script_reads back p jobs some machines deadline in
     let over = some_status h.turns out.status h.over in
     ends_well_by report out (script p) h
-    (λ none. (ends_asked verdict_of one (script p) (logic ∷ told p) path.t mine.here (start_with out.found) path.tells mine.reads h.turns h.are.are over none).3)
-    (λ a left is. ends_answered verdict_of one (script p) (logic ∷ told p) path.t mine.here (start_with out.found) path.tells mine.reads h.turns h.are.are over a left is) out.found refl
+    (λ none. (ends_asked verdict_of one (script p) (logic ∷ told p) path.t mine.here (start_with out.found) path.tells path.holds.alone mine.reads h.turns h.are.are over none).3)
+    (λ a left is. ends_answered verdict_of one (script p) (logic ∷ told p) path.t mine.here (start_with out.found) path.tells path.holds.alone mine.reads h.turns h.are.are over a left is) out.found refl

@@ -175,7 +175,7 @@ module _ (p : Plan) (jobs : p.jobs ≤ 40) (some : 1 ≤ p.machines) (machines :
   -- ---- the whole
 
   start_ready : IsReady [] 0 start_state
-  start_ready = record { declared = refl; defined = refl; few = omega arith }
+  start_ready = record { declared = refl; defined = refl; few = omega arith; alone = refl }
 
   told_goes : Goes start_state (told p) (IsReady names (4000 + 4800 * p.machines))
   told_goes =

@@ -80,9 +80,10 @@ pub record IsReady (xs : List (List ℕ)) (most : ℕ) (s : State) : Type 0 wher
   pub declared : s.context.declared ≡ ints_of xs
   pub defined : s.context.defined ≡ []
   pub few : length s.context.nodes ≤ most
+  pub alone : s.assumed ≡ None
 
 pub ready_more : (xs : List (List ℕ)) (m n : ℕ) (s : State) → m ≤ n → IsReady xs m s → IsReady xs n s
-ready_more xs m n s le h = record { declared = h.declared; defined = h.defined; few = omega (arith, h.few, le) }
+ready_more xs m n s le h = record { declared = h.declared; defined = h.defined; few = omega (arith, h.few, le); alone = h.alone }
 
 abbrev scope_with : List (List ℕ) → Scope
 scope_with xs = record { declared = ints_of xs; bound = [] }
@@ -117,7 +118,7 @@ module _ (xs : List (List ℕ)) (most : ℕ) (s : State) (h : IsReady xs most s)
       ap (λ (b : Bool). b || is_known (scope_of s.context) (name job k)) (name_free job k) ∙ known
 
   declares_as : (job k : ℕ) → nat_lt (length s.context.declared) names_limit ≡ true → is_taken s.context (name job k) ≡ false
-      → after s (declared (name job k)) ≡ Ok (step_of (record s { context = with_declaration s.context (name job k) sort.Int; mode = mode.Nothing }) (Tell Success))
+      → after s (declared (name job k)) ≡ Ok (step_of (record s { context = with_declaration s.context (name job k) sort.Int; mode = mode.Nothing; assumed = None }) (Tell Success))
   unfolding after command_of naming_command changing_command asking_command
   declares_as job k fits free =
       ap (λ (b : Bool). if b then Err AlreadyDeclared else (if nat_lt (length s.context.declared) names_limit then changed s (with_declaration s.context (name job k) sort.Int) else Err TooManyNames)) free
@@ -128,7 +129,7 @@ module _ (xs : List (List ℕ)) (most : ℕ) (s : State) (h : IsReady xs most s)
   declares_name job k new room =
       let count : length s.context.declared ≡ length xs = ap length h.declared ∙ ints_length xs in
       let fits : nat_lt (length s.context.declared) names_limit ≡ true = grind (arith, nat_tests, room, count) in
-      let t : State = record s { context = with_declaration s.context (name job k) sort.Int; mode = mode.Nothing } in
+      let t : State = record s { context = with_declaration s.context (name job k) sort.Int; mode = mode.Nothing; assumed = None } in
       record {
         t = t;
         tells = tells_one (declared (name job k)) s t Success (declares_as job k fits (not_taken job k new));
@@ -136,6 +137,7 @@ module _ (xs : List (List ℕ)) (most : ℕ) (s : State) (h : IsReady xs most s)
           declared = ap (λ (ds : List Declaration). ds ++ int (name job k) ∷ []) h.declared ∙ ints_push xs (name job k);
           defined = h.defined;
           few = h.few;
+          alone = refl;
         };
       }
 
@@ -147,9 +149,9 @@ module _ (xs : List (List ℕ)) (most : ℕ) (s : State) (h : IsReady xs most s)
   pub asserts : (op : List ℕ) (x y : Sexpr) (more_nodes : ℕ) → bytes_eq op (codes "!") ≡ false → IsFormula (scope_of s.context) s.context.nodes (binary op x y) more_nodes
       → Goes s (assertion (binary op x y) ∷ []) (IsReady xs (most + more_nodes))
   asserts op x y more_nodes plain f =
-      let t : State = record s { context = with_assertion s.context (binary op x y) f.after f.root; labels = s.labels ++ None ∷ []; mode = mode.Nothing } in
+      let t : State = record s { context = with_assertion s.context (binary op x y) f.after f.root; labels = s.labels ++ None ∷ []; mode = mode.Nothing; assumed = None } in
       record {
         t = t;
         tells = tells_one (assertion (binary op x y)) s t Success (asserts_as op x y plain ∙ ap (asserted_by s (binary op x y)) f.is);
-        holds = record { declared = h.declared; defined = h.defined; few = omega (arith, f.few, h.few) };
+        holds = record { declared = h.declared; defined = h.defined; few = omega (arith, f.few, h.few); alone = refl };
       }

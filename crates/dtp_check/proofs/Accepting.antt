@@ -6,7 +6,7 @@ use Rattle.std.proofs.lemmas.List.Elements.{All-nil, All-cons}
 use Rattle.std.proofs.lemmas.List.{append_assoc, append-nil, drop-append-le, length-drop, take_all}
 use Rattle.smt_lex.specs.Grammar.{is_gap}
 use Rattle.smt_sexpr.specs.Tree.{Sexpr, Items, leaf, list}
-use Rattle.smt_sexpr.specs.Reading.{Spells, expression, finished, Outcomes}
+use Rattle.smt_sexpr.specs.Reading.{Spells, finished, Outcomes}
 use Rattle.smt_sexpr.specs.Commands.{Commands, Ending, ended, stopped, unread, EndsAs}
 use Rattle.stn_core.specs.declared.literal.Literal.{Literal}
 use Rattle.stn_core.specs.declared.named.NamedValue.{NamedValue}
@@ -17,8 +17,7 @@ use Rattle.cert_text.specs.declared.entry.Version.TheVariants.{One, Two}
 use Rattle.cert_text.specs.declared.entry.FileEntry.{FileEntry}
 use Rattle.cert_text.specs.declared.entry.Entry.{Entry}
 use Rattle.cert_text.specs.declared.entry.Entry.TheVariants.{Sat, Unsat, Best, Unbounded}
-use Rattle.cert_text.specs.Form.{header_sexpr, entry_sexpr, file_entry_sexpr, file_entry_of, end_sexpr, line_of}
-use Rattle.cert_text.specs.Limits.{EntryFits}
+use Rattle.cert_text.specs.Form.{header_sexpr, file_entry_sexpr, file_entry_of, end_sexpr, line_of}
 use Rattle.kept_lemmas.specs.declared.item.Item.TheVariants.{Own}
 use Rattle.kept_lemmas.specs.Entries.{Placed, shelf_of}
 use Rattle.cert_text.specs.Laws.{OwnText, OwnFits}

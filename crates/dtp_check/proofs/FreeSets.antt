@@ -1,5 +1,5 @@
 -- What is wrong with the values and the set of an unbounded entry, and what they show where nothing is.
-use Rattle.std.proofs.Common.{refl, sym, ap, subst, arith, inl, inr, ◌⊎◌, ◌∙◌, ◌≡◌, ◌<◌, ◌≤◌, ◌+◌, ◌==◌, ℕ, zero, suc, List, [], ◌∷◌, ◌++◌, length, take, get_or, Bool, true, false, Option, Some, None, ℤ, ◌-ℤ◌, ◌≤ℤ◌, int_le}
+use Rattle.std.proofs.Common.{refl, ap, subst, arith, inl, inr, ◌⊎◌, ◌∙◌, ◌≡◌, ◌<◌, ◌≤◌, ◌+◌, ◌==◌, ℕ, zero, suc, List, [], ◌∷◌, ◌++◌, length, get_or, Bool, true, false, Option, Some, None, ℤ, ◌-ℤ◌, ◌≤ℤ◌, int_le}
 use Rattle.std.specs.Prelude.{All, Contains, MatchOption, ◌&&◌, ◌||◌, not, nat_lt, option_map, if◌then◌else◌}
 use Rattle.std.specs.List.{list_all, list_any}
 use Rattle.std.specs.List.Sorted.{IsStrictlyIncreasing}
@@ -14,9 +14,9 @@ use Rattle.std.proofs.Math.Seq.{get_or-append_seam}
 use Rattle.stn_core.specs.declared.literal.Literal.{Literal}
 use Rattle.stn_core.specs.declared.problem.Problem.{Problem}
 use Rattle.stn_core.specs.Literal.{value_at, IsOver}
-use Rattle.best_values.specs.Bests.{IsCut, IsKept, ClauseIsKept, IsFreeSet}
+use Rattle.best_values.specs.Bests.{IsKept, ClauseIsKept, IsFreeSet}
 use Rattle.best_values.specs.FreeSets.{IsFirstNotKept}
-use Rattle.best_values.proofs.Sets.{Inside, cases_set}
+use Rattle.best_values.proofs.Sets.{cases_set}
 use Rattle.clause_form.specs.Polarity.{is_among}
 use Rattle.smt_script.specs.declared.objective.Objective.{Objective}
 use Rattle.dtp_check.specs.declared.judgement.EntryFlaw.{EntryFlaw}

@@ -1,14 +1,11 @@
 -- What is held of the entries before.
-use Rattle.std.proofs.Common.{refl, sym, ap, subst, arith, ◌∙◌, ◌≡◌, ◌<◌, ◌+◌, ◌++◌, ℕ, List, [], ◌∷◌, length, map, take, get_or, Option, Some, None, Result, Ok, Err}
-use Rattle.std.specs.Prelude.{All, OnOk}
-use Rattle.std.proofs.lemmas.List.Elements.{All-get_or}
+use Rattle.std.proofs.Common.{◌≡◌, Option, None, Result, Ok, Err}
+use Rattle.std.specs.Prelude.{OnOk}
 use Rattle.cert_check.specs.declared.flaw.Flaw.{Flaw}
 use Rattle.cert_check.specs.declared.flaw.CheckError.{CheckError}
 use Rattle.cert_check.specs.declared.flaw.CheckError.TheVariants.{OutOfMemory, Refused}
 use Rattle.cert_check.specs.Flaws.{TellsFlaw}
 use Rattle.kept_lemmas.specs.Facts.{Shelf}
-use Rattle.dtp_check.specs.declared.earlier.Earlier.{Earlier}
-use Rattle.dtp_check.specs.declared.earlier.Earlier.TheVariants.{Unkept}
 
 -- no flaw on any shelf
 pub none_anywhere : (flaw : Shelf → Option Flaw) (r : Result (Unit {0}) CheckError) → ((shelf : Shelf) → TellsFlaw (flaw shelf) r) → OnOk r ((shelf : Shelf) → flaw shelf ≡ None)

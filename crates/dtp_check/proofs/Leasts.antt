@@ -1,7 +1,7 @@
 -- What is wrong with the value and the values of a best entry, and what they show where nothing is.
-use Rattle.std.proofs.Common.{refl, sym, ap, subst, arith, ◌∙◌, ◌≡◌, ◌≤◌, ℕ, List, Bool, true, false, Option, Some, None, Result, Ok, Err, ℤ, pos, negsuc, nat_eq, FitsSigned, to_z, of_z}
+use Rattle.std.proofs.Common.{refl, sym, ap, subst, arith, ◌∙◌, ◌≡◌, ◌≤◌, ℕ, List, Bool, true, false, Option, Some, None, Ok, Err, ℤ, pos, negsuc, nat_eq, FitsSigned, to_z, of_z}
 use Rattle.std.specs.Int.{w128}
-use Rattle.std.specs.Prelude.{◌↔◌, IsTrue, MatchOption, nat_le, unsigned_abs, if◌then◌else◌}
+use Rattle.std.specs.Prelude.{◌↔◌, IsTrue, nat_le, unsigned_abs, if◌then◌else◌}
 use Rattle.std.specs.Ordering.{int_eq}
 use Rattle.std.proofs.lemmas.Bool.Decides.{nat_tests, Decides-int_eq, same_from_decides}
 use Rattle.std.proofs.lemmas.Bool.{eqb-true}
@@ -16,7 +16,7 @@ use Rattle.idl_term.specs.Values.{Value, whole, truth, nothing, value}
 use Rattle.smt_script.specs.Commands.{minimized}
 use Rattle.smt_script.specs.declared.objective.Objective.{Objective}
 use Rattle.smt_script.specs.Objectives.{objective_value, IsObjectiveOf}
-use Rattle.dtp_entry.specs.Bests.{Satisfies, HasValue}
+use Rattle.dtp_entry.specs.Bests.{HasValue}
 use Rattle.dtp_entry.specs.Entries.{difference_at}
 use Rattle.dtp_check.specs.declared.judgement.EntryFlaw.{EntryFlaw}
 use Rattle.dtp_check.specs.declared.judgement.EntryFlaw.TheVariants.{NotAttained, OutOfRange}

@@ -1,20 +1,17 @@
 -- The problem that was made, from one state to the next.
-use Rattle.std.proofs.Common.{refl, sym, ap, subst, inl, inr, ◌∙◌, ◌≡◌, ◌≢◌, ◌+◌, ℕ, List, length, Option, Some, None}
-use Rattle.std.specs.Prelude.{IfSome}
-use Rattle.stn_core.specs.declared.literal.Literal.{Literal}
+use Rattle.std.proofs.Common.{refl, sym, ap, subst, inl, inr, ◌∙◌, ◌≡◌, ◌≢◌, ◌+◌, ◌⊎◌, ℕ, List, length, Option, Some, None}
 use Rattle.stn_core.specs.declared.problem.Problem.{Problem}
 use Rattle.idl_node.specs.Nodes.{NodeValue}
-use Rattle.idl_term.specs.Contexts.{Context}
 use Rattle.idl_term.specs.Scopes.{Declaration, Scope}
 use Rattle.clause_form.specs.ClauseForm as clause_form
 use Rattle.smt_sexpr.specs.Tree.{Sexpr}
 use Rattle.smt_script.specs.declared.state.Effect.{Effect}
-use Rattle.smt_script.specs.declared.state.Mode.TheVariants as mode
 use Rattle.smt_script.specs.declared.state.Satisfiability.{Satisfiability}
 use Rattle.smt_script.specs.declared.state.Satisfiability.TheVariants as verdict
-use Rattle.smt_script.specs.code.Kept.{Kept, StandsFor}
+use Rattle.smt_script.specs.code.Kept.{Kept, AssumedStands, StandsFor}
+use Rattle.smt_script.specs.declared.state.Active.{Active}
 use Rattle.smt_script.specs.Laws.{ModeIsKept}
-use Rattle.smt_script.specs.States.{State, settled}
+use Rattle.smt_script.specs.States.{State, Assumed, released, settled}
 use Rattle.script_walk.specs.code.Events.{Leads}
 use Rattle.script_walk.specs.code.Standing.{Stands}
 use Rattle.script_walk.specs.declared.walk.Walk.{Walk}
@@ -67,13 +64,26 @@ made_after law v w s x effect made at h still = λ apart. elim (law s x (step_of
   | inr same ↦ made_carried v.state w.state s h.next at h.stands same.1 made (still (λ none. apart (h.stands.stands.mode ∙ same.0 ∙ sym at.stands.mode ∙ none)))
 ]
 
-settled_context : (v : Satisfiability) (s : State) → (settled v s).context ≡ s.context
-settled_context verdict.Sat s = refl
-settled_context verdict.Unsat s = refl
+-- where nothing is assumed, what is active stays
+released_context : (s : State) (a : Option Assumed) → a ≡ None → (released s a).context ≡ s.context
+released_context s None e = refl
+released_context s (Some a) e = absurd cc
+
+settled_context : (v : Satisfiability) (s : State) → s.assumed ≡ None → (settled v s).context ≡ s.context
+settled_context verdict.Sat s e = released_context s s.assumed e
+settled_context verdict.Unsat s e = released_context s s.assumed e
+
+assumed_alike : (kept : Kept) (n : Option Active) (a : Option Assumed) → AssumedStands kept n a → (a ≡ None) ⊎ (n ≢ None)
+assumed_alike kept n None h = inl refl
+assumed_alike kept None (Some a) h = absurd h
+assumed_alike kept (Some n) (Some a) h = inr (λ e. absurd cc)
 
 -- behind an answer
-pub made_settled : (old new : Kept) (s : State) (v : Satisfiability) (made : Option Problem) → Stands old s → Stands new (settled v s) → IsMadeOf old made → IsMadeStill new made
-made_settled old new s v made at there h = λ apart. made_carried old new s (settled v s) at there (settled_context v s) made h
+pub made_settled : (old new : Kept) (s : State) (v : Satisfiability) (made : Option Problem) → Stands old s → Stands new (settled v s) → IsMadeOf old made → (old.assumed ≢ None → made ≡ None) → IsMadeStill new made
+made_settled old new s v made at there h gone = λ apart. elim (assumed_alike old old.assumed s.assumed at.stands.assumed) [
+  | inl none ↦ made_carried old new s (settled v s) at there (settled_context v s none) made h
+  | inr some ↦ subst (IsMadeOf new) (sym (gone some)) tt
+]
 
 -- nothing was made yet
 pub nothing_made : (kept : Kept) (made : Option Problem) → made ≡ None → IsMadeStill kept made

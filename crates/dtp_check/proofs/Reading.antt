@@ -1,5 +1,5 @@
 -- What is read of the script's part is what stands there.
-use Rattle.std.proofs.Common.{refl, sym, ap, subst, ◌∙◌, ◌≡◌, ◌≢◌, ◌+◌, ◌≤◌, ℕ, List, [], ◌∷◌, length, drop, Bool, true, false}
+use Rattle.std.proofs.Common.{refl, sym, ap, subst, ◌∙◌, ◌≡◌, ◌+◌, ℕ, List, [], ◌∷◌, drop, Bool, true, false}
 use Rattle.smt_sexpr.specs.Tree.{Sexpr}
 use Rattle.smt_sexpr.specs.Commands.{ended}
 use Rattle.smt_sexpr.specs.declared.error.SexprRefusal.{SexprRefusal}
@@ -7,7 +7,6 @@ use Rattle.smt_sexpr.specs.Laws.{OneOutcome}
 use Rattle.smt_sexpr.specs.Reading.{Spells, expression, finished, refused, Outcomes}
 use Rattle.cert_text.specs.declared.entry.FileEntry.{FileEntry}
 use Rattle.kept_lemmas.specs.Entries.{Placed}
-use Rattle.cert_text.specs.declared.entry.Version.{Version}
 use Rattle.cert_text.specs.Form.{header_sexpr}
 use Rattle.cert_text.specs.Laws.{OneHeader}
 use Rattle.smt_answer.specs.declared.kind.Kind.{Kind}

@@ -1,6 +1,6 @@
 -- What is wrong with the parts of an entry of a minimize, beside a schedule and a refutation: its value, its values of the
 -- time points, and its set of points. The order of the reasons is this project's own.
-use Rattle.std.specs.Prelude.{ℕ, ◌+◌, ◌<◌, List, [], ◌∷◌, length, ◌==◌, Bool, true, false, not, ◌&&◌, nat_lt, nat_le, if◌then◌else◌, Option, Some, None, option_map, ℤ, ◌-ℤ◌, int_le, unsigned_abs}
+use Rattle.std.specs.Prelude.{ℕ, ◌+◌, List, [], ◌∷◌, length, ◌==◌, Bool, false, not, ◌&&◌, nat_lt, nat_le, if◌then◌else◌, Option, Some, None, option_map, ℤ, ◌-ℤ◌, int_le, unsigned_abs}
 use Rattle.std.specs.List.{list_all, list_any}
 use Rattle.std.specs.Ordering.{int_eq}
 use Rattle.smt_sexpr.specs.Tree.{Sexpr}

@@ -19,7 +19,7 @@ ghost use Rattle.dtp_check.specs.code.Turns.{ComesTo, StandsAt, IsAnswerTurn, Is
 use crate::earlier::Earlier;
 use crate::judgement::Judgement;
 use crate::keeps::Keeps;
-use crate::made::{let_go_if_changed, take_or_make};
+use crate::made::{let_go_if_assumed, let_go_if_changed, take_or_make};
 use crate::script_part::{Next, PartEnd, next_command};
 use cert_text::FileEntry;
 use script_walk::{Event, Walk, refusal_of};
@@ -114,6 +114,7 @@ fn judge_answer<K: Keeps>(
         Some(entry) => match keeps.keep(alloc, &walk.state, question, made, earlier, entry)? {
             Some(flaw) => Ok(Progress::Judged(Judgement::Entry(used + 1, flaw))),
             None => {
+                let_go_if_assumed(&walk.state, made);
                 walk.settle(told_by(entry));
                 Ok(Progress::Going(used + 1))
             }

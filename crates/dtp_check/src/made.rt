@@ -1,5 +1,5 @@
 //! The problem of a script's assertions, which is made once as long as nothing is changed.
-ghost use Rattle.std.specs.Prelude.{◌≡◌, IfOk, None};
+ghost use Rattle.std.specs.Prelude.{◌≡◌, ◌≢◌, IfOk, None};
 ghost use Rattle.smt_script.specs.States.{State as Meaning};
 ghost use Rattle.script_walk.specs.code.Standing.{Stands};
 ghost use Rattle.dtp_check.specs.code.Made.{IsProblemOf, IsMadeOf, IsMadeStill};
@@ -17,6 +17,17 @@ pub fn let_go_if_changed(state: &State, made: &mut Option<Problem>)
     match state.mode() {
         Mode::Nothing => *made = None,
         Mode::Sat | Mode::Unsat => {}
+    }
+}
+
+/// Lets the problem go that was made, where it is of assumptions too: behind the answer these aren't asserted any more.
+pub fn let_go_if_assumed(state: &State, made: &mut Option<Problem>)
+    requires { IsMadeOf state.now made.old }
+    ensures made { IsMadeOf state.now made.new }
+    ensures gone { state.now.assumed ≢ None → made.new ≡ None }
+{
+    if state.assumptions().is_some() {
+        *made = None;
     }
 }
 

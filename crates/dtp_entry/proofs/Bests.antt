@@ -1,6 +1,5 @@
 -- What a right entry says is so.
-use Rattle.std.proofs.Common.{arith, refl, sym, ap, subst, inl, inr, ◌∙◌, ◌≡◌, ◌<◌, ◌≤◌, ◌+◌, ℕ, zero, suc, List, [], ◌∷◌, map, length, Option, Some, None, slice_get, Ok, ℤ, ◌+ℤ◌, ◌-ℤ◌, ◌≤ℤ◌}
-use Rattle.std.specs.List.{AllByRecursion}
+use Rattle.std.proofs.Common.{arith, refl, sym, ap, subst, inl, inr, ◌∙◌, ◌≡◌, ◌<◌, ◌≤◌, ◌+◌, ℕ, zero, suc, List, [], ◌∷◌, map, length, Option, Some, slice_get, Ok, ℤ, ◌+ℤ◌, ◌-ℤ◌, ◌≤ℤ◌}
 use Rattle.std.proofs.lemmas.Int.{ints}
 use Rattle.std.proofs.lemmas.List.Elements.{All-nil, All-cons, All-append}
 use Rattle.smt_sexpr.specs.Tree.{Sexpr}
@@ -12,7 +11,7 @@ use Rattle.stn_core.specs.Problem.{ClauseHolds, ProblemHolds}
 use Rattle.stn_core.proofs.Consequences.{either}
 use Rattle.refute_tree.specs.declared.lemma.Lemma.{Lemma}
 use Rattle.refute_tree.specs.Laws.{RefutationLaw}
-use Rattle.best_values.specs.Bests.{objective, IsModel, IsBestValue}
+use Rattle.best_values.specs.Bests.{objective, IsBestValue}
 use Rattle.best_values.specs.Laws.{UnboundedLaw}
 use Rattle.best_values.specs.Questions.{below}
 use Rattle.cert_text.specs.declared.entry.Entry.{Entry}
@@ -24,10 +23,10 @@ use Rattle.idl_node.specs.declared.sort.Sort.{Sort}
 use Rattle.idl_node.specs.declared.sort.Sort.TheVariants as sort
 use Rattle.idl_node.specs.Sorts.{IsIntPoint}
 use Rattle.idl_node.specs.Truth.{point_value, point_values}
-use Rattle.idl_term.specs.Contexts.{Context, IsContext, IsScheduleFor, IsTrueOn, IsSatisfiable, environment}
+use Rattle.idl_term.specs.Contexts.{Context, IsContext, IsScheduleFor, environment}
 use Rattle.idl_term.specs.Laws.{ContextsHaveScopes, RootsAreNodes, RootsAreExact}
 use Rattle.idl_term.specs.Scopes.{sorts_of}
-use Rattle.idl_term.specs.Values.{Value, whole, value}
+use Rattle.idl_term.specs.Values.{whole, value}
 use Rattle.smt_script.specs.declared.objective.Objective.{Objective}
 use Rattle.smt_script.specs.declared.state.Question.{Question}
 use Rattle.smt_script.specs.declared.state.Question.TheVariants.{CheckSat, Minimize}

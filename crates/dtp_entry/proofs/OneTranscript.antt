@@ -21,16 +21,16 @@ use Rattle.smt_script.specs.declared.objective.Objective.{Objective}
 use Rattle.smt_script.specs.declared.state.Question.{Question}
 use Rattle.smt_script.specs.declared.state.Question.TheVariants.{CheckSat, Minimize}
 use Rattle.smt_script.specs.declared.state.Notice.{Notice}
-use Rattle.smt_script.specs.declared.state.Notice.TheVariants.{Success, Unsupported, Model, Values, Proof, Core, Inform, Echo}
+use Rattle.smt_script.specs.declared.state.Notice.TheVariants.{Success, Unsupported, Model, Values, Proof, Core, Assumptions, Inform, Echo}
 use Rattle.smt_script.specs.declared.state.Satisfiability.{Satisfiability}
 use Rattle.smt_script.specs.Commands.{asks_verdict, minimized}
 use Rattle.smt_script.specs.Laws.{AskedIsTold}
 use Rattle.smt_script.specs.States.{State, Step, start_state, after, settled}
-use Rattle.script_walk.specs.Course.{Place, Turn, tells, answers, ends, fails, turn, asked, taken, by_effect, by_command, last_turn, course, status_of, answers_of}
+use Rattle.script_walk.specs.Course.{Place, Turn, tells, ends, fails, turn, asked, taken, by_effect, by_command, last_turn, course, status_of, answers_of}
 use Rattle.script_walk.specs.Questions.{refusal_of}
 use Rattle.dtp_entry.specs.declared.report.Report.{Report}
 use Rattle.dtp_entry.specs.declared.report.Report.TheVariants.{Verdicts, Certificate}
-use Rattle.dtp_entry.specs.Bests.{IsBestFor, HasNoBest}
+use Rattle.dtp_entry.specs.Bests.{IsBestFor}
 use Rattle.dtp_entry.specs.Entries.{AtCheckSat, AtMinimize, IsRight, verdict_of}
 use Rattle.dtp_entry.specs.Laws.{OneVerdict, OneTranscriptByEntries, OneTranscriptButGaps, AskNone, OneTranscript}
 use Rattle.dtp_entry.specs.Transcripts.{IsSo, Held, told, decision_line, opening, closing, piece_by, pieces, is_of_held, tells_held, line_with_gaps, lines_with_gaps, IsLegal, Output, IsOutput}
@@ -149,6 +149,7 @@ told_line k held other st s left others x Model = refl
 told_line k held other st s left others x Values = refl
 told_line k held other st s left others x Proof = refl
 told_line k held other st s left others x Core = refl
+told_line k held other st s left others x Assumptions = refl
 told_line k held other st s left others x (Inform information) = refl
 told_line k held other st s left others x Echo = refl
 
@@ -386,7 +387,7 @@ HasLine t = tells_held t.outcome ≡ false
 
 -- what is held is told
 abbrev TellsHeld : Effect → Type 0
-TellsHeld effect = (effect ≡ Tell Model) ⊎ ((effect ≡ Tell Values) ⊎ ((effect ≡ Tell Proof) ⊎ (effect ≡ Tell Core)))
+TellsHeld effect = (effect ≡ Tell Model) ⊎ ((effect ≡ Tell Values) ⊎ ((effect ≡ Tell Proof) ⊎ ((effect ≡ Tell Core) ⊎ (effect ≡ Tell Assumptions))))
 
 told_free : (notice : Notice) → (TellsHeld (Tell notice) → ⊥) → is_of_held notice ≡ false
 told_free Success free = refl
@@ -394,7 +395,8 @@ told_free Unsupported free = refl
 told_free Model free = absurd (free (inl refl))
 told_free Values free = absurd (free (inr (inl refl)))
 told_free Proof free = absurd (free (inr (inr (inl refl))))
-told_free Core free = absurd (free (inr (inr (inr refl))))
+told_free Core free = absurd (free (inr (inr (inr (inl refl)))))
+told_free Assumptions free = absurd (free (inr (inr (inr (inr refl)))))
 told_free (Inform information) free = refl
 told_free Echo free = refl
 

@@ -1,20 +1,21 @@
 -- What is written of a script: a relation of its bytes, the bytes of the output and the status.
 -- Source: SMT-LIB 2.6, section 4.1 (responses, and the error behavior `immediate-exit`), section 4.2.1 (`exit`) and section
 -- 4.2.5 (`check-sat`). The lines of a minimize are this project's choice.
-use Rattle.std.specs.Prelude.{◌≡◌, ℕ, List, [], ◌∷◌, ◌++◌, map, Bool, true, false, if◌then◌else◌, Option, Some, None}
+use Rattle.std.specs.Prelude.{◌≡◌, ℕ, List, [], ◌∷◌, ◌++◌, length, map, Bool, true, false, if◌then◌else◌, Option, Some, None}
 use Rattle.std.specs.List.{AllByRecursion}
 use Rattle.smt_sexpr.specs.Tree.{Sexpr, Items}
 use Rattle.smt_script.specs.declared.state.Question.{Question}
 use Rattle.smt_script.specs.declared.state.Notice.{Notice}
-use Rattle.smt_script.specs.declared.state.Notice.TheVariants.{Success, Unsupported, Model, Values, Proof, Core, Inform, Echo}
+use Rattle.smt_script.specs.declared.state.Notice.TheVariants.{Success, Unsupported, Model, Values, Proof, Core, Assumptions, Inform, Echo}
 use Rattle.smt_script.specs.Commands.{asked_terms, echoed_text, minimized}
-use Rattle.smt_script.specs.States.{State, levels_of}
-use Rattle.smt_answer.specs.Texts.{verdict_line, minimum_line, unbounded_line, success_line, unsupported_line, model_lines, values_line, cited_names, core_line, information_line, echo_line, error_line}
+use Rattle.smt_script.specs.States.{State, Assumed, asked_of, levels_of}
+use Rattle.smt_answer.specs.Texts.{verdict_line, minimum_line, unbounded_line, success_line, unsupported_line, model_lines, values_line, cited_names, core_line, cited_items, assumptions_line, information_line, echo_line, error_line}
 use Rattle.cert_text.specs.declared.entry.Version.{Version}
 use Rattle.cert_text.specs.declared.entry.Entry.{Entry}
 use Rattle.cert_text.specs.declared.entry.Entry.TheVariants.{Sat, Unsat, Best, Unbounded}
 use Rattle.cert_text.specs.Form.{header_sexpr, entry_sexpr, end_sexpr, line_of}
 use Rattle.stn_core.specs.declared.named.NamedValue.{NamedValue}
+use Rattle.refute_tree.specs.declared.lemma.Lemma.{Lemma}
 use Rattle.clause_form.specs.Restricting.{restricted}
 use Rattle.idl_term.specs.Contexts.{Context, environment, IsSatisfiable}
 use Rattle.idl_term.specs.Scopes.{sorts_of}
@@ -47,7 +48,7 @@ decision_line Verdicts (Best m schedule lemmas) = minimum_line m
 decision_line Verdicts (Unbounded values set) = unbounded_line
 decision_line (Certificate version) entry = line_of (entry_sexpr entry)
 
--- what the mode holds: the entry that decided the last question, of which models, proofs and cores can be told
+-- what the mode holds: the entry that decided the last question, of which models, proofs, cores and assumptions can be told
 abbrev pub Held : Type 0
 Held = Option Entry
 
@@ -82,13 +83,26 @@ told_proof (Some (Best m schedule lemmas)) = []
 told_proof (Some (Unbounded values set)) = []
 told_proof None = []
 
--- the names of the assertions that the refutation rests on
+-- the names of the assertions that the refutation rests on; behind a check-sat-assuming it is one of its assumptions too
 abbrev pub told_core : Held → State → List ℕ
-told_core (Some (Unsat lemmas)) s = core_line (cited_names (cites_assertion s.context lemmas) 0 s.labels)
+told_core (Some (Unsat lemmas)) s = core_line (cited_names (cites_assertion (asked_of s) lemmas) 0 s.labels)
 told_core (Some (Sat schedule)) s = []
 told_core (Some (Best m schedule lemmas)) s = []
 told_core (Some (Unbounded values set)) s = []
 told_core None s = []
+
+-- the assumptions that it rests on, which stand behind the assertions
+abbrev pub assumptions_of : List Lemma → Option Assumed → List ℕ
+assumptions_of lemmas None = []
+assumptions_of lemmas (Some assumed) =
+    assumptions_line (cited_items (cites_assertion assumed.asked lemmas) (length assumed.active.assertions) assumed.literals)
+
+abbrev pub told_assumptions : Held → State → List ℕ
+told_assumptions (Some (Unsat lemmas)) s = assumptions_of lemmas s.assumed
+told_assumptions (Some (Sat schedule)) s = []
+told_assumptions (Some (Best m schedule lemmas)) s = []
+told_assumptions (Some (Unbounded values set)) s = []
+told_assumptions None s = []
 
 -- what is told of command x, which asks for no decision, in the state behind it; `success` where that is to be printed
 abbrev pub told : Report → Held → State → Sexpr → Notice → List ℕ
@@ -98,6 +112,7 @@ told Verdicts held s x Model = told_model held s
 told Verdicts held s x Values = told_values held s (asked_terms x)
 told Verdicts held s x Proof = told_proof held
 told Verdicts held s x Core = told_core held s
+told Verdicts held s x Assumptions = told_assumptions held s
 told Verdicts held s x (Inform information) = information_line information (levels_of s)
 told Verdicts held s x Echo = echo_line (echoed_text x)
 told (Certificate version) held s x notice = []
@@ -138,7 +153,7 @@ abbrev pub pieces : Report → List (Turn Entry) → List ℕ
 pieces report [] = []
 pieces report (t ∷ ts) = piece_by report t t.outcome ++ pieces report ts
 
--- what the mode holds is told: a model, values, a proof or a core
+-- what the mode holds is told: a model, values, a proof, a core or assumptions
 abbrev pub is_of_held : Notice → Bool
 is_of_held Success = false
 is_of_held Unsupported = false
@@ -146,6 +161,7 @@ is_of_held Model = true
 is_of_held Values = true
 is_of_held Proof = true
 is_of_held Core = true
+is_of_held Assumptions = true
 is_of_held (Inform information) = false
 is_of_held Echo = false
 
@@ -156,7 +172,7 @@ tells_held (asks question x) = false
 tells_held ends = false
 tells_held (fails kind) = false
 
--- The lines of a transcript, turn by turn, with a gap for each model, for values, for each proof and each core: these are of the
+-- The lines of a transcript, turn by turn, with a gap for each model, for values, for each proof, each core and each list of assumptions: these are of the
 -- schedule or the refutation that was found.
 abbrev pub line_with_gaps : Turn Entry → Option (List ℕ)
 line_with_gaps t = if tells_held t.outcome then None else Some (piece_by Verdicts t t.outcome)

@@ -1,15 +1,18 @@
 -- The piece that answers a command.
-use Rattle.std.proofs.Common.{arith, refl, sym, ap, subst, inl, inr, ◌∙◌, ◌≡◌, ◌≤◌, ◌+◌, ◌⊎◌, List, [], ℕ, Some}
+use Rattle.std.proofs.Common.{arith, refl, sym, ap, subst, inl, inr, ◌∙◌, ◌≡◌, ◌≢◌, ◌≤◌, ◌+◌, ◌⊎◌, List, [], ◌∷◌, length, take, Bool, ℕ, Option, Some, None}
+use Rattle.std.proofs.lemmas.List.{length-append, length-take}
 use Rattle.smt_sexpr.specs.Tree.{Sexpr}
 use Rattle.stn_core.specs.declared.named.NamedValue.{NamedValue}
+use Rattle.stn_core.specs.Named.{AreWithinLimit}
 use Rattle.cert_text.specs.declared.entry.Version.{Version}
 use Rattle.cert_text.specs.declared.entry.Version.TheVariants.{One, Two}
 use Rattle.cert_text.specs.declared.entry.Entry.{Entry}
 use Rattle.cert_text.specs.declared.entry.Entry.TheVariants.{Sat, Unsat, Best, Unbounded}
 use Rattle.cert_text.specs.Form.{entry_sexpr, line_of}
 use Rattle.clause_form.specs.Restricting.{restricted}
-use Rattle.idl_term.specs.Contexts.{Context}
-use Rattle.idl_term.specs.Scopes.{sorts_of}
+use Rattle.idl_term.specs.Contexts.{Context, IsScheduleFor, IsContext, start, declares, defines, asserts, names}
+use Rattle.idl_term.specs.Scopes.{Scope, Declaration, sorts_of}
+use Rattle.idl_node.specs.Sorts.{AreOfSorts}
 use Rattle.refute_tree.specs.declared.lemma.Lemma.{Lemma}
 use Rattle.smt_script.specs.declared.state.Effect.TheVariants.{Tell}
 use Rattle.smt_script.specs.declared.state.Effect.{Effect}
@@ -18,40 +21,48 @@ use Rattle.smt_script.specs.declared.state.Mode.TheVariants as mode
 use Rattle.smt_script.specs.declared.state.Notice.{Notice}
 use Rattle.smt_script.specs.declared.state.Notice.TheVariants as notice
 use Rattle.smt_script.specs.declared.state.Question.{Question}
-use Rattle.smt_script.specs.code.Kept.{Kept}
-use Rattle.smt_script.specs.Laws.{ModeIsKept, ModelNeedsSat, ValuesNeedSat, ProofNeedsUnsat, CoreNeedsUnsat}
+use Rattle.smt_script.specs.declared.state.Question.TheVariants.{CheckSat}
+use Rattle.smt_script.specs.code.Kept.{Kept, AssumedStands, StandsFor}
+use Rattle.smt_script.specs.Laws.{ModeIsKept, ModelNeedsSat, ValuesNeedSat, ProofNeedsUnsat, CoreNeedsUnsat, AssumptionsNeedUnsat}
 use Rattle.smt_script.specs.declared.state.Satisfiability.{Satisfiability}
 use Rattle.smt_script.specs.declared.state.Satisfiability.TheVariants as verdict
-use Rattle.smt_script.specs.States.{State, Step, settled}
+use Rattle.smt_script.specs.States.{State, Step, Assumed, released, settled, asked_by, asked_of, active_by}
+use Rattle.smt_script.specs.declared.state.Active.{Active}
 use Rattle.script_walk.specs.code.Events.{Leads, IsReady as IsWalkReady}
 use Rattle.script_walk.specs.code.Standing.{Stands}
 use Rattle.script_walk.specs.declared.walk.Walk.{Walk}
 use Rattle.dtp_entry.specs.declared.report.Report.{Report}
 use Rattle.dtp_entry.specs.declared.report.Report.TheVariants.{Verdicts}
+use Rattle.dtp_entry.specs.Bests.{Satisfies}
+use Rattle.dtp_entry.specs.Cores.{cites_assertion}
 use Rattle.dtp_entry.specs.Entries.{verdict_of}
 use Rattle.dtp_entry.specs.Reports.{version_of}
 use Rattle.dtp_entry.specs.Transcripts.{Held, schedule_in, told, told_proof, Decides}
 use Rattle.dtp_session.specs.declared.decision.Decision.{Decision}
 use Rattle.dtp_session.specs.declared.piece.Piece.{Piece}
 use Rattle.dtp_session.specs.declared.piece.Piece.TheVariants.{Proof, Told}
+use Rattle.dtp_session.specs.declared.piece.Piece.TheVariants as piece
 use Rattle.dtp_session.specs.declared.session.Session.{Session}
 use Rattle.dtp_session.specs.code.Decisions.{IsDecision}
-use Rattle.dtp_session.specs.code.Sessions.{ShowsSchedule, ShowsRefutation, ShowsVerdict, Holds, MayTell, KeepsReading, KeepsVerdict, Tells, IsChecked}
+use Rattle.dtp_session.proofs.Deciding.{decision, schedule_decides}
+use Rattle.dtp_session.specs.code.Sessions.{ShowsSchedule, AreCitedIn, CitesAssumed, ShowsRefutation, ShowsVerdict, Holds, IsAskedIn, MayTell, KeepsReading, KeepsVerdict, KeepsPlace, Tells, IsChecked, IsAnswered}
 
 -- ---- behind a command
 
-abbrev Shows : Session → Mode → Context → Type 0
-Shows p m c = ShowsVerdict (version_of p.report) m c p.held p.given p.marks.items
+abbrev Shows : Session → Mode → Context → Option Assumed → Type 0
+Shows p m c a = ShowsVerdict (version_of p.report) m c a p.held p.given p.marks.items p.cited.items
 
-shows_by : (p : Session) (m n : Mode) (c d : Context) → m ≡ n → c ≡ d → Shows p n d → Shows p m c
-shows_by p m n c d e f h = subst (λ (k : Mode). Shows p k c) (sym e) (subst (λ (k : Context). Shows p n k) (sym f) h)
+shows_by : (p : Session) (m n : Mode) (c d : Context) (a b : Option Assumed) → m ≡ n → c ≡ d → a ≡ b → Shows p n d b → Shows p m c a
+shows_by p m n c d a b e f g h =
+    subst (λ (k : Mode). Shows p k c a) (sym e) (subst (λ (k : Context). Shows p n k a) (sym f) (subst (λ (k : Option Assumed). Shows p n d k) (sym g) h))
 
-shows_nothing : (p : Session) (m : Mode) (c : Context) → m ≡ mode.Nothing → Shows p m c
-shows_nothing p m c e = subst (λ (k : Mode). Shows p k c) (sym e) tt
+shows_nothing : (p : Session) (m : Mode) (c : Context) (a : Option Assumed) → m ≡ mode.Nothing → Shows p m c a
+shows_nothing p m c a e = subst (λ (k : Mode). Shows p k c a) (sym e) tt
 
-shows_kept : (p : Session) (s next : State) → (next.mode ≡ mode.Nothing) ⊎ ((next.mode ≡ s.mode) × (next.context ≡ s.context)) → Shows p s.mode s.context → Shows p next.mode next.context
-shows_kept p s next (inl e) h = shows_nothing p next.mode next.context e
-shows_kept p s next (inr (e, f)) h = shows_by p next.mode s.mode next.context s.context e f h
+shows_kept : (p : Session) (s next : State) → (next.mode ≡ mode.Nothing) ⊎ ((next.mode ≡ s.mode) × (next.context ≡ s.context) × (next.assumed ≡ s.assumed))
+    → Shows p s.mode s.context s.assumed → Shows p next.mode next.context next.assumed
+shows_kept p s next (inl e) h = shows_nothing p next.mode next.context next.assumed e
+shows_kept p s next (inr (e, f, g)) h = shows_by p next.mode s.mode next.context s.context next.assumed s.assumed e f g h
 
 module _ (p : Session) (w : Walk) (s : State) (x : Sexpr) (effect : Effect) (h : Leads w s x effect) where
   abbrev step : Step
@@ -63,32 +74,33 @@ module _ (p : Session) (w : Walk) (s : State) (x : Sexpr) (effect : Effect) (h :
     shows = shows_kept p s h.next (law s x step h.leads) holds.shows;
   }
 
-pub may_after : (w : Walk) (s : State) (x : Sexpr) (n : Notice) (h : Leads w s x (Tell n)) → ModelNeedsSat → ValuesNeedSat → ProofNeedsUnsat → CoreNeedsUnsat → MayTell h.next x n
-may_after w s x n h model values proof core =
+pub may_after : (w : Walk) (s : State) (x : Sexpr) (n : Notice) (h : Leads w s x (Tell n)) → ModelNeedsSat → ValuesNeedSat → ProofNeedsUnsat → CoreNeedsUnsat → AssumptionsNeedUnsat → MayTell h.next x n
+may_after w s x n h model values proof core assumptions =
     let step : Step = record { state = h.next; effect = Tell n } in
     record {
       model = λ e. model s x step h.leads (ap Tell e);
       values = λ e. values s x step h.leads (ap Tell e);
       proof = λ e. proof s x step h.leads (ap Tell e);
       core = λ e. core s x step h.leads (ap Tell e);
+      assumptions = λ e. assumptions s x step h.leads (ap Tell e);
     }
 
 -- text and marks aside, the session is as before
 pub holds_kept : (p q : Session) (s : State) → KeepsVerdict p q → q.marks ≡ p.marks → Holds p s → Holds q s
 holds_kept p q s keeps marks holds = record {
   stands = subst (λ (k : Kept). Stands k s) (sym keeps.state) holds.stands;
-  shows = rw (keeps.held, keeps.given, marks, keeps.reading.report) holds.shows;
+  shows = rw (keeps.held, keeps.given, keeps.cited, marks, keeps.reading.report) holds.shows;
 }
 
 -- ---- a question that what is held answers
 
 -- the schedule that is held
-pub held_schedule : (p : Session) (s : State) → Holds p s → s.mode ≡ mode.Sat → ShowsSchedule s.context p.held p.given p.marks.items
-held_schedule p s holds sat = subst (λ (m : Mode). Shows p m s.context) sat holds.shows
+pub held_schedule : (p : Session) (s : State) → Holds p s → s.mode ≡ mode.Sat → ShowsSchedule s.context (asked_of s) p.held p.given p.marks.items
+held_schedule p s holds sat = subst (λ (m : Mode). Shows p m s.context s.assumed) sat holds.shows
 
 -- the refutation that is held
-pub held_refutation : (p : Session) (s : State) → Holds p s → s.mode ≡ mode.Unsat → ShowsRefutation (version_of p.report) s.context p.held
-held_refutation p s holds unsat = subst (λ (m : Mode). Shows p m s.context) unsat holds.shows
+pub held_refutation : (p : Session) (s : State) → Holds p s → s.mode ≡ mode.Unsat → ShowsRefutation (version_of p.report) s.context s.assumed p.held p.cited.items
+held_refutation p s holds unsat = subst (λ (m : Mode). Shows p m s.context s.assumed) unsat holds.shows
 
 pub mode_is : (p : Session) (s : State) (m : Mode) → Holds p s → p.walk.state.mode ≡ m → s.mode ≡ m
 mode_is p s m holds e = sym holds.stands.stands.mode ∙ e
@@ -98,76 +110,211 @@ pub each_question : (version : Version) (question other : Question) (x y : Sexpr
 each_question One question other x y c lemmas h = record { right = record { right = h.right.right; fits = h.right.fits; form = tt }; so = h.so }
 each_question Two question other x y c lemmas h = record { right = record { right = h.right.right; fits = h.right.fits; form = h.right.form }; so = h.so }
 
+-- where a mode is left at a question, nothing is assumed
+alone_by : (s : State) (m : Mode) → (s.assumed ≡ None) ⊎ (s.mode ≡ mode.Nothing) → s.mode ≡ m → m ≢ mode.Nothing → s.assumed ≡ None
+alone_by s m (inl e) is some = e
+alone_by s m (inr e) is some = absurd (some (sym is ∙ e))
+
+pub alone_behind : (question : Question) (x : Sexpr) (s : State) (m : Mode) → IsAskedIn question x s → s.mode ≡ m → m ≢ mode.Nothing → s.assumed ≡ None
+alone_behind question x s m asked is some = alone_by s m asked.alone is some
+
+-- ---- the state behind an answer
+
+released_assumed : (s : State) (a : Option Assumed) → (released s a).assumed ≡ s.assumed
+released_assumed s None = refl
+released_assumed s (Some a) = refl
+
+settled_assumed : (v : Satisfiability) (s : State) → (settled v s).assumed ≡ s.assumed
+settled_assumed verdict.Sat s = released_assumed s s.assumed
+settled_assumed verdict.Unsat s = released_assumed s s.assumed
+
+released_active : (s : State) (a : Option Assumed) → (released s a).context ≡ active_by s.context a
+released_active s None = refl
+released_active s (Some a) = refl
+
+settled_active : (v : Satisfiability) (s : State) → (settled v s).context ≡ active_by s.context s.assumed
+settled_active verdict.Sat s = released_active s s.assumed
+settled_active verdict.Unsat s = released_active s s.assumed
+
+-- what is active then
+active_is : (v : Satisfiability) (s : State) (a : Option Assumed) → s.assumed ≡ a → (settled v s).context ≡ active_by s.context a
+active_is v s a e = settled_active v s ∙ ap (active_by s.context) e
+
 -- ---- what is held behind an answer
 
-module _ (version : Version) (question : Question) (x : Sexpr) (c : Context) (found : Decision) (decided : IsDecision version question x c found) where
-  scheduled : (entry : Entry) (schedule : List NamedValue) → found.found ≡ entry → schedule_in c entry ≡ Some schedule → ShowsSchedule c (Some found.found) found.given []
+-- the names are those of what was asked of, and there are no more assertions
+pub record IsActive (c d : Context) : Type 0 where
+  pub declared : c.declared ≡ d.declared
+  pub few : length c.roots ≤ length d.roots
+
+active_in : (kept : Kept) (s : State) (n : Option Active) (a : Option Assumed) → StandsFor kept s → AssumedStands kept n a → IsActive (active_by s.context a) s.context
+active_in kept s None None h is = record { declared = refl; few = omega arith }
+active_in kept s None (Some a) h is = absurd is
+active_in kept s (Some n) None h is = absurd is
+active_in kept s (Some n) (Some a) h is =
+    let count : length a.active.roots ≡ length (take n.roots kept.roots) = ap (λ (ks : List ℕ). length ks) is.roots in
+    let all : length kept.roots ≡ length s.context.roots = ap (λ (ks : List ℕ). length ks) h.roots in
+    let least = length-take n.roots kept.roots in
+    record {
+      declared = ap (λ (scope : Scope). scope.declared) (sym is.scope ∙ h.scope);
+      few = omega (arith, count, all, least);
+    }
+
+schedule_same : (c d : Context) (entry : Entry) → c.declared ≡ d.declared → schedule_in c entry ≡ schedule_in d entry
+schedule_same c d (Sat schedule) e = refl
+schedule_same c d (Unsat lemmas) e = refl
+schedule_same c d (Best m schedule lemmas) e = refl
+schedule_same c d (Unbounded values set) e = ap (λ (ds : List Declaration). Some (restricted (sorts_of ds) values)) e
+
+fits_same : (c d : Context) (schedule : List NamedValue) → c.declared ≡ d.declared → IsScheduleFor d schedule → IsScheduleFor c schedule
+fits_same c d schedule e h = subst (λ (ds : List Declaration). AreOfSorts (sorts_of ds) schedule) (sym e) h
+
+-- as many nodes as assertions
+pub roots_counted : (c : Context) → IsContext c → length c.roots ≡ length c.assertions
+roots_counted _ start = refl
+roots_counted _ (declares c name sort h free few) = roots_counted c h
+roots_counted _ (defines c name t made h free is) = roots_counted c h
+roots_counted _ (asserts c t nodes root h is) =
+    let before = roots_counted c h in omega (arith, before, length-append c.roots (root ∷ []), length-append c.assertions (t ∷ []))
+roots_counted _ (names c name t nodes root h free is) =
+    let before = roots_counted c h in omega (arith, before, length-append c.roots (root ∷ []), length-append c.assertions (t ∷ []))
+
+-- of a decision of what was asked of (d), where c is active behind it
+module _ (version : Version) (question : Question) (x : Sexpr) (c d : Context) (assumed : Option Assumed) (cited : List Bool) (found : Decision)
+    (active : IsActive c d) (of : asked_by c assumed ≡ d) (decided : IsDecision version question x d found)
+    (cites : (lemmas : List Lemma) → found.found ≡ Unsat lemmas → CitesAssumed c assumed lemmas cited) where
+  scheduled : (entry : Entry) (schedule : List NamedValue) → found.found ≡ entry → schedule_in d entry ≡ Some schedule → ShowsSchedule c (asked_by c assumed) (Some found.found) found.given []
   scheduled entry schedule e is =
-      let in_entry : schedule_in c found.found ≡ Some schedule = ap (schedule_in c) e ∙ is in
+      let in_entry : schedule_in d found.found ≡ Some schedule = ap (schedule_in d) e ∙ is in
       let has = decided.satisfies schedule in_entry in
       record {
         entry = found.found;
         schedule = schedule;
         held = refl;
         shown = decided.same ∙ in_entry;
-        is = in_entry;
-        satisfies = has.0;
+        is = schedule_same c d found.found active.declared ∙ in_entry;
+        fits = fits_same c d schedule active.declared has.0.0;
+        satisfies = subst (λ (k : Context). Satisfies k schedule) (sym of) has.0;
         within = has.1;
         truths = record { within = omega arith; each = λ k h. absurd (omega arith) };
       }
 
-  refuted : (lemmas : List Lemma) → found.found ≡ Unsat lemmas → ShowsRefutation version c (Some found.found)
+  refuted : (lemmas : List Lemma) → found.found ≡ Unsat lemmas → ShowsRefutation version c assumed (Some found.found) cited
   refuted lemmas e = record {
     lemmas = lemmas;
     held = ap Some e;
-    decides = λ other y. each_question version question other x y c lemmas (subst (λ (f : Entry). Decides version question x c f) e decided.decides);
+    decides = λ other y. subst (λ (k : Context). Decides version other y k (Unsat lemmas)) (sym of)
+        (each_question version question other x y d lemmas (subst (λ (f : Entry). Decides version question x d f) e decided.decides));
+    cites = cites lemmas e;
   }
 
-  shows_entry : (s : State) (entry : Entry) → found.found ≡ entry → ShowsVerdict version (settled (verdict_of entry) s).mode c (Some found.found) found.given []
+  shows_entry : (s : State) (entry : Entry) → found.found ≡ entry → ShowsVerdict version (settled (verdict_of entry) s).mode c assumed (Some found.found) found.given [] cited
   shows_entry s (Sat schedule) e = scheduled (Sat schedule) schedule e refl
   shows_entry s (Unsat lemmas) e = refuted lemmas e
   shows_entry s (Best m schedule lemmas) e = scheduled (Best m schedule lemmas) schedule e refl
-  shows_entry s (Unbounded values set) e = scheduled (Unbounded values set) (restricted (sorts_of c.declared) values) e refl
+  shows_entry s (Unbounded values set) e = scheduled (Unbounded values set) (restricted (sorts_of d.declared) values) e refl
 
   -- a decision shows its verdict, before any value is asked for
-  pub decision_shows : (s : State) → ShowsVerdict version (settled (verdict_of found.found) s).mode c (Some found.found) found.given []
+  pub decision_shows : (s : State) → ShowsVerdict version (settled (verdict_of found.found) s).mode c assumed (Some found.found) found.given [] cited
   decision_shows s = shows_entry s found.found refl
 
--- the context stays where a question is answered
-pub settled_context : (v : Satisfiability) (s : State) → (settled v s).context ≡ s.context
-settled_context verdict.Sat s = refl
-settled_context verdict.Unsat s = refl
+asked_active : (c : Context) (a : Option Assumed) → asked_by c a ≡ c → asked_by (active_by c a) a ≡ c
+asked_active c None h = h
+asked_active c (Some a) h = h
+
+-- what a refutation rests on, where something is assumed
+cites_by : (s : State) (a : Option Assumed) (lemmas : List Lemma) (cited : List Bool) → asked_by s.context a ≡ s.context → IsContext (active_by s.context a) → IsActive (active_by s.context a) s.context
+    → (a ≢ None → AreCitedIn s.context lemmas cited) → CitesAssumed (active_by s.context a) a lemmas cited
+cites_by s None lemmas cited of made active marks = tt
+cites_by s (Some a) lemmas cited of made active marks =
+    let h = marks (λ e. absurd cc) in
+    let count = h.count in
+    let few = active.few in
+    record {
+      each = λ r. h.each r ∙ ap (λ (k : Context). cites_assertion k lemmas r) (sym of);
+      active = roots_counted a.active made;
+      within = omega (arith, count, few);
+    }
 
 -- a session that holds a decision
-pub holds_decision : (q : Session) (s : State) (version : Version) (question : Question) (x : Sexpr) (found : Decision) → version_of q.report ≡ version → IsDecision version question x s.context found
-    → Stands q.walk.state (settled (verdict_of found.found) s) → q.held ≡ Some found.found → q.given ≡ found.given → q.marks.items ≡ [] → Holds q (settled (verdict_of found.found) s)
-holds_decision q s version question x found e decided stands held given marks = record {
-  stands = stands;
-  shows = rw (e, held, given, marks, settled_context (verdict_of found.found) s) (decision_shows version question x s.context found decided s);
+module _ (kept : Kept) (q : Session) (s : State) (version : Version) (question : Question) (x : Sexpr) (found : Decision) (at : Stands kept s) (asked : IsAskedIn question x s)
+    (decided : IsDecision version question x s.context found)
+    (cites : (lemmas : List Lemma) → s.assumed ≢ None → found.found ≡ Unsat lemmas → AreCitedIn s.context lemmas q.cited.items)
+    (e : version_of q.report ≡ version) (held : q.held ≡ Some found.found) (given : q.given ≡ found.given) (marks : q.marks.items ≡ []) where
+  shows_decided : ShowsVerdict version (settled (verdict_of found.found) s).mode (active_by s.context s.assumed) s.assumed (Some found.found) found.given [] q.cited.items
+  shows_decided =
+      let active : IsActive (active_by s.context s.assumed) s.context = active_in kept s kept.assumed s.assumed at.stands at.stands.assumed in
+      decision_shows version question x (active_by s.context s.assumed) s.context s.assumed q.cited.items found active (asked_active s.context s.assumed asked.active) decided
+      (λ lemmas is. cites_by s s.assumed lemmas q.cited.items asked.active at.made.active active (λ some. cites lemmas some is)) s
+
+  pub holds_decision : Stands q.walk.state (settled (verdict_of found.found) s) → Holds q (settled (verdict_of found.found) s)
+  holds_decision stands = record {
+    stands = stands;
+    shows = rw (e, held, given, marks, settled_active (verdict_of found.found) s, settled_assumed (verdict_of found.found) s) shows_decided;
+  }
+
+  -- a question that was decided anew
+  pub decided_anew : (p : Session) → Stands q.walk.state (settled (verdict_of found.found) s) → q.walk.number ≡ p.walk.number + 1 → IsChecked question x p q s
+  decided_anew p stands number = record {
+    entry = found.found;
+    decides = subst (λ (v : Version). Decides v question x s.context found.found) (sym e) decided.decides;
+    held = held;
+    stands = holds_decision stands;
+    number = number;
+  }
+
+-- one that a schedule answers
+pub satisfied_by : (kept : Kept) (p q : Session) (s : State) (x : Sexpr) (values : List NamedValue) → Stands kept s → IsAskedIn CheckSat x s → Satisfies s.context values → AreWithinLimit values
+    → Stands q.walk.state (settled verdict.Sat s) → q.held ≡ Some (Sat values) → q.given ≡ None → q.marks.items ≡ [] → q.walk.number ≡ p.walk.number + 1 → IsChecked CheckSat x p q s
+satisfied_by kept p q s x values at asked satisfies within stands held given marks number =
+    decided_anew kept q s (version_of q.report) CheckSat x (decision (Sat values) None) at asked (schedule_decides s.context (version_of q.report) x values satisfies within)
+    (λ lemmas some e. absurd cc) refl held given marks p stands number
+
+-- ---- where what is kept of a schedule is all that was changed
+
+pub holds_aside : (p mid : Session) (s : State) → mid ≡ record p { kept = mid.kept } → Holds p s → Holds mid s
+holds_aside p mid s same holds = subst (λ (m : Session). Holds m s) (sym same) (record { stands = holds.stands; shows = holds.shows })
+
+pub checked_aside : (p mid q : Session) (s : State) (question : Question) (x : Sexpr) → mid ≡ record p { kept = mid.kept } → IsChecked question x mid q s → IsChecked question x p q s
+checked_aside p mid q s question x same h = record {
+  entry = h.entry;
+  decides = h.decides;
+  held = h.held;
+  stands = h.stands;
+  number = h.number ∙ ap (λ (m : Session). m.walk.number + 1) same;
 }
 
--- a question that was decided anew
-pub decided_anew : (p q : Session) (s : State) (version : Version) (question : Question) (x : Sexpr) (found : Decision) → version ≡ version_of q.report → IsDecision version question x s.context found
-    → Stands q.walk.state (settled (verdict_of found.found) s) → q.held ≡ Some found.found → q.given ≡ found.given → q.marks.items ≡ [] → q.walk.number ≡ p.walk.number + 1 → IsChecked question x p q s
-decided_anew p q s version question x found e decided stands held given marks number = record {
-  entry = found.found;
-  decides = subst (λ (v : Version). Decides v question x s.context found.found) e decided.decides;
-  held = held;
-  stands = holds_decision q s version question x found (sym e) decided stands held given marks;
-  number = number;
+pub answered_aside : (p mid q : Session) (s : State) (question : Question) (x : Sexpr) (found : Piece) → mid ≡ record p { kept = mid.kept } → IsAnswered question x mid q s found → IsAnswered question x p q s found
+answered_aside p mid q s question x piece.Decision same h = (h.0, checked_aside p mid q s question x same h.1)
+answered_aside p mid q s question x (piece.Error kind) same h = (h.0, h.1 ∙ ap (λ (m : Session). m.walk.number) same)
+answered_aside p mid q s question x piece.Opening same h = h
+answered_aside p mid q s question x piece.Proof same h = h
+answered_aside p mid q s question x piece.Told same h = h
+answered_aside p mid q s question x piece.Closing same h = h
+
+pub placed_aside : (p mid q : Session) → mid ≡ record p { kept = mid.kept } → KeepsPlace mid q → KeepsPlace p q
+placed_aside p mid q same h = record {
+  lexer = h.lexer ∙ ap (λ (m : Session). m.walk.lexer) same;
+  sexprs = h.sexprs ∙ ap (λ (m : Session). m.walk.sexprs) same;
+  report = h.report ∙ ap (λ (m : Session). m.report) same;
 }
 
 -- and one that the refutation answers that is held
-pub refuted_again : (p q : Session) (s : State) (question : Question) (x : Sexpr) → Holds p s → p.walk.state.mode ≡ mode.Unsat → Stands q.walk.state (settled verdict.Unsat s) → q.held ≡ p.held → q.report ≡ p.report
+pub refuted_again : (p q : Session) (s : State) (question : Question) (x : Sexpr) → Holds p s → IsAskedIn question x s → p.walk.state.mode ≡ mode.Unsat → Stands q.walk.state (settled verdict.Unsat s) → q.held ≡ p.held → q.report ≡ p.report
     → q.walk.number ≡ p.walk.number + 1 → IsChecked question x p q s
-refuted_again p q s question x holds unsat stands held report number =
-    let w = held_refutation p s holds (mode_is p s mode.Unsat holds unsat) in
-    let decides : (other : Question) (y : Sexpr) → Decides (version_of q.report) other y s.context (Unsat w.lemmas) = λ other y. subst (λ (r : Report). Decides (version_of r) other y s.context (Unsat w.lemmas)) (sym report) (w.decides other y) in
+refuted_again p q s question x holds asked unsat stands held report number =
+    let is_unsat = mode_is p s mode.Unsat holds unsat in
+    let w = held_refutation p s holds is_unsat in
+    let none = alone_behind question x s mode.Unsat asked is_unsat (λ e. absurd cc) in
+    let decides : (other : Question) (y : Sexpr) → Decides (version_of q.report) other y s.context (Unsat w.lemmas) = λ other y.
+    subst (λ (r : Report). Decides (version_of r) other y s.context (Unsat w.lemmas)) (sym report)
+    (subst (λ (k : Context). Decides (version_of p.report) other y k (Unsat w.lemmas)) asked.active (w.decides other y)) in
+    let shown : ShowsRefutation (version_of q.report) s.context None q.held q.cited.items = record { lemmas = w.lemmas; held = held ∙ w.held; decides = decides; cites = tt } in
     record {
       entry = Unsat w.lemmas;
       decides = decides question x;
       held = held ∙ w.held;
-      stands = record { stands = stands; shows = record { lemmas = w.lemmas; held = held ∙ w.held; decides = decides } };
+      stands = record { stands = stands; shows = rw (active_is verdict.Unsat s None none, settled_assumed verdict.Unsat s, none) shown };
       number = number;
     }
 

@@ -144,7 +144,7 @@ decision found given = record { found = found; given = given }
 same_schedule : (a b : List NamedValue) → ◌≡◌ {A = Option (List NamedValue)} (Some a) (Some b) → a ≡ b
 same_schedule a b e = cc
 
-module _ (laws : Laws) (c : Context) (context : IsContext c) where
+module _ (c : Context) where
   -- a decision by an entry with this schedule
   with_schedule : (version : Version) (question : Question) (x : Sexpr) (entry : Entry) (schedule : List NamedValue) (given : Option (List NamedValue))
       → Decides version question x c entry → (same : schedule_shown given entry ≡ schedule_in c entry) → schedule_in c entry ≡ Some schedule → Satisfies c schedule → AreWithinLimit schedule
@@ -155,10 +155,6 @@ module _ (laws : Laws) (c : Context) (context : IsContext c) where
     satisfies = λ other e. subst (λ (s : List NamedValue). Satisfies c s × AreWithinLimit s) (same_schedule schedule other (sym is ∙ e)) (satisfies, within);
   }
 
-  decision_as : (version : Version) (question : Question) (x : Sexpr) (entry found : Entry) (given : Option (List NamedValue)) → found ≡ entry
-      → IsDecision version question x c (decision entry given) → IsDecision version question x c (decision found given)
-  decision_as version question x entry found given e h = subst (λ (f : Entry). IsDecision version question x c (decision f given)) (sym e) h
-
   sat_in_form : (version : Version) (named : List NamedValue) → IsInForm version CheckSat c (Sat named)
   sat_in_form One named = tt
   sat_in_form Two named = tt
@@ -166,6 +162,16 @@ module _ (laws : Laws) (c : Context) (context : IsContext c) where
   pub sat_decides : (version : Version) (x : Sexpr) (named : List NamedValue) → Satisfies c named → AreWithinLimit named → Decides version CheckSat x c (Sat named)
   sat_decides version x named satisfies within =
       record { right = record { right = satisfies; fits = within; form = sat_in_form version named }; so = (named, satisfies.0, satisfies.1) }
+
+  -- a schedule decides a check-sat
+  pub schedule_decides : (version : Version) (x : Sexpr) (named : List NamedValue) → Satisfies c named → AreWithinLimit named → IsDecision version CheckSat x c (decision (Sat named) None)
+  schedule_decides version x named satisfies within =
+      with_schedule version CheckSat x (Sat named) named None (sat_decides version x named satisfies within) refl refl satisfies within
+
+module _ (laws : Laws) (c : Context) (context : IsContext c) where
+  decision_as : (version : Version) (question : Question) (x : Sexpr) (entry found : Entry) (given : Option (List NamedValue)) → found ≡ entry
+      → IsDecision version question x c (decision entry given) → IsDecision version question x c (decision found given)
+  decision_as version question x entry found given e h = subst (λ (f : Entry). IsDecision version question x c (decision f given)) (sym e) h
 
   -- what the values give
   given_satisfies : (values : List ℤ) (named : List NamedValue) → length values ≡ points_of c → ProblemHolds values (problem_of c) → named ≡ restricted (sorts_of c.declared) values → Satisfies c named
@@ -182,7 +188,7 @@ module _ (laws : Laws) (c : Context) (context : IsContext c) where
     sat_decision version x values named found solution e within is_found =
         let satisfies = solution_satisfies values named solution e in
         decision_as version CheckSat x (Sat named) found None is_found
-        (with_schedule version CheckSat x (Sat named) named None (sat_decides version x named satisfies within) refl refl satisfies within)
+        (with_schedule c version CheckSat x (Sat named) named None (sat_decides c version x named satisfies within) refl refl satisfies within)
 
     -- ---- a refutation
 
@@ -265,7 +271,7 @@ module _ (laws : Laws) (c : Context) (context : IsContext c) where
             so = right_is_so laws c context (Minimize o) x (Best m schedule entry) asked right;
           } in
           decision_as version (Minimize o) x (Best m schedule entry) found None s.shown
-          (with_schedule version (Minimize o) x (Best m schedule entry) schedule None decides refl refl satisfies within)
+          (with_schedule c version (Minimize o) x (Best m schedule entry) schedule None decides refl refl satisfies within)
 
       -- ---- no least value
 
@@ -303,4 +309,4 @@ module _ (laws : Laws) (c : Context) (context : IsContext c) where
             so = right_is_so laws c context (Minimize o) x (Unbounded values set) asked right;
           } in
           decision_as version (Minimize o) x (Unbounded values set) found (Some schedule) is_found
-          (with_schedule version (Minimize o) x (Unbounded values set) schedule (Some schedule) decides (ap Some e) (ap Some (sym e)) (solution_satisfies values schedule h.solution e) within)
+          (with_schedule c version (Minimize o) x (Unbounded values set) schedule (Some schedule) decides (ap Some e) (ap Some (sym e)) (solution_satisfies values schedule h.solution e) within)

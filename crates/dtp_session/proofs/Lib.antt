@@ -8,3 +8,4 @@ pub mod Transcribing
 pub mod Deciding
 pub mod Telling
 pub mod Saying
+pub mod Satisfying

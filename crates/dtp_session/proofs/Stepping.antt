@@ -7,7 +7,7 @@ use Rattle.smt_script.specs.declared.state.Effect.TheVariants.{Ask, Tell}
 use Rattle.smt_script.specs.declared.state.Notice.{Notice}
 use Rattle.smt_script.specs.declared.state.Question.{Question}
 use Rattle.smt_script.specs.declared.state.Question.TheVariants.{CheckSat, Minimize}
-use Rattle.smt_script.specs.Laws.{ModeIsKept, ModelNeedsSat, ValuesNeedSat, ProofNeedsUnsat, CoreNeedsUnsat, MinimizedIsWorth}
+use Rattle.smt_script.specs.Laws.{ModeIsKept, ModelNeedsSat, ValuesNeedSat, ProofNeedsUnsat, CoreNeedsUnsat, AssumptionsNeedUnsat, QuestionsOfActive, MinimizedIsWorth}
 use Rattle.smt_script.specs.States.{State, settled}
 use Rattle.script_walk.specs.code.Events.{IsEvent, GoesOn, Asks, IsReady as IsWalkReady}
 use Rattle.script_walk.specs.declared.walk.Event.{Event}
@@ -19,7 +19,7 @@ use Rattle.dtp_session.specs.declared.piece.Piece.{Piece}
 use Rattle.dtp_entry.specs.code.Asking.{IsAskedBy}
 use Rattle.dtp_session.specs.declared.piece.Piece.TheVariants.{Opening, Decision, Proof, Told, Closing, Error}
 use Rattle.dtp_session.specs.declared.session.Session.{Session}
-use Rattle.dtp_session.specs.code.Sessions.{Holds, MayTell, place_of, KeepsReading, KeepsPlace, Tells, IsAnswered, IsGoing, IsNext}
+use Rattle.dtp_session.specs.code.Sessions.{Holds, IsAskedIn, MayTell, place_of, KeepsReading, KeepsPlace, Tells, IsAnswered, IsGoing, IsNext}
 use Rattle.dtp_session.proofs.Answering.{holds_after, may_after, ready_kept, ready_settled}
 use Rattle.dtp_session.proofs.Transcribing.{closing_next, error_next, told_next, checked_next, barred_next}
 
@@ -33,14 +33,14 @@ module _ (p : Session) (w : Walk) (s : State) (event : Event) (h : IsEvent p.wal
     told_holds : Holds (record p { walk = w }) told_event.carries.1.next
     told_holds = holds_after p w s told_event.x (Tell n) told_event.carries.1 kept holds
 
-    module _ (model : ModelNeedsSat) (values : ValuesNeedSat) (proof : ProofNeedsUnsat) (core : CoreNeedsUnsat) where
+    module _ (model : ModelNeedsSat) (values : ValuesNeedSat) (proof : ProofNeedsUnsat) (core : CoreNeedsUnsat) (assumptions : AssumptionsNeedUnsat) where
       pub may_tell : (s : State) × (x : Sexpr) × Holds (record p { walk = w }) s × Means w.sexprs id x × MayTell s x n
-      may_tell = (told_event.carries.1.next, told_event.x, told_holds, told_event.carries.0, may_after w s told_event.x n told_event.carries.1 model values proof core)
+      may_tell = (told_event.carries.1.next, told_event.x, told_holds, told_event.carries.0, may_after w s told_event.x n told_event.carries.1 model values proof core assumptions)
 
       module _ (q : Session) (piece : Piece) (keeps : KeepsReading (record p { walk = w }) q)
           (tells : (s : State) (x : Sexpr) → Holds (record p { walk = w }) s → Means w.sexprs id x → MayTell s x n → Tells (record p { walk = w }) q s x n piece) where
         told_so : Tells (record p { walk = w }) q told_event.carries.1.next told_event.x n piece
-        told_so = tells told_event.carries.1.next told_event.x told_holds told_event.carries.0 (may_after w s told_event.x n told_event.carries.1 model values proof core)
+        told_so = tells told_event.carries.1.next told_event.x told_holds told_event.carries.0 (may_after w s told_event.x n told_event.carries.1 model values proof core assumptions)
 
         pub told_step : w.lexer.bytes ≡ p.walk.lexer.bytes → IsNext p q s piece
         told_step bytes = told_next p q w s bytes keeps id n piece told_event told_so
@@ -50,7 +50,7 @@ module _ (p : Session) (w : Walk) (s : State) (event : Event) (h : IsEvent p.wal
 
   -- ---- a question
 
-  module _ (worth : MinimizedIsWorth) (id : ℕ) (question : Question) (e : event ≡ Asked id question) where
+  module _ (worth : MinimizedIsWorth) (questions : QuestionsOfActive) (id : ℕ) (question : Question) (e : event ≡ Asked id question) where
     asked_event : IsEvent p.walk w s (Asked id question)
     asked_event = subst (λ (f : Event). IsEvent p.walk w s f) e h
 
@@ -62,8 +62,13 @@ module _ (p : Session) (w : Walk) (s : State) (event : Event) (h : IsEvent p.wal
     asked_by (Minimize o) same =
         worth s asked_event.x (record { state = asked_event.carries.1.next; effect = Ask question }) o holds.stands.made asked_event.carries.1.leads (ap Ask (sym same))
 
-    pub may_ask : (s : State) × (x : Sexpr) × Holds (record p { walk = w }) s × IsAskedBy question x s.context
-    may_ask = (asked_event.carries.1.next, asked_event.x, asked_holds, asked_by question refl)
+    asked_in : IsAskedIn question asked_event.x asked_event.carries.1.next
+    asked_in =
+        let of = questions s asked_event.x (record { state = asked_event.carries.1.next; effect = Ask question }) question asked_event.carries.1.leads refl in
+        record { by = asked_by question refl; active = of.0; alone = of.1 }
+
+    pub may_ask : (s : State) × (x : Sexpr) × Holds (record p { walk = w }) s × IsAskedIn question x s
+    may_ask = (asked_event.carries.1.next, asked_event.x, asked_holds, asked_in)
 
     pub few_asked : (GoesOn event → IsWalkReady w) → (Asks event → w.number ≤ w.lexer.place) → w.number < 2 ^ 64 - 1
     few_asked ready counted =
@@ -99,12 +104,12 @@ module _ (p : Session) (w : Walk) (s : State) (event : Event) (h : IsEvent p.wal
       ready_answered Told going ready counted h = absurd h
       ready_answered Closing going ready counted h = absurd going
 
-      module _ (piece : Piece) (answered : (s : State) (x : Sexpr) → Holds (record p { walk = w }) s → IsAskedBy question x s.context → IsAnswered question x (record p { walk = w }) q s piece) where
+      module _ (piece : Piece) (answered : (s : State) (x : Sexpr) → Holds (record p { walk = w }) s → IsAskedIn question x s → IsAnswered question x (record p { walk = w }) q s piece) where
         pub asked_step : w.lexer.bytes ≡ p.walk.lexer.bytes → IsNext p q s piece
-        asked_step bytes = answered_by bytes piece (answered asked_event.carries.1.next asked_event.x asked_holds (asked_by question refl))
+        asked_step bytes = answered_by bytes piece (answered asked_event.carries.1.next asked_event.x asked_holds asked_in)
 
         pub asked_ready : IsGoing piece → (GoesOn event → IsWalkReady w) → (Asks event → w.number ≤ w.lexer.place) → IsWalkReady q.walk
-        asked_ready going ready counted = ready_answered piece going ready counted (answered asked_event.carries.1.next asked_event.x asked_holds (asked_by question refl))
+        asked_ready going ready counted = ready_answered piece going ready counted (answered asked_event.carries.1.next asked_event.x asked_holds asked_in)
 
   -- ---- the end
 

@@ -20,7 +20,8 @@ use crate::session::Session;
 use dtp_entry::Report;
 use idl_term::{TermError, context_law};
 use smt_answer::{
-    core_text, echo_text, info_text, model_text, success_text, unsupported_text, values_text,
+    assumptions_text, core_text, echo_text, info_text, model_text, success_text, unsupported_text,
+    values_text,
 };
 use smt_script::{Notice, State, TermValue, asked_terms, echoed_text};
 use smt_sexpr::{SexprId, Sexprs};
@@ -110,9 +111,10 @@ impl<'a> Session<'a> {
         Ok(())
     }
 
-    /// `get-unsat-core`.
-    fn tell_core(&mut self) -> Result<(), AllocError>
+    /// `get-unsat-core`, where nothing is assumed.
+    fn tell_core_of_active(&mut self) -> Result<(), AllocError>
         requires may { (s : Meaning) × (x : Sexpr) × Holds self.old s × MayTell s x told_of.Core }
+        requires alone { self.old.walk.state.assumed ≡ None }
         requires empty { self.old.text.items ≡ [] }
         ensures told { OnOk result ((s : Meaning) (x : Sexpr) → Holds self.old s → MayTell s x told_of.Core
             → self.new.text.items ≡ told Verdicts self.old.held s x told_of.Core) }
@@ -132,6 +134,41 @@ impl<'a> Session<'a> {
         Ok(())
     }
 
+    /// `get-unsat-core`.
+    fn tell_core(&mut self) -> Result<(), AllocError>
+        requires may { (s : Meaning) × (x : Sexpr) × Holds self.old s × MayTell s x told_of.Core }
+        requires empty { self.old.text.items ≡ [] }
+        ensures told { OnOk result ((s : Meaning) (x : Sexpr) → Holds self.old s → MayTell s x told_of.Core
+            → self.new.text.items ≡ told Verdicts self.old.held s x told_of.Core) }
+        ensures keeps { KeepsVerdict self.old self.new }
+        ensures marks { self.new.marks ≡ self.old.marks }
+    {
+        match self.walk.state.assumptions() {
+            Some(_) => core_text(&self.walk.state, self.cited.as_slice(), &mut self.text)?,
+            None => self.tell_core_of_active()?,
+        }
+        Ok(())
+    }
+
+    /// `get-unsat-assumptions`.
+    fn tell_assumptions(&mut self) -> Result<(), AllocError>
+        requires may { (s : Meaning) × (x : Sexpr) × Holds self.old s × MayTell s x told_of.Assumptions }
+        requires empty { self.old.text.items ≡ [] }
+        ensures told { OnOk result ((s : Meaning) (x : Sexpr) → Holds self.old s → MayTell s x told_of.Assumptions
+            → self.new.text.items ≡ told Verdicts self.old.held s x told_of.Assumptions) }
+        ensures keeps { KeepsVerdict self.old self.new }
+        ensures marks { self.new.marks ≡ self.old.marks }
+    {
+        let state = &self.walk.state;
+        let Some(literals) = state.assumptions() else {
+            unreachable!()
+        };
+        let active = state.roots().len();
+        let cited = self.cited.as_slice();
+        assumptions_text(literals, &cited[active..], &mut self.text)?;
+        Ok(())
+    }
+
     /// What rests on no verdict.
     fn tell_plain(&mut self, id: SexprId, notice: Notice) -> Result<(), AllocError>
         requires meaning { HasMeaning self.old.walk.sexprs id }
@@ -139,6 +176,7 @@ impl<'a> Session<'a> {
         requires values { notice ≢ told_of.Values }
         requires proof { notice ≢ told_of.Proof }
         requires core { notice ≢ told_of.Core }
+        requires assumptions { notice ≢ told_of.Assumptions }
         requires empty { self.old.text.items ≡ [] }
         ensures told { OnOk result ((s : Meaning) (x : Sexpr) → Holds self.old s → Means self.old.walk.sexprs id x
             → self.new.text.items ≡ told Verdicts self.old.held s x notice) }
@@ -160,7 +198,8 @@ impl<'a> Session<'a> {
                 Ok(())
             }
             Notice::Echo => echo_text(echoed_text(&self.walk.sexprs, id), &mut self.text),
-            Notice::Model | Notice::Values | Notice::Proof | Notice::Core => unreachable!(),
+            Notice::Model | Notice::Values | Notice::Proof | Notice::Core | Notice::Assumptions =>
+                unreachable!(),
         }
     }
 
@@ -180,6 +219,7 @@ impl<'a> Session<'a> {
             Notice::Model => self.tell_model()?,
             Notice::Values => self.tell_values(id)?,
             Notice::Core => self.tell_core()?,
+            Notice::Assumptions => self.tell_assumptions()?,
             _ => self.tell_plain(id, notice)?,
         }
         Ok(Piece::Told)

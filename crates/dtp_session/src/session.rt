@@ -1,5 +1,5 @@
 //! A script that is being answered: the loop of the program.
-ghost use Rattle.std.specs.Prelude.{◌≡◌, ◌≢◌, ◌≤◌, ◌<◌, ◌-◌, ◌^◌, IfOk, OnOk, OnErr, Err};
+ghost use Rattle.std.specs.Prelude.{◌≡◌, ◌≢◌, ◌≤◌, ◌<◌, ◌-◌, ◌^◌, List, IfOk, IfSome, OnOk, OnErr, Err, None};
 ghost use Rattle.dtp_io.specs.Faults.{Rose};
 ghost use Rattle.smt_sexpr.specs.Tree.{Sexpr};
 ghost use Rattle.smt_script.specs.States.{State as Meaning};
@@ -7,12 +7,16 @@ ghost use Rattle.smt_script.specs.declared.state.Mode.TheVariants as mode;
 ghost use Rattle.smt_script.specs.declared.state.Question.{Question as Asked};
 ghost use Rattle.smt_script.specs.declared.state.Question.TheVariants as asked;
 ghost use Rattle.script_walk.specs.code.Events.{IsReady as IsWalkReady};
+ghost use Rattle.script_walk.specs.code.Standing.{Stands};
+ghost use Rattle.refute_tree.specs.declared.lemma.Lemma.{Lemma};
+ghost use Rattle.cert_text.specs.declared.entry.Entry.TheVariants.{Unsat};
+ghost use Rattle.stn_core.specs.Named.{AreWithinLimit};
+ghost use Rattle.dtp_entry.specs.Bests.{Satisfies};
 ghost use Rattle.dtp_entry.specs.Reports.{version_of};
 ghost use Rattle.dtp_entry.specs.Transcripts.{IsReport, IsReportPart};
 ghost use Rattle.dtp_entry.specs.Written.{Writes};
-ghost use Rattle.dtp_entry.specs.code.Asking.{IsAskedBy};
 ghost use Rattle.dtp_session.specs.code.Decisions.{IsTaken};
-ghost use Rattle.dtp_session.specs.code.Sessions.{Holds, IsReady, IsStart, KeepsPlace, KeepsScript, IsChecked, IsAnswered, IsGoing, IsNext};
+ghost use Rattle.dtp_session.specs.code.Sessions.{Holds, IsReady, IsStart, IsAskedIn, AreCitedIn, KeepsPlace, KeepsScript, IsChecked, IsAnswered, IsGoing, IsNext};
 ghost use Rattle.dtp_session.specs.Ends.{status_of};
 ghost use Rattle.dtp_session.specs.code.Forms.{version_wanted};
 
@@ -21,9 +25,11 @@ use crate::found::Found;
 use crate::options::SearchOptions;
 use crate::piece::Piece;
 use crate::wanted::{Wanted, last_proof};
-use cert_text::Version;
+use cert_text::{Entry, Version};
 use dtp_entry::{Report, SessionError, problem};
 use dtp_io::Sink;
+use idl_term::context_law;
+use kept_schedule::KeptSchedule;
 use script_walk::{Event, Walk, refusal_of};
 use smt_script::{Mode, Question, Satisfiability};
 use std::alloc::{AllocError, Global};
@@ -31,6 +37,7 @@ use std::sync::Wait;
 use std::thread::Threads;
 use steal_search::Gate;
 use stn_core::{NamedValues, Problem};
+use unsat_cores::cited_roots;
 
 /// A script that is being answered.
 #[derive(Drop)]
@@ -51,6 +58,11 @@ pub struct Session<'a> {
     pub last_proof: Option<usize>,
     /// The truth of the table's first nodes on a schedule that is held, of as many as values were asked for.
     pub marks: Vec<bool>,
+    /// The schedule of the last question that had one.
+    pub kept: KeptSchedule,
+    /// Where the last question had assumptions and was answered `unsat`: for each assertion, and behind the active ones for
+    /// each assumption, whether the refutation rests on it.
+    pub cited: Vec<bool>,
     /// What is told of the last command.
     pub text: Vec<u8>,
 }
@@ -80,6 +92,8 @@ impl<'a> Session<'a> {
             given: None,
             last_proof: None,
             marks: Vec::new(alloc),
+            kept: KeptSchedule::new(alloc),
+            cited: Vec::new(alloc),
             text: Vec::new(alloc),
         }
     }
@@ -143,34 +157,55 @@ impl<'a> Session<'a> {
         }
     }
 
-    /// Answers a question, or says why it isn't taken. Where nothing was changed since the last answer, a check-sat is answered
-    /// by what is held.
+    /// Answers a question, or says why it isn't taken.
     fn ask<R: Threads + Wait + Sync, G: Gate>(
         &mut self,
         rt: &R,
         gate: &G,
         question: Question,
     ) -> Result<Piece, AllocError>
-        requires holds { (s : Meaning) × (x : Sexpr) × Holds self.old s × IsAskedBy question x s.context }
+        requires holds { (s : Meaning) × (x : Sexpr) × Holds self.old s × IsAskedIn question x s }
         requires few { self.old.walk.number < 2 ^ 64 - 1 }
-        ensures answered { IfOk result (λ piece. (s : Meaning) (x : Sexpr) → Holds self.old s → IsAskedBy question x s.context
+        ensures answered { IfOk result (λ piece. (s : Meaning) (x : Sexpr) → Holds self.old s → IsAskedIn question x s
             → IsAnswered question x self.old self.new s piece) }
         ensures keeps { KeepsPlace self.old self.new }
     {
-        if let Question::CheckSat = question {
-            match self.walk.state.mode() {
-                Mode::Sat => {
-                    self.satisfy_again();
-                    return Ok(Piece::Decision);
-                }
-                Mode::Unsat => {
-                    self.refute_again();
-                    return Ok(Piece::Decision);
-                }
-                Mode::Nothing => {}
+        let piece = match question {
+            Question::CheckSat => self.ask_verdict(rt, gate)?,
+            Question::Minimize(_) => self.ask_problem(rt, gate, question)?,
+        };
+        Ok(piece)
+    }
+
+    /// Answers a check-sat: by what is held where nothing was changed since the last answer, by the schedule of an earlier question where a
+    /// few steps from it lead to one that does, and else anew.
+    fn ask_verdict<R: Threads + Wait + Sync, G: Gate>(
+        &mut self,
+        rt: &R,
+        gate: &G,
+    ) -> Result<Piece, AllocError>
+        requires holds { (s : Meaning) × (x : Sexpr) × Holds self.old s × IsAskedIn asked.CheckSat x s }
+        requires few { self.old.walk.number < 2 ^ 64 - 1 }
+        ensures answered { IfOk result (λ piece. (s : Meaning) (x : Sexpr) → Holds self.old s → IsAskedIn asked.CheckSat x s
+            → IsAnswered asked.CheckSat x self.old self.new s piece) }
+        ensures keeps { KeepsPlace self.old self.new }
+    {
+        match self.walk.state.mode() {
+            Mode::Sat => {
+                self.satisfy_again();
+                return Ok(Piece::Decision);
             }
+            Mode::Unsat => {
+                self.refute_again();
+                return Ok(Piece::Decision);
+            }
+            Mode::Nothing => {}
         }
-        let piece = self.ask_problem(rt, gate, question)?;
+        if let Some(values) = self.satisfying()? {
+            self.satisfy_by(values);
+            return Ok(Piece::Decision);
+        }
+        let piece = self.ask_problem(rt, gate, Question::CheckSat)?;
         Ok(piece)
     }
 
@@ -179,7 +214,7 @@ impl<'a> Session<'a> {
         requires holds { (s : Meaning) × Holds self.old s }
         requires sat { self.old.walk.state.mode ≡ mode.Sat }
         requires few { self.old.walk.number < 2 ^ 64 - 1 }
-        ensures checked { (s : Meaning) (x : Sexpr) → Holds self.old s
+        ensures checked { (s : Meaning) (x : Sexpr) → Holds self.old s → IsAskedIn asked.CheckSat x s
             → IsChecked asked.CheckSat x self.old self.new s }
         ensures keeps { KeepsPlace self.old self.new }
     {
@@ -190,12 +225,42 @@ impl<'a> Session<'a> {
         self.walk.settle(Satisfiability::Sat);
     }
 
+    /// The schedule of an earlier question, changed by a few steps, where these lead to one that satisfies the assertions.
+    fn satisfying(&mut self) -> Result<Option<NamedValues>, AllocError>
+        requires { (s : Meaning) × Stands self.old.walk.state s }
+        ensures found { IfOk result (λ found. IfSome found (λ values. (s : Meaning) → Stands self.old.walk.state s
+            → Satisfies s.context values × AreWithinLimit values)) }
+        ensures same { self.new ≡ record self.old { kept = self.new.kept } }
+    {
+        context_law();
+        if self.kept.is_empty() {
+            return Ok(None);
+        }
+        let state = &self.walk.state;
+        let sorts = state.names().sorts();
+        self.kept.satisfying(state.nodes(), state.roots(), sorts)
+    }
+
+    /// Answers a check-sat by this schedule.
+    fn satisfy_by(&mut self, values: NamedValues)
+        requires holds { (s : Meaning) × Holds self.old s }
+        requires few { self.old.walk.number < 2 ^ 64 - 1 }
+        ensures checked { (s : Meaning) (x : Sexpr) → Holds self.old s → IsAskedIn asked.CheckSat x s
+            → Satisfies s.context values → AreWithinLimit values → IsChecked asked.CheckSat x self.old self.new s }
+        ensures keeps { KeepsPlace self.old self.new }
+    {
+        self.held = Some(Found::shown(Entry::Sat(values)));
+        self.given = None;
+        self.marks.clear();
+        self.walk.settle(Satisfiability::Sat);
+    }
+
     /// Answers a question by the refutation that is held.
     fn refute_again(&mut self)
         requires holds { (s : Meaning) × Holds self.old s }
         requires unsat { self.old.walk.state.mode ≡ mode.Unsat }
         requires few { self.old.walk.number < 2 ^ 64 - 1 }
-        ensures checked { (s : Meaning) (x : Sexpr) (question : Asked) → Holds self.old s
+        ensures checked { (s : Meaning) (x : Sexpr) (question : Asked) → Holds self.old s → IsAskedIn question x s
             → IsChecked question x self.old self.new s }
         ensures keeps { KeepsPlace self.old self.new }
     {
@@ -209,9 +274,9 @@ impl<'a> Session<'a> {
         gate: &G,
         question: Question,
     ) -> Result<Piece, AllocError>
-        requires holds { (s : Meaning) × (x : Sexpr) × Holds self.old s × IsAskedBy question x s.context }
+        requires holds { (s : Meaning) × (x : Sexpr) × Holds self.old s × IsAskedIn question x s }
         requires few { self.old.walk.number < 2 ^ 64 - 1 }
-        ensures answered { IfOk result (λ piece. (s : Meaning) (x : Sexpr) → Holds self.old s → IsAskedBy question x s.context
+        ensures answered { IfOk result (λ piece. (s : Meaning) (x : Sexpr) → Holds self.old s → IsAskedIn question x s
             → IsAnswered question x self.old self.new s piece) }
         ensures keeps { KeepsPlace self.old self.new }
     {
@@ -235,9 +300,9 @@ impl<'a> Session<'a> {
         question: Question,
         problem: Problem,
     ) -> Result<(), AllocError>
-        requires holds { (s : Meaning) × (x : Sexpr) × Holds self.old s × IsTaken question x s problem }
+        requires holds { (s : Meaning) × (x : Sexpr) × Holds self.old s × IsAskedIn question x s × IsTaken question x s problem }
         requires few { self.old.walk.number < 2 ^ 64 - 1 }
-        ensures checked { OnOk result ((s : Meaning) (x : Sexpr) → Holds self.old s → IsTaken question x s problem
+        ensures checked { OnOk result ((s : Meaning) (x : Sexpr) → Holds self.old s → IsAskedIn question x s → IsTaken question x s problem
             → IsChecked question x self.old self.new s) }
         ensures keeps { KeepsPlace self.old self.new }
     {
@@ -255,10 +320,43 @@ impl<'a> Session<'a> {
             self.options,
             gate,
         )?;
+        self.keep_schedule(&found, &given)?;
+        let cited = self.cited_by(&found)?;
         self.walk.settle(found.verdict());
         self.held = Some(found);
         self.given = given;
+        self.cited = cited;
         Ok(())
+    }
+
+    /// Keeps the schedule of what was found, where it has one, for the questions to come.
+    fn keep_schedule(
+        &mut self,
+        found: &Found,
+        given: &Option<NamedValues>,
+    ) -> Result<(), AllocError>
+        ensures { self.new ≡ record self.old { kept = self.new.kept } }
+    {
+        match found.schedule(given) {
+            Some(schedule) => self.kept.keep(schedule.as_slice()),
+            None => Ok(()),
+        }
+    }
+
+    /// Where there are assumptions: what a refutation rests on. It is told when they aren't asserted any more.
+    fn cited_by(&self, found: &Found) -> Result<Vec<bool>, AllocError>
+        requires { (s : Meaning) × Stands self.now.walk.state s }
+        ensures cites { IfOk result (λ cited. (s : Meaning) (lemmas : List Lemma) → Stands self.now.walk.state s
+            → s.assumed ≢ None → found.now ≡ Unsat lemmas → AreCitedIn s.context lemmas cited.items) }
+    {
+        context_law();
+        match (self.walk.state.assumptions(), found.refutation()) {
+            (Some(_), Some(refutation)) => {
+                let state = &self.walk.state;
+                cited_roots(self.alloc, state.nodes(), state.roots(), refutation)
+            }
+            _ => Ok(Vec::new(self.alloc)),
+        }
     }
 
     /// What the next question is decided for. In a transcript its entry shows where a proof is asked for later.

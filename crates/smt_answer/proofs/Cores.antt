@@ -1,5 +1,5 @@
 -- The names of a core, one after the other.
-use Rattle.std.proofs.Common.{arith, refl, sym, ap, ◌∙◌, ◌≡◌, ◌≤◌, ◌+◌, ℕ, zero, suc, List, [], ◌∷◌, ◌++◌, length, drop, get_or, Bool, true, false, Option, Some, None}
+use Rattle.std.proofs.Common.{arith, refl, sym, ap, ◌∙◌, ◌≡◌, ◌≤◌, ◌+◌, ℕ, zero, suc, List, [], ◌∷◌, ◌++◌, length, drop, get_or, Bool, true, false, Option, None}
 use Rattle.smt_answer.specs.Texts.{with_name, cited_names, names_text}
 use Rattle.smt_answer.specs.code.Answers.{names_to_come, is_marked}
 
@@ -27,7 +27,7 @@ names_none cited number (label ∷ labels) h =
     ap (λ (b : Bool). with_name b label (cited_names cited (suc number) labels)) (h number (omega arith))
     ∙ names_none cited (suc number) labels (λ k le. h k (omega arith))
 
-marked_within : (marks : List Bool) (k : ℕ) → length marks ≤ k → is_marked marks k ≡ false
+pub marked_within : (marks : List Bool) (k : ℕ) → length marks ≤ k → is_marked marks k ≡ false
 marked_within [] k le = refl
 marked_within (b ∷ marks) zero le = absurd (omega arith)
 marked_within (b ∷ marks) (suc k) le = marked_within marks k (omega arith)

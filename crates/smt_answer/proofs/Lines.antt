@@ -1,7 +1,7 @@
 -- The lines of a model, one after the other.
-use Rattle.std.proofs.Common.{arith, sym, ap, ◌∙◌, ◌≡◌, ◌<◌, ◌+◌, ℕ, List, [], ◌++◌, ◌∷◌, length, drop, get_or, Some, pos}
+use Rattle.std.proofs.Common.{sym, ap, ◌∙◌, ◌≡◌, ◌<◌, ◌+◌, ℕ, List, [], ◌++◌, ◌∷◌, length, drop, get_or, Some, pos}
 use Rattle.std.specs.Prelude.{slice_get}
-use Rattle.std.proofs.lemmas.List.{append_assoc, drop_all, drop_more, get_or-map}
+use Rattle.std.proofs.lemmas.List.{append_assoc, drop_more, get_or-map}
 use Rattle.std.proofs.lemmas.Option.{get_or_from_slice_get}
 use Rattle.stn_core.specs.declared.named.NamedValue.{NamedValue}
 use Rattle.stn_core.specs.declared.named.NamedValue.TheVariants as named

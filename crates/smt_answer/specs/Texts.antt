@@ -2,7 +2,7 @@
 -- in general). What stands in the text of an error is this project's choice.
 use Rattle.std.specs.Prelude.{ℕ, suc, ℤ, pos, negsuc, List, [], ◌∷◌, ◌++◌, codes, decimal, Bool, true, false, Option, Some}
 use Rattle.smt_lex.specs.declared.token.TokenKind.TheVariants.{Symbol}
-use Rattle.smt_sexpr.specs.Tree.{Sexpr, Items, none, more}
+use Rattle.smt_sexpr.specs.Tree.{Sexpr, Items, list, none, more}
 use Rattle.smt_sexpr.specs.Printing.{text_of, written}
 use Rattle.stn_core.specs.declared.named.NamedValue.{NamedValue}
 use Rattle.idl_node.specs.declared.sort.Sort.{Sort}
@@ -90,6 +90,7 @@ refusal_text refused.PopBelowTheBottom = codes "pop below the bottom"
 refusal_text refused.NoModel = codes "no model"
 refusal_text refused.NoProof = codes "no proof"
 refusal_text refused.NoCore = codes "no core"
+refusal_text refused.NoAssumptions = codes "no assumptions"
 refusal_text refused.ObjectiveTooLarge = codes "objective too large"
 refusal_text (refused.LeftOut c) = codes "left out: " ++ command_text c
 refusal_text (refused.Term why) = term_refusal_text why
@@ -190,6 +191,19 @@ names_text (name ∷ names) = written Symbol name ++ names_behind names
 -- names, written as symbols are
 abbrev pub core_line : List (List ℕ) → List ℕ
 core_line names = codes "(" ++ names_text names
+
+-- the cited ones of these assumptions, in order, where the first one has this number
+abbrev pub with_item : Bool → Sexpr → Items → Items
+with_item true x xs = more x xs
+with_item false x xs = xs
+
+abbrev pub cited_items : (ℕ → Bool) → ℕ → Items → Items
+cited_items cited number none = none
+cited_items cited number (more x xs) = with_item (cited number) x (cited_items cited (suc number) xs)
+
+-- a list, as s-expressions are written
+abbrev pub assumptions_line : Items → List ℕ
+assumptions_line literals = text_of (list literals) ++ codes "\n"
 
 -- ---- information and echoes
 

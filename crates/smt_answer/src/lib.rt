@@ -1,11 +1,13 @@
 //! The texts of answers to commands.
 #![tactic(auto)]
 
+mod assumptions;
 mod kind;
 mod names;
 mod text;
 mod values;
 
+pub use assumptions::assumptions_text;
 pub use kind::{Kind, kind_of_unreadable};
 pub use names::core_text;
 pub use text::{

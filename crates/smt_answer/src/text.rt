@@ -81,6 +81,7 @@ fn refusal_text(why: Refusal) -> (&'static str, &'static str)
         Refusal::NoModel => ("no model", ""),
         Refusal::NoProof => ("no proof", ""),
         Refusal::NoCore => ("no core", ""),
+        Refusal::NoAssumptions => ("no assumptions", ""),
         Refusal::ObjectiveTooLarge => ("objective too large", ""),
         Refusal::LeftOut(construct) => ("left out: ", command_text(construct)),
         Refusal::Term(why) => term_refusal_text(why),

@@ -1,5 +1,5 @@
 -- What a `minimize` asks, by what is kept.
-use Rattle.std.proofs.Common.{ap, sym, subst, ◌∙◌, ◌≡◌, List, Option, Some, Result, Ok, Err, pos}
+use Rattle.std.proofs.Common.{refl, ap, sym, subst, ◌∙◌, ◌≡◌, List, Option, Some, Result, Ok, Err, pos}
 use Rattle.smt_sexpr.specs.Tree.{Sexpr}
 use Rattle.idl_linear.specs.Differences.{difference_of}
 use Rattle.idl_linear.specs.Linear.{LinearValue, number_alone}
@@ -13,8 +13,9 @@ use Rattle.idl_term.specs.code.Shapes.{Lowers}
 use Rattle.idl_term.specs.declared.error.TermError.{TermError}
 use Rattle.idl_term.specs.declared.error.TermError.TheVariants as term
 use Rattle.idl_term.specs.declared.error.TermRefusal.{TermRefusal}
+use Rattle.smt_script.specs.Commands.{checking}
 use Rattle.smt_script.specs.Objectives.{objective, objective_by, objective_of_linear, minimized_by}
-use Rattle.smt_script.specs.States.{State, asking_for, after_minimizing}
+use Rattle.smt_script.specs.States.{State, unassumed, asking_for, after_minimizing, after_command}
 use Rattle.smt_script.specs.code.Kept.{Kept, StandsFor}
 use Rattle.smt_script.specs.code.Shapes.{Agrees, ObjectiveIs, error_of_term}
 use Rattle.smt_script.specs.declared.error.Refusal.{Refusal}
@@ -22,8 +23,9 @@ use Rattle.smt_script.specs.declared.error.Refusal.TheVariants.{Term}
 use Rattle.smt_script.specs.declared.error.ScriptError.{ScriptError}
 use Rattle.smt_script.specs.declared.error.ScriptError.TheVariants.{OutOfMemory, Refused}
 use Rattle.smt_script.specs.declared.objective.Objective.{Objective}
+use Rattle.smt_script.specs.declared.state.Effect.{Effect}
 use Rattle.smt_script.specs.declared.state.Effect.TheVariants.{Ask}
-use Rattle.smt_script.specs.declared.state.Question.TheVariants.{Minimize}
+use Rattle.smt_script.specs.declared.state.Question.TheVariants.{CheckSat, Minimize}
 use Rattle.smt_script.proofs.Stepping.{term_same}
 
 -- ---- a term without conditions, compared with 0
@@ -47,14 +49,20 @@ term_missing now found (term.Refused why) error h from = subst (λ (w : ScriptEr
 pub objective_as : (found : Result Made TermRefusal) (made : Result Objective Refusal) (result : Result Objective ScriptError) → minimized_by found ≡ made → ObjectiveIs made result → ObjectiveIs (minimized_by found) result
 objective_as found made result e h = subst (λ (m : Result Objective Refusal). ObjectiveIs m result) (sym e) h
 
+-- ---- `check-sat`
+
+pub checking_asked : (s : State) (new : Kept) (effect : Effect) → effect ≡ Ask CheckSat → StandsFor new (unassumed s) → Agrees (after_command s checking) new (Ok effect)
+checking_asked s new effect asks stands = subst (λ (answer : Effect). Agrees (after_command s checking) new (Ok answer)) (sym asks) (unassumed s, refl, stands)
+
 -- ---- `minimize`
 
 module _ (kept : Kept) (s : State) (h : StandsFor kept s) (t : Sexpr) where
   minimizing_is : (r : Result Objective Refusal) → minimized_by (lowered kept.scope kept.nodes t) ≡ r → after_minimizing s t ≡ asking_for s r
   minimizing_is r e = ap (λ (found : Result Made TermRefusal). asking_for s (minimized_by found)) (term_same kept s h t) ∙ ap (asking_for s) e
 
-  pub minimum_asked : (o : Objective) → ObjectiveIs (minimized_by (lowered kept.scope kept.nodes t)) (Ok o) → Agrees (after_minimizing s t) kept (Ok (Ask (Minimize o)))
-  minimum_asked o e = (s, minimizing_is (Ok o) e, h)
+  pub minimum_asked : (new : Kept) (effect : Effect) (o : Objective) → effect ≡ Ask (Minimize o) → StandsFor new (unassumed s) → ObjectiveIs (minimized_by (lowered kept.scope kept.nodes t)) (Ok o)
+      → Agrees (after_minimizing s t) new (Ok effect)
+  minimum_asked new effect o asks stands e = subst (λ (answer : Effect). Agrees (after_minimizing s t) new (Ok answer)) (sym asks) (unassumed s, minimizing_is (Ok o) e, stands)
 
   pub minimum_refused : (error : ScriptError) → ObjectiveIs (minimized_by (lowered kept.scope kept.nodes t)) (Err error) → Agrees (after_minimizing s t) kept (Err error)
   minimum_refused OutOfMemory e = tt

@@ -2,7 +2,8 @@
 use Rattle.std.proofs.Common.{refl, sym, ap, subst, arith, ◌∙◌, ◌≡◌, ◌≤◌, ◌++◌, ℕ, zero, suc, List, [], ◌∷◌, length, take, replicate, get_or, Some, slice_get}
 use Rattle.idl_term.specs.Contexts.{Context, scope_of}
 use Rattle.idl_term.specs.Scopes.{Scope, Declaration, Binding}
-use Rattle.smt_script.specs.code.Kept.{Kept, IsLevelOf, AreLevels, IsNoLess, Ascend, amount_of, cut_to}
+use Rattle.smt_script.specs.declared.state.Active.{Active}
+use Rattle.smt_script.specs.code.Kept.{Kept, IsLevelOf, AreLevels, IsNoLess, Ascend, amount_of, amount_without, cut_to}
 use Rattle.smt_script.specs.declared.state.Level.{Level}
 
 -- ---- fronts of lists
@@ -221,3 +222,28 @@ level_now a c scope nodes roots = record {
   nodes = sym nodes ∙ sym (take_own a.nodes);
   roots = sym roots ∙ sym (take_own a.roots);
 }
+
+-- ---- what is active without the assumptions
+
+module _ (a b : Kept) (n : Active) (scope_same : b.scope ≡ a.scope) (nodes_cut : b.nodes ≡ take n.nodes a.nodes) (roots_cut : b.roots ≡ take n.roots a.roots) (within : IsNoLess (amount_without a n) (amount_of a)) where
+  level_off : (level : Level) (c : Context) → IsNoLess level (amount_without a n) → IsLevelOf a level c → IsLevelOf b level c
+  level_off level c h l =
+      let hn = h.names in let hd = h.defined in let ht = h.nodes in let hr = h.roots in
+      let t = take_length n.nodes a.nodes within.nodes in
+      let r = take_length n.roots a.roots within.roots in
+      record {
+        names = rw scope_same hn;
+        defined = rw scope_same hd;
+        table = rw (nodes_cut, t) ht;
+        asserted = rw (roots_cut, r) hr;
+        scope = l.scope ∙ ap (λ (sc : Scope). scope_at level.names level.defined sc) (sym scope_same);
+        nodes = l.nodes ∙ sym (take_take level.nodes n.nodes a.nodes ht) ∙ ap (take level.nodes) (sym nodes_cut);
+        roots = l.roots ∙ sym (take_take level.roots n.roots a.roots hr) ∙ ap (take level.roots) (sym roots_cut);
+      }
+
+  pub levels_off : (levels : List Level) (below : List Context) → Ascend (levels ++ amount_without a n ∷ []) → AreLevels a levels below → AreLevels b levels below
+  levels_off [] [] h l = tt
+  levels_off [] (c ∷ below) h l = absurd l
+  levels_off (level ∷ levels) [] h l = absurd l
+  levels_off (level ∷ levels) (c ∷ below) h l =
+      (level_off level c (first_no_less level levels (amount_without a n) h) l.0, levels_off levels below (rest_ascends level (levels ++ amount_without a n ∷ []) h) l.1)

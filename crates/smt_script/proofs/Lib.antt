@@ -9,3 +9,7 @@ pub mod Modes
 pub mod Testing
 pub mod Asking
 pub mod Minimizing
+pub mod Literals
+pub mod Assuming
+pub mod Settling
+pub mod AssumedStates

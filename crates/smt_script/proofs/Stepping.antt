@@ -30,7 +30,7 @@ use Rattle.smt_script.specs.declared.state.Notice.TheVariants.{Success}
 use Rattle.smt_script.specs.declared.state.Level.{Level}
 use Rattle.smt_script.specs.declared.state.Mode.TheVariants as mode
 use Rattle.smt_script.proofs.Levels.{levels_count}
-use Rattle.smt_script.proofs.Keeping.{declared_in, defined_in, asserted_in, named_in, pushed_in, stands_mode, stands_declared, stands_defined, stands_asserted, stands_named, stands_pushed, stands_popped, popped_none}
+use Rattle.smt_script.proofs.Keeping.{declared_in, defined_in, asserted_in, named_in, pushed_in, stands_forgotten, stands_declared, stands_defined, stands_asserted, stands_named, stands_pushed, stands_popped, popped_none}
 
 chosen : {A : Type 0} (test : Bool) (a b : A) → test ≡ true → (if test then a else b) ≡ a
 chosen true a b e = refl
@@ -167,7 +167,7 @@ module _ (kept : Kept) (s : State) (h : StandsFor kept s) where
     declaration_steps free few =
         let same = names_same in
         let test : nat_lt (length s.context.declared) names_limit ≡ true = grind (arith, nat_tests, same) in (
-          record s { context = with_declaration s.context name sort; mode = mode.Nothing },
+          record s { context = with_declaration s.context name sort; mode = mode.Nothing; assumed = None },
           declaration_is s name parameters found sort given ∙ passed (is_taken s.context name) _ _ (taken_same name false free) ∙ chosen (nat_lt (length s.context.declared) names_limit) _ _ test,
           stands_declared kept s h name sort,
         )
@@ -191,7 +191,7 @@ module _ (kept : Kept) (s : State) (h : StandsFor kept s) where
           → Agrees (after_definition s name parameters found t) (defined_in kept made.nodes name made.is) (Ok (Tell Success))
       definition_steps made free e front =
           let m = made_of_sort sort (lowered kept.scope kept.nodes t) made e in (
-            record s { context = with_definition s.context name t made; mode = mode.Nothing },
+            record s { context = with_definition s.context name t made; mode = mode.Nothing; assumed = None },
             definition_free (Ok made) free m.0 ∙ chosen (is_of_sort sort made.is) _ _ m.1,
             stands_defined kept s h name t made front,
           )
@@ -203,7 +203,7 @@ module _ (kept : Kept) (s : State) (h : StandsFor kept s) where
     pub assertion_steps : (nodes : List NodeValue) (root : ℕ) → only_formula (lowered kept.scope kept.nodes t) ≡ Ok (record { nodes = nodes; is = formula root }) → take (length kept.nodes) nodes ≡ kept.nodes
         → Agrees (asserted_by s t (lowered (scope_of s.context) s.context.nodes t)) (asserted_in kept nodes root) (Ok (Tell Success))
     assertion_steps nodes root e front = (
-      record s { context = with_assertion s.context t nodes root; labels = s.labels ++ None ∷ []; mode = mode.Nothing },
+      record s { context = with_assertion s.context t nodes root; labels = s.labels ++ None ∷ []; mode = mode.Nothing; assumed = None },
       ap (asserted_by s t) (term_same t ∙ made_formula (lowered kept.scope kept.nodes t) (record { nodes = nodes; is = formula root }) e),
       stands_asserted kept s h t nodes root front,
     )
@@ -221,7 +221,7 @@ module _ (kept : Kept) (s : State) (h : StandsFor kept s) where
 
         pub naming_steps : false ≡ (is_reserved name || is_known kept.scope name) → take (length kept.nodes) nodes ≡ kept.nodes → Agrees (named_by s t name (lowered (scope_of s.context) s.context.nodes t)) (named_in kept nodes root name) (Ok (Tell Success))
         naming_steps free front = (
-          record s { context = with_definition (with_assertion s.context t nodes root) name t (record { nodes = nodes; is = formula root }); labels = s.labels ++ Some name ∷ []; mode = mode.Nothing },
+          record s { context = with_definition (with_assertion s.context t nodes root) name t (record { nodes = nodes; is = formula root }); labels = s.labels ++ Some name ∷ []; mode = mode.Nothing; assumed = None },
           naming_made ∙ passed (is_taken s.context name) _ _ (taken_same name false free),
           stands_named kept s h t nodes root name front,
         )
@@ -236,7 +236,7 @@ module _ (kept : Kept) (s : State) (h : StandsFor kept s) where
   push_steps n sound few =
       let same = levels_same in
       let test : nat_le (length s.below + n) levels_limit ≡ true = grind (arith, nat_tests, same) in
-      (record s { below = s.below ++ replicate n s.context; mode = mode.Nothing }, chosen (nat_le (length s.below + n) levels_limit) _ _ test, stands_pushed kept s h n sound)
+      (record s { below = s.below ++ replicate n s.context; mode = mode.Nothing; assumed = None }, chosen (nat_le (length s.below + n) levels_limit) _ _ test, stands_pushed kept s h n sound)
 
   pub pop_refused : (n : ℕ) → length kept.levels < n → after_pop s n ≡ Err PopBelowTheBottom
   pop_refused n many =
@@ -253,9 +253,9 @@ module _ (kept : Kept) (s : State) (h : StandsFor kept s) where
   labelled_same : IsKept kept → length s.labels ≡ length s.context.roots
   labelled_same sound = ap (λ (labels : List (Option (List ℕ))). length labels) (sym h.labels) ∙ sound.labelled ∙ ap (λ (roots : List ℕ). length roots) h.roots
 
-  pub pop_stays : (n : ℕ) → IsKept kept → n ≡ 0 → Agrees (after_pop s n) (record kept { mode = mode.Nothing }) (Ok (Tell Success))
+  pub pop_stays : (n : ℕ) → IsKept kept → n ≡ 0 → Agrees (after_pop s n) (record kept { mode = mode.Nothing; assumed = None }) (Ok (Tell Success))
   pop_stays n sound zero =
-      (record s { mode = mode.Nothing }, pop_is n (omega (arith, zero)) ∙ ap carried_out (popped_none s n zero (labelled_same sound)), stands_mode kept s mode.Nothing h)
+      (record s { mode = mode.Nothing; assumed = None }, pop_is n (omega (arith, zero)) ∙ ap carried_out (popped_none s n zero (labelled_same sound)), stands_forgotten kept s h)
 
   pub pop_steps : (n i : ℕ) (level : Level) → IsKept kept → n ≤ length kept.levels → i ≡ length kept.levels - n → slice_get kept.levels i ≡ Some level → Agrees (after_pop s n) (cut_to kept i level) (Ok (Tell Success))
   pop_steps n i level sound few place at =

@@ -1,8 +1,8 @@
 -- What a command asks for (SMT-LIB 2.6, section 3.9). First its name is looked at, then its shape.
-use Rattle.std.specs.Prelude.{ℕ, List, [], codes, Bool, true, false, if◌then◌else◌, Option, None, Some, Result, Ok, Err}
+use Rattle.std.specs.Prelude.{ℕ, List, [], codes, Bool, true, false, ◌&&◌, ◌||◌, if◌then◌else◌, Option, None, Some, Result, Ok, Err}
 use Rattle.std.specs.Str.{bytes_eq}
 use Rattle.smt_lex.specs.Numbers.{value_of}
-use Rattle.smt_lex.specs.declared.token.TokenKind.TheVariants.{Text}
+use Rattle.smt_lex.specs.declared.token.TokenKind.TheVariants.{Symbol, Text}
 use Rattle.smt_sexpr.specs.Tree.{Sexpr, Items, leaf, list, none, more, symbol_of, keyword_of, numeral_of}
 use Rattle.smt_sexpr.specs.Shapes.{headed_of}
 use Rattle.smt_script.specs.declared.command_name.CommandName.{CommandName}
@@ -32,6 +32,8 @@ pub data Command : Type 0 where
   pushing : (count : ℕ) → Command
   popping : (count : ℕ) → Command
   checking : Command
+  -- (check-sat-assuming (a ..))
+  assuming : (literals : Items) → Command
   -- (minimize t)
   minimizing : (term : Sexpr) → Command
   -- (get-model), (get-proof)
@@ -39,6 +41,8 @@ pub data Command : Type 0 where
   asking_proof : Command
   -- (get-unsat-core)
   asking_core : Command
+  -- (get-unsat-assumptions)
+  asking_assumptions : Command
   -- (get-value (t ..))
   asking_values : (terms : Items) → Command
   -- (get-info k)
@@ -78,14 +82,16 @@ changing_command text =
 unfoldable pub asking_command : List ℕ → Option CommandName
 asking_command text =
     if bytes_eq text (codes "check-sat") then Some name.CheckSat
+    else (if bytes_eq text (codes "check-sat-assuming") then Some name.CheckSatAssuming
     else (if bytes_eq text (codes "minimize") then Some name.Minimize
     else (if bytes_eq text (codes "get-model") then Some name.GetModel
     else (if bytes_eq text (codes "get-value") then Some name.GetValue
     else (if bytes_eq text (codes "get-proof") then Some name.GetProof
     else (if bytes_eq text (codes "get-unsat-core") then Some name.GetUnsatCore
+    else (if bytes_eq text (codes "get-unsat-assumptions") then Some name.GetUnsatAssumptions
     else (if bytes_eq text (codes "get-info") then Some name.GetInfo
     else (if bytes_eq text (codes "echo") then Some name.Echo
-    else None)))))))
+    else None)))))))))
 
 abbrev pub or_else : Option CommandName → Option CommandName → Option CommandName
 or_else (Some found) other = Some found
@@ -100,9 +106,7 @@ unfoldable pub is_unsupported : List ℕ → Bool
 is_unsupported text =
     if bytes_eq text (codes "get-assertions") then true
     else (if bytes_eq text (codes "get-assignment") then true
-    else (if bytes_eq text (codes "get-option") then true
-    else (if bytes_eq text (codes "check-sat-assuming") then true
-    else bytes_eq text (codes "get-unsat-assumptions"))))
+    else bytes_eq text (codes "get-option"))
 
 -- the commands that are left out
 unfoldable pub left_out_of : List ℕ → Option LeftOutCommand
@@ -203,6 +207,27 @@ level_command make none = Ok (make 1)
 level_command make (more n none) = with_count (numeral_of n) make
 level_command make _ = ill_formed
 
+-- a symbol, or `(not symbol)`
+abbrev pub is_name : Sexpr → Bool
+is_name (leaf Symbol text) = true
+is_name x = false
+
+abbrev pub is_negated : Option (List ℕ × Items) → Bool
+is_negated (Some (head, more s none)) = bytes_eq head (codes "not") && is_name s
+is_negated _ = false
+
+abbrev pub is_literal : Sexpr → Bool
+is_literal x = is_name x || is_negated (headed_of x)
+
+abbrev pub are_literals : Items → Bool
+are_literals none = true
+are_literals (more x xs) = is_literal x && are_literals xs
+
+-- (a ..), each of which is a literal; perhaps none
+abbrev pub assuming_command : Items → Result Command Refusal
+assuming_command (more (list literals) none) = if are_literals literals then Ok (assuming literals) else ill_formed
+assuming_command _ = ill_formed
+
 -- t
 abbrev pub minimize_command : Items → Result Command Refusal
 minimize_command (more term none) = Ok (minimizing term)
@@ -240,11 +265,13 @@ command_by name.Assert arguments = assertion_command arguments
 command_by name.Push arguments = level_command pushing arguments
 command_by name.Pop arguments = level_command popping arguments
 command_by name.CheckSat arguments = alone checking arguments
+command_by name.CheckSatAssuming arguments = assuming_command arguments
 command_by name.Minimize arguments = minimize_command arguments
 command_by name.GetModel arguments = alone asking_model arguments
 command_by name.GetValue arguments = values_command arguments
 command_by name.GetProof arguments = alone asking_proof arguments
 command_by name.GetUnsatCore arguments = alone asking_core arguments
+command_by name.GetUnsatAssumptions arguments = alone asking_assumptions arguments
 command_by name.GetInfo arguments = information_command arguments
 command_by name.Echo arguments = echo_command arguments
 command_by name.ResetAssertions arguments = alone resetting_assertions arguments
@@ -309,6 +336,7 @@ is_asking (Ok asking_model) = true
 is_asking (Ok (asking_values terms)) = true
 is_asking (Ok asking_proof) = true
 is_asking (Ok asking_core) = true
+is_asking (Ok asking_assumptions) = true
 is_asking _ = false
 
 -- the command asks for a model, for values or for a proof

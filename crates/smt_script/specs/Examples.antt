@@ -1,8 +1,8 @@
 -- The commands and states of the worked examples.
-use Rattle.std.specs.Prelude.{ℕ, List, [], ◌∷◌, codes, ℤ, pos, Some, Result, Ok}
+use Rattle.std.specs.Prelude.{ℕ, List, [], ◌∷◌, codes, ℤ, pos, Some, None, Result, Ok}
 use Rattle.smt_lex.specs.Symbols.{symbol_content}
 use Rattle.smt_lex.specs.declared.token.TokenKind.TheVariants.{Keyword}
-use Rattle.smt_sexpr.specs.Tree.{Sexpr, leaf}
+use Rattle.smt_sexpr.specs.Tree.{Sexpr, leaf, none, more}
 use Rattle.smt_sexpr.specs.Shapes.{symbol, list_of, form}
 use Rattle.idl_node.specs.Nodes.{atom}
 use Rattle.idl_node.specs.declared.sort.Sort.TheVariants as sort
@@ -12,6 +12,7 @@ use Rattle.idl_term.specs.Scopes.{formula}
 use Rattle.smt_script.specs.States.{State, Step, start_state}
 use Rattle.smt_script.specs.declared.error.Refusal.{Refusal}
 use Rattle.smt_script.specs.declared.state.Effect.TheVariants.{Ask}
+use Rattle.smt_script.specs.declared.state.Mode.TheVariants as mode
 use Rattle.smt_script.specs.declared.state.Question.TheVariants.{Minimize}
 
 abbrev pub keyword : List ℕ → Sexpr
@@ -77,3 +78,28 @@ with_n_on_top = record with_n { below = context_p ∷ context_p ∷ [] }
 -- the question of x - y + k in the state behind (declare-const x Int)
 abbrev pub minimizing : ℕ → ℕ → ℤ → Result Step Refusal
 minimizing x y k = Ok (record { state = with_x; effect = Ask (Minimize (record { x = x; y = y; k = k })) })
+
+-- (check-sat-assuming (..))
+abbrev pub assumes : List Sexpr → Sexpr
+assumes literals = form (codes "check-sat-assuming") (list_of literals ∷ [])
+
+-- (declare-const p Bool) and (assert p)
+abbrev pub context_asked : Context
+context_asked = record context_p {
+  assertions = p ∷ [];
+  nodes = atom (literal 1 0 (pos 0)) ∷ [];
+  roots = 0 ∷ [];
+}
+
+-- (declare-const p Bool) and (check-sat-assuming (p)), and behind its `unsat`
+abbrev pub assuming_p : State
+assuming_p = record (in_context context_asked) {
+  labels = None ∷ [];
+  assumed = Some (record { literals = more p none; active = context_p; asked = context_asked });
+}
+
+abbrev pub answered_p : State
+answered_p = record with_p {
+  mode = mode.Unsat;
+  assumed = Some (record { literals = more p none; active = context_p; asked = context_asked });
+}

@@ -2,10 +2,11 @@
 ghost use Rattle.std.specs.Prelude.{◌≡◌, Ok, ℕ};
 ghost use Rattle.smt_sexpr.specs.Tree.{Sexpr, Items};
 ghost use Rattle.smt_sexpr.specs.Table.{Table, Means, MeansEach, HasMeaning};
-ghost use Rattle.smt_script.specs.Commands.{Command, alone, logic_command, option_command, info_command, constant_command, function_command, definition_command, annotation_in, annotation_command, assertion_command, level_command, minimize_command, values_command, information_command, echo_command, command_by, without_name, command_of};
+ghost use Rattle.smt_script.specs.Commands.{Command, alone, logic_command, option_command, info_command, constant_command, function_command, definition_command, annotation_in, annotation_command, assertion_command, level_command, assuming_command, minimize_command, values_command, information_command, echo_command, command_by, without_name, command_of};
 ghost use Rattle.smt_script.specs.code.Shapes.{SignatureIs, AnnotationIs, CommandIs, LevelsAre, RequestIs, AsksFor};
 ghost use Rattle.smt_sexpr.specs.Shapes.{HaveMeaning};
 
+use crate::assumption::are_literals;
 use crate::attribute::named_in;
 use crate::command_name::{CommandName, command_name, is_unsupported, left_out_of};
 use crate::error::Refusal;
@@ -36,6 +37,8 @@ pub enum Request<'a> {
     Push(Option<u64>),
     Pop(Option<u64>),
     CheckSat,
+    /// The list of the assumptions.
+    CheckSatAssuming(SexprId),
     /// A term.
     Minimize(SexprId),
     Model,
@@ -43,6 +46,7 @@ pub enum Request<'a> {
     Values(SexprId),
     Proof,
     Core,
+    Assumptions,
     /// A keyword.
     Information(&'a [u8]),
     /// A text in its quotation marks.
@@ -237,6 +241,20 @@ fn levels(sexprs: &Sexprs, arguments: &[SexprId]) -> Result<Option<u64>, Refusal
     }
 }
 
+/// `(check-sat-assuming (a ..))`, behind its name.
+fn assuming_command<'a>(sexprs: &Sexprs<'a>, arguments: &[SexprId]) -> Result<Request<'a>, Refusal>
+    requires { HaveMeaning sexprs.now arguments.now }
+    ensures { AsksFor sexprs.now arguments.now assuming_command result }
+{
+    match arguments {
+        [literals] => match sexprs.items(*literals) {
+            Some(items) if are_literals(sexprs, items) => Ok(Request::CheckSatAssuming(*literals)),
+            _ => Err(Refusal::IllFormedCommand),
+        },
+        _ => Err(Refusal::IllFormedCommand),
+    }
+}
+
 /// `(minimize t)`, behind its name.
 fn minimize_command<'a>(arguments: &[SexprId]) -> Result<Request<'a>, Refusal>
     ensures { (t : Table) → AsksFor t arguments.now minimize_command result }
@@ -318,11 +336,13 @@ fn command_by<'a>(
             Ok(Request::Pop(count))
         }
         CommandName::CheckSat => alone(Request::CheckSat, arguments),
+        CommandName::CheckSatAssuming => assuming_command(sexprs, arguments),
         CommandName::Minimize => minimize_command(arguments),
         CommandName::GetModel => alone(Request::Model, arguments),
         CommandName::GetValue => values_command(sexprs, arguments),
         CommandName::GetProof => alone(Request::Proof, arguments),
         CommandName::GetUnsatCore => alone(Request::Core, arguments),
+        CommandName::GetUnsatAssumptions => alone(Request::Assumptions, arguments),
         CommandName::GetInfo => information_command(sexprs, arguments),
         CommandName::Echo => echo_command(sexprs, arguments),
         CommandName::ResetAssertions => alone(Request::ResetAssertions, arguments),

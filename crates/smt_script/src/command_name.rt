@@ -17,11 +17,13 @@ pub enum CommandName {
     Push,
     Pop,
     CheckSat,
+    CheckSatAssuming,
     Minimize,
     GetModel,
     GetValue,
     GetProof,
     GetUnsatCore,
+    GetUnsatAssumptions,
     GetInfo,
     Echo,
     ResetAssertions,
@@ -80,6 +82,8 @@ fn asking_command(name: &[u8]) -> Option<CommandName>
 {
     if name == b"check-sat".as_slice() {
         Some(CommandName::CheckSat)
+    } else if name == b"check-sat-assuming".as_slice() {
+        Some(CommandName::CheckSatAssuming)
     } else if name == b"minimize".as_slice() {
         Some(CommandName::Minimize)
     } else if name == b"get-model".as_slice() {
@@ -90,6 +94,8 @@ fn asking_command(name: &[u8]) -> Option<CommandName>
         Some(CommandName::GetProof)
     } else if name == b"get-unsat-core".as_slice() {
         Some(CommandName::GetUnsatCore)
+    } else if name == b"get-unsat-assumptions".as_slice() {
+        Some(CommandName::GetUnsatAssumptions)
     } else if name == b"get-info".as_slice() {
         Some(CommandName::GetInfo)
     } else if name == b"echo".as_slice() {
@@ -120,8 +126,6 @@ pub fn is_unsupported(name: &[u8]) -> bool
     name == b"get-assertions".as_slice()
         || name == b"get-assignment".as_slice()
         || name == b"get-option".as_slice()
-        || name == b"check-sat-assuming".as_slice()
-        || name == b"get-unsat-assumptions".as_slice()
 }
 
 /// The command that is left out, where the symbol names one.

@@ -38,6 +38,8 @@ pub enum Refusal {
     NoProof,
     /// As for a proof: there is no core to tell.
     NoCore,
+    /// The last question isn't a check-sat-assuming, or isn't answered `unsat`, or something was changed since.
+    NoAssumptions,
     /// What is asked to be least may have no best value within 2^60. No command of a state is refused for this: the question is,
     /// by whoever makes the problem of the assertions.
     ObjectiveTooLarge,

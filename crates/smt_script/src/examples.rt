@@ -5,13 +5,14 @@ ghost use Rattle.idl_term.specs.Examples.{numeral, x, p, z};
 ghost use Rattle.idl_term.specs.Scopes.{is_known};
 ghost use Rattle.idl_term.specs.declared.error.TermRefusal.TheVariants.{UnknownSymbol, WrongSort, NotADifference, BoundTooLarge};
 ghost use Rattle.smt_sexpr.specs.Shapes.{symbol, list_of, form};
-ghost use Rattle.smt_script.specs.Examples.{keyword, written, no_parameters, declares, asserts_p, named, with_x, with_p, context_p, context_n, with_n, with_levels, with_n_on_top, minimizes, minimizing};
-ghost use Rattle.smt_script.specs.States.{start_state, after, carried_out};
+ghost use Rattle.smt_script.specs.Examples.{keyword, written, no_parameters, declares, asserts_p, named, with_x, with_p, context_p, context_n, with_n, with_levels, with_n_on_top, minimizes, minimizing, assumes, assuming_p, answered_p};
+ghost use Rattle.smt_script.specs.States.{start_state, after, carried_out, settled};
 ghost use Rattle.smt_script.specs.declared.error.LeftOutCommand.TheVariants.{Parameters, Sort, Ite, DefineSort};
-ghost use Rattle.smt_script.specs.declared.error.Refusal.TheVariants.{UnknownCommand, IllFormedCommand, LogicNotSupported, AlreadyDeclared, TooManyLevels, PopBelowTheBottom, NoModel, NoCore, LeftOut, Term};
+ghost use Rattle.smt_script.specs.declared.error.Refusal.TheVariants.{UnknownCommand, IllFormedCommand, LogicNotSupported, AlreadyDeclared, TooManyLevels, PopBelowTheBottom, NoModel, NoCore, NoAssumptions, LeftOut, Term};
 ghost use Rattle.smt_script.specs.declared.state.Effect.TheVariants.{Ask, Exit, Tell};
 ghost use Rattle.smt_script.specs.declared.state.Question.TheVariants.{CheckSat};
-ghost use Rattle.smt_script.specs.declared.state.Notice.TheVariants.{Success, Unsupported};
+ghost use Rattle.smt_script.specs.declared.state.Notice.TheVariants.{Success, Unsupported, Assumptions};
+ghost use Rattle.smt_script.specs.declared.state.Satisfiability.TheVariants as verdict;
 
 /// Names and assertions. `with_x` is the state behind `(declare-const x Int)`, `with_p` that behind `(declare-const p Bool)`.
 #[tactic(auto, unfolding(crate::specs::States::after, crate::specs::Commands::command_of, crate::specs::Commands::naming_command, crate::specs::Commands::changing_command, crate::specs::Commands::asking_command, crate::specs::Commands::is_unsupported, crate::specs::Commands::left_out_of, idl_term::specs::Operators::operator_of, idl_term::specs::Operators::connective_of, idl_term::specs::Operators::order_of, idl_term::specs::Operators::sign_of, idl_term::specs::Operators::equality_of, idl_term::specs::Operators::left_out_of, idl_term::specs::Operators::theory_symbols, idl_term::specs::Operators::reserved_words, idl_term::specs::Lowered::lowered, idl_term::specs::Lowered::lowered_leaf, idl_term::specs::Lowered::head_of, idl_term::specs::Lowered::is_let, smt_lex::specs::Numbers::value_from, smt_lex::specs::Symbols::symbol_content))]
@@ -72,6 +73,22 @@ pub fn worked_objectives()
     ensures two_terms { after with_x (minimizes (x ∷ x ∷ [])) ≡ Err IllFormedCommand }
 {}
 
+/// Assumptions: asked, answered and forgotten, or refused.
+#[tactic(auto, unfolding(crate::specs::States::after, crate::specs::Commands::command_of, crate::specs::Commands::naming_command, crate::specs::Commands::changing_command, crate::specs::Commands::asking_command, crate::specs::Commands::is_unsupported, crate::specs::Commands::left_out_of, idl_term::specs::Operators::operator_of, idl_term::specs::Operators::connective_of, idl_term::specs::Operators::order_of, idl_term::specs::Operators::sign_of, idl_term::specs::Operators::equality_of, idl_term::specs::Operators::left_out_of, idl_term::specs::Operators::theory_symbols, idl_term::specs::Operators::reserved_words, idl_term::specs::Lowered::lowered, idl_term::specs::Lowered::lowered_leaf, idl_term::specs::Lowered::head_of, idl_term::specs::Lowered::is_let, smt_lex::specs::Numbers::value_from, smt_lex::specs::Symbols::symbol_content))]
+pub fn worked_assumptions()
+    ensures asked { after with_p (assumes (p ∷ [])) ≡ Ok (record { state = assuming_p; effect = Ask CheckSat }) }
+    ensures answered { settled verdict.Unsat assuming_p ≡ answered_p }
+    ensures told { after answered_p (form (codes "get-unsat-assumptions") [])
+        ≡ Ok (record { state = answered_p; effect = Tell Assumptions }) }
+    ensures forgotten { after answered_p (form (codes "check-sat") [])
+        ≡ Ok (record { state = with_p; effect = Ask CheckSat }) }
+    ensures none { after with_n (form (codes "get-unsat-assumptions") []) ≡ Err NoAssumptions }
+    ensures of_a_number { after with_x (assumes (x ∷ [])) ≡ Err (Term WrongSort) }
+    ensures unknown { after start_state (assumes (form (codes "not") (p ∷ []) ∷ [])) ≡ Err (Term UnknownSymbol) }
+    ensures no_literal { after with_p (assumes (form (codes "and") (p ∷ []) ∷ [])) ≡ Err IllFormedCommand }
+    ensures no_list { after with_p (form (codes "check-sat-assuming") (p ∷ [])) ≡ Err IllFormedCommand }
+{}
+
 /// Options, levels and the other commands.
 #[tactic(auto, unfolding(crate::specs::States::after, crate::specs::Commands::command_of, crate::specs::Commands::naming_command, crate::specs::Commands::changing_command, crate::specs::Commands::asking_command, crate::specs::Commands::is_unsupported, crate::specs::Commands::left_out_of, crate::specs::Options::option_effect, crate::specs::Options::is_production, smt_lex::specs::Numbers::value_from))]
 pub fn worked_commands()
@@ -115,9 +132,9 @@ pub fn worked_commands()
     ensures left_out { after start_state
         (form (codes "define-sort") (symbol (codes "A") ∷ no_parameters ∷ symbol (codes "Int") ∷ []))
         ≡ Err (LeftOut DefineSort) }
-    ensures unsupported { after start_state (form (codes "check-sat-assuming") [])
+    ensures unsupported { after start_state (form (codes "get-assertions") [])
         ≡ Ok (record { state = start_state; effect = Tell Unsupported }) }
     ensures unsupported_with { after start_state
-        (form (codes "check-sat-assuming") (numeral (codes "5") ∷ x ∷ []))
+        (form (codes "get-option") (numeral (codes "5") ∷ x ∷ []))
         ≡ Ok (record { state = start_state; effect = Tell Unsupported }) }
 {}

@@ -1,5 +1,5 @@
 //! Laws of the definitions alone.
-ghost use Rattle.smt_script.specs.Laws.{StartMade, StepMade, SettledMade, OnlyExitEnds, ExitIsCarriedOut, ModeIsKept, ModelNeedsSat, ValuesNeedSat, ProofNeedsUnsat, CoreNeedsUnsat, AskedIsTold, MinimizedIsWorth};
+ghost use Rattle.smt_script.specs.Laws.{StartMade, StepMade, SettledMade, OnlyExitEnds, ExitIsCarriedOut, ModeIsKept, ModelNeedsSat, ValuesNeedSat, ProofNeedsUnsat, CoreNeedsUnsat, AssumptionsNeedUnsat, QuestionsOfActive, AskedIsTold, MinimizedIsWorth};
 
 use idl_linear::linear_law;
 use idl_term::{context_law, lowered_law};
@@ -34,5 +34,7 @@ pub fn mode_law()
     ensures values { ValuesNeedSat }
     ensures proof { ProofNeedsUnsat }
     ensures core { CoreNeedsUnsat }
+    ensures assumptions { AssumptionsNeedUnsat }
+    ensures asking { QuestionsOfActive }
     ensures asked { AskedIsTold }
 {}

@@ -2,6 +2,7 @@
 #![tactic(auto)]
 
 mod asked;
+mod assumption;
 mod attribute;
 mod command;
 mod command_name;
@@ -20,6 +21,7 @@ mod taken;
 mod value;
 
 pub use asked::{asked_terms, echoed_text};
+pub use assumption::AssumedLiteral;
 pub use command_name::CommandName;
 pub use error::{LeftOutCommand, Refusal, ScriptError};
 pub use examples::{worked_commands, worked_names, worked_objectives};
@@ -28,5 +30,5 @@ pub use information::Information;
 pub use laws::{exit_law, mode_law, objective_law, state_law};
 pub use limits::{LEVELS_LIMIT, limits_law};
 pub use objective::Objective;
-pub use state::{Effect, Level, Mode, Notice, Question, Satisfiability, State};
+pub use state::{Active, Effect, Level, Mode, Notice, Question, Satisfiability, State};
 pub use value::TermValue;

@@ -1,5 +1,5 @@
 //! The state after the commands.
-ghost use Rattle.std.specs.Prelude.{◌≡◌, ◌≤◌, ◌<◌, ℕ, length, [], false, Some, slice_get, slice_index_or, None, IfOk, OnErr, Err, Option, Result};
+ghost use Rattle.std.specs.Prelude.{◌≡◌, ◌≢◌, true, map, MatchOption, ◌≤◌, ◌<◌, ℕ, length, [], false, Some, slice_get, slice_index_or, None, IfOk, OnErr, Err, Option, Result};
 ghost use Rattle.smt_sexpr.specs.Tree.{Sexpr, Items, list};
 ghost use Rattle.smt_sexpr.specs.Table.{Means, HasMeaning};
 ghost use Rattle.stn_core.specs.Named.{AreWithinLimit};
@@ -8,23 +8,26 @@ ghost use Rattle.idl_term.specs.Contexts.{IsScheduleFor, environment, scope_of};
 ghost use Rattle.idl_term.specs.Limits.{names_limit};
 ghost use Rattle.idl_term.specs.Lowered.{lowered};
 ghost use Rattle.idl_term.specs.declared.error.TermRefusal.{TermRefusal};
-ghost use Rattle.smt_script.specs.Commands.{Command};
-ghost use Rattle.smt_script.specs.code.Kept.{StandsFor, Steps, nothing_kept, cut_to};
+ghost use Rattle.smt_script.specs.Commands.{Command, are_literals};
+ghost use Rattle.smt_script.specs.code.Kept.{StandsFor, Steps, nothing_kept, cut_to, cut_off};
 ghost use Rattle.smt_script.specs.Options.{option_effect};
-ghost use Rattle.smt_script.specs.code.Shapes.{shown_name, ValueIs, HasValue, IsSignature, HasSignature, CountIs, CommandIs, Agrees, Carries};
-ghost use Rattle.smt_script.specs.States.{State as Meaning, start_state, after_logic, after_option, sort_of, after_declaration, after_definition, after_assertion, after_naming, after_push, after_pop, with_model, with_proof, with_core, telling, after_minimizing, after_values, informed_by, after_by, after, settled, IsMadeState};
+ghost use Rattle.smt_script.specs.code.Shapes.{shown_name, literal_pair, ValueIs, HasValue, IsSignature, HasSignature, CountIs, CommandIs, Agrees, Carries};
+ghost use Rattle.smt_script.specs.States.{State as Meaning, start_state, after_logic, after_option, sort_of, after_declaration, after_definition, after_assertion, after_naming, after_push, after_pop, with_model, with_proof, with_core, with_assumed, telling, unassumed, after_assuming, after_minimizing, after_values, informed_by, after_by, after, released, settled, IsMadeState};
+ghost use Rattle.smt_script.specs.declared.state.Mode.{Mode as Mood};
 ghost use Rattle.smt_script.specs.Informing.{information_of};
-ghost use Rattle.smt_script.specs.declared.state.Notice.TheVariants.{Model, Proof, Core};
+ghost use Rattle.smt_script.specs.declared.state.Notice.TheVariants.{Model, Proof, Core, Assumptions};
+ghost use Rattle.smt_script.specs.declared.state.Effect.TheVariants.{Ask};
 ghost use Rattle.smt_script.specs.code.TermValues.{IsAccepted, IsRefused, IsValue};
 ghost use Rattle.smt_script.specs.declared.error.Refusal.{Refusal as Why};
 ghost use Rattle.smt_script.specs.declared.state.Level.{Level as Before};
 
 use crate::asked::items_of;
+use crate::assumption::{AssumedLiteral, literals_of};
 use crate::command::{Request, Signature, request_of};
 use crate::error::{Refusal, ScriptError};
 use crate::information::{Information, information_of};
 use crate::limits::LEVELS_LIMIT;
-use crate::lowering::{lower_formula, lower_of_sort, test_terms};
+use crate::lowering::{assume_each, lower_formula, lower_of_sort, test_terms};
 use crate::objective::{Objective, objective_in};
 use crate::option::{OptionEffect, option_effect};
 use crate::sorts::signature_sort;
@@ -53,6 +56,8 @@ pub enum Notice {
     Proof,
     /// The names of assertions that have no solution together.
     Core,
+    /// Assumptions that have no solution together with the assertions.
+    Assumptions,
     Inform(Information),
     /// The text that was given ([`crate::echoed_text`]).
     Echo,
@@ -95,6 +100,28 @@ pub enum Satisfiability {
     Unsat,
 }
 
+/// How much is active without the assumptions of a question.
+#[derive(Clone, Copy, Debug, PartialEq, Eq)]
+pub struct Active {
+    pub nodes: usize,
+    pub roots: usize,
+}
+
+/// The last question, where nothing was changed since.
+#[derive(Clone, Copy, Debug, PartialEq, Eq)]
+pub struct Last {
+    /// What it was answered.
+    pub mode: Mode,
+    /// Where it is a check-sat-assuming: how much is active without its assumptions.
+    pub assumed: Option<Active>,
+}
+
+/// There is none, or something was changed since.
+const NOTHING: Last = Last {
+    mode: Mode::Nothing,
+    assumed: None,
+};
+
 /// How much there was at a push.
 #[derive(Clone, Copy, Debug, PartialEq, Eq)]
 pub struct Level {
@@ -116,14 +143,16 @@ pub struct State<'a> {
     // its name, where it has one
     labels: Vec<Option<&'a [u8]>>,
     levels: Vec<Level>,
-    mode: Mode,
+    last: Last,
+    // the assumptions of the last question, where it had any
+    literals: Vec<AssumedLiteral<'a>>,
     print_success: bool,
 }
 
 impl<'a> Model for State<'a> {
     ghost use Rattle.std.specs.Prelude.{map};
     ghost use Rattle.smt_script.specs.code.Kept.{Kept, IsKept};
-    ghost use Rattle.smt_script.specs.code.Shapes.{shown_name};
+    ghost use Rattle.smt_script.specs.code.Shapes.{shown_name, literal_pair};
 
     ghost Value = { Kept };
 
@@ -133,7 +162,9 @@ impl<'a> Model for State<'a> {
       roots = s.roots.items;
       labels = map shown_name s.labels.items;
       levels = s.levels.items;
-      mode = s.mode;
+      mode = s.last.mode;
+      literals = map literal_pair s.literals.items;
+      assumed = s.last.assumed;
       print_success = s.print_success;
     } };
 
@@ -143,7 +174,9 @@ impl<'a> Model for State<'a> {
       roots = s.roots.items;
       labels = map shown_name s.labels.items;
       levels = s.levels.items;
-      mode = s.mode;
+      mode = s.last.mode;
+      literals = map literal_pair s.literals.items;
+      assumed = s.last.assumed;
       print_success = s.print_success;
     }) };
 }
@@ -160,7 +193,8 @@ impl<'a> State<'a> {
             roots: Vec::new(alloc),
             labels: Vec::new(alloc),
             levels: Vec::new(alloc),
-            mode: Mode::Nothing,
+            last: NOTHING,
+            literals: Vec::new(alloc),
             print_success: false,
         }
     }
@@ -222,7 +256,7 @@ impl<'a> State<'a> {
         if !new {
             return Err(ScriptError::Refused(Refusal::AlreadyDeclared));
         }
-        self.mode = Mode::Nothing;
+        self.last = NOTHING;
         Ok(SUCCESS)
     }
 
@@ -248,7 +282,7 @@ impl<'a> State<'a> {
         let stands = lower_of_sort(self.alloc, sexprs, term, sort, &self.scope, &mut self.nodes)?;
         match self.scope.define(signature.name, stands) {
             Ok(()) => {
-                self.mode = Mode::Nothing;
+                self.last = NOTHING;
                 Ok(SUCCESS)
             }
             Err(_) => {
@@ -269,7 +303,7 @@ impl<'a> State<'a> {
         let root = lower_formula(self.alloc, sexprs, term, &self.scope, &mut self.nodes)?;
         self.roots.push_reserved(root);
         self.labels.push_reserved(None);
-        self.mode = Mode::Nothing;
+        self.last = NOTHING;
         Ok(SUCCESS)
     }
 
@@ -297,7 +331,7 @@ impl<'a> State<'a> {
             Ok(()) => {
                 self.roots.push_reserved(root);
                 self.labels.push_reserved(Some(name));
-                self.mode = Mode::Nothing;
+                self.last = NOTHING;
                 Ok(SUCCESS)
             }
             Err(_) => {
@@ -326,7 +360,7 @@ impl<'a> State<'a> {
             roots: self.roots.len(),
         };
         self.levels.resize(depth as usize, level)?;
-        self.mode = Mode::Nothing;
+        self.last = NOTHING;
         Ok(SUCCESS)
     }
 
@@ -342,7 +376,7 @@ impl<'a> State<'a> {
         self.roots.truncate(level.roots);
         self.labels.truncate(level.roots);
         self.levels.truncate(left);
-        self.mode = Mode::Nothing;
+        self.last = NOTHING;
     }
 
     /// `pop`: back to what there was so many levels below.
@@ -353,7 +387,7 @@ impl<'a> State<'a> {
         let depth = self.levels.len();
         match count {
             Some(0) => {
-                self.mode = Mode::Nothing;
+                self.last = NOTHING;
                 Ok(SUCCESS)
             }
             Some(count) if count <= depth as u64 => {
@@ -373,7 +407,7 @@ impl<'a> State<'a> {
         self.roots.truncate(0);
         self.labels.truncate(0);
         self.levels.truncate(0);
-        self.mode = Mode::Nothing;
+        self.last = NOTHING;
         self.print_success = print_success;
     }
 
@@ -393,6 +427,53 @@ impl<'a> State<'a> {
         self.clear(false);
     }
 
+    /// A question of its own: what was assumed for the last one is gone.
+    fn ask(&mut self, question: Question) -> Effect
+        ensures effect { result ≡ Ask question }
+        ensures state { (s : Meaning) → StandsFor self.old s → StandsFor self.new (unassumed s) }
+    {
+        if self.last.assumed.is_some() {
+            self.last = NOTHING;
+        }
+        Effect::Ask(question)
+    }
+
+    /// `check-sat-assuming`: until it is answered, the assumptions are assertions behind the others.
+    fn assume(&mut self, sexprs: &Sexprs<'a>, literals: SexprId) -> Result<Effect, ScriptError>
+        requires { (ts : Items) × Means sexprs.now literals (list ts) × (are_literals ts ≡ true) }
+        ensures agrees { (s : Meaning) (ts : Items) → StandsFor self.old s → Means sexprs.now literals (list ts)
+            → are_literals ts ≡ true → Agrees (after_assuming s ts) self.new result }
+        ensures err { OnErr result (self.new ≡ self.old) }
+    {
+        let terms = items_of(sexprs, literals);
+        let literals = literals_of(self.alloc, sexprs, terms)?;
+        let before = Active {
+            nodes: self.nodes.len(),
+            roots: self.roots.len(),
+        };
+        let Some(count) = before.roots.checked_add(terms.len()) else {
+            return Err(ScriptError::OutOfMemory);
+        };
+        self.labels.resize(count, None)?;
+        if let Err(error) = assume_each(
+            self.alloc,
+            sexprs,
+            terms,
+            &self.scope,
+            &mut self.nodes,
+            &mut self.roots,
+        ) {
+            self.labels.truncate(before.roots);
+            return Err(error);
+        }
+        self.literals = literals;
+        self.last = Last {
+            mode: Mode::Nothing,
+            assumed: Some(before),
+        };
+        Ok(Effect::Ask(Question::CheckSat))
+    }
+
     /// `minimize`: the term is read, and none of its nodes is kept.
     fn ask_minimum(&mut self, sexprs: &Sexprs<'a>, term: SexprId) -> Result<Effect, ScriptError>
         requires { HasMeaning sexprs.now term }
@@ -400,7 +481,7 @@ impl<'a> State<'a> {
         ensures err { OnErr result (self.new ≡ self.old) }
     {
         let objective = objective_in(self.alloc, sexprs, term, &self.scope, &mut self.nodes)?;
-        Ok(Effect::Ask(Question::Minimize(objective)))
+        Ok(self.ask(Question::Minimize(objective)))
     }
 
     /// `get-model`.
@@ -408,7 +489,7 @@ impl<'a> State<'a> {
         ensures { (s : Meaning) → StandsFor self.now s
             → Agrees (with_model s.mode (telling s Model)) self.now result }
     {
-        match self.mode {
+        match self.last.mode {
             Mode::Sat => Ok(Effect::Tell(Notice::Model)),
             _ => Err(ScriptError::Refused(Refusal::NoModel)),
         }
@@ -419,7 +500,7 @@ impl<'a> State<'a> {
         ensures { (s : Meaning) → StandsFor self.now s
             → Agrees (with_proof s.mode (telling s Proof)) self.now result }
     {
-        match self.mode {
+        match self.last.mode {
             Mode::Unsat => Ok(Effect::Tell(Notice::Proof)),
             _ => Err(ScriptError::Refused(Refusal::NoProof)),
         }
@@ -430,9 +511,20 @@ impl<'a> State<'a> {
         ensures { (s : Meaning) → StandsFor self.now s
             → Agrees (with_core s.mode (telling s Core)) self.now result }
     {
-        match self.mode {
+        match self.last.mode {
             Mode::Unsat => Ok(Effect::Tell(Notice::Core)),
             _ => Err(ScriptError::Refused(Refusal::NoCore)),
+        }
+    }
+
+    /// `get-unsat-assumptions`.
+    fn ask_assumptions(&self) -> Result<Effect, ScriptError>
+        ensures { (s : Meaning) → StandsFor self.now s
+            → Agrees (with_assumed s.mode s.assumed (telling s Assumptions)) self.now result }
+    {
+        match (self.last.mode, self.last.assumed) {
+            (Mode::Unsat, Some(_)) => Ok(Effect::Tell(Notice::Assumptions)),
+            _ => Err(ScriptError::Refused(Refusal::NoAssumptions)),
         }
     }
 
@@ -443,7 +535,7 @@ impl<'a> State<'a> {
             → Means sexprs.now terms (list ts) → Agrees (after_values s ts) self.new result }
         ensures err { OnErr result (self.new ≡ self.old) }
     {
-        let Mode::Sat = self.mode else {
+        let Mode::Sat = self.last.mode else {
             return Err(ScriptError::Refused(Refusal::NoModel));
         };
         let terms = items_of(sexprs, terms);
@@ -482,12 +574,14 @@ impl<'a> State<'a> {
             Request::AssertNamed(term, name) => self.assert_named(sexprs, term, name),
             Request::Push(count) => self.push(count),
             Request::Pop(count) => self.pop(count),
-            Request::CheckSat => Ok(Effect::Ask(Question::CheckSat)),
+            Request::CheckSat => Ok(self.ask(Question::CheckSat)),
+            Request::CheckSatAssuming(literals) => self.assume(sexprs, literals),
             Request::Minimize(term) => self.ask_minimum(sexprs, term),
             Request::Model => self.ask_model(),
             Request::Values(terms) => self.ask_values(sexprs, terms),
             Request::Proof => self.ask_proof(),
             Request::Core => self.ask_core(),
+            Request::Assumptions => self.ask_assumptions(),
             Request::Information(keyword) => self.ask_information(keyword),
             Request::Echo(_) => Ok(Effect::Tell(Notice::Echo)),
             Request::ResetAssertions => {
@@ -517,11 +611,26 @@ impl<'a> State<'a> {
         Ok(effect)
     }
 
-    /// What the answer to the question that was the last command says. It takes no memory.
+    /// Back to what is active without the assumptions of the last question. It takes time in proportion to what goes.
+    fn release(&mut self)
+        ensures cut { self.new ≡ cut_off self.old self.old.assumed }
+        ensures stands { (s : Meaning) (m : Mood) → StandsFor self.old s
+            → StandsFor (record self.new { mode = m }) (record (released s s.assumed) { mode = m }) }
+    {
+        let Some(active) = self.last.assumed else {
+            return;
+        };
+        self.nodes.cut(active.nodes);
+        self.roots.truncate(active.roots);
+        self.labels.truncate(active.roots);
+    }
+
+    /// What the answer to the question that was the last command says. What it assumed isn't asserted any more. It takes no memory.
     pub fn settle(&mut self, verdict: Satisfiability)
         ensures { (s : Meaning) → StandsFor self.old s → StandsFor self.new (settled verdict s) }
     {
-        self.mode = match verdict {
+        self.release();
+        self.last.mode = match verdict {
             Satisfiability::Sat => Mode::Sat,
             Satisfiability::Unsat => Mode::Unsat,
         };
@@ -611,7 +720,18 @@ impl<'a> State<'a> {
     pub fn mode(&self) -> Mode
         ensures { result ≡ self.now.mode }
     {
-        self.mode
+        self.last.mode
+    }
+
+    /// The assumptions of the last question, where it is a check-sat-assuming and nothing was changed since, as they are written.
+    pub fn assumptions(&self) -> Option<&[AssumedLiteral<'a>]>
+        ensures { MatchOption result (self.now.assumed ≡ None)
+            (λ literals. (self.now.assumed ≢ None) × (map literal_pair literals.now ≡ self.now.literals)) }
+    {
+        match self.last.assumed {
+            Some(_) => Some(self.literals.as_slice()),
+            None => None,
+        }
     }
 
     /// The number of levels above the bottom.

@@ -1,13 +1,13 @@
 -- A session: what it writes next, and what it goes on to.
 -- These are words of the code's inner contracts, and no part of the meaning.
-use Rattle.std.specs.Prelude.{◌≡◌, ℕ, ◌+◌, List, [], ◌++◌, Bool, Option, Some, None}
+use Rattle.std.specs.Prelude.{◌≡◌, ◌≢◌, ◌≤◌, ◌⊎◌, ℕ, ◌+◌, List, [], ◌++◌, length, Bool, Option, Some, None}
 use Rattle.std.specs.List.{AllByRecursion}
 use Rattle.smt_sexpr.specs.Tree.{Sexpr}
 use Rattle.stn_core.specs.declared.named.NamedValue.{NamedValue}
 use Rattle.stn_core.specs.Named.{AreWithinLimit}
 use Rattle.refute_tree.specs.declared.lemma.Lemma.{Lemma}
 use Rattle.idl_node.specs.Truth.{point_values, AreTruths}
-use Rattle.idl_term.specs.Contexts.{Context, scope_of}
+use Rattle.idl_term.specs.Contexts.{Context, scope_of, IsScheduleFor}
 use Rattle.cert_text.specs.declared.entry.Version.{Version}
 use Rattle.cert_text.specs.declared.entry.Entry.{Entry}
 use Rattle.cert_text.specs.declared.entry.Entry.TheVariants.{Unsat}
@@ -18,12 +18,15 @@ use Rattle.smt_script.specs.declared.state.Mode.TheVariants as mode
 use Rattle.smt_script.specs.declared.state.Notice.{Notice}
 use Rattle.smt_script.specs.declared.state.Notice.TheVariants as notice
 use Rattle.smt_answer.specs.Texts.{error_line}
+use Rattle.smt_answer.specs.code.Answers.{is_marked}
 use Rattle.smt_script.specs.declared.state.Question.{Question}
-use Rattle.smt_script.specs.States.{State, start_state, terms_refusal, settled}
+use Rattle.smt_script.specs.States.{State, Assumed, start_state, terms_refusal, settled, asked_by, asked_of}
 use Rattle.script_walk.specs.Questions.{refusal_of}
 use Rattle.script_walk.specs.Course.{Place, Turn, IsCourseOf, status_of, answers_of}
 use Rattle.script_walk.specs.code.Events.{IsStart as IsWalkStart, IsReady as IsWalkReady}
 use Rattle.dtp_entry.specs.Bests.{Satisfies}
+use Rattle.dtp_entry.specs.Cores.{cites_assertion}
+use Rattle.dtp_entry.specs.code.Asking.{IsAskedBy}
 use Rattle.dtp_entry.specs.Entries.{verdict_of}
 use Rattle.dtp_entry.specs.Reports.{version_of}
 use Rattle.script_walk.specs.code.Standing.{Stands}
@@ -43,33 +46,56 @@ IsText p Told text = text ≡ p.text.items
 IsText p Closing text = text ≡ closing p.report
 IsText p (Error kind) text = text ≡ error_line p.walk.number kind
 
--- a schedule is held that satisfies what is active, and marks tell the truth of nodes on it
-pub record ShowsSchedule (c : Context) (kept : Held) (given : Option (List NamedValue)) (marks : List Bool) : Type 0 where
+-- a schedule is held that satisfies what was asked of, and marks tell the truth on it of nodes of what is active
+pub record ShowsSchedule (c asked : Context) (kept : Held) (given : Option (List NamedValue)) (marks : List Bool) : Type 0 where
   pub entry : Entry
   pub schedule : List NamedValue
   pub held : kept ≡ Some entry
   pub shown : schedule_shown given entry ≡ Some schedule
   pub is : schedule_in c entry ≡ Some schedule
-  pub satisfies : Satisfies c schedule
+  pub fits : IsScheduleFor c schedule
+  pub satisfies : Satisfies asked schedule
   pub within : AreWithinLimit schedule
   pub truths : AreTruths c.nodes (point_values schedule) marks
 
--- a refutation is held, which answers each question
-pub record ShowsRefutation (version : Version) (c : Context) (kept : Held) : Type 0 where
+-- flags tell of each assertion whether the refutation rests on it
+pub record AreCitedIn (c : Context) (lemmas : List Lemma) (cited : List Bool) : Type 0 where
+  pub each : (r : ℕ) → is_marked cited r ≡ cites_assertion c lemmas r
+  pub count : length cited ≡ length c.roots
+
+-- flags tell of each assertion, and behind the active ones of each assumption, whether the refutation rests on it
+pub record AreCitedBy (c : Context) (assumed : Assumed) (lemmas : List Lemma) (cited : List Bool) : Type 0 where
+  pub each : (r : ℕ) → is_marked cited r ≡ cites_assertion assumed.asked lemmas r
+  pub active : length c.roots ≡ length assumed.active.assertions
+  pub within : length c.roots ≤ length cited
+
+abbrev pub CitesAssumed : Context → Option Assumed → List Lemma → List Bool → Type 0
+CitesAssumed c None lemmas cited = Unit {0}
+CitesAssumed c (Some assumed) lemmas cited = AreCitedBy c assumed lemmas cited
+
+-- a refutation is held, which answers each question of what was asked of
+pub record ShowsRefutation (version : Version) (c : Context) (assumed : Option Assumed) (kept : Held) (cited : List Bool) : Type 0 where
   pub lemmas : List Lemma
   pub held : kept ≡ Some (Unsat lemmas)
-  pub decides : (question : Question) (x : Sexpr) → Decides version question x c (Unsat lemmas)
+  pub decides : (question : Question) (x : Sexpr) → Decides version question x (asked_by c assumed) (Unsat lemmas)
+  pub cites : CitesAssumed c assumed lemmas cited
 
 -- what is held shows the verdict that the mode stands for
-abbrev pub ShowsVerdict : Version → Mode → Context → Held → Option (List NamedValue) → List Bool → Type 0
-ShowsVerdict version mode.Nothing c held given marks = Unit {0}
-ShowsVerdict version mode.Sat c held given marks = ShowsSchedule c held given marks
-ShowsVerdict version mode.Unsat c held given marks = ShowsRefutation version c held
+abbrev pub ShowsVerdict : Version → Mode → Context → Option Assumed → Held → Option (List NamedValue) → List Bool → List Bool → Type 0
+ShowsVerdict version mode.Nothing c assumed held given marks cited = Unit {0}
+ShowsVerdict version mode.Sat c assumed held given marks cited = ShowsSchedule c (asked_by c assumed) held given marks
+ShowsVerdict version mode.Unsat c assumed held given marks cited = ShowsRefutation version c assumed held cited
 
 -- what is kept of the commands stands for the state, and what is held shows its verdict
 pub record Holds (p : Session) (s : State) : Type 0 where
   pub stands : Stands p.walk.state s
-  pub shows : ShowsVerdict (version_of p.report) s.mode s.context p.held p.given p.marks.items
+  pub shows : ShowsVerdict (version_of p.report) s.mode s.context s.assumed p.held p.given p.marks.items p.cited.items
+
+-- command x asks the question of what is active, assumptions with the rest; where there are any there is no mode
+pub record IsAskedIn (question : Question) (x : Sexpr) (s : State) : Type 0 where
+  pub by : IsAskedBy question x s.context
+  pub active : asked_of s ≡ s.context
+  pub alone : (s.assumed ≡ None) ⊎ (s.mode ≡ mode.Nothing)
 
 -- what is told in a state may be told there
 pub record MayTell (s : State) (x : Sexpr) (n : Notice) : Type 0 where
@@ -78,6 +104,7 @@ pub record MayTell (s : State) (x : Sexpr) (n : Notice) : Type 0 where
       × (terms_refusal (scope_of s.context) s.context.nodes (asked_terms x) ≡ None)
   pub proof : n ≡ notice.Proof → s.mode ≡ mode.Unsat
   pub core : n ≡ notice.Core → s.mode ≡ mode.Unsat
+  pub assumptions : n ≡ notice.Assumptions → (s.mode ≡ mode.Unsat) × (s.assumed ≢ None)
 
 -- ready to go on
 pub record IsReady (p : Session) : Type 0 where
@@ -103,6 +130,7 @@ pub record KeepsVerdict (p q : Session) : Type 0 where
   pub state : q.walk.state ≡ p.walk.state
   pub held : q.held ≡ p.held
   pub given : q.given ≡ p.given
+  pub cited : q.cited ≡ p.cited
 
 -- nothing was changed but what is held, what the commands have led to and their count
 pub record KeepsPlace (p q : Session) : Type 0 where

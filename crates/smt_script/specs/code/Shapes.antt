@@ -1,6 +1,6 @@
 -- How the code sees commands: by the ids of their parts. These are words of the code's inner contracts, and no part of the
 -- meaning.
-use Rattle.std.specs.Prelude.{◌≡◌, ℕ, ◌≤◌, ◌^◌, List, codes, Bool, true, false, if◌then◌else◌, Option, Some, None, option_map, Result, Ok, Err}
+use Rattle.std.specs.Prelude.{◌≡◌, ℕ, ◌≤◌, ◌^◌, List, [], ◌∷◌, ◌++◌, codes, Bool, true, false, if◌then◌else◌, Option, Some, None, option_map, Result, Ok, Err}
 use Rattle.std.specs.Borrow.{Bor}
 use Rattle.std.specs.Str.{bytes_eq}
 use Rattle.smt_sexpr.specs.Tree.{Sexpr, Items, list, none, more, symbol_of, keyword_of}
@@ -8,22 +8,24 @@ use Rattle.smt_sexpr.specs.Table.{Table, Means, MeansEach}
 use Rattle.idl_node.specs.Nodes.{NodeValue}
 use Rattle.idl_node.specs.declared.sort.Sort.{Sort}
 use Rattle.idl_term.specs.Applied.{Made}
-use Rattle.idl_term.specs.Scopes.{formula, numeric, shown_term}
+use Rattle.idl_term.specs.Scopes.{Scope, formula, numeric, shown_term}
 use Rattle.idl_scope.specs.declared.lowered.Lowered.{Lowered}
 use Rattle.idl_term.specs.declared.error.TermRefusal.{TermRefusal}
 use Rattle.idl_term.specs.declared.error.TermRefusal.TheVariants.{WrongSort}
 use Rattle.idl_term.specs.declared.error.TermError.{TermError}
 use Rattle.idl_term.specs.declared.error.TermError.TheVariants as term
 use Rattle.smt_script.specs.Attributes.{Named, unnamed, named}
-use Rattle.smt_script.specs.Commands.{Command, setting_logic, setting_option, informing, declaring, defining, asserting, naming, pushing, popping, checking, minimizing, asking_model, asking_values, asking_proof, asking_core, asking_information, echoing, resetting_assertions, resetting, exiting, unsupported, function_command, definition_command}
-use Rattle.smt_script.specs.code.Kept.{Kept, StandsFor}
+use Rattle.smt_script.specs.Commands.{Command, setting_logic, setting_option, informing, declaring, defining, asserting, naming, pushing, popping, checking, assuming, minimizing, asking_model, asking_values, asking_proof, asking_core, asking_assumptions, asking_information, echoing, resetting_assertions, resetting, exiting, unsupported, is_literal, are_literals, function_command, definition_command}
+use Rattle.smt_script.specs.code.Kept.{Kept, StandsFor, literal_sexpr}
+use Rattle.smt_script.specs.declared.assumption.AssumedLiteral.{AssumedLiteral}
+use Rattle.idl_term.specs.Contexts.{Context, scope_of}
 use Rattle.smt_script.specs.Options
 use Rattle.smt_script.specs.States.{State, Step, is_of_sort}
 use Rattle.smt_script.specs.declared.attribute.Attributes.{Attributes as AttributesRead}
 use Rattle.smt_script.specs.declared.attribute.Awaited.{Awaited}
 use Rattle.smt_script.specs.declared.attribute.Awaited.TheVariants as awaited
 use Rattle.smt_script.specs.declared.command.Request.{Request}
-use Rattle.smt_script.specs.declared.command.Request.TheVariants.{SetLogic, SetOption, SetInfo, Declare, Define, Assert, AssertNamed, Push, Pop, CheckSat, Minimize, Model, Values, Proof, Core, Information, Echo, ResetAssertions, Reset, Exit, Unsupported}
+use Rattle.smt_script.specs.declared.command.Request.TheVariants.{SetLogic, SetOption, SetInfo, Declare, Define, Assert, AssertNamed, Push, Pop, CheckSat, CheckSatAssuming, Minimize, Model, Values, Proof, Core, Assumptions, Information, Echo, ResetAssertions, Reset, Exit, Unsupported}
 use Rattle.smt_script.specs.declared.command.Signature.{Signature}
 use Rattle.smt_script.specs.declared.error.Refusal.{Refusal}
 use Rattle.smt_script.specs.declared.error.Refusal.TheVariants.{IllFormedCommand, LeftOut, Term}
@@ -160,11 +162,13 @@ CommandIs t (AssertNamed id name) meant = (x : Sexpr) × Means t id x × (meant 
 CommandIs t (Push count) meant = (n : ℕ) × CountIs count n × (meant ≡ Ok (pushing n))
 CommandIs t (Pop count) meant = (n : ℕ) × CountIs count n × (meant ≡ Ok (popping n))
 CommandIs t CheckSat meant = meant ≡ Ok checking
+CommandIs t (CheckSatAssuming id) meant = (literals : Items) × Means t id (list literals) × (are_literals literals ≡ true) × (meant ≡ Ok (assuming literals))
 CommandIs t (Minimize id) meant = (x : Sexpr) × Means t id x × (meant ≡ Ok (minimizing x))
 CommandIs t Model meant = meant ≡ Ok asking_model
 CommandIs t (Values id) meant = (terms : Items) × Means t id (list terms) × (meant ≡ Ok (asking_values terms))
 CommandIs t Proof meant = meant ≡ Ok asking_proof
 CommandIs t Core meant = meant ≡ Ok asking_core
+CommandIs t Assumptions meant = meant ≡ Ok asking_assumptions
 CommandIs t (Information keyword) meant = meant ≡ Ok (asking_information keyword.now)
 CommandIs t (Echo text) meant = meant ≡ Ok (echoing text.now)
 CommandIs t ResetAssertions meant = meant ≡ Ok resetting_assertions
@@ -241,3 +245,35 @@ IsTested found (Err OutOfMemory) = Unit {0}
 abbrev pub asks_exit : Result Request Refusal → Bool
 asks_exit (Ok Exit) = true
 asks_exit _ = false
+
+-- ---- assumptions
+
+-- as it is kept
+abbrev pub literal_pair : AssumedLiteral → List ℕ × Bool
+literal_pair l = (l.name.now, l.is_negated)
+
+abbrev pub shown_literal : AssumedLiteral → Sexpr
+shown_literal l = literal_sexpr l.name.now l.is_negated
+
+-- the context with the assumptions behind it is that of the table and the roots
+pub record IsAsked (scope : Scope) (nodes : List NodeValue) (roots : List ℕ) (c : Context) : Type 0 where
+  pub scope_is : scope_of c ≡ scope
+  pub nodes_are : c.nodes ≡ nodes
+  pub roots_are : c.roots ≡ roots
+
+abbrev pub AreAssumed : Scope → List NodeValue → List ℕ → Result Context Refusal → Result (Unit {0}) ScriptError → Type 0
+AreAssumed scope nodes roots found (Ok done) = (asked : Context) × (found ≡ Ok asked) × IsAsked scope nodes roots asked
+AreAssumed scope nodes roots found (Err (Refused why)) = found ≡ Err why
+AreAssumed scope nodes roots found (Err OutOfMemory) = Unit {0}
+
+-- the literal that the s-expression is, or that it is none
+abbrev pub LiteralIs : Sexpr → Option AssumedLiteral → Type 0
+LiteralIs x (Some l) = (is_literal x ≡ true) × (shown_literal l ≡ x)
+LiteralIs x None = is_literal x ≡ false
+
+-- the formula's node is the last root, or why there is none
+abbrev pub IsAssumedOne : Result Made Refusal → List NodeValue → List ℕ → List ℕ → Result (Unit {0}) ScriptError → Type 0
+IsAssumedOne made now before after (Ok done) =
+    (root : ℕ) × (made ≡ Ok (record { nodes = now; is = formula root })) × (after ≡ before ++ root ∷ [])
+IsAssumedOne made now before after (Err (Refused why)) = made ≡ Err why
+IsAssumedOne made now before after (Err OutOfMemory) = Unit {0}

@@ -31,4 +31,4 @@ pub returns-in-None-2-clause-made : goal.returns-in-None-2-clause-made
 returns-in-None-2-clause-made g c = λ more.
     let asked = c.requires.asked in
     let stands = c.settle.ensures.stands asked.0 asked.2.stands in
-    made_settled c.args.walk.now.state c.settle.new.self.state asked.0 c.told_by.result c.keep.new.made asked.2.stands stands c.in_ok-flaw-in-Some.ensures.made
+    made_settled c.args.walk.now.state c.settle.new.self.state asked.0 c.told_by.result c.let_go_if_assumed.new.made asked.2.stands stands c.let_go_if_assumed.ensures.made c.let_go_if_assumed.ensures.gone

@@ -1,8 +1,3 @@
-use Rattle.std.proofs.Common.{◌≡◌, sym, subst, ℕ, List}
-use Rattle.smt_sexpr.specs.Table.{Table}
-use Rattle.script_walk.specs.code.Events.{IsNext}
-use Rattle.script_walk.specs.declared.reader.Next.{Next}
-use Rattle.script_walk.specs.declared.reader.Next.TheVariants.{Unread}
 use Rattle.dtp_check.proofs.Walking.{unread_ends}
 use Rattle.dtp_check.proofs.script_part.next_command.Goals as goal
 

@@ -1,6 +1,5 @@
-use Rattle.std.proofs.Common.{◌≡◌, ◌++◌, take, ◌∙◌, ap, sym, arith, codes, List, ℕ}
+use Rattle.std.proofs.Common.{◌++◌, ◌∙◌, ap, sym, arith, List, ℕ}
 use Rattle.std.proofs.lemmas.Result.{on_ok_weaker}
-use Rattle.std.specs.Vec.{vec_len}
 use Rattle.smt_answer.specs.Texts.{cited_names, core_line}
 use Rattle.smt_answer.specs.code.Answers.{is_marked}
 use Rattle.smt_answer.proofs.Fronts.{front_kept}

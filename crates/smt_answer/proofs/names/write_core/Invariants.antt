@@ -1,4 +1,4 @@
-use Rattle.std.proofs.Common.{◌≡◌, ◌++◌, take, codes}
+use Rattle.std.proofs.Common.{◌≡◌, ◌++◌, take}
 use Rattle.std.specs.Vec.{vec_len}
 use Rattle.smt_answer.specs.Texts.{cited_names, core_line}
 use Rattle.smt_answer.specs.code.Answers.{is_marked}

@@ -1,4 +1,4 @@
-use Rattle.std.proofs.Common.{ap, ◌∙◌, ◌≡◌, ℕ, List, ◌++◌}
+use Rattle.std.proofs.Common.{ap, ◌∙◌, ℕ, List, ◌++◌}
 use Rattle.smt_answer.proofs.Pieces.{three}
 use Rattle.smt_answer.proofs.text.write_levels.Goals as goal
 

@@ -1,5 +1,4 @@
-use Rattle.std.proofs.Common.{arith, ◌≡◌, length}
-use Rattle.std.specs.Vec.{vec_len}
+use Rattle.std.proofs.Common.{arith}
 use Rattle.smt_answer.proofs.Fronts.{front_behind}
 use Rattle.smt_answer.proofs.Pieces.{three}
 use Rattle.smt_answer.proofs.values.write_definition.Goals as goal

@@ -1,5 +1,4 @@
-use Rattle.std.proofs.Common.{arith, refl, ap, ◌≡◌, ◌<◌, length, get_or, List}
-use Rattle.std.specs.Vec.{vec_len}
+use Rattle.std.proofs.Common.{arith, refl, ap, ◌<◌, length, get_or, List}
 use Rattle.idl_node.specs.declared.sort.Sort.{Sort}
 use Rattle.idl_node.specs.declared.sort.Sort.TheVariants as sort
 use Rattle.smt_answer.proofs.Fronts.{front_kept}

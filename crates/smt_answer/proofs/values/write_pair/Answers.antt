@@ -1,5 +1,4 @@
-use Rattle.std.proofs.Common.{arith, codes, ◌≡◌, ◌++◌, length}
-use Rattle.std.specs.Vec.{vec_len}
+use Rattle.std.proofs.Common.{arith, codes, ◌++◌}
 use Rattle.smt_sexpr.specs.Printing.{text_of}
 use Rattle.smt_answer.proofs.Fronts.{front_behind}
 use Rattle.smt_answer.proofs.Pieces.{three, five}

@@ -1,4 +1,4 @@
-use Rattle.std.proofs.Common.{arith, ◌≡◌, length, take}
+use Rattle.std.proofs.Common.{arith, ◌≡◌, take}
 use Rattle.std.specs.Vec.{vec_len}
 use Rattle.smt_answer.proofs.Fronts.{front_behind, front_kept}
 use Rattle.smt_answer.proofs.Pairs.{means_at, written_more, written_all}

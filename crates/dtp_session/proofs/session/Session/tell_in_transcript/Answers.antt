@@ -31,6 +31,15 @@ returns-in_ok-tell_core-in-Core-clause-tells c = λ s x holds means may.
     (told_tells p q s x notice.Core (holds_kept p q s c.in_ok-tell_core-in-Core.ensures.keeps c.in_ok-tell_core-in-Core.ensures.marks holds) c.in_ok-tell_core-in-Core.ensures.keeps.held
     (c.in_ok-tell_core-in-Core.ensures.told s x holds may_core ∙ ap (λ (r : Report). told r p.held s x notice.Core) (sym c.requires.report)))
 
+pub returns-in_ok-tell_assumptions-in-Assumptions-clause-tells : goal.returns-in_ok-tell_assumptions-in-Assumptions-clause-tells
+returns-in_ok-tell_assumptions-in-Assumptions-clause-tells c = λ s x holds means may.
+    let p = c.args.self.now in
+    let q = c.tell_assumptions.new.self in
+    let may_assumptions = subst (λ (n : Notice). MayTell s x n) c.in-Assumptions.is may in
+    tells_as p q s x c.args.notice notice.Assumptions Told c.in-Assumptions.is
+    (told_tells p q s x notice.Assumptions (holds_kept p q s c.in_ok-tell_assumptions-in-Assumptions.ensures.keeps c.in_ok-tell_assumptions-in-Assumptions.ensures.marks holds) c.in_ok-tell_assumptions-in-Assumptions.ensures.keeps.held
+    (c.in_ok-tell_assumptions-in-Assumptions.ensures.told s x holds may_assumptions ∙ ap (λ (r : Report). told r p.held s x notice.Assumptions) (sym c.requires.report)))
+
 pub returns-in_ok-tell_values-in-Values-clause-tells : goal.returns-in_ok-tell_values-in-Values-clause-tells
 returns-in_ok-tell_values-in-Values-clause-tells c = λ s x holds means may.
     let p = c.args.self.now in

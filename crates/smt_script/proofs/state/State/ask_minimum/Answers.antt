@@ -13,4 +13,5 @@ returns-in_err-objective-clause-agrees c = λ s t stands means.
 pub returns-clause-agrees : goal.returns-clause-agrees
 returns-clause-agrees c = λ s t stands means.
     let h = subst (λ (k : Kept). StandsFor k s) (sym c.self.view_is) stands in
-    rw c.objective_in.ensures.same (minimum_asked _ s h t c.in_ok-objective.objective (c.in_ok-objective.ensures.is t means))
+    let there = c.ask.ensures.state s (rw c.objective_in.ensures.same h) in
+    minimum_asked _ s h t c.ask.new.self c.ask.result c.in_ok-objective.objective c.ask.ensures.effect there (c.in_ok-objective.ensures.is t means)

@@ -2,7 +2,7 @@ use Rattle.std.proofs.Common.{sym, subst, map}
 use Rattle.std.proofs.lemmas.Result.{err_from_is_err_and}
 use Rattle.idl_term.specs.Scopes.{shown_term}
 use Rattle.smt_script.specs.code.Kept.{Kept, StandsFor}
-use Rattle.smt_script.specs.code.Shapes.{shown_name}
+use Rattle.smt_script.specs.code.Shapes.{shown_name, literal_pair}
 use Rattle.smt_script.specs.States.{sort_of}
 use Rattle.smt_script.proofs.Keeping.{kept_defined}
 use Rattle.smt_script.proofs.Stepping.{definition_refused, definition_taken, definition_error, definition_steps}
@@ -24,7 +24,7 @@ returns-in_err-stands-clause-agrees c = λ s parameters x t stands signature mea
     let q = err_from_is_err_and c.from_residual-in_err-stands.result c.from_residual-in_err-stands.ensures.1 in
     rw (q.1, q.2)
     (definition_error _ s h c.args.signature.name.now parameters (sort_of x) c.in_ok-sort.sort (c.in_ok-sort.ensures parameters x signature) t
-    c.lower_of_sort.new.nodes (record { scope = c.self.inside.scope; nodes = c.lower_of_sort.new.nodes; roots = c.self.inside.roots.items; labels = map shown_name c.self.inside.labels.items; levels = c.self.inside.levels.items; mode = c.self.inside.mode; print_success = c.self.inside.print_success }) c.in_err-stands.field-0.0 c.if-is_taken.ensures (c.in_err-stands.ensures.lowers t means))
+    c.lower_of_sort.new.nodes (record { scope = c.self.inside.scope; nodes = c.lower_of_sort.new.nodes; roots = c.self.inside.roots.items; labels = map shown_name c.self.inside.labels.items; levels = c.self.inside.levels.items; mode = c.self.inside.last.mode; literals = map literal_pair c.self.inside.literals.items; assumed = c.self.inside.last.assumed; print_success = c.self.inside.print_success }) c.in_err-stands.field-0.0 c.if-is_taken.ensures (c.in_err-stands.ensures.lowers t means))
 
 pub invariant_of-self-in-Ok : goal.invariant_of-self-in-Ok
 invariant_of-self-in-Ok c =
