@@ -1,19 +1,19 @@
 -- Where the commands of a plan's script lead before its check-sat.
-use Rattle.std.proofs.Common.{◌≡◌, ◌∙◌, refl, sym, ap, arith, ℕ, zero, suc, ◌+◌, ◌*◌, List, [], ◌∷◌, length, length-append, suc-mul, Option, Some, None}
+use Rattle.std.proofs.Common.{◌≡◌, ◌∙◌, refl, sym, ap, [], length, Option, Some, None}
 use Rattle.std.specs.Prelude.{option_map}
 use Rattle.smt_sexpr.specs.Laws.{OneOutcome, SexprReadsBack}
+use Rattle.smt_script.specs.declared.state.Question.TheVariants.{CheckSat}
 use Rattle.smt_script.specs.declared.state.Satisfiability.{Satisfiability}
 use Rattle.smt_script.specs.States.{State}
 use Rattle.script_walk.specs.Course.{start_with, Turn, last_of}
-use Rattle.dtp_gen.specs.Scripts.{name, script}
+use Rattle.dtp_gen.specs.Scripts.{script}
+use Rattle.script_law.proofs.Ending.{ends_asked}
+use Rattle.script_law.proofs.Reading.{script_back}
+use Rattle.script_law.proofs.Starts.{starts_many}
+use Rattle.script_law.proofs.States.{ints_length}
 use Rattle.bench_law.specs.Laws.{NamesAreOperations}
-use Rattle.bench_law.proofs.Printing.{lists}
-use Rattle.bench_law.proofs.Commands.{logic, told}
-use Rattle.bench_law.proofs.Ending.{ends_asked}
-use Rattle.bench_law.proofs.Loops.{length_ones}
-use Rattle.bench_law.proofs.NoError.{script_reads}
-use Rattle.bench_law.proofs.Plans.{names, job_names, told_of}
-use Rattle.bench_law.proofs.States.{ints_length}
+use Rattle.bench_law.proofs.Commands.{names, check, told}
+use Rattle.bench_law.proofs.Asking.{ready, asks_once}
 
 abbrev says : Satisfiability → Satisfiability
 says verdict = verdict
@@ -30,19 +30,13 @@ state_of (Some u) t s e f =
     let is : u.state ≡ s = cc in
     sym is ∙ ap (λ (v : Turn Satisfiability). v.state) same
 
-length_rows : (count width : ℕ) (items : ℕ → List (List ℕ)) → ((i : ℕ) → length (items i) ≡ width) → length (lists count items) ≡ count * width
-length_rows zero width items each = omega arith
-length_rows (suc count) width items each =
-    length-append (lists count items) (items count) ∙ ap (λ (n : ℕ). n + length (items count)) (length_rows count width items each) ∙ ap (λ (n : ℕ). count * width + n) (each count)
-    ∙ sym (suc-mul count width)
-
 pub counted : SexprReadsBack → OneOutcome → NamesAreOperations
 counted back one p jobs some machines deadline counts h =
-    let path = told_of p jobs some machines deadline in
-    let mine = script_reads back p jobs some machines deadline in
+    let path = ready p jobs some machines deadline in
+    let once = asks_once p jobs some machines deadline in
+    let mine = script_back back (script p) (told p) check once.text once.lines in
     let w = h.leads in
     let over = over_by (last_of w.turns) h.last w.is_last in
-    let e = ends_asked says one (script p) (logic ∷ told p) path.t mine.here (start_with []) path.tells path.holds.alone mine.reads w.turns w.are over refl in
+    let e = ends_asked says check CheckSat path.t once.asks once.taken one (script p) (told p) mine.here (start_with []) once.tells mine.reads w.turns w.are over refl in
     let same : h.last ≡ path.t = state_of (last_of w.turns) e.0 h.last w.is_last e.1 ∙ e.2 in
-    h.names ∙ ap (λ (s : State). length s.context.declared) same ∙ ap length path.holds.declared ∙ ints_length (names p jobs some machines deadline)
-    ∙ length_rows p.jobs p.machines (job_names p jobs some machines deadline) (λ job. length_ones p.machines (λ k. name job k))
+    h.names ∙ ap (λ (s : State). length s.context.declared) same ∙ ap length path.holds.declared ∙ ints_length (names p) ∙ starts_many p.jobs p.machines

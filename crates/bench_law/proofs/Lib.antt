@@ -1,14 +1,6 @@
-pub mod Numerals
-pub mod Names
-pub mod Printing
 pub mod Commands
-pub mod Reading
-pub mod Ending
-pub mod Lowering
-pub mod Loops
-pub mod States
-pub mod Plans
+pub mod Sums
 pub mod Writable
-pub mod NoError
-pub mod Accepted
+pub mod Asking
+pub mod Decided
 pub mod Counted

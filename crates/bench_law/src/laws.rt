@@ -6,18 +6,14 @@ ghost use Rattle.bench_law.specs.Laws.{CertificateIsAccepted, NamesAreOperations
 pub fn script_has_no_error()
     ensures { ScriptHasNoError }
 {
-    smt_sexpr::reads_back();
-    smt_sexpr::one_outcome();
+    script_law::one_question_is_decided();
 }
 
 /// What is written of that script as its certificate is accepted behind it.
 pub fn certificate_is_accepted()
     ensures { CertificateIsAccepted }
 {
-    smt_sexpr::reads_back();
-    smt_sexpr::one_outcome();
-    smt_script::exit_law();
-    dtp_check::certified_is_accepted();
+    script_law::certificate_is_accepted();
 }
 
 /// So many names are counted in that script as there are operations.

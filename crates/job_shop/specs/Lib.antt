@@ -1,0 +1,9 @@
+pub mod Shops
+pub mod Feasible
+pub mod Plans
+pub mod Words
+pub mod Instances
+pub mod Scripts
+pub mod PlanTexts
+pub mod Examples
+pub mod code

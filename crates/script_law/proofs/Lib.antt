@@ -1,0 +1,12 @@
+pub mod Lists
+pub mod Reading
+pub mod Ending
+pub mod Decided
+pub mod Accepted
+pub mod Going
+pub mod Near
+pub mod Lowering
+pub mod States
+pub mod Starts
+pub mod Orders
+pub mod Writable

@@ -1,0 +1,15 @@
+pub mod Looking
+pub mod Terms
+pub mod Points
+pub mod Lines
+pub mod Machines
+pub mod Plans
+pub mod Schedules
+pub mod Writable
+pub mod Accepted
+pub mod Meaning
+pub mod Least
+pub mod Serial
+pub mod Widths
+pub mod Asking
+pub mod Answered
