@@ -2,6 +2,7 @@ pub mod Answering
 pub mod Fitting
 pub mod Shortening
 pub mod Looping
+pub mod Leading
 pub mod Solving
 pub mod Stepping
 pub mod Transcribing

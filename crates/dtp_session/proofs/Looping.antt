@@ -33,7 +33,7 @@ pub record IsSoFar (report : Report) (script : List ℕ) (p : Session) (before n
 -- ---- the start
 
 module _ (p : Session) (start : IsStart p) where
-  start_are : (left : List Entry) (turns : List (Turn Entry)) → IsCourseOf verdict_of p.walk.lexer.bytes p.walk.lexer.place (place_of p start_state left) turns
+  pub start_are : (left : List Entry) (turns : List (Turn Entry)) → IsCourseOf verdict_of p.walk.lexer.bytes p.walk.lexer.place (place_of p start_state left) turns
       → IsCourseOf verdict_of p.walk.lexer.bytes 0 (start_with left) turns
   start_are left turns h =
       let at_start = subst (λ (o : Place Entry). IsCourseOf verdict_of p.walk.lexer.bytes p.walk.lexer.place o turns) (same_place p start_state None left 1 start.walk.number start.held) h in
@@ -48,9 +48,9 @@ module _ (p : Session) (start : IsStart p) where
     adds = adds;
     whole = λ rest from. record {
       turns = from.turns;
-      are = record { are = start_are rest.found from.turns from.are; legal = from.legal };
-      over = from.over;
-      used = from.used;
+      are = record { are = start_are rest.found from.turns from.runs.are; legal = from.runs.legal };
+      over = from.runs.over;
+      used = from.runs.used;
       text = ap (λ (t : List ℕ). t ++ rest.text) is ∙ ap (λ (t : List ℕ). opening p.report ++ t) from.text;
     };
     part = λ rest from. record {

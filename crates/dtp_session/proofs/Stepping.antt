@@ -1,5 +1,7 @@
 -- From the event of a walk to the piece that answers it.
-use Rattle.std.proofs.Common.{arith, refl, sym, ap, subst, ◌≡◌, ◌≤◌, ◌<◌, ◌-◌, ◌^◌, ℕ, []}
+use Rattle.std.proofs.Common.{arith, refl, sym, ap, subst, ◌∙◌, ◌≡◌, ◌≤◌, ◌<◌, ◌-◌, ◌^◌, ℕ, [], Option, Some, None}
+use Rattle.cert_text.specs.declared.entry.Entry.{Entry}
+use Rattle.smt_lex.specs.code.Lexing.{Lexing}
 use Rattle.smt_answer.specs.declared.kind.Kind.{Kind}
 use Rattle.smt_sexpr.specs.Tree.{Sexpr}
 use Rattle.smt_sexpr.specs.Table.{Means}
@@ -13,15 +15,30 @@ use Rattle.script_walk.specs.code.Events.{IsEvent, GoesOn, Asks, IsReady as IsWa
 use Rattle.script_walk.specs.declared.walk.Event.{Event}
 use Rattle.script_walk.specs.declared.walk.Event.TheVariants.{Told as ToldOf, Asked, Ended, Failed}
 use Rattle.script_walk.specs.declared.walk.Walk.{Walk}
-use Rattle.script_walk.proofs.Turns.{ends_with, fails_with}
+use Rattle.script_walk.specs.Course.{tells as told_of, answers}
+use Rattle.script_walk.proofs.Turns.{ends_with, fails_with, barred_from}
 use Rattle.dtp_entry.specs.Entries.{verdict_of}
+use Rattle.dtp_entry.specs.Transcripts.{Held}
 use Rattle.dtp_session.specs.declared.piece.Piece.{Piece}
 use Rattle.dtp_entry.specs.code.Asking.{IsAskedBy}
 use Rattle.dtp_session.specs.declared.piece.Piece.TheVariants.{Opening, Decision, Proof, Told, Closing, Error}
 use Rattle.dtp_session.specs.declared.session.Session.{Session}
-use Rattle.dtp_session.specs.code.Sessions.{Holds, IsAskedIn, MayTell, place_of, KeepsReading, KeepsPlace, Tells, IsAnswered, IsGoing, IsNext}
+use Rattle.dtp_session.specs.declared.session.Solved.TheVariants.{Done, ScriptStopped}
+use Rattle.dtp_session.specs.declared.least.Minimum.{Minimum}
+use Rattle.dtp_session.specs.Leasts.{minimum_at}
+use Rattle.dtp_session.specs.code.Leading.{minimum_held, IsNextLeast}
+use Rattle.dtp_session.specs.code.Sessions.{Holds, IsAskedIn, MayTell, place_of, KeepsReading, KeepsPlace, KeepsScript, Tells, IsAnswered, IsGoing, IsNext}
 use Rattle.dtp_session.proofs.Answering.{holds_after, may_after, ready_kept, ready_settled}
-use Rattle.dtp_session.proofs.Transcribing.{closing_next, error_next, told_next, checked_next, barred_next}
+use Rattle.dtp_session.proofs.Transcribing.{closing_next, error_next, ends_here, fails_here, told_next, told_leads, checked_next, checked_leads, barred_next}
+
+-- what the question leaves of what the last minimize came to, where this is held behind its answer
+abbrev pub minimum_told : Question → Option Minimum → Held → Option Minimum
+minimum_told CheckSat last held = last
+minimum_told (Minimize o) last held = minimum_held held
+
+told_at : (question : Question) (last : Option Minimum) (entry : Entry) → minimum_told question last (Some entry) ≡ minimum_at question last entry
+told_at CheckSat last entry = refl
+told_at (Minimize o) last entry = refl
 
 module _ (p : Session) (w : Walk) (s : State) (event : Event) (h : IsEvent p.walk w s event) (holds : Holds p s) (kept : ModeIsKept) where
   -- ---- something is told
@@ -44,6 +61,9 @@ module _ (p : Session) (w : Walk) (s : State) (event : Event) (h : IsEvent p.wal
 
         pub told_step : w.lexer.bytes ≡ p.walk.lexer.bytes → IsNext p q s piece
         told_step bytes = told_next p q w s bytes keeps id n piece told_event told_so
+
+        pub told_least : w.lexer.bytes ≡ p.walk.lexer.bytes → (before : Option Minimum) → IsNextLeast p q s before before None
+        told_least bytes before = (told_of told_event.x n, told_leads p q w s bytes keeps id n piece told_event told_so, refl)
 
         pub told_ready : (GoesOn event → IsWalkReady w) → IsWalkReady q.walk
         told_ready ready = ready_kept (record p { walk = w }) q told_event.carries.1.next (ready (subst GoesOn (sym e) tt)) keeps told_so.stands
@@ -85,6 +105,30 @@ module _ (p : Session) (w : Walk) (s : State) (event : Event) (h : IsEvent p.wal
       barred_step : w.lexer.bytes ≡ p.walk.lexer.bytes → (kind : Kind) → IsAnswered question asked_event.x (record p { walk = w }) q asked_event.carries.1.next (Error kind) → IsNext p q s (Error kind)
       barred_step bytes kind h = barred_next p q w s bytes keeps id question kind asked_event h.0 h.1
 
+      pub asked_forward : (GoesOn event → p.walk.lexer.place < w.lexer.place) → p.walk.lexer.place < q.walk.lexer.place
+      asked_forward forward = subst (λ (l : Lexing). p.walk.lexer.place < l.place) (sym keeps.lexer) (forward (subst GoesOn (sym e) tt))
+
+      pub asked_keeps : w.lexer.bytes ≡ p.walk.lexer.bytes → KeepsScript p q
+      asked_keeps bytes = record { bytes = ap (λ (l : Lexing). l.bytes) keeps.lexer ∙ bytes; report = keeps.report }
+
+      -- no error, so it is a decision
+      is_decided : (piece : Piece) → ((kind : Kind) → piece ≡ Error kind → ⊥) → IsAnswered question asked_event.x (record p { walk = w }) q asked_event.carries.1.next piece
+          → IsAnswered question asked_event.x (record p { walk = w }) q asked_event.carries.1.next Decision
+      is_decided Decision apart h = h
+      is_decided (Error kind) apart h = absurd (apart kind refl)
+      is_decided Opening apart h = absurd h
+      is_decided Proof apart h = absurd h
+      is_decided Told apart h = absurd h
+      is_decided Closing apart h = absurd h
+
+      checked_least : w.lexer.bytes ≡ p.walk.lexer.bytes → (before : Option Minimum) → IsAnswered question asked_event.x (record p { walk = w }) q asked_event.carries.1.next Decision
+          → IsNextLeast p q s before (minimum_told question before q.held) None
+      checked_least bytes before h = (
+        answers question asked_event.x h.1.entry,
+        checked_leads p q w s bytes keeps id question asked_event h.0 h.1,
+        ap (minimum_told question before) h.1.held ∙ told_at question before h.1.entry,
+      )
+
       answered_by : w.lexer.bytes ≡ p.walk.lexer.bytes → (piece : Piece) → IsAnswered question asked_event.x (record p { walk = w }) q asked_event.carries.1.next piece → IsNext p q s piece
       answered_by bytes Decision h = checked_step bytes h
       answered_by bytes (Error kind) h = barred_step bytes kind h
@@ -108,6 +152,25 @@ module _ (p : Session) (w : Walk) (s : State) (event : Event) (h : IsEvent p.wal
         pub asked_step : w.lexer.bytes ≡ p.walk.lexer.bytes → IsNext p q s piece
         asked_step bytes = answered_by bytes piece (answered asked_event.carries.1.next asked_event.x asked_holds asked_in)
 
+        pub asked_least : w.lexer.bytes ≡ p.walk.lexer.bytes → (before now : Option Minimum) → ((kind : Kind) → piece ≡ Error kind → ⊥) → now ≡ minimum_told question before q.held
+            → IsNextLeast p q s before now None
+        asked_least bytes before now apart is =
+            subst (λ (m : Option Minimum). IsNextLeast p q s before m None) (sym is)
+            (checked_least bytes before (is_decided piece apart (answered asked_event.carries.1.next asked_event.x asked_holds asked_in)))
+
+        pub decided_ready : ((kind : Kind) → piece ≡ Error kind → ⊥) → (GoesOn event → IsWalkReady w) → (Asks event → w.number ≤ w.lexer.place) → IsWalkReady q.walk
+        decided_ready apart ready counted =
+            ready_answered Decision tt ready counted (is_decided piece apart (answered asked_event.carries.1.next asked_event.x asked_holds asked_in))
+
+        pub barred_least : (kind : Kind) → piece ≡ Error kind → (before : Option Minimum) → IsNextLeast p q s before before (Some ScriptStopped)
+        barred_least kind is before =
+            let to = asked_event.carries.1 in
+            let h = subst (λ (z : Piece). IsAnswered question asked_event.x (record p { walk = w }) q to.next z) is (answered to.next asked_event.x asked_holds asked_in) in (
+              fails_here p s kind to.next
+                  (barred_from verdict_of p.walk.lexer.bytes p.walk.lexer.place w.lexer.place (place_of p s []) asked_event.x asked_event.spells to.next question kind to.leads h.0),
+              refl,
+            )
+
         pub asked_ready : IsGoing piece → (GoesOn event → IsWalkReady w) → (Asks event → w.number ≤ w.lexer.place) → IsWalkReady q.walk
         asked_ready going ready counted = ready_answered piece going ready counted (answered asked_event.carries.1.next asked_event.x asked_holds asked_in)
 
@@ -120,3 +183,11 @@ module _ (p : Session) (w : Walk) (s : State) (event : Event) (h : IsEvent p.wal
   failed_step kind e =
       let last = fails_with verdict_of p.walk w (place_of p s []) holds.stands kind (subst (λ (f : Event). IsEvent p.walk w s f) e h) in
       error_next p (record p { walk = w }) s refl kind last.number last.last last.is
+
+  pub ended_least : event ≡ Ended → (q : Session) (before : Option Minimum) → IsNextLeast p q s before before (Some Done)
+  ended_least e q before = (ends_here p s w (ends_with verdict_of p.walk w (place_of p s []) holds.stands (subst (λ (f : Event). IsEvent p.walk w s f) e h)), refl)
+
+  pub failed_least : (kind : Kind) → event ≡ Failed kind → (q : Session) (before : Option Minimum) → IsNextLeast p q s before before (Some ScriptStopped)
+  failed_least kind e q before =
+      let last = fails_with verdict_of p.walk w (place_of p s []) holds.stands kind (subst (λ (f : Event). IsEvent p.walk w s f) e h) in
+      (fails_here p s kind last.last last.is, refl)

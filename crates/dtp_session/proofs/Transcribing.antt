@@ -10,7 +10,7 @@ use Rattle.smt_script.specs.declared.state.Notice.{Notice}
 use Rattle.smt_script.specs.declared.state.Question.{Question}
 use Rattle.smt_script.specs.States.{State, settled}
 use Rattle.script_walk.specs.Questions.{refusal_of}
-use Rattle.script_walk.specs.Course.{Place, Turn, tells, answers, ends, fails, turn, IsCourseOf, status_of, answers_of}
+use Rattle.script_walk.specs.Course.{Place, Turn, Outcome, tells, answers, ends, fails, turn, IsCourseOf, status_of, answers_of}
 use Rattle.script_walk.specs.code.Events.{IsEvent}
 use Rattle.script_walk.specs.declared.walk.Event.TheVariants.{Told as ToldOf, Asked}
 use Rattle.script_walk.specs.declared.walk.Walk.{Walk}
@@ -23,7 +23,8 @@ use Rattle.dtp_entry.specs.Written.{IsFront}
 use Rattle.dtp_session.specs.declared.piece.Piece.{Piece}
 use Rattle.dtp_session.specs.declared.piece.Piece.TheVariants.{Opening, Decision, Proof, Told, Closing, Error}
 use Rattle.dtp_session.specs.declared.session.Session.{Session}
-use Rattle.dtp_session.specs.code.Sessions.{IsText, Holds, place_of, PartFrom, KeepsReading, KeepsPlace, Tells, IsChecked, IsGoing, GoesOn, Leads, IsNext}
+use Rattle.dtp_session.specs.code.Leading.{LeadsOn, EndsHere}
+use Rattle.dtp_session.specs.code.Sessions.{IsText, Holds, place_of, Runs, PartFrom, KeepsReading, KeepsPlace, Tells, IsChecked, IsGoing, GoesOn, Leads, IsNext}
 
 -- ---- fronts
 
@@ -64,10 +65,7 @@ module _ (p q : Session) (s : State) (report : q.report ≡ p.report) where
         };
         leads = λ text is. record {
           turns = t ∷ [];
-          are = end.is;
-          legal = (tt, tt);
-          over = refl;
-          used = refl;
+          runs = record { are = end.is; legal = (tt, tt); over = refl; used = refl };
           text = is ∙ ap closing report ∙ sym (append-nil (closing p.report));
         };
       }
@@ -87,22 +85,37 @@ module _ (p q : Session) (s : State) (report : q.report ≡ p.report) where
         };
         leads = λ text is. record {
           turns = t ∷ [];
-          are = is_last;
-          legal = (tt, tt);
-          over = refl;
-          used = refl;
+          runs = record { are = is_last; legal = (tt, tt); over = refl; used = refl };
           text = is ∙ line ∙ sym (append-nil (error_line p.walk.number kind));
         };
       }
+
+-- the last turn, whatever is written of it
+module _ (p : Session) (s : State) where
+  pub ends_here : (w : Walk) → IsLast verdict_of p.walk w (place_of p s []) ends → EndsHere p s 0
+  ends_here w end = record {
+    turns = turn (place_of p s []) end.last ends ∷ [];
+    runs = record { are = end.is; legal = (tt, tt); over = refl; used = refl };
+    same = λ last. refl;
+  }
+
+  pub fails_here : (kind : Kind) (last : State) → IsCourseOf verdict_of p.walk.lexer.bytes p.walk.lexer.place (place_of p s []) (turn (place_of p s []) last (fails kind) ∷ [])
+      → EndsHere p s 1
+  fails_here kind last is_last = record {
+    turns = turn (place_of p s []) last (fails kind) ∷ [];
+    runs = record { are = is_last; legal = (tt, tt); over = refl; used = refl };
+    same = λ last. refl;
+  }
 
 -- ---- a turn behind which the script goes on
 
 abbrev pub next_place : Session → State → Held → List Entry → Place Entry
 next_place p next held left = record { number = p.walk.number + 1; state = next; held = held; left = left }
 
--- a first turn from here, with these entries used and this line written, and a state behind it
-pub record IsStep (p : Session) (s : State) (mid : ℕ) (next : State) (held : Held) (found : List Entry) (line : List ℕ) : Type 0 where
+-- a first turn from here, which comes to this, with these entries used and this line written, and a state behind it
+pub record IsStep (p : Session) (s : State) (mid : ℕ) (next : State) (held : Held) (found : List Entry) (line : List ℕ) (outcome : Outcome Entry) : Type 0 where
   pub first : List Entry → Turn Entry
+  pub comes : (left : List Entry) → (first left).outcome ≡ outcome
   pub are : (left : List Entry) (turns : List (Turn Entry)) → IsCourseOf verdict_of p.walk.lexer.bytes mid (next_place p next held left) turns
       → IsCourseOf verdict_of p.walk.lexer.bytes p.walk.lexer.place (place_of p s (found ++ left)) (first left ∷ turns)
   pub legal : (left : List Entry) → IsLegal p.report (first left)
@@ -133,7 +146,8 @@ pub record IsBehind (p q : Session) (mid : ℕ) (held : Held) : Type 0 where
   pub shows : q.held ≡ held
   pub report : q.report ≡ p.report
 
-module _ (p q : Session) (s : State) (mid : ℕ) (next : State) (held : Held) (found : List Entry) (line : List ℕ) (step : IsStep p s mid next held found line) (there : IsBehind p q mid held) where
+module _ (p q : Session) (s : State) (mid : ℕ) (next : State) (held : Held) (found : List Entry) (line : List ℕ) (outcome : Outcome Entry)
+    (step : IsStep p s mid next held found line outcome) (there : IsBehind p q mid held) where
   are_there : (left : List Entry) (turns : List (Turn Entry)) → IsCourseOf verdict_of q.walk.lexer.bytes q.walk.lexer.place (place_of q next left) turns
       → IsCourseOf verdict_of p.walk.lexer.bytes mid (next_place p next held left) turns
   are_there left turns h =
@@ -147,6 +161,23 @@ module _ (p q : Session) (s : State) (mid : ℕ) (next : State) (held : Held) (f
   pieces_there : (turns : List (Turn Entry)) → pieces q.report turns ≡ pieces p.report turns
   pieces_there turns = ap (λ (r : Report). pieces r turns) there.report
 
+  runs_on : (rest : List Entry) (status : ℕ) (turns : List (Turn Entry)) → Runs q next rest status turns → Runs p s (found ++ rest) status (step.first rest ∷ turns)
+  runs_on rest status turns h = record {
+    are = step.are rest turns (are_there rest turns h.are);
+    legal = (step.legal rest, legal_there turns h.legal);
+    over = step.status rest turns ∙ h.over;
+    used = step.used rest turns ∙ ap (λ (es : List Entry). found ++ es) h.used;
+  }
+
+  -- the turn, whatever is written of it
+  pub leads_on : Holds q next → LeadsOn p q s outcome
+  leads_on holds = record {
+    next = next;
+    stands = holds;
+    found = found;
+    goes = λ rest status turns h. (step.first rest, step.comes rest, runs_on rest status turns h);
+  }
+
   going_on : (piece : Piece) → ((text : List ℕ) → IsText q piece text → text ≡ line) → Holds q next → GoesOn p q s piece
   going_on piece is_line holds = record {
     next = next;
@@ -154,10 +185,7 @@ module _ (p q : Session) (s : State) (mid : ℕ) (next : State) (held : Held) (f
     stands = holds;
     whole = λ text is rest from. record {
       turns = step.first rest.found ∷ from.turns;
-      are = step.are rest.found from.turns (are_there rest.found from.turns from.are);
-      legal = (step.legal rest.found, legal_there from.turns from.legal);
-      over = step.status rest.found from.turns ∙ from.over;
-      used = step.used rest.found from.turns ∙ ap (λ (es : List Entry). found ++ es) from.used;
+      runs = runs_on rest.found rest.status from.turns from.runs;
       text = ap (λ (t : List ℕ). t ++ rest.text) (is_line text is) ∙ ap (λ (t : List ℕ). line ++ t) (from.text ∙ pieces_there from.turns) ∙ sym (step.text rest.found from.turns);
     };
     part = λ text rest is from. record {
@@ -196,42 +224,64 @@ module _ (p q : Session) (w : Walk) (s : State) (bytes : w.lexer.bytes ≡ p.wal
     report = keeps.report;
   }
 
-  pub told_next : (id : ℕ) (n : Notice) (piece : Piece) → (event : IsEvent p.walk w s (ToldOf id n)) → Tells (record p { walk = w }) q event.carries.1.next event.x n piece → IsNext p q s piece
-  told_next id n piece event told_so =
+  told_is : (id : ℕ) (n : Notice) → (event : IsEvent p.walk w s (ToldOf id n)) →
+      IsStep p s w.lexer.place event.carries.1.next p.held [] (told p.report p.held event.carries.1.next event.x n) (tells event.x n)
+  told_is id n event =
       let to = event.carries.1 in
-      let step : IsStep p s w.lexer.place to.next p.held [] (told p.report p.held to.next event.x n) = record {
+      record {
         first = λ left. turn (place_of p s left) to.next (tells event.x n);
+        comes = λ left. refl;
         are = λ left turns h. told_from verdict_of p.walk.lexer.bytes p.walk.lexer.place w.lexer.place (place_of p s left) event.x event.spells to.next n to.leads turns h;
         legal = λ left. tt;
         used = λ left turns. refl;
         status = λ left turns. refl;
         text = λ left turns. refl;
-      } in
-      going_next p q s w.lexer.place to.next p.held [] (told p.report p.held to.next event.x n) step (is_behind p.held event.carries.2 told_so.held) piece told_so.going told_so.text told_so.stands
+      }
+
+  pub told_next : (id : ℕ) (n : Notice) (piece : Piece) → (event : IsEvent p.walk w s (ToldOf id n)) → Tells (record p { walk = w }) q event.carries.1.next event.x n piece → IsNext p q s piece
+  told_next id n piece event told_so =
+      let to = event.carries.1 in
+      going_next p q s w.lexer.place to.next p.held [] (told p.report p.held to.next event.x n) (tells event.x n) (told_is id n event) (is_behind p.held event.carries.2 told_so.held) piece told_so.going told_so.text told_so.stands
+
+  pub told_leads : (id : ℕ) (n : Notice) (piece : Piece) → (event : IsEvent p.walk w s (ToldOf id n)) → Tells (record p { walk = w }) q event.carries.1.next event.x n piece → LeadsOn p q s (tells event.x n)
+  told_leads id n piece event told_so =
+      let to = event.carries.1 in
+      leads_on p q s w.lexer.place to.next p.held [] (told p.report p.held to.next event.x n) (tells event.x n) (told_is id n event) (is_behind p.held event.carries.2 told_so.held) told_so.stands
 
 module _ (p q : Session) (w : Walk) (s : State) (bytes : w.lexer.bytes ≡ p.walk.lexer.bytes) (keeps : KeepsPlace (record p { walk = w }) q) where
-  pub checked_next : (id : ℕ) (question : Question) → (event : IsEvent p.walk w s (Asked id question)) → refusal_of question event.carries.1.next event.x ≡ None
-      → IsChecked question event.x (record p { walk = w }) q event.carries.1.next → IsNext p q s Decision
-  checked_next id question event free h =
-      let to = event.carries.1 in
-      let decides : Decides (version_of p.report) question event.x to.next.context h.entry = subst (λ (r : Report). Decides (version_of r) question event.x to.next.context h.entry) keeps.report h.decides in
-      let step : IsStep p s w.lexer.place (settled (verdict_of h.entry) to.next) (Some h.entry) (h.entry ∷ []) (decision_line p.report h.entry) = record {
-        first = λ left. turn (place_of p s (h.entry ∷ left)) to.next (answers question event.x h.entry);
-        are = λ left turns k. answered_from verdict_of p.walk.lexer.bytes p.walk.lexer.place w.lexer.place (place_of p s (h.entry ∷ left)) event.x event.spells to.next question h.entry left to.leads free refl turns k;
-        legal = λ left. decides;
-        used = λ left turns. refl;
-        status = λ left turns. refl;
-        text = λ left turns. refl;
-      } in
-      let there : IsBehind p q w.lexer.place (Some h.entry) = record {
-        place = ap (λ (l : Lexing). l.place) keeps.lexer;
-        bytes = ap (λ (l : Lexing). l.bytes) keeps.lexer ∙ bytes;
-        number = h.number ∙ ap (λ (n : ℕ). n + 1) event.carries.2;
-        shows = h.held;
-        report = keeps.report;
-      } in
-      going_next p q s w.lexer.place (settled (verdict_of h.entry) to.next) (Some h.entry) (h.entry ∷ []) (decision_line p.report h.entry) step there Decision tt
-      (λ text is. is h.entry h.held ∙ ap (λ (r : Report). decision_line r h.entry) keeps.report) h.stands
+  module _ (id : ℕ) (question : Question) (event : IsEvent p.walk w s (Asked id question)) (free : refusal_of question event.carries.1.next event.x ≡ None)
+      (h : IsChecked question event.x (record p { walk = w }) q event.carries.1.next) where
+    checked_is : IsStep p s w.lexer.place (settled (verdict_of h.entry) event.carries.1.next) (Some h.entry) (h.entry ∷ []) (decision_line p.report h.entry) (answers question event.x h.entry)
+    checked_is =
+        let to = event.carries.1 in
+        let decides : Decides (version_of p.report) question event.x to.next.context h.entry = subst (λ (r : Report). Decides (version_of r) question event.x to.next.context h.entry) keeps.report h.decides in
+        record {
+          first = λ left. turn (place_of p s (h.entry ∷ left)) to.next (answers question event.x h.entry);
+          comes = λ left. refl;
+          are = λ left turns k. answered_from verdict_of p.walk.lexer.bytes p.walk.lexer.place w.lexer.place (place_of p s (h.entry ∷ left)) event.x event.spells to.next question h.entry left to.leads free refl turns k;
+          legal = λ left. decides;
+          used = λ left turns. refl;
+          status = λ left turns. refl;
+          text = λ left turns. refl;
+        }
+
+    checked_there : IsBehind p q w.lexer.place (Some h.entry)
+    checked_there = record {
+      place = ap (λ (l : Lexing). l.place) keeps.lexer;
+      bytes = ap (λ (l : Lexing). l.bytes) keeps.lexer ∙ bytes;
+      number = h.number ∙ ap (λ (n : ℕ). n + 1) event.carries.2;
+      shows = h.held;
+      report = keeps.report;
+    }
+
+    pub checked_next : IsNext p q s Decision
+    checked_next =
+        going_next p q s w.lexer.place (settled (verdict_of h.entry) event.carries.1.next) (Some h.entry) (h.entry ∷ []) (decision_line p.report h.entry) (answers question event.x h.entry) checked_is checked_there Decision tt
+        (λ text is. is h.entry h.held ∙ ap (λ (r : Report). decision_line r h.entry) keeps.report) h.stands
+
+    pub checked_leads : LeadsOn p q s (answers question event.x h.entry)
+    checked_leads =
+        leads_on p q s w.lexer.place (settled (verdict_of h.entry) event.carries.1.next) (Some h.entry) (h.entry ∷ []) (decision_line p.report h.entry) (answers question event.x h.entry) checked_is checked_there h.stands
 
   -- a question that is refused ends the script
   pub barred_next : (id : ℕ) (question : Question) (kind : Kind) → (event : IsEvent p.walk w s (Asked id question)) → refusal_of question event.carries.1.next event.x ≡ Some kind

@@ -1,5 +1,6 @@
 pub mod Ends
 pub mod Solving
+pub mod Leasts
 pub use Rattle.dtp_io.specs.Faults
 pub use Rattle.smt_sexpr.specs.Tree
 pub use Rattle.smt_sexpr.specs.Table

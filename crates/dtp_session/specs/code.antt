@@ -2,3 +2,4 @@
 pub mod Forms
 pub mod Decisions
 pub mod Sessions
+pub mod Leading

@@ -1,5 +1,5 @@
 //! What decided a question, as it is held until the next one.
-ghost use Rattle.std.specs.Prelude.{◌≡◌, ◌≢◌, ◌++◌, ℕ, List, Some, None, MatchOption, OnOk};
+ghost use Rattle.std.specs.Prelude.{◌≡◌, ◌≢◌, ◌++◌, ℕ, List, Some, None, MatchOption, IfOk, OnOk};
 ghost use Rattle.stn_core.specs.declared.named.NamedValue.{NamedValue};
 ghost use Rattle.cert_text.specs.declared.entry.Version.TheVariants.{One};
 ghost use Rattle.cert_text.specs.declared.entry.Entry.TheVariants.{Sat, Unsat};
@@ -9,9 +9,11 @@ ghost use Rattle.dtp_entry.specs.Entries.{verdict_of};
 ghost use Rattle.dtp_entry.specs.Transcripts.{decision_line};
 ghost use Rattle.dtp_entry.specs.Written.{WritesOne};
 ghost use Rattle.refute_tree.specs.declared.lemma.Lemma.{Lemma};
+ghost use Rattle.dtp_session.specs.Leasts.{minimum_of};
 ghost use Rattle.dtp_session.specs.code.Forms.{shown_in, schedule_shown, CiteSame};
 
 use crate::form::forms_of;
+use crate::least::Minimum;
 use cert_stream::write_entry;
 use cert_text::{Entry, Version};
 use dtp_entry::SessionError;
@@ -114,6 +116,22 @@ impl Found {
                 None => unreachable!(),
             },
             Entry::Unsat(_) => unreachable!(),
+        }
+    }
+
+    /// The least value that it tells, with a schedule that has it.
+    pub fn minimum(&self, alloc: Global) -> Result<Option<Minimum>, AllocError>
+        ensures { IfOk result (λ minimum. minimum ≡ minimum_of self.now) }
+    {
+        match &self.entry {
+            Entry::Best(value, schedule, _) => {
+                let values = Vec::from_slice(alloc, schedule.as_slice())?;
+                Ok(Some(Minimum {
+                    value: *value,
+                    schedule: NamedValues::new(values),
+                }))
+            }
+            Entry::Sat(_) | Entry::Unsat(_) | Entry::Unbounded(_, _) => Ok(None),
         }
     }
 

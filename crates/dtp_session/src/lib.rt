@@ -1,5 +1,5 @@
 //! Decides scripts of difference logic, from their bytes to what is written of them: the answers by [`solve_script`], a
-//! certificate by [`certify_script`].
+//! certificate by [`certify_script`]; or gives the value of its last minimize, by [`least_of`].
 //!
 //! The commands are those of `smt_script`, the terms those of `idl_term`, the texts those of `smt_answer` and `cert_text`. The first
 //! refusal ends the script.
@@ -13,6 +13,7 @@
 mod decision;
 mod form;
 mod found;
+mod least;
 mod minimum;
 mod notices;
 mod options;
@@ -23,6 +24,7 @@ mod solve;
 mod wanted;
 
 pub use dtp_entry::{Report, SessionError};
+pub use least::{Minimum, least_of};
 pub use options::SearchOptions;
 pub use session::Solved;
 pub use solve::{certify_script, solve_script};

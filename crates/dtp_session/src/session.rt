@@ -158,7 +158,7 @@ impl<'a> Session<'a> {
     }
 
     /// Answers a question, or says why it isn't taken.
-    fn ask<R: Threads + Wait + Sync, G: Gate>(
+    pub fn ask<R: Threads + Wait + Sync, G: Gate>(
         &mut self,
         rt: &R,
         gate: &G,

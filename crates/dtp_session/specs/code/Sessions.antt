@@ -149,12 +149,16 @@ pub record KeepsScript (p q : Session) : Type 0 where
 abbrev pub place_of : Session → State → List Entry → Place Entry
 place_of p s left = record { number = p.walk.number; state = s; held = p.held; left = left }
 
+-- these turns are legal, end with this status, and use these entries
+pub record Runs (p : Session) (s : State) (found : List Entry) (status : ℕ) (turns : List (Turn Entry)) : Type 0 where
+  pub are : IsCourseOf verdict_of p.walk.lexer.bytes p.walk.lexer.place (place_of p s found) turns
+  pub legal : AllByRecursion (IsLegal p.report) turns
+  pub over : status_of turns ≡ Some status
+  pub used : answers_of turns ≡ found
+
 pub record From (p : Session) (s : State) (out : Output) : Type 0 where
   pub turns : List (Turn Entry)
-  pub are : IsCourseOf verdict_of p.walk.lexer.bytes p.walk.lexer.place (place_of p s out.found) turns
-  pub legal : AllByRecursion (IsLegal p.report) turns
-  pub over : status_of turns ≡ Some out.status
-  pub used : answers_of turns ≡ out.found
+  pub runs : Runs p s out.found out.status turns
   pub text : out.text ≡ pieces p.report turns
 
 pub record PartFrom (p : Session) (s : State) (text : List ℕ) : Type 0 where
