@@ -54,7 +54,7 @@ defaults_right (a ∷ rest) rows h =
 -- ---- one level
 
 -- what is asked behind the last word
-abbrev end_fault : Shape → Bool → Held → Kinds
+abbrev pub end_fault : Shape → Bool → Held → Kinds
 end_fault s b h =
     or_else (settle_fault s.rules s.args_override_self h) (or_else (defaults_fault (settled s.rules h).rows s.rules) (check_fault s (finished s.rules h) b))
 

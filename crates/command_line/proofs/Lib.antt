@@ -1,8 +1,10 @@
 pub mod Numbers
 pub mod Values
-pub mod Faults
-pub mod Faulting
+pub mod Emits
 pub mod Options
 pub mod Commands
+pub mod Places
+pub mod Faults
+pub mod Faulting
 pub mod BenchLines
 pub mod Saying

@@ -13,9 +13,9 @@ use Rattle.clap.specs.Walk.{Walk, arg_by_id, arg_by_long, at_row, has_row, idle,
 use Rattle.clap.specs.declared.parser.matches.ValueSource.TheVariants.{CommandLine}
 use Rattle.clap.specs.declared.builder.value_parser.Reading.{Reading}
 use Rattle.clap.proofs.OnLiterals.{clap_on_literals}
-use Rattle.command_line.specs.Apps.{format_rule, slice_rule, workers_rule}
-use Rattle.command_line.specs.Plain.{AreOptions, Given, IsValueOf, format, more, name_of, none, number_of_format, slice, workers}
-use Rattle.command_line.proofs.Values.{IsValue, value_by}
+use Rattle.command_line.specs.Apps.{emit_rule, emit_words, format_rule, slice_rule, workers_rule}
+use Rattle.command_line.specs.Plain.{AreOptions, Given, IsValueOf, emit, format, more, name_of, none, number_of_format, slice, workers}
+use Rattle.command_line.proofs.Values.{IsValue, IsWord, value_by, word_by}
 
 -- ---- an option
 
@@ -23,30 +23,33 @@ abbrev pub id_of : Given → Text
 id_of (workers n) = codes "workers"
 id_of (slice n) = codes "slice"
 id_of (format version) = codes "format"
+id_of (emit what) = codes "emit"
 
 name_is : (g : Given) → name_of g ≡ 45 ∷ 45 ∷ id_of g
 name_is (workers n) = refl
 name_is (slice n) = refl
 name_is (format version) = refl
+name_is (emit what) = refl
 
 -- clap's rule, as it is built
 abbrev pub rule_of : Given → Rule
 rule_of (workers n) = filled workers_rule
 rule_of (slice n) = filled slice_rule
 rule_of (format version) = filled format_rule
+rule_of (emit what) = filled (emit_rule emit_words)
 
-abbrev least_of : Given → ℕ
-least_of g = 1
+-- the text is a value that the option's parser takes
+abbrev Fits : Given → Text → Type 0
+Fits (workers n) t = IsValue 1 64 t
+Fits (slice n) t = IsValue 1 1000000 t
+Fits (format version) t = IsValue 1 2 t
+Fits (emit what) t = IsWord t
 
-abbrev most_of : Given → ℕ
-most_of (workers n) = 64
-most_of (slice n) = 1000000
-most_of (format version) = 2
-
-value_of : (g : Given) (t : Text) → IsValueOf g t → IsValue 1 (most_of g) t
+value_of : (g : Given) (t : Text) → IsValueOf g t → Fits g t
 value_of (workers n) t h = value_by 1 64 n t (omega arith) h
 value_of (slice n) t h = value_by 1 1000000 n t (omega arith) h
 value_of (format version) t h = value_by 1 2 (number_of_format version) t (omega arith) h
+value_of (emit what) t h = word_by what t h
 
 -- the command has it
 pub record Has (s : Shape) (g : Given) : Type 0 where
@@ -82,6 +85,7 @@ unfolding clap_on_literals
 opens s (workers n) has position rows pending = rw (has.by_long) refl
 opens s (slice n) has position rows pending = rw (has.by_long) refl
 opens s (format version) has position rows pending = rw (has.by_long) refl
+opens s (emit what) has position rows pending = rw (has.by_long) refl
 
 opens_right : (s : Shape) (g : Given) → Has s g → (position : ℕ) (rows : List Row) (pending : Option (Text × List Text))
     → IsReady s position rows pending → turn_fault s [] (at_rest position rows pending) (name_of g) ≡ []
@@ -89,6 +93,7 @@ unfolding clap_on_literals
 opens_right s (workers n) has position rows pending ready = rw (has.by_long, ready) refl
 opens_right s (slice n) has position rows pending ready = rw (has.by_long, ready) refl
 opens_right s (format version) has position rows pending ready = rw (has.by_long, ready) refl
+opens_right s (emit what) has position rows pending ready = rw (has.by_long, ready) refl
 
 takes : (s : Shape) (g : Given) → Has s g → (position : ℕ) (rows : List Row) (t : Text) → IsValueOf g t
     → walked s.rules [] (opened position rows (id_of g)) t ≡ at_rest position rows (Some (id_of g, t ∷ []))
@@ -96,6 +101,7 @@ unfolding clap_on_literals
 takes s (workers n) has position rows t h = let v = value_of (workers n) t h in rw (v.no_dashes, v.bare, v.bare, has.by_id) refl
 takes s (slice n) has position rows t h = let v = value_of (slice n) t h in rw (v.no_dashes, v.bare, v.bare, has.by_id) refl
 takes s (format version) has position rows t h = let v = value_of (format version) t h in rw (v.no_dashes, v.bare, v.bare, has.by_id) refl
+takes s (emit what) has position rows t h = let v = value_of (emit what) t h in rw (v.no_dashes, v.bare, v.bare, has.by_id) refl
 
 takes_right : (s : Shape) (g : Given) → Has s g → (position : ℕ) (rows : List Row) (t : Text) → IsValueOf g t
     → turn_fault s [] (opened position rows (id_of g)) t ≡ []
@@ -103,6 +109,7 @@ unfolding clap_on_literals
 takes_right s (workers n) has position rows t h = let v = value_of (workers n) t h in rw (v.no_dashes, v.bare, v.bare) refl
 takes_right s (slice n) has position rows t h = let v = value_of (slice n) t h in rw (v.no_dashes, v.bare, v.bare) refl
 takes_right s (format version) has position rows t h = let v = value_of (format version) t h in rw (v.no_dashes, v.bare, v.bare) refl
+takes_right s (emit what) has position rows t h = let v = value_of (emit what) t h in rw (v.no_dashes, v.bare, v.bare) refl
 
 settles : (s : Shape) (g : Given) → Has s g → (position : ℕ) (rows : List Row) (t : Text) → has_row (id_of g) rows ≡ false → IsValueOf g t
     → IsReady s position rows (Some (id_of g, t ∷ []))
@@ -110,12 +117,14 @@ unfolding clap_on_literals
 settles s (workers n) has position rows t fresh h = let v = value_of (workers n) t h in rw (has.by_id, fresh, v.fits) refl
 settles s (slice n) has position rows t fresh h = let v = value_of (slice n) t h in rw (has.by_id, fresh, v.fits) refl
 settles s (format version) has position rows t fresh h = let v = value_of (format version) t h in rw (has.by_id, fresh, v.fits) refl
+settles s (emit what) has position rows t fresh h = let v = value_of (emit what) t h in rw (has.by_id, fresh, v.fits) refl
 
 use_is : (g : Given) (t : Text) (rows : List Row)
     → used (rule_of g) (t ∷ []) rows ≡ with_values (id_of g) (reading_by (rule_of g)) CommandLine (t ∷ []) (without (id_of g) rows)
 use_is (workers n) t rows = refl
 use_is (slice n) t rows = refl
 use_is (format version) t rows = refl
+use_is (emit what) t rows = refl
 
 -- ---- the rows
 

@@ -3,18 +3,20 @@ use Rattle.std.proofs.Common.{◌≡◌, ◌∙◌, ◌++◌, ℕ, List, [], ◌
 use Rattle.std.specs.Prelude.{◌==◌, if◌then◌else◌}
 use Rattle.clap.specs.Words.{Text, one_of}
 use Rattle.clap.proofs.OnLiterals.{clap_on_literals}
-use Rattle.command_line.specs.Lines.{command_of, format_of, line_of, number_of, search_of, workers_of}
-use Rattle.command_line.specs.Plain.{AreNumbersOf, AreOptions, Given, IsPlainLine, OfBench, OfCertify, OfSolve, bench, certify, check, convert, format, format_in, more, none, number_of_format, search_in, slice, slice_in, solve, workers, workers_in}
+use Rattle.command_line.specs.Lines.{command_of, emit_named, emit_of, format_of, line_of, number_of, search_of, workers_of}
+use Rattle.command_line.specs.Plain.{AreNumbersOf, AreOptions, Given, IsPlainLine, OfBench, OfCertify, OfJobshop, OfSolve, bench, certify, check, convert, emit, emit_in, format, format_in, jobshop, more, none, number_of_format, search_in, slice, slice_in, solve, word_of, workers, workers_in}
+use Rattle.command_line.specs.declared.line.Emit.{Emit}
+use Rattle.command_line.specs.declared.line.Emit.TheVariants.{Plan, Script, Certificate}
 use Rattle.command_line.specs.declared.line.Format.{Format}
 use Rattle.command_line.specs.declared.line.Format.TheVariants.{One, Two}
 use Rattle.command_line.specs.declared.line.Line.{Line}
-use Rattle.command_line.specs.declared.line.Line.TheVariants.{Solve, Certify, Check, Convert, Bench}
+use Rattle.command_line.specs.declared.line.Line.TheVariants.{Solve, Certify, Check, Convert, Bench, Jobshop}
 use Rattle.command_line.specs.declared.line.Search.{Search}
 use Rattle.command_line.specs.declared.line.Shop.{Shop}
 use Rattle.command_line.proofs.BenchLines.{AreValues, benching, behind_four, four_ready, rows_3, rows_4, walk_4}
 use Rattle.command_line.proofs.Commands.{IsCommand, line_from, sub}
 use Rattle.clap.specs.Words.{Shape}
-use Rattle.command_line.specs.Apps.{certifying_app, plain_app, searching_app}
+use Rattle.command_line.specs.Apps.{certifying_app, emit_words, jobshop_app, plain_app, searching_app}
 use Rattle.command_line.proofs.Options.{AreFresh, Ends, Has, none_right, over_options, rows_in}
 use Rattle.command_line.proofs.Values.{read_as_number, value_by}
 
@@ -25,6 +27,7 @@ workers_said none = refl
 workers_said (more {g = workers n} {value} taken is apart rest) = read_as_number 1 64 4 n value (omega arith) is
 workers_said (more {g = slice n} taken is apart rest) = workers_said rest
 workers_said (more {g = format version} taken is apart rest) = workers_said rest
+workers_said (more {g = emit what} taken is apart rest) = workers_said rest
 
 slice_said : {Takes : Given → Type 0} {words : List Text} {given : List Given} → AreOptions Takes words given
     → number_of (one_of (codes "slice") (rows_in words given)) 1 1000000 1000 ≡ slice_in given
@@ -32,6 +35,7 @@ slice_said none = refl
 slice_said (more {g = workers n} taken is apart rest) = slice_said rest
 slice_said (more {g = slice n} {value} taken is apart rest) = read_as_number 1 1000000 1000 n value (omega arith) is
 slice_said (more {g = format version} taken is apart rest) = slice_said rest
+slice_said (more {g = emit what} taken is apart rest) = slice_said rest
 
 format_by : (format : Format) (n : ℕ) → n ≡ number_of_format format → (if n == 2 then Two else One) ≡ format
 format_by One n e = rw e refl
@@ -42,6 +46,19 @@ format_said none = refl
 format_said (more {g = workers n} taken is apart rest) = format_said rest
 format_said (more {g = slice n} taken is apart rest) = format_said rest
 format_said (more {g = format version} {value} taken is apart rest) = format_by version _ (read_as_number 1 2 1 (number_of_format version) value (omega arith) is)
+format_said (more {g = emit what} taken is apart rest) = format_said rest
+
+named_is : (what : Emit) → emit_named (word_of what) ≡ what
+named_is Plan = refl
+named_is Script = refl
+named_is Certificate = refl
+
+emit_said : {Takes : Given → Type 0} {words : List Text} {given : List Given} → AreOptions Takes words given → emit_of (rows_in words given) ≡ emit_in given
+emit_said none = refl
+emit_said (more {g = workers n} taken is apart rest) = emit_said rest
+emit_said (more {g = slice n} taken is apart rest) = emit_said rest
+emit_said (more {g = format version} taken is apart rest) = emit_said rest
+emit_said (more {g = emit what} taken is apart rest) = ap emit_named is ∙ named_is what
 
 search_said : {Takes : Given → Type 0} {words : List Text} {given : List Given} → AreOptions Takes words given → search_of (rows_in words given) ≡ search_in given
 search_said {words = words} {given = given} o =
@@ -66,6 +83,7 @@ unfolding clap_on_literals
 solve_has (workers n) taken = record { by_long = refl; by_id = refl }
 solve_has (slice n) taken = record { by_long = refl; by_id = refl }
 solve_has (format version) taken = absurd taken
+solve_has (emit what) taken = absurd taken
 
 abbrev certifying : Shape
 certifying = sub certifying_app
@@ -79,6 +97,7 @@ unfolding clap_on_literals
 certify_has (workers n) taken = record { by_long = refl; by_id = refl }
 certify_has (slice n) taken = record { by_long = refl; by_id = refl }
 certify_has (format version) taken = record { by_long = refl; by_id = refl }
+certify_has (emit what) taken = absurd taken
 
 abbrev checking : Shape
 checking = sub (plain_app (codes "check"))
@@ -103,6 +122,21 @@ unfolding clap_on_literals
 bench_has (workers n) taken = record { by_long = refl; by_id = refl }
 bench_has (slice n) taken = absurd taken
 bench_has (format version) taken = absurd taken
+bench_has (emit what) taken = absurd taken
+
+abbrev shopping : Shape
+shopping = sub (jobshop_app emit_words)
+
+jobshop_is : IsCommand (codes "jobshop") shopping
+unfolding clap_on_literals
+jobshop_is = record { first = refl; right = refl; found = refl; named = refl; plain = (refl, (refl, (refl, tt))); top_right = refl }
+
+jobshop_has : (g : Given) → OfJobshop g → Has shopping g
+unfolding clap_on_literals
+jobshop_has (workers n) taken = record { by_long = refl; by_id = refl }
+jobshop_has (slice n) taken = record { by_long = refl; by_id = refl }
+jobshop_has (format version) taken = absurd taken
+jobshop_has (emit what) taken = record { by_long = refl; by_id = refl }
 
 -- ---- the lines
 
@@ -142,6 +176,7 @@ fresh_behind_four a b c d [] = tt
 fresh_behind_four a b c d (workers n ∷ given) = (refl, fresh_behind_four a b c d given)
 fresh_behind_four a b c d (slice n ∷ given) = (refl, fresh_behind_four a b c d given)
 fresh_behind_four a b c d (format version ∷ given) = (refl, fresh_behind_four a b c d given)
+fresh_behind_four a b c d (emit what ∷ given) = (refl, fresh_behind_four a b c d given)
 
 at_shop : (j m s d w a b c e n : ℕ) → j ≡ a → m ≡ b → s ≡ c → d ≡ e → w ≡ n
     → Some (Bench (record { jobs = j; machines = m; start = s; deadline = d }) w) ≡ Some (Bench (record { jobs = a; machines = b; start = c; deadline = e }) n)
@@ -171,9 +206,18 @@ bench_line a b c d shop words given h o =
     line_from (codes "bench") benching bench_is (a ∷ b ∷ c ∷ d ∷ words) 5 (rows_4 a b c d ++ rows_in words given) (Bench shop (workers_in given))
     (behind_four a b c d words _ v behind) refl (bench_said a b c d shop words given h o)
 
+jobshop_line : (words : List Text) (given : List Given) → AreOptions OfJobshop words given
+    → line_of (codes "jobshop" ∷ words) ≡ Some (Jobshop (search_in given) (emit_in given))
+jobshop_line words given o =
+    line_from (codes "jobshop") shopping jobshop_is words 1 (rows_in words given) (Jobshop (search_in given) (emit_in given))
+    (over_options shopping 1 OfJobshop jobshop_has o [] None refl (all_fresh given)) refl
+    (ap (λ (s : Search). Some (Jobshop s (emit_of (rows_in words given)))) (search_said o)
+    ∙ ap (λ (e : Emit). Some (Jobshop (search_in given) e)) (emit_said o))
+
 pub plain_line : (words : List Text) (line : Line) → IsPlainLine words line → line_of words ≡ Some line
 plain_line _ _ (solve {words} {given} o) = solve_line words given o
 plain_line _ _ (certify {words} {given} o) = certify_line words given o
 plain_line _ _ check = check_line
 plain_line _ _ convert = convert_line
 plain_line _ _ (bench {a} {b} {c} {d} {shop} {words} {given} h o) = bench_line a b c d shop words given h o
+plain_line _ _ (jobshop {words} {given} o) = jobshop_line words given o

@@ -1,4 +1,4 @@
--- A numeral in range is a value that clap takes, and is read as its number.
+-- A numeral in range is a value that clap takes, and is read as its number; a word of `--emit` is one too.
 use Rattle.std.proofs.Common.{◌≡◌, ◌==◌, ◌∙◌, ◌<◌, ◌≤◌, ◌^◌, ℕ, true, false, [], ◌∷◌, Some, None, refl, ap, sym, subst, arith}
 use Rattle.std.specs.Str.{bytes_eq}
 use Rattle.std.specs.Str.Parse.{IsNumeral, digits_value, without_leading_plus}
@@ -6,9 +6,13 @@ use Rattle.std.proofs.lemmas.Bool.{ne_eqb}
 use Rattle.std.proofs.lemmas.Str.Parse.{digit_from_value}
 use Rattle.clap.specs.Words.{Text}
 use Rattle.clap.specs.Lexer.{strip_byte}
-use Rattle.clap.specs.ValueTests.{is_unsigned_in}
+use Rattle.clap.specs.ValueTests.{accepts, is_unsigned_in}
+use Rattle.clap.specs.declared.builder.value_parser.ValueParser.TheVariants as vp
+use Rattle.command_line.specs.Apps.{emit_words}
 use Rattle.command_line.specs.Lines.{number_of}
-use Rattle.command_line.specs.Plain.{IsNumeralOf}
+use Rattle.command_line.specs.Plain.{IsNumeralOf, word_of}
+use Rattle.command_line.specs.declared.line.Emit.{Emit}
+use Rattle.command_line.specs.declared.line.Emit.TheVariants.{Plan, Script, Certificate}
 use Rattle.command_line.proofs.Numbers.{is_in_range}
 
 -- the text is a value that the parser takes, and no flag
@@ -57,3 +61,17 @@ pub read_as_number : (least most default n : ℕ) (t : Text) → most < 2 ^ 64 �
 read_as_number least most default n t small h =
     let v = value_of_numeral least most n t small h in
     number_in least most default t v.0.fits ∙ v.1
+
+-- the same of a word of `--emit`
+pub record IsWord (t : Text) : Type 0 where
+  pub bare : strip_byte 45 t ≡ None
+  pub no_dashes : bytes_eq t (45 ∷ 45 ∷ []) ≡ false
+  pub fits : accepts false (vp.Names emit_words) t ≡ true
+
+is_word : (what : Emit) → IsWord (word_of what)
+is_word Plan = record { bare = refl; no_dashes = refl; fits = refl }
+is_word Script = record { bare = refl; no_dashes = refl; fits = refl }
+is_word Certificate = record { bare = refl; no_dashes = refl; fits = refl }
+
+pub word_by : (what : Emit) (t : Text) → t ≡ word_of what → IsWord t
+word_by what t e = subst IsWord (sym e) (is_word what)

@@ -1,5 +1,6 @@
 -- The command line, as clap sees it: the commands and their options.
-use Rattle.std.specs.Prelude.{ℕ, true, Some, codes}
+use Rattle.std.specs.Prelude.{ℕ, List, [], ◌∷◌, true, Some, codes, map}
+use Rattle.std.specs.Borrow.{Bor}
 use Rattle.clap.specs.Words.{App, Rule, Text, new_app, new_rule, with_rule, with_subcommand}
 use Rattle.clap.specs.declared.builder.value_parser.ValueParser.TheVariants as vp
 
@@ -54,7 +55,31 @@ abbrev pub benching_app : App
 benching_app =
     with_rule (with_rule (with_rule (with_rule (with_rule (silent (new_app (codes "bench"))) jobs_rule) machines_rule) start_rule) deadline_rule) workers_rule
 
--- `solve`, `certify`, `check`, `convert` and `bench`
-abbrev pub dtp_app : App
-dtp_app =
+-- `--emit E`, E one of the words
+abbrev pub emit_rule : Bor (List (Bor Text)) → Rule
+emit_rule words = record (new_rule (codes "emit")) { long = Some (codes "emit"); parser = Some (vp.Names words) }
+
+abbrev pub jobshop_app : Bor (List (Bor Text)) → App
+jobshop_app words = with_rule (searching_app (codes "jobshop")) (emit_rule words)
+
+-- the commands without `--emit`: `solve`, `certify`, `check`, `convert` and `bench`
+abbrev pub first_app : App
+first_app =
     with_subcommand (with_subcommand (with_subcommand (with_subcommand (with_subcommand top_app (searching_app (codes "solve")).top) certifying_app.top) (plain_app (codes "check")).top) (plain_app (codes "convert")).top) benching_app.top
+
+-- and `jobshop`, with the words that `--emit` takes
+abbrev pub dtp_with : Bor (List (Bor Text)) → App
+dtp_with words = with_subcommand first_app (jobshop_app words).top
+
+abbrev pub emit_texts : List Text
+emit_texts = codes "plan" ∷ codes "script" ∷ codes "certificate" ∷ []
+
+-- clap is lent its words; where they lie is of no matter, here they lie at no place
+abbrev pub lent : {X : Type 0} → X → Bor X
+lent x = record { ref_ptr = (0, 0); now = x }
+
+abbrev pub emit_words : Bor (List (Bor Text))
+emit_words = lent (map lent emit_texts)
+
+abbrev pub dtp_app : App
+dtp_app = dtp_with emit_words

@@ -1,12 +1,15 @@
 -- Which words ask for what. The words are read as clap's written definitions read them, by the command line of `Apps`.
 use Rattle.std.specs.Prelude.{⊤, ◌==◌, ◌≤◌, ℕ, List, [], Option, Some, None, codes, if◌then◌else◌}
+use Rattle.std.specs.Option.{option_map_or}
 use Rattle.std.specs.Str.{bytes_eq}
 use Rattle.std.specs.Str.Parse.{digits_value, without_leading_plus}
-use Rattle.clap.specs.Words.{Kinds, Row, Text, fault_of, one_of, subcommand_of}
+use Rattle.clap.specs.Words.{Kinds, Row, Text, fault_of, first_of, one_of, subcommand_of}
 use Rattle.clap.specs.ValueTests.{is_unsigned_in}
 use Rattle.command_line.specs.Apps.{dtp_app}
 use Rattle.command_line.specs.declared.line.Line.{Line}
-use Rattle.command_line.specs.declared.line.Line.TheVariants.{Solve, Certify, Check, Convert, Bench}
+use Rattle.command_line.specs.declared.line.Line.TheVariants.{Solve, Certify, Check, Convert, Bench, Jobshop}
+use Rattle.command_line.specs.declared.line.Emit.{Emit}
+use Rattle.command_line.specs.declared.line.Emit.TheVariants.{Plan, Script, Certificate}
 use Rattle.command_line.specs.declared.line.Format.{Format}
 use Rattle.command_line.specs.declared.line.Format.TheVariants.{One, Two}
 use Rattle.command_line.specs.declared.line.Search.{Search}
@@ -29,6 +32,13 @@ search_of rows = record { workers = workers_of rows; slice = number_of (one_of (
 abbrev pub format_of : List Row → Format
 format_of rows = if number_of (one_of (codes "format") rows) 1 2 1 == 2 then Two else One
 
+abbrev pub emit_named : Text → Emit
+emit_named word = if bytes_eq word (codes "script") then Script else (if bytes_eq word (codes "certificate") then Certificate else Plan)
+
+-- the plan where the words don't say it
+abbrev pub emit_of : List Row → Emit
+emit_of rows = option_map_or emit_named (first_of (codes "emit") rows) Plan
+
 -- all four are there where clap finds no fault
 abbrev pub shop_of : List Row → Shop
 shop_of rows = record {
@@ -44,7 +54,8 @@ command_of name rows =
     else (if bytes_eq name (codes "certify") then Some (Certify (search_of rows) (format_of rows))
     else (if bytes_eq name (codes "check") then Some Check
     else (if bytes_eq name (codes "convert") then Some Convert
-    else (if bytes_eq name (codes "bench") then Some (Bench (shop_of rows) (workers_of rows)) else None))))
+    else (if bytes_eq name (codes "bench") then Some (Bench (shop_of rows) (workers_of rows))
+    else (if bytes_eq name (codes "jobshop") then Some (Jobshop (search_of rows) (emit_of rows)) else None)))))
 
 abbrev pub asked : Kinds → Option (Text × List Row) → Option Line
 asked [] (Some found) = command_of found.0 found.1
@@ -66,3 +77,4 @@ IsInRange (Certify s format) = IsSearchInRange s
 IsInRange Check = ⊤
 IsInRange Convert = ⊤
 IsInRange (Bench shop workers) = IsShopInRange shop × ((1 ≤ workers) × (workers ≤ 64))
+IsInRange (Jobshop s emit) = IsSearchInRange s

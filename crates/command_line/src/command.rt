@@ -2,8 +2,8 @@
 ghost use Rattle.std.specs.Prelude.{◌≡◌, IfOk, codes, false};
 ghost use Rattle.clap.specs.Words.{app_of, rule_of, with_rule, with_subcommand};
 ghost use Rattle.clap.specs.declared.builder.command.Command.TheViews.{out-Command as fields_of};
-ghost use Rattle.command_line.specs.Apps.{benching_app, certifying_app, dtp_app, plain_app, searching_app, silent, top_app};
-ghost use Rattle.command_line.specs.Apps.{deadline_rule, format_rule, jobs_rule, machines_rule, slice_rule, start_rule, workers_rule};
+ghost use Rattle.command_line.specs.Apps.{benching_app, certifying_app, dtp_with, jobshop_app, plain_app, searching_app, silent, top_app};
+ghost use Rattle.command_line.specs.Apps.{deadline_rule, emit_rule, format_rule, jobs_rule, machines_rule, slice_rule, start_rule, workers_rule};
 
 use clap::{Arg, Command, value_parser};
 use std::alloc::{AllocError, Global};
@@ -36,6 +36,14 @@ fn format<'a>(alloc: Global) -> Arg<'a>
     Arg::new(alloc, "format")
         .long("format")
         .value_parser(value_parser!(u64).range(1..=2))
+}
+
+/// `--emit E`, E one of these words.
+fn emit<'a>(alloc: Global, emits: &'a [&'a str]) -> Arg<'a>
+    ensures rule { rule_of result ≡ emit_rule emits.entry }
+    ensures local { result.global ≡ false }
+{
+    Arg::new(alloc, "emit").long("emit").value_parser(emits)
 }
 
 /// The command without help and version words.
@@ -151,6 +159,14 @@ fn benching<'a>(alloc: Global) -> Result<Command<'a>, AllocError>
     command.arg(workers(alloc))
 }
 
+/// The command that reads a job shop.
+fn jobshop<'a>(alloc: Global, emits: &'a [&'a str]) -> Result<Command<'a>, AllocError>
+    ensures app { IfOk result (λ c. app_of c ≡ jobshop_app emits.entry) }
+    ensures local { IfOk result (λ c. (fields_of c).has_globals ≡ false) }
+{
+    searching(alloc, "jobshop")?.arg(emit(alloc, emits))
+}
+
 /// The command with the commands of one word below it.
 fn with_plain<'a>(alloc: Global, command: Command<'a>) -> Result<Command<'a>, AllocError>
     requires local { (fields_of command).has_globals ≡ false }
@@ -162,15 +178,30 @@ fn with_plain<'a>(alloc: Global, command: Command<'a>) -> Result<Command<'a>, Al
     command.subcommand(plain(alloc, "convert"))
 }
 
-/// The whole command line.
-pub(crate) fn dtp<'a>(alloc: Global) -> Result<Command<'a>, AllocError>
-    ensures app { IfOk result (λ c. app_of c ≡ dtp_app) }
+/// The command with the commands about job shops below it.
+fn with_shops<'a>(
+    alloc: Global,
+    command: Command<'a>,
+    emits: &'a [&'a str],
+) -> Result<Command<'a>, AllocError>
+    requires local { (fields_of command).has_globals ≡ false }
+    ensures app { IfOk result (λ c. app_of c ≡ with_subcommand (with_subcommand (app_of command.entry)
+        benching_app.top) (jobshop_app emits.entry).top) }
+    ensures local { IfOk result (λ c. (fields_of c).has_globals ≡ false) }
+{
+    let command = command.subcommand(benching(alloc)?)?;
+    let command = command.subcommand(jobshop(alloc, emits)?)?;
+    Ok(command)
+}
+
+/// The whole command line, with the words that `--emit` takes.
+pub(crate) fn dtp<'a>(alloc: Global, emits: &'a [&'a str]) -> Result<Command<'a>, AllocError>
+    ensures app { IfOk result (λ c. app_of c ≡ dtp_with emits.entry) }
     ensures local { IfOk result (λ c. (fields_of c).has_globals ≡ false) }
 {
     let solve = searching(alloc, "solve")?;
     let command = top(alloc).subcommand(solve)?;
     let command = command.subcommand(certifying(alloc)?)?;
     let command = with_plain(alloc, command)?;
-    let command = command.subcommand(benching(alloc)?)?;
-    Ok(command)
+    with_shops(alloc, command, emits)
 }

@@ -6,4 +6,4 @@ mod laws;
 mod line;
 
 pub use laws::{fault_law, plain_line_law};
-pub use line::{Format, Line, LineError, Search, Shop, read_line};
+pub use line::{Emit, Format, Line, LineError, Search, Shop, read_line};

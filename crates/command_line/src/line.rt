@@ -1,6 +1,6 @@
 //! What the words ask for.
-ghost use Rattle.std.specs.Prelude.{◌≡◌, ◌≤◌, ℕ, List, Some, None, map, IfOk, IfErr, IfSome, String, string_bytes};
-ghost use Rattle.clap.specs.Words.{found_of, one_of, rows_of};
+ghost use Rattle.std.specs.Prelude.{◌≡◌, ◌≤◌, ℕ, List, [], Some, None, map, IfOk, IfErr, IfSome, String, string_bytes};
+ghost use Rattle.clap.specs.Words.{found_of, one_of, rows_of, subcommand_rows_of};
 ghost use Rattle.command_line.specs.Lines.{line_of, IsInRange, IsSearchInRange, IsShopInRange, command_of};
 ghost use Rattle.command_line.specs.Lines as spec;
 
@@ -25,6 +25,17 @@ pub enum Format {
     One,
     /// The second, in which a tree may end where a clause of the problem is denied.
     Two,
+}
+
+/// What is to be written of a job shop.
+#[derive(Clone, Copy, Debug, PartialEq, Eq)]
+pub enum Emit {
+    /// A plan.
+    Plan,
+    /// The script that asks for one.
+    Script,
+    /// That script's certificate.
+    Certificate,
 }
 
 /// A job shop whose script is to be made.
@@ -53,6 +64,8 @@ pub enum Line {
     Convert,
     /// A job shop's script, certified by so many workers and checked.
     Bench(Shop, u32),
+    /// What is to be written of a job shop.
+    Jobshop(Search, Emit),
 }
 
 /// Why there is no line.
@@ -82,15 +95,27 @@ pub fn read_line(alloc: Global, words: &[String]) -> Result<Line, LineError>
     ensures refused { IfErr result (λ why.
         why ≡ LineError.Refused → line_of (map string_bytes words.now) ≡ None) }
 {
-    let matches = match dtp(alloc)?.try_get_matches_from(words) {
-        Ok(matches) => matches,
-        Err(error) if error.kind() == ErrorKind::OutOfMemory => return Err(LineError::OutOfMemory),
-        Err(_) => return Err(LineError::Refused),
-    };
+    let matches = matches_of(alloc, words)?;
     match matches.subcommand() {
         Some((name, options)) => asked(name, options).ok_or(LineError::Refused),
         None => Err(LineError::Refused),
     }
+}
+
+/// What `clap` finds in the words.
+fn matches_of<'a>(alloc: Global, words: &'a [String]) -> Result<ArgMatches<'a>, LineError>
+    ensures found { IfOk result (λ matches.
+        spec.asked [] (subcommand_rows_of matches) ≡ line_of (map string_bytes words.entry.now)) }
+    ensures refused { IfErr result (λ why.
+        why ≡ LineError.Refused → line_of (map string_bytes words.entry.now) ≡ None) }
+{
+    let emits: &'a [&'a str] = &["plan", "script", "certificate"];
+    let matches = match dtp(alloc, emits)?.try_get_matches_from(words) {
+        Ok(matches) => matches,
+        Err(error) if error.kind() == ErrorKind::OutOfMemory => return Err(LineError::OutOfMemory),
+        Err(_) => return Err(LineError::Refused),
+    };
+    Ok(matches)
 }
 
 /// What the command of this name asks for.
@@ -104,6 +129,7 @@ fn asked(name: &str, options: &ArgMatches<'_>) -> Option<Line>
         "check" => Some(Line::Check),
         "convert" => Some(Line::Convert),
         "bench" => Some(Line::Bench(shop_of(options), workers_of(options))),
+        "jobshop" => Some(Line::Jobshop(search_of(options), emit_of(options))),
         _ => None,
     }
 }
@@ -134,6 +160,27 @@ fn format_of(options: &ArgMatches<'_>) -> Format
     match number_of(options, "format", 1, 2, 1) {
         2 => Format::Two,
         _ => Format::One,
+    }
+}
+
+/// What is to be written of a job shop, as the options say.
+fn emit_of(options: &ArgMatches<'_>) -> Emit
+    ensures emit { result ≡ spec.emit_of (rows_of (found_of options.now)) }
+{
+    match options.get_str("emit") {
+        Some(word) => emit_named(word),
+        None => Emit::Plan,
+    }
+}
+
+/// What the word asks for. `clap` lets no other word through.
+fn emit_named(word: &str) -> Emit
+    ensures { result ≡ spec.emit_named word.now }
+{
+    match word {
+        "script" => Emit::Script,
+        "certificate" => Emit::Certificate,
+        _ => Emit::Plan,
     }
 }
 

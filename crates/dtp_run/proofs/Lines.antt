@@ -10,7 +10,7 @@ use Rattle.dtp_entry.specs.Transcripts.{IsReport, IsReportPart}
 use Rattle.dtp_entry.specs.declared.report.Report.TheVariants.{Certificate}
 use Rattle.cert_text.specs.declared.entry.Version.{Version}
 use Rattle.command_line.specs.declared.line.Line.{Line}
-use Rattle.command_line.specs.declared.line.Line.TheVariants.{Solve, Certify, Check, Convert, Bench}
+use Rattle.command_line.specs.declared.line.Line.TheVariants.{Solve, Certify, Check, Convert, Bench, Jobshop}
 use Rattle.command_line.specs.Apps.{dtp_app}
 use Rattle.command_line.specs.Lines.{line_of}
 use Rattle.command_line.specs.Plain.{IsPlainLine}
@@ -18,6 +18,8 @@ use Rattle.command_line.proofs.Faulting.{no_line_has_fault}
 use Rattle.command_line.proofs.Saying.{plain_line}
 use Rattle.dtp_run.specs.declared.status.Status.{Status}
 use Rattle.dtp_run.specs.declared.status.Status.TheVariants.{OutOfMemory, Usage}
+use Rattle.dtp_jobshop.specs.declared.emit.Emit.{Emit}
+use Rattle.dtp_jobshop.specs.Jobshops.{IsShopAnswer, IsShopAnswerPart}
 use Rattle.dtp_run.specs.Outcomes.{Outside, outside, IsOutcome, IsOutcomeOf, IsUnfinished, IsWorked, WithNumber}
 
 of_a_line : (line : Line) (old new : Outside) → IsOutcomeOf line old new Usage → ⊥
@@ -26,6 +28,7 @@ of_a_line (Certify search format) old new h = h
 of_a_line Check old new h = h
 of_a_line Convert old new h = h
 of_a_line (Bench shop workers) old new h = h
+of_a_line (Jobshop search e) old new h = h
 
 -- nothing was taken
 took_nothing : (left : Option (List ℕ)) (limit : ℕ) → TookWithin left left limit
@@ -44,6 +47,7 @@ line_without_memory Check left read_faults holds write_faults = inl (not_begun l
 line_without_memory Convert left read_faults holds write_faults = inl (not_begun left read_faults holds write_faults)
 line_without_memory (Bench shop workers) left read_faults holds write_faults =
     (record { left = refl; read_faults = refl }, ([], appends_nothing holds, inl refl))
+line_without_memory (Jobshop search e) left read_faults holds write_faults = inl (not_begun left read_faults holds write_faults)
 
 -- ---- of any line
 
@@ -81,3 +85,8 @@ pub certified_as : (v w : Version) (old new : Outside) (status : Status) → v �
     → IsWorked (WithNumber (IsReport (Certificate v))) (IsReportPart (Certificate v)) old new status
     → IsWorked (WithNumber (IsReport (Certificate w))) (IsReportPart (Certificate w)) old new status
 certified_as v w old new status e h = subst (λ (u : Version). IsWorked (WithNumber (IsReport (Certificate u))) (IsReportPart (Certificate u)) old new status) e h
+
+-- in the words of what is asked for
+pub emitted_as : (e f : Emit) (old new : Outside) (status : Status) → e ≡ f
+    → IsWorked (WithNumber (IsShopAnswer e)) (IsShopAnswerPart e) old new status → IsWorked (WithNumber (IsShopAnswer f)) (IsShopAnswerPart f) old new status
+emitted_as e f old new status is h = subst (λ (u : Emit). IsWorked (WithNumber (IsShopAnswer u)) (IsShopAnswerPart u) old new status) is h

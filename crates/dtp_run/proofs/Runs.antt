@@ -1,9 +1,9 @@
 -- What the record of a run comes to, where the source tells its bytes.
-use Rattle.std.proofs.Common.{◌≡◌, ◌≢◌, ◌≤◌, ℕ, List, ◌++◌, length, Option, Some, None, refl, sym, ap, subst, inl, inr, ◌∙◌, append-nil, arith, length-append}
+use Rattle.std.proofs.Common.{◌≡◌, ◌≢◌, ◌≤◌, ℕ, List, ◌++◌, length, Option, Some, None, Result, Ok, Err, refl, sym, ap, subst, inl, inr, ◌∙◌, append-nil, arith, length-append}
 use Rattle.std.proofs.lemmas.List.{append_cancel_left}
 use Rattle.std.specs.Io.KnownBytes.{Consumes, Appends, IsAtEnd}
 use Rattle.command_line.specs.declared.line.Line.{Line}
-use Rattle.command_line.specs.declared.line.Line.TheVariants.{Solve, Certify, Check, Convert, Bench}
+use Rattle.command_line.specs.declared.line.Line.TheVariants.{Solve, Certify, Check, Convert, Bench, Jobshop}
 use Rattle.dtp_entry.specs.Laws.{OneVerdict, OneTranscriptButGaps}
 use Rattle.dtp_entry.specs.Transcripts.{IsReport, IsReportPart, lines_with_gaps}
 use Rattle.dtp_entry.specs.declared.report.Report.{Report}
@@ -14,11 +14,20 @@ use Rattle.dtp_check.specs.declared.check.Checked.{Checked}
 use Rattle.dtp_check.specs.declared.check.Checked.TheVariants.{Accepted, NotAccepted as Unaccepted}
 use Rattle.dtp_check.specs.declared.judgement.Judgement.{Judgement}
 use Rattle.dtp_check.specs.declared.judgement.Judgement.TheVariants as judgement
+use Rattle.cert_text.specs.declared.entry.Version.TheVariants.{One}
+use Rattle.job_shop.specs.declared.fault.JobRefusal.{JobRefusal}
+use Rattle.job_shop.specs.Shops.{Shop, IsShop}
+use Rattle.job_shop.specs.Instances.{shop_in}
+use Rattle.job_shop.specs.Scripts.{script as shop_script}
+use Rattle.shop_law.specs.Laws.{ShopIsAccepted}
+use Rattle.dtp_jobshop.specs.declared.emit.Emit.{Emit}
+use Rattle.dtp_jobshop.specs.declared.emit.Emit.TheVariants as emit
+use Rattle.dtp_jobshop.specs.Jobshops.{IsEmitted, IsAnswerTo, IsShopAnswer}
 use Rattle.dtp_run.specs.declared.status.Status.{Status}
 use Rattle.dtp_run.specs.declared.status.Status.TheVariants.{Done, Refused, Usage, ReadFault, WriteFault, OutOfMemory, NotAccepted, TooLong}
 use Rattle.dtp_run.specs.Statuses.{code_of}
 use Rattle.dtp_run.specs.Outcomes.{version_of, input_limit, Outside, IsInput, IsOutcome, IsWorked, WithNumber, WritesOf}
-use Rattle.dtp_run.specs.Laws.{Runs, Gives, Answers, LinesOfOneThread, report_of, VerdictsOfOneThread, CertifiedIsNotRefused, AcceptsOrFails, ConvertedIsNotRefused, AcceptedSaysNothingFalse}
+use Rattle.dtp_run.specs.Laws.{Runs, Gives, Answers, LinesOfOneThread, report_of, VerdictsOfOneThread, CertifiedIsNotRefused, AcceptsOrFails, ConvertedIsNotRefused, AcceptedSaysNothingFalse, ShopIsNotRefused}
 use Rattle.dtp_convert.specs.Converted.{IsConversion}
 use Rattle.dtp_convert.specs.Laws.{ConvertedIsAccepted}
 use Rattle.dtp_check.specs.Laws.{CertifiedIsAccepted, OneJudgement, NothingFalseIsAccepted}
@@ -53,6 +62,9 @@ ends_as {line} {input} {old} {new} status r same =
 
 none_apart : {A : Type 0} (x : A) → ◌≡◌ {A = Option A} None (Some x) → ⊥
 none_apart x e = cc
+
+ok_same : (s t : Shop) → ◌≡◌ {A = Result Shop JobRefusal} (Ok s) (Ok t) → s ≡ t
+ok_same s t e = cc
 
 -- the bytes that a source had are those that were read
 taken_by : (left now : Option (List ℕ)) (input bytes : List ℕ) → left ≡ Some input → Consumes left now bytes
@@ -162,6 +174,30 @@ converted_not_refused accepted one source script certificate a b c d code is wri
     let ended = ends_as checked.run.status checked refl in
     (apart, λ within. accepts_by whole c d code checked.has within checked.run.status checked.run.code_is apart ended)
 
+-- ---- job shops
+
+-- what stands for a job shop's numbers, and that they are one
+abbrev IsOfShop : List ℕ → (Shop → Type 0) → Type 0
+IsOfShop input Says = (s : Shop) × (shop_in input ≡ Ok s) × IsShop s × Says s
+
+of_shop : (e : Emit) (input text : List ℕ) → IsShopAnswer e input text 0 → IsOfShop input (λ s. IsEmitted e s text)
+of_shop e input text h = of_result e text (shop_in input) refl h where
+  of_result : (e : Emit) (text : List ℕ) (r : Result Shop JobRefusal) → shop_in input ≡ r → IsAnswerTo e r text 0 → IsOfShop input (λ s. IsEmitted e s text)
+  of_result e text (Ok s) is h = (s, is, h.1, h.2)
+  of_result e text (Err why) is h = absurd (omega (arith, h.0))
+
+pub shop_not_refused : ShopIsAccepted → OneJudgement → ShopIsNotRefused
+shop_not_refused accepted one few many input script certificate a b c d e f code wrote gives wrote_too gives_too checked =
+    let first = of_shop emit.Script input script (written_of (λ bytes text. IsShopAnswer emit.Script bytes text 0) input script a b wrote.has gives
+    (ends_as Done wrote (done wrote.run.status wrote.run.code_is))) in
+    let second = of_shop emit.Certificate input certificate (written_of (λ bytes text. IsShopAnswer emit.Certificate bytes text 0) input certificate c d wrote_too.has gives_too
+    (ends_as Done wrote_too (done wrote_too.run.status wrote_too.run.code_is))) in
+    let same : second.0 ≡ first.0 = ok_same second.0 first.0 (sym second.1 ∙ first.1) in
+    let report : IsReport (Certificate One) (shop_script first.0) certificate 0 = subst (λ (s : Shop). IsReport (Certificate One) (shop_script s) certificate 0) same second.3 in
+    let judged : IsJudged (script ++ certificate) judgement.Accepted =
+    subst (λ (l : List ℕ). IsJudged (l ++ certificate) judgement.Accepted) (sym first.3) (accepted first.0 first.2 certificate 0 report) in
+    never_refused (script ++ certificate) e f code one judged checked
+
 -- ---- one thread and many
 
 -- a run of a line that writes a report, and ended well, wrote a whole one
@@ -188,6 +224,7 @@ reported report (Certify search format) script text code e h =
 reported report Check script text code e h = absurd (none_apart report e)
 reported report Convert script text code e h = absurd (none_apart report e)
 reported report (Bench shop workers) script text code e h = absurd (none_apart report e)
+reported report (Jobshop search emit) script text code e h = absurd (none_apart report e)
 
 pub same_lines : OneTranscriptButGaps → LinesOfOneThread
 same_lines law few many script one other m n h k =

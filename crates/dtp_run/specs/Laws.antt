@@ -1,8 +1,9 @@
 -- What runs say of each other, where the sources and the first sink tell their bytes.
 use Rattle.std.specs.Prelude.{◌≡◌, ◌≢◌, ◌≤◌, ◌⊎◌, ℕ, List, ◌++◌, length, map, Option, Some, None}
 use Rattle.command_line.specs.declared.line.Line.{Line}
-use Rattle.command_line.specs.declared.line.Line.TheVariants.{Solve, Certify, Check, Convert, Bench}
+use Rattle.command_line.specs.declared.line.Line.TheVariants.{Solve, Certify, Check, Convert, Bench, Jobshop}
 use Rattle.command_line.specs.declared.line.Format.{Format}
+use Rattle.command_line.specs.declared.line.Emit.TheVariants as emit
 use Rattle.command_line.specs.declared.line.Search.{Search}
 use Rattle.command_line.specs.Lines.{line_of}
 use Rattle.cert_text.specs.declared.entry.Entry.{Entry}
@@ -63,6 +64,7 @@ report_of (Certify search format) = Some (Certificate (version_of format))
 report_of Check = None
 report_of Convert = None
 report_of (Bench shop workers) = None
+report_of (Jobshop search emit) = None
 
 -- Two runs of `solve` or `certify` on one script, with whatever numbers of workers and slices: their verdicts are the same, so are
 -- the lines that their questions are answered, minimum values among them, and so is their status.
@@ -102,3 +104,11 @@ ConvertedIsNotRefused =
 abbrev pub AcceptedSaysNothingFalse : Type 0
 AcceptedSaysNothingFalse =
     (source : List ℕ) (a b : Outside) → Runs Check source a b 0 → SaysNothingFalse source
+
+-- `check` of what two runs of `jobshop` wrote with status 0 of the same numbers, the script and behind it the certificate, doesn't refuse it
+abbrev pub ShopIsNotRefused : Type 0
+ShopIsNotRefused =
+    (few many : Search) (input script certificate : List ℕ) (a b c d e f : Outside) (code : ℕ)
+    → Runs (Jobshop few emit.Script) input a b 0 → Gives script a b
+    → Runs (Jobshop many emit.Certificate) input c d 0 → Gives certificate c d
+    → Runs Check (script ++ certificate) e f code → code ≢ 6

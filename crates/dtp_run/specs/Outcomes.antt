@@ -19,9 +19,14 @@ use Rattle.cert_text.specs.declared.entry.Version.{Version}
 use Rattle.cert_text.specs.declared.entry.Version.TheVariants.{One, Two}
 use Rattle.command_line.specs.declared.line.Format.{Format}
 use Rattle.command_line.specs.declared.line.Format.TheVariants as formats
+use Rattle.command_line.specs.declared.line.Emit.{Emit as EmitWord}
+use Rattle.command_line.specs.declared.line.Emit.TheVariants as words
+use Rattle.dtp_jobshop.specs.declared.emit.Emit.{Emit}
+use Rattle.dtp_jobshop.specs.declared.emit.Emit.TheVariants as emit
+use Rattle.dtp_jobshop.specs.Jobshops.{IsShopAnswer, IsShopAnswerPart}
 use Rattle.command_line.specs.declared.line.Line.{Line}
 use Rattle.command_line.specs.declared.line.Shop.{Shop}
-use Rattle.command_line.specs.declared.line.Line.TheVariants.{Solve, Certify, Check, Convert, Bench}
+use Rattle.command_line.specs.declared.line.Line.TheVariants.{Solve, Certify, Check, Convert, Bench, Jobshop}
 use Rattle.command_line.specs.Apps.{dtp_app}
 use Rattle.command_line.specs.Lines.{line_of}
 use Rattle.command_line.specs.Plain.{IsPlainLine}
@@ -48,7 +53,7 @@ input_limit = 2 ^ 30
 
 unfoldable pub usage_line : List ℕ
 usage_line =
-    codes "usage: dtp solve [--workers N] [--slice B], dtp certify [--workers N] [--slice B] [--format F], dtp check, dtp convert, dtp bench J M S D [--workers N]\n"
+    codes "usage: dtp solve [--workers N] [--slice B], dtp certify [--workers N] [--slice B] [--format F], dtp check, dtp convert, dtp bench J M S D [--workers N], dtp jobshop [--emit E] [--workers N] [--slice B]\n"
 
 -- nothing was read, and nothing went wrong in reading
 pub record IsUnread (old new : Outside) : Type 0 where
@@ -95,8 +100,8 @@ IsWorked Whole Part old new WriteFault = Rose old.write_faults new.write_faults 
 IsWorked Whole Part old new OutOfMemory = IsUnfinished reading.OutOfMemory old new ⊎ WritesOf Part old new
 IsWorked Whole Part old new status = WritesOf (Whole status) old new
 
--- A line's texts by the status that they end with. A report (dtp_entry) has a number, 1 where a command is refused; an answer
--- and a conversion (dtp_check, dtp_convert) accept or don't.
+-- A line's texts by the status that they end with. A report (dtp_entry) has a number, 1 where a command is refused, and so has what
+-- is written of a job shop (dtp_jobshop), 1 where the numbers are none; an answer and a conversion (dtp_check, dtp_convert) accept or don't.
 abbrev pub WithNumber : (List ℕ → List ℕ → ℕ → Type 0) → Status → List ℕ → List ℕ → Type 0
 WithNumber Says Done input text = Says input text 0
 WithNumber Says Refused input text = Says input text 1
@@ -111,6 +116,12 @@ WithJudgement Says _ input text = ⊥
 abbrev pub version_of : Format → Version
 version_of formats.One = One
 version_of formats.Two = Two
+
+-- what is asked for of a job shop's numbers
+abbrev pub emit_of : EmitWord → Emit
+emit_of words.Plan = emit.Plan
+emit_of words.Script = emit.Script
+emit_of words.Certificate = emit.Certificate
 
 -- the plan of a job shop's four numbers
 abbrev pub plan_of : Shop → Plan
@@ -138,6 +149,7 @@ IsOutcomeOf (Certify search format) old new status =
 IsOutcomeOf Check old new status = IsWorked (WithJudgement IsAnswer) IsAnswerPart old new status
 IsOutcomeOf Convert old new status = IsWorked (WithJudgement IsConversion) IsConversionPart old new status
 IsOutcomeOf (Bench shop workers) old new status = IsBenched (plan_of shop) old new status
+IsOutcomeOf (Jobshop search e) old new status = IsWorked (WithNumber (IsShopAnswer (emit_of e))) (IsShopAnswerPart (emit_of e)) old new status
 
 -- the words are no command line: the usage line, or nothing for want of memory; the source isn't read
 abbrev pub IsRefused : Outside → Outside → Status → Type 0
@@ -171,9 +183,11 @@ abbrev pub whole_of : Work → Status → List ℕ → List ℕ → Type 0
 whole_of (work.Script report options) = WithNumber (IsReport report)
 whole_of work.Check = WithJudgement IsAnswer
 whole_of work.Convert = WithJudgement IsConversion
+whole_of (work.Jobshop e options) = WithNumber (IsShopAnswer e)
 
 -- where it is cut short
 abbrev pub part_of : Work → List ℕ → List ℕ → Type 0
 part_of (work.Script report options) = IsReportPart report
 part_of work.Check = IsAnswerPart
 part_of work.Convert = IsConversionPart
+part_of (work.Jobshop e options) = IsShopAnswerPart e

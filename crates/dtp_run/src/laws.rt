@@ -1,5 +1,5 @@
 //! Laws over what [`run`](crate::run) promises, where sources and sinks tell their bytes.
-ghost use Rattle.dtp_run.specs.Laws.{LinesOfOneThread, VerdictsOfOneThread, CertifiedIsNotRefused, ConvertedIsNotRefused, AcceptedSaysNothingFalse};
+ghost use Rattle.dtp_run.specs.Laws.{LinesOfOneThread, VerdictsOfOneThread, CertifiedIsNotRefused, ConvertedIsNotRefused, AcceptedSaysNothingFalse, ShopIsNotRefused};
 
 /// The verdicts are those of one thread: two runs on one script, with whatever numbers of workers and slices, that end without
 /// a fault outside and without want of memory, have the same verdicts, the same minimum values and the same status, and
@@ -33,4 +33,12 @@ pub fn accepted_says_nothing_false()
     ensures { AcceptedSaysNothingFalse }
 {
     dtp_check::nothing_false_is_accepted();
+}
+
+/// What runs of `jobshop` wrote of the same numbers, the script and its certificate, isn't refused by a run of `check` on both.
+pub fn shop_is_not_refused()
+    ensures { ShopIsNotRefused }
+{
+    shop_law::shop_is_accepted();
+    dtp_check::one_judgement();
 }

@@ -11,7 +11,7 @@ mod work;
 pub use dtp_session::{Gate, NoGate};
 pub use laws::{
     accepted_says_nothing_false, certified_is_not_refused, converted_is_not_refused,
-    verdicts_of_one_thread,
+    shop_is_not_refused, verdicts_of_one_thread,
 };
 pub use perform::run;
 pub use process::start;

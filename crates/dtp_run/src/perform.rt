@@ -1,22 +1,23 @@
 //! The top call: from the words and the source to the sink and a status.
 ghost use Rattle.std.specs.Prelude.{◌≡◌, ◌≤◌, ℕ, List, Option};
 ghost use Rattle.command_line.specs.Lines.{IsSearchInRange, IsShopInRange, line_of};
-ghost use Rattle.dtp_run.specs.Outcomes.{version_of, IsRun, IsOutcome, IsBenched, WritesUsage, outside, plan_of, texts};
+ghost use Rattle.dtp_run.specs.Outcomes.{emit_of, version_of, IsRun, IsOutcome, IsBenched, WritesUsage, outside, plan_of, texts};
 
 use crate::status::Status;
 use crate::work::{Work, work_on};
 use cert_text::Version;
-use command_line::{Format, Line, LineError, Search, Shop, read_line};
+use command_line::{Emit as EmitWord, Format, Line, LineError, Search, Shop, read_line};
 use dtp_bench::PlanNumbers;
 use dtp_entry::{Report, SessionError};
 use dtp_io::{Sink, Source, write_all_of};
+use dtp_jobshop::Emit;
 use dtp_session::{Gate, SearchOptions};
 use std::alloc::Global;
 use std::sync::Wait;
 use std::thread::Threads;
 
 const USAGE: &[u8] =
-    b"usage: dtp solve [--workers N] [--slice B], dtp certify [--workers N] [--slice B] [--format F], dtp check, dtp convert, dtp bench J M S D [--workers N]\n";
+    b"usage: dtp solve [--workers N] [--slice B], dtp certify [--workers N] [--slice B] [--format F], dtp check, dtp convert, dtp bench J M S D [--workers N], dtp jobshop [--emit E] [--workers N] [--slice B]\n";
 
 /// Does what the words ask for, and gives the status that the program ends with.
 pub fn run<R: Threads + Wait + Sync, S: Source, K: Sink, G: Gate>(
@@ -64,6 +65,10 @@ fn perform<R: Threads + Wait + Sync, S: Source, K: Sink, G: Gate>(
         Ok(Line::Check) => work_on(rt, alloc, source, sink, Work::Check, gate),
         Ok(Line::Convert) => work_on(rt, alloc, source, sink, Work::Convert, gate),
         Ok(Line::Bench(shop, workers)) => bench(rt, alloc, shop, workers, sink, gate),
+        Ok(Line::Jobshop(search, emit)) => {
+            let work = Work::Jobshop(emit_of(emit), options_of(search));
+            work_on(rt, alloc, source, sink, work, gate)
+        }
         Err(LineError::Refused) => usage(sink),
         Err(LineError::OutOfMemory) => Status::OutOfMemory,
     }
@@ -76,6 +81,17 @@ fn version_of(format: Format) -> Version
     match format {
         Format::One => Version::One,
         Format::Two => Version::Two,
+    }
+}
+
+/// What is to be written of a job shop.
+fn emit_of(emit: EmitWord) -> Emit
+    ensures { result ≡ emit_of emit }
+{
+    match emit {
+        EmitWord::Plan => Emit::Plan,
+        EmitWord::Script => Emit::Script,
+        EmitWord::Certificate => Emit::Certificate,
     }
 }
 

@@ -10,6 +10,7 @@ use dtp_check::{Checked, check_pair};
 use dtp_convert::convert_pair;
 use dtp_entry::{Report, SessionError};
 use dtp_io::{ReadError, Sink, Source, read_all};
+use dtp_jobshop::{Answered, Emit, answer_shop};
 use dtp_session::{Gate, SearchOptions, Solved, certify_script, solve_script};
 use std::alloc::Global;
 use std::sync::Wait;
@@ -27,6 +28,8 @@ pub(crate) enum Work {
     Check,
     /// A script's certificate in the first version, where it is right.
     Convert,
+    /// This of a job shop's numbers, which is searched so.
+    Jobshop(Emit, SearchOptions),
 }
 
 /// The status of a run whose source wasn't read to its end.
@@ -99,6 +102,13 @@ fn write<R: Threads + Wait + Sync, K: Sink, G: Gate>(
             Ok(Checked::NotAccepted) => Ok(Status::NotAccepted),
             Err(error) => Err(error),
         },
+        Work::Jobshop(emit, options) => {
+            match answer_shop(rt, alloc, bytes, emit, options, sink, gate) {
+                Ok(Answered::Whole) => Ok(Status::Done),
+                Ok(Answered::Refused) => Ok(Status::Refused),
+                Err(error) => Err(error),
+            }
+        }
     }
 }
 

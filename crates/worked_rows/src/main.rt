@@ -13,6 +13,7 @@
 //! | `>*`, `<*` | a number, a space and a text, which is put so many times; in it `@0` to `@9` stand for the number of the turn, from 0 on, plus 0 to 9 |
 //! | `>x`, `<x` | bytes, each as a hexadecimal numeral |
 //! | `certified` | the words behind `certify`, or nothing: what it writes of the source is put behind it |
+//! | `emitted` | the words behind `jobshop --emit script` and `jobshop --emit certificate`: what these write of the source takes its place |
 //! | `failing-reads`, `failing-writes` | the numbers of the reads and writes that fail, from 0 on |
 //! | `pieces` | how many bytes a read gives and a write takes at most |
 //! | `fails-anywhere` | nothing: the row is run again with each read and each write failing in turn, over pieces of 1, 7 and 4,096 bytes; nothing may be written then, or a front of the output |

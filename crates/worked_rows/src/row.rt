@@ -32,6 +32,8 @@ pub struct Row {
     pub source: Vec<u8>,
     /// What `certify` writes of the source is put behind it first.
     pub certified: Option<Vec<String>>,
+    /// What runs by these words write of the source takes its place first.
+    pub emitted: Vec<Vec<String>>,
     pub failing_reads: Vec<u64>,
     pub failing_writes: Vec<u64>,
     /// How many bytes a read gives and a write takes at most.
@@ -54,6 +56,7 @@ impl Row {
             words: Vec::new(alloc),
             source: Vec::new(alloc),
             certified: None,
+            emitted: Vec::new(alloc),
             failing_reads: Vec::new(alloc),
             failing_writes: Vec::new(alloc),
             pieces: NonZeroUsize::MAX,
@@ -74,6 +77,17 @@ impl Row {
                 words.push("certify".to_string(alloc)?)?;
                 take_words(&mut words, alloc, text)?;
                 self.certified = Some(words);
+                Ok(())
+            }
+            "emitted" => {
+                for kind in ["script", "certificate"] {
+                    let mut words = Vec::new(alloc);
+                    words.push("jobshop".to_string(alloc)?)?;
+                    words.push("--emit".to_string(alloc)?)?;
+                    words.push(kind.to_string(alloc)?)?;
+                    take_words(&mut words, alloc, text)?;
+                    self.emitted.push(words)?;
+                }
                 Ok(())
             }
             "failing-reads" => take_numbers(&mut self.failing_reads, text),

@@ -92,6 +92,9 @@ fn try_row<R: Threads + Wait + Sync, K: Sink>(
     mut row: Row,
     sink: &mut K,
 ) -> Result<bool, TableError> {
+    if !row.emitted.is_empty() {
+        emit(rt, alloc, &mut row)?;
+    }
     if let Some(words) = row.certified.take() {
         certify(rt, alloc, &mut row, &words)?;
     }
@@ -164,5 +167,16 @@ fn certify<R: Threads + Wait + Sync>(
         let mut source = MemSource::new(&row.source, &[]);
         run(rt, alloc, &words, &mut source, &mut sink, &NoGate);
     }
+    row.source.extend_from_slice(sink.held())
+}
+
+/// Puts in the place of the row's source what the runs write of it that are to come first, one behind the other.
+fn emit<R: Threads + Wait + Sync>(rt: &R, alloc: Global, row: &mut Row) -> Result<(), AllocError> {
+    let mut sink = MemSink::new(alloc, &[]);
+    for words in &row.emitted {
+        let mut source = MemSource::new(&row.source, &[]);
+        run(rt, alloc, words, &mut source, &mut sink, &NoGate);
+    }
+    row.source.clear();
     row.source.extend_from_slice(sink.held())
 }

@@ -17,12 +17,19 @@ pub enum Format {
     Two,
 }
 #[derive(Clone, Copy, Debug, PartialEq, Eq)]
+pub enum Emit {
+    Plan,
+    Script,
+    Certificate,
+}
+#[derive(Clone, Copy, Debug, PartialEq, Eq)]
 pub enum Line {
     Solve(Search),
     Certify(Search, Format),
     Check,
     Convert,
     Bench(Shop, u32),
+    Jobshop(Search, Emit),
 }
 #[derive(Clone, Copy, Debug, PartialEq, Eq)]
 pub enum LineError {
@@ -35,6 +42,7 @@ pub fn read_line(_: Global, words: &[String]) -> Result<Line, LineError> {
 fn line_of(words: &[String]) -> Option<Line> {
     let mut search = Search { workers: 4, slice: 1_000 };
     let mut format = None;
+    let mut emit = None;
     let mut numbers = std::vec::Vec::new();
     let mut rest = words.iter().map(|word| word.0.as_str());
     let name = rest.next()?;
@@ -47,6 +55,12 @@ fn line_of(words: &[String]) -> Option<Line> {
                 "2" => format = Some(Format::Two),
                 _ => return None,
             },
+            "--emit" if name == "jobshop" && emit.is_none() => match rest.next()? {
+                "plan" => emit = Some(Emit::Plan),
+                "script" => emit = Some(Emit::Script),
+                "certificate" => emit = Some(Emit::Certificate),
+                _ => return None,
+            },
             _ => numbers.push(word.parse::<u32>().ok()?),
         }
     }
@@ -56,6 +70,7 @@ fn line_of(words: &[String]) -> Option<Line> {
         ("check", []) => Some(Line::Check),
         ("convert", []) => Some(Line::Convert),
         ("bench", &[jobs, machines, start, deadline]) => Some(Line::Bench(Shop { jobs, machines, start, deadline }, search.workers)),
+        ("jobshop", []) => Some(Line::Jobshop(search, emit.unwrap_or(Emit::Plan))),
         _ => None,
     }
 }

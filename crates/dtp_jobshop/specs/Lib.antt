@@ -1,0 +1,9 @@
+pub mod Jobshops
+pub use Rattle.dtp_io.specs.Faults
+pub use Rattle.job_shop.specs.Instances
+pub use Rattle.job_shop.specs.PlanTexts
+pub use Rattle.job_shop.specs.Scripts
+pub use Rattle.shop_law.specs.Laws
+pub use Rattle.dtp_entry.specs.Transcripts
+pub use Rattle.dtp_entry.specs.Written
+pub mod code
