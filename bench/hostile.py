@@ -1,10 +1,10 @@
 #!/usr/bin/env python3
-"""Sends `dtp` scripts and certificates that were spoiled, and holds each answer against what it may be.
+"""Sends `dtp` scripts, certificates and job shops that were spoiled, and holds each answer against what it may be.
 
     bench/hostile.py [COUNT [SEED [PATH OF dtp]]]
 
-The scripts are the examples and those of the worked rows; `certify` makes their certificates. Each run takes one of them, spoils it (bytes
-flipped, parts cut, doubled, exchanged, numbers put at the limits, parentheses opened by the thousand), and asks `solve`, `certify`, `check` or `convert`. An answer is
+The scripts are the examples and those of the worked rows, the job shops one of the examples and those of the rows; `certify` makes the certificates. Each run takes one of
+them, spoils it (bytes flipped, parts cut, doubled, exchanged, numbers put at the limits, parentheses opened by the thousand), and asks `solve`, `certify`, `check`, `convert` or `jobshop`. An answer is
 legal where the status is one that the words may have, no signal ended the run, the last line is of the form that the status wants, and the
 run stayed within TIME seconds and MEMORY bytes. It prints each answer that isn't legal, with the input in a file beside, and fails then.
 """
@@ -26,6 +26,8 @@ KINDS = (
     r"wrong count of arguments|wrong sort|not a difference|bound too large|objective too large|too large|left out: [!-~]+?"
 )
 ERROR = re.compile(rb'\(error "command [1-9][0-9]*: (' + KINDS.encode() + rb')"\)\n\Z')
+NUMBER = re.compile(rb'\(error "number [1-9][0-9]*: (not a number|out of range|machine twice|too few numbers|too many numbers)"\)\n\Z')
+PLAN = re.compile(rb"makespan [0-9]+\n(job [0-9]+:( [0-9]+)+\n)+\Z")
 FLAWS = (
     r"no such point|no such clause|not assumed|not a cycle|not denied|no such kept lemma|not active|steps missing|steps left over"
 )
@@ -47,13 +49,13 @@ KEPT = b"""(declare-const p Bool) (assert (not p)) (push 1) (assert p) (check-sa
 LIMITS = [2**k + d for k in (16, 20, 31, 32, 40, 60, 61, 62, 63, 64, 90, 128) for d in (-1, 0, 1)] + [0, 1, 4096, 65535, 65537]
 
 
-def worked_scripts():
-    """The sources of the rows that ask for `solve` or `certify` and are written as they are."""
+def worked_sources(*commands):
+    """The sources of the rows that ask for one of these commands and are written as they are."""
     script, words = [], ""
     with open(os.path.join(TOP, "crates", "worked_rows", "stdin"), encoding="utf-8") as rows:
         for line in rows:
             if line.startswith("row "):
-                if words in ("solve", "certify") and script:
+                if words in commands and script:
                     yield "\n".join(script).encode()
                 script, words = [], ""
             elif line.startswith("words "):
@@ -67,7 +69,13 @@ def scripts():
         if name.endswith(".smt2"):
             with open(os.path.join(TOP, "examples", name), "rb") as text:
                 yield text.read()
-    yield from (s for s in worked_scripts() if len(s) < 4096)
+    yield from (s for s in worked_sources("solve", "certify") if len(s) < 4096)
+
+
+def shops():
+    with open(os.path.join(TOP, "examples", "jobshop", "ft06.txt"), "rb") as text:
+        yield text.read()
+    yield from worked_sources("jobshop", "jobshop --workers 1")
 
 
 def run(program, words, source):
@@ -131,6 +139,8 @@ def is_legal(command, status, output, seconds, memory):
         return output.startswith(b"(dtp-certificate 1)\n") and output.endswith((b"(end)\n", b'")\n'))
     if command in ("check", "convert"):
         return status in (0, 6) and CHECKED.match(output) is not None and (output == b"accepted\n") == (status == 0)
+    if command == "jobshop":
+        return status in (0, 1) and (PLAN, NUMBER)[status].match(output) is not None
     if status == 1:
         return ERROR.search(output) is not None
     return status == 0 and (not output or output.endswith(b"\n"))
@@ -140,7 +150,7 @@ def main():
     count = int(sys.argv[1]) if len(sys.argv) > 1 else 10_000
     chance = random.Random(int(sys.argv[2]) if len(sys.argv) > 2 else 1)
     program = sys.argv[3] if len(sys.argv) > 3 else BUILT
-    texts = list(scripts())
+    texts, numbers = list(scripts()), list(shops())
     pairs = []
     for text in texts:
         for version in "1", "2":
@@ -150,8 +160,8 @@ def main():
     pairs += [KEPT] * (len(pairs) // 8)
     told, bad, greatest, longest = {}, 0, 0, 0.0
     for number in range(count):
-        command = chance.choice(("solve", "certify", "check", "check", "convert"))
-        source = spoiled(chance, chance.choice(pairs if command in ("check", "convert") else texts))
+        command = chance.choice(("solve", "certify", "check", "check", "convert", "jobshop"))
+        source = spoiled(chance, chance.choice(numbers if command == "jobshop" else pairs if command in ("check", "convert") else texts))
         status, output, seconds, memory = run(program, [command], source)
         told[command, status] = told.get((command, status), 0) + 1
         greatest, longest = max(greatest, memory), max(longest, seconds)
@@ -161,7 +171,7 @@ def main():
             with open(path, "wb") as out:
                 out.write(source)
             print(f"{path}: status {status}, {seconds:.1f} s, {memory >> 20} MB, ends with {output[-100:]!r}")
-    print(f"{count} runs over {len(texts)} scripts and {len(pairs)} pairs, {bad} answers not legal; at most {greatest >> 20} MB and {longest:.2f} s")
+    print(f"{count} runs over {len(texts)} scripts, {len(numbers)} job shops and {len(pairs)} pairs, {bad} answers not legal; at most {greatest >> 20} MB and {longest:.2f} s")
     print(", ".join(f"{command} {status}: {times}" for (command, status), times in sorted(told.items())))
     sys.exit(1 if bad else 0)
 

@@ -1,15 +1,19 @@
 #!/usr/bin/env python3
 """Times least values: job shops, open shops and random problems, beside z3's `minimize` and MiniZinc with Gecode.
 
-    bench/optimum.py [PATH OF dtp] [--only WORD] [--workers N] [--limit SECONDS] [--counted PATH]
+    bench/optimum.py [PATH OF dtp] [--only WORD] [--workers N] [--limit SECONDS] [--counted PATH] [--jobshop]
 
-The shops of bench/shops are known ones (Fisher and Thompson 1963: ft06, ft10; Lawrence 1984: la01 to la05, la16; Adams, Balas and
-Zawack 1988: abz6), each as its numbers of jobs and machines and a line of machines and durations for each job; their least
-makespans are those of the literature. The others are drawn from the seeds in this file. Of each it prints the processor seconds of
-`solve` and `certify` by one worker, of `solve` by several (and the seconds by the clock), and those of the peers that are there
-(`apt-get install z3 minizinc`); with a program that `bench/native/build.sh FOLDER dtp_main --counted` built, also the questions
-below a bound that one worker asks, and its conflicts; and at the end the geometric mean of `solve` over the better peer where both end. It fails where two
-answers differ, or one isn't the known value.
+The shops of examples/jobshop and bench/shops are known ones (Fisher and Thompson 1963: ft06, ft10; Lawrence 1984: la01 to la05,
+la16; Adams, Balas and Zawack 1988: abz6), each as its numbers of jobs and machines and a line of machines and durations for each job;
+their least makespans are those of the literature. The others are drawn from the seeds in this file. Of each it prints the processor
+seconds of `solve` and `certify` by one worker, of `solve` by several (and the seconds by the clock), and those of the peers that are
+there (`apt-get install z3 minizinc`); with a program that `bench/native/build.sh FOLDER dtp_main --counted` built, also the questions
+below a bound that one worker asks, and its conflicts; and at the end the geometric mean of `solve` over the better peer where both
+end. It fails where two answers differ, or one isn't the known value.
+
+With --jobshop it prints, of the shops of examples/jobshop, the seconds by the clock from the file of numbers to the plan, and those of
+processors: of `dtp jobshop` by one worker and by several, of z3's `minimize` on the script of `--emit script`, and of Gecode on a model
+of ten lines. Each plan is tested by examples/gantt.py, and a makespan that isn't the known one is told.
 """
 
 import math
@@ -25,6 +29,10 @@ import time
 
 TOP = os.path.dirname(os.path.dirname(os.path.abspath(__file__)))
 BUILT = os.path.join(TOP, "crates", "dtp_main", "out", "dtp_main")
+sys.dont_write_bytecode = True
+sys.path.insert(0, os.path.join(TOP, "examples"))
+from gantt import Wrong, bars_of, contents, faults, read_plan, read_shop  # noqa: E402
+
 KNOWN = {"ft06": 55, "ft10": 930, "la01": 666, "la02": 655, "la03": 597, "la04": 590, "la05": 593, "la16": 945, "abz6": 943}
 
 
@@ -94,11 +102,14 @@ def model_of(jobs, start, machines, is_open):
     return "\n".join(lines) + "\n"
 
 
+def path_of(name):
+    """Where the numbers of a known shop are."""
+    shown = os.path.join(TOP, "examples", "jobshop", name + ".txt")
+    return shown if os.path.exists(shown) else os.path.join(TOP, "bench", "shops", name + ".txt")
+
+
 def known_shop(name):
-    with open(os.path.join(TOP, "bench", "shops", name + ".txt"), encoding="ascii") as file:
-        numbers = [[int(word) for word in line.split()] for line in file]
-    jobs = [list(zip(row[::2], row[1::2])) for row in numbers[1:]]
-    return shop(jobs, known=KNOWN[name])
+    return shop(read_shop(contents(path_of(name))), known=KNOWN[name])
 
 
 def random_jobs(jobs, machines, seed):
@@ -173,10 +184,13 @@ def peer(name, problem, limit):
     if name == "z3":
         text = problem.script(["(check-sat)", "(get-objectives)"])
         return run(["z3", "-in"], text, limit)
-    if problem.model is None:
-        return None
+    return gecode(problem.model, limit) if problem.model else None
+
+
+def gecode(model, limit):
+    """What MiniZinc prints of the model by Gecode, and its times; None where it wasn't done."""
     with tempfile.NamedTemporaryFile("w", suffix=".mzn") as file:
-        file.write(problem.model)
+        file.write(model)
         file.flush()
         # its solver stands in a group of its own, and outlives it where it is killed: it is told the limit itself
         stop = ["--time-limit", str(int(limit * 1000))]
@@ -184,8 +198,68 @@ def peer(name, problem, limit):
     return done if done and "==========" in done[0] else None
 
 
+# a job shop for MiniZinc, whatever its numbers
+MODEL = """include "disjunctive.mzn";
+int: J; int: M; array[1..J, 1..M] of int: machine; array[1..J, 1..M] of int: duration;
+int: latest = sum(duration); var 0..latest: makespan; array[1..J, 1..M] of var 0..latest: start;
+constraint forall(j in 1..J, k in 1..M - 1)(start[j, k] + duration[j, k] <= start[j, k + 1]);
+constraint forall(j in 1..J)(start[j, M] + duration[j, M] <= makespan);
+constraint forall(i in 0..M - 1)(disjunctive(
+    [start[j, k] | j in 1..J, k in 1..M where machine[j, k] = i],
+    [duration[j, k] | j in 1..J, k in 1..M where machine[j, k] = i]));
+solve :: int_search([makespan] ++ array1d(start), smallest, indomain_min) minimize makespan;
+output ["makespan \\(makespan)\\n"] ++ ["job \\(j - 1):" ++ join("", [" \\(start[j, k])" | k in 1..M]) ++ "\\n" | j in 1..J];
+"""
+
+
+def model_with(jobs):
+    """The same with the numbers of these jobs."""
+    table = lambda part: f"array2d(1..J, 1..M, {[pair[part] for job in jobs for pair in job]})"
+    return f"{MODEL}J = {len(jobs)}; M = {len(jobs[0])}; machine = {table(0)}; duration = {table(1)};\n"
+
+
+def fault_of(text, jobs, known):
+    """What is wrong with a plan, the first thing; None where nothing is, and its makespan is the known one."""
+    try:
+        makespan, starts = read_plan(text, jobs)
+        other = None if makespan == known else f"a makespan of {makespan}"
+        return next(faults(bars_of(jobs, starts), makespan), other)
+    except Wrong as reason:
+        return str(reason)
+
+
+def peer_of_jobshop(name, program, numbers, known, limit):
+    """The seconds by the clock, those of processors, and what is wrong; None where it is stopped."""
+    jobs = read_shop(numbers)
+    if name == "minizinc":
+        done = gecode(model_with(jobs), limit)
+        return done and (done[2], done[1], fault_of(done[0].split("----------\n")[-2], jobs, known))
+    made = run([program, "jobshop", "--emit", "script"], numbers, limit)
+    done = made and run(["z3", "-in"], made[0].replace("(exit)", "(check-sat)\n(get-objectives)\n(get-model)"), limit)
+    if not done:
+        return None
+    value = value_of(done[0].split("(objectives")[-1].split("\n(\n")[0])
+    return made[2] + done[2], made[1] + done[1], None if value == known else f"a makespan of {value}"
+
+
+def jobshops(program, workers, limit, only, peers):
+    """A line for each shop of examples/jobshop, with the seconds by the clock, and those of processors behind them. It gives the status."""
+    print("\t".join(["shop", "makespan", "1 worker", f"{workers} workers", *peers]))
+    status = 0
+    for name in [name for name in KNOWN if only in name and "examples" in path_of(name)]:
+        numbers, known, found = contents(path_of(name)), KNOWN[name], []
+        for count in ("1", workers):
+            done = run([program, "jobshop", "--workers", count], numbers, limit)
+            found.append(done and (done[2], done[1], fault_of(done[0], read_shop(numbers), known)))
+        found += [peer_of_jobshop(other, program, numbers, known, limit) for other in peers]
+        faulty = sorted({entry[2] for entry in found if entry and entry[2]})
+        status = 1 if faulty else status
+        print("\t".join([name, str(known), *(f"{entry[0]:.2f} ({entry[1]:.2f})" if entry else "-" for entry in found)]), *faulty, flush=True)
+    return status
+
+
 def main():
-    words = sys.argv[1:]
+    words = [word for word in sys.argv[1:] if word != "--jobshop"]
     option = lambda name, default: words[words.index(name) + 1] if name in words else default
     plain = [w for i, w in enumerate(words) if not w.startswith("--") and (i == 0 or not words[i - 1].startswith("--"))]
     program = plain[0] if plain else BUILT
@@ -193,6 +267,8 @@ def main():
     counted = option("--counted", "")
     counts = ["questions", "conflicts"] if counted else []
     peers = [name for name in ("z3", "minizinc") if shutil.which(name)]
+    if "--jobshop" in sys.argv:
+        return jobshops(program, workers, limit, only, peers)
     print("\t".join(["problem", "value", "solve", "certify", f"{workers} workers", "by the clock", *counts, *peers]))
     ratios, wrong = [], False
     for name, problem in problems():

@@ -66,7 +66,7 @@ held "the chart is a shortest plan" '
     /^mixer / { mixer = $2 }
     /^oven /  { oven = $2 }
     /^table / { table = $2 }
-    /^all is ready after 14 minutes$/ { ready = 1 }
+    /^makespan 14$/ { ready = 1 }
     /^no plan is shorter: dtp check accepts the proof$/ { proved = 1 }
     END {
         whole = length(mixer) == 14 && length(oven) == 14 && length(table) == 14
@@ -78,7 +78,7 @@ held "the chart is a shortest plan" '
         ordered = last(mixer, "b") < index(oven, "b") && last(oven, "b") < index(table, "b") && last(mixer, "c") < index(oven, "c") &&
             last(oven, "c") < index(table, "c") && last(table, "p") < index(mixer, "p") && last(mixer, "p") < index(oven, "p")
         exit !(ready && proved && whole && bread && cake && pie && together && ordered)
-    }' python3 "$here/gantt.py" "$dtp"
+    }' python3 "$here/bakes.py" "$dtp"
 
 # each printed move is made again by the rules of the protocol, with A = 5 and B = 4
 held "a delay that is too short lets two processes in" '
@@ -215,6 +215,143 @@ fi
 if [ -e "$here/check_test.py" ]; then
     held "check.py and dtp check say the same" 'END { exit !(NR > 0) }' python3 "$here/check_test.py" "$dtp" 500
 fi
+
+# ---- job shops
+
+shops=$here/jobshop
+folder=$(mktemp -d)
+trap 'rm -rf "$folder"' EXIT
+
+# the plan of a shop, which is kept
+planned() {
+    "$dtp" jobshop < "$shops/$1.txt" > "$folder/$1.plan" && cat "$folder/$1.plan"
+}
+
+# what the checker says of the script of a shop with its certificate
+judged_shop() {
+    shop=$shops/$1.txt
+    shift
+    { "$dtp" jobshop --emit script < "$shop" && "$dtp" jobshop --emit certificate < "$shop"; } | "$@"
+}
+
+# a shop, its plan, and the plan as a picture, by characters and as a table
+drawn() {
+    cat "$shops/$1.txt" "$folder/$1.plan"
+    for way in "" --text --csv; do
+        # shellcheck disable=SC2086
+        python3 "$here/gantt.py" $way "$shops/$1.txt" "$folder/$1.plan"
+    done
+}
+
+# 3 and 4 on one machine are 7, the one job's 2 may wait until then, and the other's 2 come before its 4
+two_by_two() {
+    printf '2 2\n0 3 1 2\n1 2 0 4\n' > "$folder/two.txt"
+    for workers in 1 4; do
+        "$dtp" jobshop --workers "$workers" < "$folder/two.txt" > "$folder/two.plan"
+        cat "$folder/two.plan"
+        python3 "$here/gantt.py" --csv "$folder/two.txt" "$folder/two.plan"
+    done
+}
+held "two jobs on two machines are planned in 7, by one worker and by four" '
+    /^makespan / { plans += $2 == 7 }
+    /^job 0: / && ($3 != 0 || $4 < 3 || $4 > 5) { wrong = 1 }
+    /^job 1: / && ($3 > 1 || $4 != 3) { wrong = 1 }
+    END { exit !(plans == 2 && !wrong) }' two_by_two
+
+# a plan that is kept, with the makespan that is known of it
+for known in "ft06 55" "la01 666" "la05 593"; do
+    held "${known% *} is planned in ${known#* }" "NR == 1 && \$0 != \"makespan ${known#* }\" { exit 1 } END { if (NR < 7) exit 1 }" \
+        planned "${known% *}"
+    held "the certificate of ${known% *} is accepted" '$0 != "accepted" || NR > 1 { exit 1 }' judged_shop "${known% *}" "$dtp" check
+done
+held "check.py accepts the certificate of ft06 too" '$0 != "accepted" || NR > 1 { exit 1 }' judged_shop ft06 python3 "$here/check.py"
+
+# a bar stands where its operation starts and is as long as it takes, in the picture 960 wide; by characters one is a unit of time
+held "gantt.py draws the plan of ft06 as it is" '
+    function near(one, other) { return one - other < 0.02 && other - one < 0.02 }
+    NR > 1 && NR < 8 { for (k = 0; k < 6; k++) { machine[NR - 2, k] = $(2 * k + 1); duration[NR - 2, k] = $(2 * k + 2) } }
+    /^job [0-5]: / { for (k = 0; k < 6; k++) start[$2 + 0, k] = $(k + 3) }
+    /<title>job / {
+        match($0, / x="[0-9.]+"/); x = substr($0, RSTART + 4, RLENGTH - 5)
+        match($0, / width="[0-9.]+"/); width = substr($0, RSTART + 8, RLENGTH - 9)
+        match($0, /job [0-9]+, operation [0-9]+: [0-9]+ to [0-9]+/)
+        split(substr($0, RSTART + 4, RLENGTH - 4), told, /, operation |: | to /)
+        j = told[1]; k = told[2]
+        right += told[3] == start[j, k] && told[4] == start[j, k] + duration[j, k] &&
+            near(x, 100 + start[j, k] * 960 / 55) && near(width, duration[j, k] * 960 / 55)
+    }
+    />makespan 55</ { marked = 1 }
+    /^machine [0-5] [0-5.]+$/ { chart[$2] = $3 }
+    /^[0-5],[0-5],/ { split($0, cell, ","); table += cell[3] == machine[cell[1], cell[2]] && cell[4] == start[cell[1], cell[2]] &&
+        cell[5] == cell[4] + duration[cell[1], cell[2]] }
+    END {
+        for (j = 0; j < 6; j++) for (k = 0; k < 6; k++)
+            for (at = 0; at < duration[j, k]; at++) wrong += substr(chart[machine[j, k]], start[j, k] + at + 1, 1) != j
+        exit !(right == 36 && table == 36 && marked && wrong == 0)
+    }' drawn ft06
+
+# the plan is a shortest one, so a move that leaves it a plan leaves the makespan too
+held "a plan of which a start is moved by one is refused by gantt.py exactly where the script says so" '$0 != "so" || NR > 1 { exit 1 }' \
+    env PYTHONPATH="$here" python3 -c '
+import subprocess, sys
+from gantt import bars_of, contents, faults, read_plan, read_shop
+
+program, instance, plan = sys.argv[1:]
+jobs = read_shop(contents(instance))
+makespan, starts = read_plan(contents(plan), jobs)
+ask = lambda text, *words: subprocess.run([program, *words], input=text, capture_output=True, text=True, check=True).stdout
+script, ending = ask(contents(instance), "jobshop", "--emit", "script"), "(minimize m)\n(exit)\n"
+assert script.endswith(ending)
+script, refused = script[: -len(ending)], []
+for j, k, by in [(0, 0, 0)] + [(j, k, by) for j in range(len(jobs)) for k in range(len(jobs[j])) for by in (-1, 1)]:
+    moved = [list(own) for own in starts]
+    moved[j][k] += by
+    refused.append("unsat" if any(faults(bars_of(jobs, moved), makespan)) else "sat")
+    values = [(f"s_{bar.job}_{bar.operation}", bar.start) for bar in bars_of(jobs, moved)] + [("m", makespan)]
+    stated = "".join(f"(assert (<= {name} {time} {name}))" for name, time in values).replace(" -1 ", " (- 1) ")
+    script += f"(push 1){stated}(check-sat)(pop 1)\n"
+assert ask(script, "solve").split() == refused and refused[0] == "sat" and refused.count("unsat") > 18
+print("so")' "$dtp" "$shops/ft06.txt" "$folder/ft06.plan"
+for wrong in 54 56; do
+    sed "s/^makespan 55\$/makespan $wrong/" "$folder/ft06.plan" > "$folder/wrong.plan"
+    ! python3 "$here/gantt.py" "$shops/ft06.txt" "$folder/wrong.plan" > "$folder/told" 2>&1 || failed "gantt.py draws a wrong plan"
+    held "gantt.py says why it can't be $wrong" "
+        \$0 != \"the latest end is 55, and the makespan is said to be $wrong\" || NR > 1 { exit 1 }" cat "$folder/told"
+done
+
+# the numbers of ft06 among others, as the OR-library has them, and in two tables, as Taillard has them
+in_library() {
+    printf ' %s\n' "2 instances" "+++++" "" "instance two" "+++++" "two jobs 2x2" "2 2" "0 3 1 2" "1 2 0 4" "+++++" "instance ft06" "6x6 (mt06)"
+    cat "$shops/ft06.txt"
+    printf ' %s\n' "+++++" "EOF"
+}
+in_tables() {
+    awk 'NR == 1 { print "Nb of jobs, Nb of Machines, Time seed, Machine seed, Upper bound, Lower bound"; print $0, 1, 2, 55, 52; next }
+        { for (k = 1; k < NF; k += 2) { machines = machines " " ($k + 1); times = times " " $(k + 1) }
+            machines = machines "\n"; times = times "\n" }
+        END { printf "Times\n%sMachines\n%s", times, machines }' "$shops/ft06.txt"
+}
+
+# taken FORM WORD..: what or_library.py says when it takes ft06 out of this form
+taken() {
+    form=$1
+    shift
+    "$form" | python3 "$here/or_library.py" - "$@" 2>&1 > "$folder/ft06.txt" && cmp "$folder/ft06.txt" "$shops/ft06.txt" >&2
+}
+held "or_library.py takes ft06 out of a collection" \
+    '$0 != "instance ft06: 6 jobs on 6 machines, durations from 1 to 10, machines from 0" { exit 1 }' taken in_library ft06
+held "or_library.py puts times and machines together" '
+    $0 != "instance 1: 6 jobs on 6 machines, durations from 1 to 10, machines from 1, and from 0 in what is written" { exit 1 }' \
+    taken in_tables
+
+# as the README has it
+bounded() {
+    "$dtp" jobshop --emit script < "$shops/$1.txt" | sed "s/^(minimize m)\$/(assert (<= m $2)) & (get-model)/" | "$dtp" solve
+}
+held "a bound that is known goes into the script" '
+    NR == 1 && $0 != "(minimum 55)" { exit 1 }
+    /define-fun s_[0-5]_[0-5] / { starts++ }
+    END { if (starts != 36) exit 1 }' bounded ft06 57
 
 status=0
 "$dtp" solve < "$here/kitchen.smt2" >&- || status=$?

@@ -6,11 +6,13 @@ A block stands between lines of three backquotes, and the first of them says wha
     smt2 NAME                    a script
     certificate NAME of SCRIPT   a certificate for it
     python NAME                  a program, with dtp.py beside it and dtp on the path
+    numbers NAME                 a job shop
     answer of NAME: WORD         what is printed, to the byte, when that block is run
 
 WORD is solve or certify for a script, python for a program, and check for a certificate behind its script, or for a script with the
-certificate that dtp writes for it. A block of another kind is a fault, and so is one without an answer. It prints each fault, and then
-ends with status 1.
+certificate that dtp writes for it. For a job shop it is jobshop, gantt for the chart of the plan that this prints, or check for its
+script and its certificate. A block of another kind is a fault, and so is one without an answer. It prints each fault, and then ends
+with status 1.
 """
 import difflib
 import os
@@ -23,8 +25,10 @@ import tempfile
 HERE = os.path.dirname(os.path.abspath(__file__))
 PAGE = os.path.join(os.path.dirname(HERE), "docs", "TUTORIAL.md")
 BLOCK = re.compile(r"^```(.*)\n((?:(?!```).*\n)*)```$", re.MULTILINE)
-INPUT = re.compile(r"(smt2|certificate|python) (\w+)(?: of (\w+))?")
-ANSWER = re.compile(r"answer of (\w+): (solve|certify|check|python)")
+INPUT = re.compile(r"(smt2|certificate|python|numbers) (\w+)(?: of (\w+))?")
+ANSWER = re.compile(r"answer of (\w+): (solve|certify|check|python|jobshop|gantt)")
+# what a block of each kind is run by
+WORDS = {"smt2": ("solve", "certify", "check"), "certificate": ("check",), "python": ("python",), "numbers": ("jobshop", "gantt", "check")}
 
 
 def printed(words, source, folder):
@@ -36,15 +40,31 @@ def printed(words, source, folder):
 def answer(inputs, name, word, folder):
     """What is printed when the block of this name is run."""
     kind, text, script = inputs[name]
-    if (kind == "python") != (word == "python") or (kind == "certificate" and word != "check"):
+    if word not in WORDS[kind]:
         return f"a {kind} block isn't run by {word}\n"
     if kind == "python":
         return printed([sys.executable, "-c", text], "", folder)
+    if kind == "numbers":
+        return answer_of_shop(name, text, word, folder)
     if kind == "certificate":
         text = inputs[script][1] + text
     elif word == "check":
         text += printed(["dtp", "certify"], text, folder)
     return printed(["dtp", word], text, folder)
+
+
+def answer_of_shop(name, text, word, folder):
+    """The same for a job shop."""
+    if word == "check":
+        emitted = [printed(["dtp", "jobshop", "--emit", part], text, folder) for part in ("script", "certificate")]
+        return printed(["dtp", "check"], "".join(emitted), folder)
+    plan = printed(["dtp", "jobshop"], text, folder)
+    if word == "jobshop":
+        return plan
+    path = os.path.join(folder, f"{name}.txt")
+    with open(path, "w", encoding="utf-8") as file:
+        file.write(text)
+    return printed([sys.executable, os.path.join(HERE, "gantt.py"), "--text", path, "-"], plan, folder)
 
 
 def differences(page, folder):
