@@ -11,7 +11,7 @@ const X_BEFORE_Y: Literal = Literal { x: 1, y: 2, c: -1 };
 const Y_BEFORE_X: Literal = Literal { x: 2, y: 1, c: -1 };
 
 /// x < y and y < x, where x is point 1 and y is point 2.
-fn two_orders(alloc: Global) -> Result<Problem, AllocError>
+pub(crate) fn two_orders(alloc: Global) -> Result<Problem, AllocError>
     ensures { IfOk result (λ problem. problem.points ≡ 3) }
 {
     let first = Clause::new([X_BEFORE_Y].to_vec(alloc)?);

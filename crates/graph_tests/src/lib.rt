@@ -1,7 +1,9 @@
 //! One short run of each public call that takes memory and that no script reaches, with ample memory: of nets, cycles, pruning,
-//! references of steps, and the checker of whole refutations.
+//! references of steps, lemmas that are carried over, and the checker of whole refutations.
 #![tactic(auto)]
 
+#[cfg(test)]
+mod carried;
 #[cfg(test)]
 mod cycles;
 #[cfg(test)]
