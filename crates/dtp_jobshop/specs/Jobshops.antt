@@ -6,7 +6,8 @@ use Rattle.job_shop.specs.Shops.{Shop, IsShop}
 use Rattle.job_shop.specs.Instances.{shop_in, refusal_line}
 use Rattle.job_shop.specs.Scripts.{script}
 use Rattle.job_shop.specs.PlanTexts.{plan_text}
-use Rattle.job_shop.specs.Plans.{IsLeastPlan}
+use Rattle.job_shop.specs.Plans.{IsLeastPlan, start_in}
+use Rattle.job_shop.specs.Tight.{IsTight}
 use Rattle.cert_text.specs.declared.entry.Version.TheVariants.{One}
 use Rattle.dtp_entry.specs.declared.report.Report.TheVariants as report
 use Rattle.dtp_entry.specs.Transcripts.{IsReport, IsReportPart}
@@ -16,10 +17,10 @@ use Rattle.dtp_jobshop.specs.declared.emit.Emit.TheVariants.{Plan, Script, Certi
 use Rattle.dtp_jobshop.specs.declared.emit.Answered.{Answered}
 use Rattle.dtp_jobshop.specs.declared.emit.Answered.TheVariants.{Whole, Refused}
 
--- of a job shop: a feasible plan with its makespan, than which none has a smaller one; the script; or its certificate, which
--- has no error
+-- of a job shop: a feasible plan with its makespan, than which none has a smaller one, in which no operation can start earlier while
+-- those before it stay where they are; the script; or its certificate, which has no error
 abbrev pub IsEmitted : Emit → Shop → List ℕ → Type 0
-IsEmitted Plan s text = (starts : List ℤ) × (m : ℤ) × IsLeastPlan s starts m × (text ≡ plan_text s m starts)
+IsEmitted Plan s text = (starts : List ℤ) × (m : ℤ) × IsLeastPlan s starts m × IsTight s (start_in s starts) × (text ≡ plan_text s m starts)
 IsEmitted Script s text = text ≡ script s
 IsEmitted Certificate s text = IsReport (report.Certificate One) (script s) text 0
 

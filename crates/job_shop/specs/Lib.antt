@@ -1,6 +1,7 @@
 pub mod Shops
 pub mod Feasible
 pub mod Plans
+pub mod Tight
 pub mod Words
 pub mod Instances
 pub mod Scripts
