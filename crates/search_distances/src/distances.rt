@@ -1,5 +1,11 @@
 //! Which literals follow by the distances between points: by a table for as many points as the guide's policy says, else by
 //! a search for each literal.
+//!
+//! Of a large table each literal may lower many entries, and these are kept as they were for the way back. Where there are very many
+//! literals, a search mostly ends in a few long descents, and the table would be most of its time and memory. So it is
+//! made there only when the search has gone on for a while: what ends sooner does without. Else it is made at once, since random
+//! problems need it.
+use crate::later::Later;
 use crate::rows::Rows;
 use crate::searches::Searches;
 use crate::table::Table;
@@ -9,8 +15,13 @@ use std::alloc::{AllocError, Global};
 /// An absolute value of distances is below this.
 const DISTANCE_LIMIT: u64 = 1 << 60;
 
+/// A table of at most so many rows is small.
+const FEW_ROWS: usize = 400;
+
 #[derive(Drop)]
 enum Way {
+    /// There is no table yet.
+    Later(Later),
     Table(Table),
     Searches(Searches),
 }
@@ -18,6 +29,8 @@ enum Way {
 /// Distances between points, of which those that only pure literals name are left out.
 #[derive(Drop)]
 pub struct Distances {
+    alloc: Global,
+    points: u32,
     way: Way,
 }
 
@@ -30,12 +43,14 @@ impl Distances {
         if rows.count() == 0 || most == 0 || rows.longest() >= DISTANCE_LIMIT {
             return Ok(None);
         }
-        let way = if rows.count() <= most {
+        let way = if rows.count() > most {
+            Way::Searches(Searches::new(alloc, guide, rows)?)
+        } else if rows.count() <= FEW_ROWS || !guide.is_vast() || guide.has_plan() {
             Way::Table(Table::new(alloc, guide, rows)?)
         } else {
-            Way::Searches(Searches::new(alloc, guide, rows)?)
+            Way::Later(Later::new(alloc, rows.count()))
         };
-        Ok(Some(Distances { way }))
+        Ok(Some(Distances { alloc, points, way }))
     }
 
     /// The literal stands at this place of the trail, behind those that were added before, and is consistent
@@ -46,15 +61,36 @@ impl Distances {
         number: LiteralNumber,
         place: usize,
     ) -> Result<(), AllocError> {
-        match &mut self.way {
-            Way::Table(table) => table.add(guide, number, place),
-            Way::Searches(searches) => searches.add(guide, number, place),
+        let is_due = match &mut self.way {
+            Way::Later(later) => later.add(number, place)?,
+            Way::Table(table) => return table.add(guide, number, place),
+            Way::Searches(searches) => return searches.add(guide, number, place),
+        };
+        if is_due {
+            self.make_table(guide)?;
         }
+        Ok(())
+    }
+
+    /// Makes the table, with all literals that are in the net; none where a distance might leave 60 bits by a literal
+    /// that is new since the start.
+    fn make_table(&mut self, guide: &Guide) -> Result<(), AllocError> {
+        let Way::Later(later) = &self.way else {
+            return Ok(());
+        };
+        let rows = Rows::of(self.alloc, guide, self.points)?;
+        if rows.longest() < DISTANCE_LIMIT {
+            let mut table = Table::new(self.alloc, guide, rows)?;
+            table.fill(guide, later.added())?;
+            self.way = Way::Table(table);
+        }
+        Ok(())
     }
 
     /// The next open literal that follows from the last one that was added, with `path` as its reason.
     pub fn next_hit(&mut self, guide: &Guide) -> Option<LiteralNumber> {
         match &mut self.way {
+            Way::Later(_) => None,
             Way::Table(table) => table.next_hit(guide),
             Way::Searches(searches) => searches.next_hit(guide),
         }
@@ -65,6 +101,7 @@ impl Distances {
     /// no path. The one error is want of memory.
     pub fn path(&mut self, guide: &Guide, number: LiteralNumber) -> Result<&[usize], AllocError> {
         match &mut self.way {
+            Way::Later(_) => Ok(&[]),
             Way::Table(table) => table.path(guide, number),
             Way::Searches(searches) => searches.path(guide, number),
         }
@@ -74,6 +111,7 @@ impl Distances {
     /// It takes no memory.
     pub fn retract(&mut self, place: usize) {
         match &mut self.way {
+            Way::Later(later) => later.retract(place),
             Way::Table(table) => table.retract(place),
             Way::Searches(searches) => searches.retract(place),
         }

@@ -5,6 +5,7 @@
 
 mod distances;
 mod edges;
+mod later;
 mod rows;
 mod rungs;
 mod searches;

@@ -7,6 +7,7 @@
 //!
 //! The table has an entry of 32 bytes for each pair, 32 MB for 1,000 points. Beyond 400 points it still pays:
 //! open shops and random problems that took over 15 s without it take 1 to 7 s.
+use crate::later::Added;
 use crate::rows::{Rows, literal_of};
 use crate::rungs::{Rung, Rungs};
 use crate::tree::{StepNumber, Tree};
@@ -197,6 +198,24 @@ impl Table {
             }
         }
         self.hits.sort_unstable();
+        Ok(())
+    }
+
+    /// These literals of the trail are all that are in the net. The hits are all literals that follow from them. The one
+    /// error is want of memory.
+    pub fn fill(&mut self, guide: &Guide, literals: &[Added]) -> Result<(), AllocError> {
+        for literal in literals {
+            self.add(guide, literal.number, literal.place)?;
+        }
+        self.hits.truncate(0);
+        self.next_hit = 0;
+        for (pair, (entry, greatest)) in self.entries.iter().zip(self.greatest.iter()).enumerate() {
+            if entry.distance <= *greatest {
+                if let Ok(pair) = u32::try_from(pair) {
+                    self.hits.push(pair)?;
+                }
+            }
+        }
         Ok(())
     }
 

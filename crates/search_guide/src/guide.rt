@@ -5,7 +5,7 @@ use crate::closing::Closing;
 use crate::forgetting::Forgetting;
 use crate::hall_set::HallSet;
 use crate::ladders::Ladders;
-use crate::numbers::{LiteralNumber, Numbers, narrow, negated};
+use crate::numbers::{LiteralNumber, Numbers, VAST, narrow, negated};
 use crate::patience::Patience;
 use crate::phases::{Phases, holds_on};
 use crate::policy::Policy;
@@ -32,7 +32,7 @@ pub struct Guide {
     pub(crate) clauses: Clauses,
     pub(crate) assignment: Assignment,
     ladders: Ladders,
-    watches: Watches,
+    pub(crate) watches: Watches,
     pub(crate) activities: Activities,
     pub(crate) phases: Phases,
     restarts: Restarts,
@@ -199,6 +199,11 @@ impl Guide {
     /// How many numbers of literals there are. It is even.
     pub fn literals(&self) -> usize {
         self.numbers.len().saturating_mul(2)
+    }
+
+    /// Whether there are so many literals that a search mostly ends in a few descents, or not at all.
+    pub fn is_vast(&self) -> bool {
+        self.numbers.len() > VAST
     }
 
     /// The numbers of the clause's literals, in their order. There are none for a lemma that was forgotten.
@@ -404,7 +409,6 @@ impl Guide {
     /// second greatest of their levels, or 0 for one literal.
     pub fn after_conflict(&mut self, clause: &[LiteralNumber]) -> usize {
         if !self.is_planned() {
-            self.restarts.count_conflict();
             self.forgetting.count_conflict();
             self.phases.take_targets(&self.assignment);
             if self.forgetting.conflicts() >= TARGET_CONFLICTS {
@@ -421,6 +425,9 @@ impl Guide {
             } else if level > second {
                 second = level;
             }
+        }
+        if !self.is_planned() {
+            self.restarts.count_conflict(greatest);
         }
         second
     }

@@ -14,6 +14,9 @@ const ATOMS_LIMIT: usize = 1 << 31;
 /// From so many atoms on a search takes decisions by the thousand from conflict to conflict.
 pub const MANY_ATOMS: usize = 10_000;
 
+/// And with more than so many atoms it mostly ends in a few descents, or not at all.
+pub const VAST: usize = 25_000;
+
 /// The literal's negation.
 pub fn negated(number: LiteralNumber) -> LiteralNumber {
     number ^ 1

@@ -23,6 +23,9 @@ const LEAST_WORK: usize = 20_000;
 
 const WORK: usize = 4;
 
+/// To read so many literals of long clauses is as much as one.
+const READ: usize = 64;
+
 /// How often a bound's negation is decided.
 const ATTEMPTS: usize = 8;
 
@@ -78,6 +81,14 @@ impl Probing {
     fn give_up(&mut self) {
         self.place = 0;
         self.plan.truncate(0);
+    }
+
+    /// A propagation that read so many literals of clauses. Where a literal stands in a long clause many times, or most
+    /// of its literals are denied at the root, each alternative that denies one of the others reads it whole.
+    fn spend(&mut self, read: usize) {
+        let spent = (read / READ).saturating_add(1);
+        let work = self.work.unwrap_or(0);
+        self.work = Some(work.saturating_sub(spent));
     }
 }
 
@@ -230,9 +241,10 @@ impl Guide {
             let Some(number) = self.probing.reached.get(place).copied() else {
                 return Ok(true);
             };
-            let work = self.probing.work.unwrap_or(0);
-            self.probing.work = Some(work.saturating_sub(1));
-            if !self.reach_from(number)? {
+            let before = self.watches.read();
+            let is_consistent = self.reach_from(number)?;
+            self.probing.spend(self.watches.read().wrapping_sub(before));
+            if !is_consistent {
                 return Ok(false);
             }
         }

@@ -49,6 +49,17 @@ enum Visit {
     Gone,
 }
 
+impl Visit {
+    /// Whether the clause was read to its end.
+    fn is_whole(self) -> bool {
+        match self {
+            Visit::Holds(_) | Visit::Gone => false,
+            Visit::Moves(step) => step.to < step.from,
+            Visit::Unit(..) | Visit::Conflict(_) => true,
+        }
+    }
+}
+
 #[derive(Clone, Copy)]
 struct Move {
     from: u32,
@@ -81,6 +92,8 @@ pub struct Watches {
     list: Vec<Watch>,
     seen: usize,
     kept: usize,
+    /// how many literals the longer clauses have that were read to their ends, each time that they were
+    read: usize,
 }
 
 impl Watches {
@@ -94,7 +107,14 @@ impl Watches {
             list: Vec::new(alloc),
             seen: 0,
             kept: 0,
+            read: 0,
         }
+    }
+
+    /// How many literals were read in longer clauses, up to a factor of two: a clause counts whole where a
+    /// look at it came to its end. The count wraps around.
+    pub fn read(&self) -> usize {
+        self.read
     }
 
     /// Room for one more atom.
@@ -239,7 +259,11 @@ impl Watches {
                 continue;
             }
             let clause = watch.clause;
-            match look_at(clauses, clause, denied, assignment) {
+            let visit = look_at(clauses, clause, denied, assignment);
+            if visit.is_whole() {
+                self.read = self.read.wrapping_add(clauses.literals(clause).len());
+            }
+            match visit {
                 Visit::Holds(blocker) => kept = keep(list, kept, Watch { clause, blocker }),
                 Visit::Moves(step) => {
                     if let Err(error) = follow(&mut self.lists, clauses, clause, step) {
