@@ -9,3 +9,6 @@ pub mod Steps
 pub mod Denying
 pub mod Marking
 pub mod Lengths
+pub mod Settling
+pub mod Rows
+pub mod ToldApart

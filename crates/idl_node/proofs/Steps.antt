@@ -21,10 +21,10 @@ makes_fails middle now first next OutOfMemory h = tt
 pub makes_memory : (now : List NodeValue) (made : Option Placed) (error : NodeError) → error ≡ OutOfMemory → Makes now made (Err error)
 makes_memory now made error e = subst (λ (q : NodeError). Makes now made (Err q)) (sym e) tt
 
-take_whole : {A : Type 0} (xs : List A) → take (length xs) xs ≡ xs
+pub take_whole : {A : Type 0} (xs : List A) → take (length xs) xs ≡ xs
 take_whole xs = take_all (length xs) xs (omega arith)
 
-front_within : {A : Type 0} (a b : List A) → take (length a) b ≡ a → length a ≤ length b
+pub front_within : {A : Type 0} (a b : List A) → take (length a) b ≡ a → length a ≤ length b
 front_within a b e = omega (arith, length-take (length a) b, ap length e)
 
 -- a longer table is as it was, and so is a longer one of it

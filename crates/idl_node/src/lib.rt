@@ -9,6 +9,7 @@ mod limits;
 mod making;
 mod node;
 mod nodes;
+mod repeated;
 mod sort;
 mod truth;
 
@@ -18,5 +19,6 @@ pub use laws::{list_making_law, making_law, truth_law};
 pub use limits::{NODES_LIMIT, limits_law};
 pub use node::Node;
 pub use nodes::Nodes;
+pub use repeated::place_before;
 pub use sort::Sort;
 pub use truth::{eval, eval_on, point_value};

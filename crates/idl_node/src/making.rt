@@ -2,14 +2,16 @@
 //! and gives the number of a node, which may have been there before. There is an error where memory is wanting, or where the
 //! table is full on the way. After an error of a public call the table is as it was. The private ones that add several nodes
 //! leave some behind.
-ghost use Rattle.std.specs.Prelude.{◌≡◌, ◌∷◌, [], length, take, OnErr, if◌then◌else◌};
+ghost use Rattle.std.specs.Prelude.{◌≡◌, ◌<◌, ◌+◌, ◌-◌, ◌∷◌, ◌++◌, ℕ, List, [], length, map, take, drop, slice_index, Err, IfErr, IfOk, OnErr, OnOk, if◌then◌else◌};
 ghost use Rattle.idl_node.specs.code.Made.{Makes};
-ghost use Rattle.idl_node.specs.Making.{denied, conjoined, disjoined, equal, different, chosen, exclusive, implied, all_equal, all_different, constant, falsehood, not_or, or_not, and_not, not_and};
+ghost use Rattle.idl_node.specs.code.Repeats.{AreBelow, AreRows, AreToldApart, HasRepeats, IsRow, LeadsBack};
+ghost use Rattle.idl_node.specs.Making.{denied, conjoined, disjoined, each_pair, equal, different, chosen, exclusive, implied, all_equal, all_different, constant, falsehood, not_or, or_not, and_not, not_and};
 ghost use Rattle.idl_node.specs.Nodes.{placed, conjunction, disjunction};
 
 use crate::error::NodeError;
 use crate::node::Node;
 use crate::nodes::Nodes;
+use crate::repeated::{place_before, repeats};
 use std::alloc::Global;
 
 impl Nodes {
@@ -259,16 +261,109 @@ impl Nodes {
         self.settle(before, made)
     }
 
+    /// Two members differ. What was made of an equal pair is taken from the row so far.
+    fn tell_two_apart(
+        &mut self,
+        alloc: Global,
+        members: &[u32],
+        earlier: &[usize],
+        i: usize,
+        j: usize,
+        row: &[u32],
+    ) -> Result<u32, NodeError>
+        requires leads { LeadsBack members.now earlier.now }
+        requires below { HasRepeats earlier.now → AreBelow (length self.old) members.now }
+        requires order { i < j }
+        requires within { j < length members.now }
+        requires count { length row.now ≡ j - (i + 1) }
+        requires row { HasRepeats earlier.now → IsRow (AreToldApart self.old) members.now i j row.now }
+        ensures makes { Makes self.new (different self.old (slice_index members.now i) (slice_index members.now j)) result }
+        ensures settled { IfOk result (λ k. HasRepeats earlier.now
+            → AreToldApart self.new (slice_index members.now i) (slice_index members.now j) k) }
+        ensures front { take (length self.old) self.new ≡ self.old }
+    {
+        let before = place_before(earlier, j);
+        if i < before && before < j {
+            return Ok(row[before - (i + 1)]);
+        }
+        let number = self.different(alloc, members[i], members[j])?;
+        Ok(number)
+    }
+
+    /// A member differs from each behind it: a node for each.
+    fn tell_others_apart(
+        &mut self,
+        alloc: Global,
+        members: &[u32],
+        earlier: &[usize],
+        i: usize,
+    ) -> Result<Vec<u32>, NodeError>
+        requires leads { LeadsBack members.now earlier.now }
+        requires below { HasRepeats earlier.now → AreBelow (length self.old) members.now }
+        requires within { i < length members.now }
+        ensures made { IfOk result (λ row. (before : List ℕ) (rest : List (ℕ × ℕ))
+            → each_pair different self.old before (map (λ b. (slice_index members.now i, b)) (drop (i + 1) members.now) ++ rest)
+            ≡ each_pair different self.new (before ++ row.items) rest) }
+        ensures refused { IfErr result (λ why. (before : List ℕ) (rest : List (ℕ × ℕ)) → Makes self.new
+            (each_pair different self.old before (map (λ b. (slice_index members.now i, b)) (drop (i + 1) members.now) ++ rest)) (Err why)) }
+        ensures count { IfOk result (λ row. length row.items ≡ length members.now - (i + 1)) }
+        ensures row { IfOk result (λ row. HasRepeats earlier.now
+            → IsRow (AreToldApart self.new) members.now i (length members.now) row.items) }
+        ensures front { take (length self.old) self.new ≡ self.old }
+    {
+        let mut row = Vec::new(alloc);
+        for j in i + 1..members.len() {
+            row.push(self.tell_two_apart(alloc, members, earlier, i, j, &row)?)?;
+        }
+        Ok(row)
+    }
+
+    /// The next member differs from each behind it: their nodes go behind the parts. Where it equals one before it, they stand there already.
+    fn tell_next_apart(
+        &mut self,
+        alloc: Global,
+        members: &[u32],
+        earlier: &[usize],
+        starts: &[usize],
+        parts: &mut Vec<u32>,
+    ) -> Result<(), NodeError>
+        requires leads { LeadsBack members.now earlier.now }
+        requires below { HasRepeats earlier.now → AreBelow (length self.old) members.now }
+        requires within { length starts.now < length members.now }
+        requires rows { AreRows (HasRepeats earlier.now) (AreToldApart self.old) members.now starts.now parts.old.items }
+        ensures made { OnOk result ((rest : List (ℕ × ℕ)) → each_pair different self.old parts.old.items
+            (map (λ b. (slice_index members.now (length starts.now), b)) (drop (length starts.now + 1) members.now) ++ rest)
+            ≡ each_pair different self.new parts.new.items rest) }
+        ensures refused { IfErr result (λ why. (rest : List (ℕ × ℕ)) → Makes self.new (each_pair different self.old parts.old.items
+            (map (λ b. (slice_index members.now (length starts.now), b)) (drop (length starts.now + 1) members.now) ++ rest)) (Err why)) }
+        ensures rows { OnOk result (AreRows (HasRepeats earlier.now) (AreToldApart self.new) members.now
+            (starts.now ++ length parts.old.items ∷ []) parts.new.items) }
+        ensures front { take (length self.old) self.new ≡ self.old }
+    {
+        let i = starts.len();
+        let before = place_before(earlier, i);
+        if before < i {
+            let from = starts[before] + (i - before);
+            parts.extend_from_within(from..from + (members.len() - (i + 1)))?;
+            return Ok(());
+        }
+        let row = self.tell_others_apart(alloc, members, earlier, i)?;
+        parts.extend_from_slice(&row)?;
+        Ok(())
+    }
+
     /// All pairs differ.
     fn add_difference(&mut self, alloc: Global, members: &[u32]) -> Result<u32, NodeError>
         ensures makes { Makes self.new (all_different self.old members.now) result }
         ensures front { take (length self.old) self.new ≡ self.old }
     {
+        let earlier = repeats(alloc, members, self.len())?;
+        let mut starts = Vec::new(alloc);
         let mut parts = Vec::new(alloc);
-        for (i, first) in members.iter().enumerate() {
-            for second in &members[i + 1..] {
-                parts.push(self.different(alloc, *first, *second)?)?;
-            }
+        for _i in 0..members.len() {
+            let start = parts.len();
+            self.tell_next_apart(alloc, members, &earlier, &starts, &mut parts)?;
+            starts.push(start)?;
         }
         self.conjoin(parts)
     }

@@ -3,3 +3,4 @@ pub mod NamesFound
 pub mod LocalsKept
 pub mod CasesUnfolded
 pub mod ShortKeys
+pub mod GuardsBounded

@@ -33,6 +33,7 @@ impl<'a> Model for Key<'a> {
 }
 
 /// The byte at a place, or 0 where there is none.
+#[inline(always)]
 fn byte_at(name: &[u8], place: usize) -> u8
     ensures { result ≡ slice_index_or name.now place 0 }
 {
@@ -40,6 +41,7 @@ fn byte_at(name: &[u8], place: usize) -> u8
 }
 
 /// The first bytes of a name.
+#[inline(always)]
 fn front_of(name: &[u8]) -> [u8; FRONT]
     ensures { result ≡ padded 8 name.now }
 {
@@ -56,6 +58,7 @@ fn front_of(name: &[u8]) -> [u8; FRONT]
 }
 
 impl<'a> Key<'a> {
+    #[inline(always)]
     pub(crate) fn new(name: &'a [u8]) -> Self
         ensures { result ≡ name.entry }
     {

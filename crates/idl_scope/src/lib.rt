@@ -7,6 +7,7 @@ mod limits;
 mod locals;
 mod lowered;
 mod names;
+mod same;
 mod scope;
 mod shape;
 mod unfolding;

@@ -52,6 +52,7 @@ impl<'s, 'a> Locals<'s, 'a> {
     }
 
     /// What the name is.
+    #[inline(always)]
     pub fn find(&self, name: &[u8]) -> FoundName<'_>
         requires { length self.now.outer.declared ≤ names_limit }
         ensures is { FoundIs (found (scope_in self.now) name.now) result }

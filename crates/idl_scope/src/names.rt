@@ -33,6 +33,7 @@ impl<'a> Model for Names<'a> {
 }
 
 /// The place of a name in a set of names.
+#[inline(always)]
 fn place_of(set: &IndexSet<Key>, name: &[u8]) -> Option<usize>
     ensures index { result ≡ position (λ (k : Bor (List ℕ)). bytes_eq name.now k.now) set.now.keys }
     ensures found { is_some result ≡ list_any (λ (k : Bor (List ℕ)). bytes_eq name.now k.now) set.now.keys }
@@ -67,6 +68,7 @@ impl<'a> Names<'a> {
     }
 
     /// The place of a name, from 0, and its sort; found by hash, in a time in proportion to the name's length.
+    #[inline(always)]
     pub fn find(&self, name: &[u8]) -> Option<(usize, Sort)>
         ensures found { found_declared name.now 0 self.now ≡ found_place result }
         ensures within { IfSome result (λ f. f.0 < length self.now) }

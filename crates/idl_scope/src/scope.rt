@@ -48,6 +48,7 @@ impl<'a> Model for Scope<'a> {
 }
 
 /// The place of a name in a set. Where there is none in it, the name isn't hashed.
+#[inline(always)]
 fn place_among(set: &IndexSet<&[u8]>, name: &[u8]) -> Option<usize>
     ensures index { result ≡ position (λ (k : Bor (List ℕ)). bytes_eq name.now k.now) set.now.keys }
     ensures found { is_some result ≡ list_any (λ (k : Bor (List ℕ)). bytes_eq name.now k.now) set.now.keys }
@@ -86,6 +87,7 @@ impl<'a> Scope<'a> {
     }
 
     /// What a name is: a defined one, else a declared one.
+    #[inline(always)]
     pub fn find(&self, name: &[u8]) -> FoundName<'_>
         ensures found { FoundIs (found self.now name.now) result }
         ensures near { IsPlaceBelow (length self.now.declared) result }

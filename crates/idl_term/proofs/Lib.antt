@@ -10,6 +10,7 @@ pub mod ContextNames
 pub mod ContextMeanings
 pub mod Arguments
 pub mod ComparisonNodes
+pub mod ComparedAgain
 pub mod PairsCompared
 pub mod CaseSteps
 pub mod ChoiceSums
@@ -24,4 +25,7 @@ pub mod ListSteps
 pub mod BindingNames
 pub mod HeadShapes
 pub mod Evaluating
+pub mod RepeatedTerms
 pub mod ReservedWords
+pub mod FewTerms
+pub mod NameSteps

@@ -9,6 +9,7 @@ ghost use Rattle.idl_term.specs.code.Shapes.{Lowers};
 use crate::choices::sum_terms;
 use crate::comparing::{Relation, compare_all};
 use crate::error::{TermError, TermRefusal};
+use crate::few_terms::{relate_two, sum_one, sum_two};
 use crate::operator::{Connective, Equality, Operator, Order, Sign};
 use idl_node::{NodeError, Nodes};
 use idl_scope::{CASES_LIMIT, Cases, Lowered};
@@ -137,8 +138,8 @@ fn equate_formulas(
     equate(alloc, equality, nodes, &members)
 }
 
-/// A sum of terms that must all be Int.
-fn apply_sum(
+/// A sum of any number of terms that must all be Int.
+fn sum_many(
     alloc: Global,
     sign: Sign,
     nodes: &Nodes,
@@ -154,6 +155,29 @@ fn apply_sum(
     Ok(Lowered::Number(sum))
 }
 
+/// A sum of terms that must all be Int.
+fn apply_sum(
+    alloc: Global,
+    sign: Sign,
+    nodes: &Nodes,
+    arguments: &[Lowered],
+) -> Result<Lowered, TermError>
+    ensures { Lowers nodes.now
+        (of_sort (summed sign nodes.now) (numbers_in (shown_terms arguments.now))) result }
+{
+    match arguments {
+        [Lowered::Number(term)] => {
+            let sum = sum_one(alloc, sign, term)?;
+            Ok(Lowered::Number(sum))
+        }
+        [Lowered::Number(first), Lowered::Number(second)] => {
+            let sum = sum_two(alloc, sign, first, second)?;
+            Ok(Lowered::Number(sum))
+        }
+        _ => sum_many(alloc, sign, nodes, arguments),
+    }
+}
+
 /// A relation between terms that must all be Int.
 fn relate_numbers(
     alloc: Global,
@@ -165,6 +189,9 @@ fn relate_numbers(
         (of_sort (related_numbers relation nodes.old) (numbers_in (shown_terms arguments.now))) result }
     ensures front { take (length nodes.old) nodes.new ≡ nodes.old }
 {
+    if let [Lowered::Number(first), Lowered::Number(second)] = arguments {
+        return relate_two(alloc, relation, nodes, first, second);
+    }
     let Some(terms) = numbers(alloc, arguments)? else {
         return Err(TermError::Refused(TermRefusal::WrongSort));
     };

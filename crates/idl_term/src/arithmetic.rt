@@ -1,9 +1,11 @@
 //! Sums and differences of Int terms (SMT-LIB 2.6, theory Ints).
 ghost use Rattle.std.specs.Prelude.{map};
 ghost use Rattle.idl_linear.specs.Linear.{sum_of, less_others};
+ghost use Rattle.idl_term.specs.Applied.{linear_sum};
 ghost use Rattle.idl_term.specs.code.Applying.{Sums};
 
 use crate::error::TermError;
+use crate::operator::Sign;
 use idl_linear::{Linear, sum_less};
 use std::alloc::Global;
 
@@ -23,4 +25,14 @@ pub fn subtract(alloc: Global, terms: &[&Linear]) -> Result<Linear, TermError>
     let (first, others) = terms.split_at(count);
     let total = sum_less(alloc, first, others)?;
     Ok(total)
+}
+
+/// `+` or `-`.
+pub fn total(alloc: Global, sign: Sign, terms: &[&Linear]) -> Result<Linear, TermError>
+    ensures { Sums (linear_sum sign (map (λ l. l.now) terms.now)) result }
+{
+    match sign {
+        Sign::Plus => add(alloc, terms),
+        Sign::Minus => subtract(alloc, terms),
+    }
 }

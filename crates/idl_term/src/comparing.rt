@@ -9,6 +9,8 @@ ghost use Rattle.idl_term.specs.code.Shapes.{Places};
 
 use crate::error::TermError;
 use crate::pairing::compare_cases;
+use crate::repeated::repeats;
+use crate::rows::{Operands, compare_next};
 use idl_linear::{Difference, Linear, compare};
 use idl_node::{Node, NodeError, Nodes};
 use idl_scope::Cases;
@@ -175,7 +177,7 @@ fn compare_neighbours(
     conjoin(nodes, parts)
 }
 
-/// Each term in the relation to all behind it.
+/// Each term in the relation to all behind it. Of a term that equals one before it nothing is compared again.
 fn compare_pairs(
     alloc: Global,
     nodes: &mut Nodes,
@@ -186,11 +188,18 @@ fn compare_pairs(
         (pairs (map (λ t. t.now) terms.now))) result }
     ensures front { take (length nodes.old) nodes.new ≡ nodes.old }
 {
+    let earlier = repeats(alloc, terms, nodes.len())?;
+    let all = Operands {
+        relation,
+        terms,
+        earlier: &earlier,
+    };
+    let mut starts = Vec::new(alloc);
     let mut parts = Vec::new(alloc);
-    for (i, first) in terms.iter().enumerate() {
-        for second in &terms[i + 1..] {
-            parts.push(compare_cases(alloc, nodes, relation, first, second)?)?;
-        }
+    for _i in 0..terms.len() {
+        let start = parts.len();
+        compare_next(alloc, nodes, all, &starts, &mut parts)?;
+        starts.push(start)?;
     }
     conjoin(nodes, parts)
 }

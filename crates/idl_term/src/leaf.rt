@@ -1,5 +1,5 @@
 //! What a term of one token is made into.
-ghost use Rattle.std.specs.Prelude.{◌≡◌, ◌≢◌, List, IsTrue, Err, length, take};
+ghost use Rattle.std.specs.Prelude.{◌≡◌, ◌≢◌, ◌≤◌, List, IsTrue, Err, length, take};
 ghost use Rattle.std.specs.Char.{is_ascii_digit};
 ghost use Rattle.std.specs.List.{list_all};
 ghost use Rattle.idl_node.specs.Nodes.{NodeValue};
@@ -12,14 +12,17 @@ ghost use Rattle.idl_scope.specs.Scopes.{Scope as Meaning, Found, found};
 ghost use Rattle.idl_term.specs.declared.error.TermError.TheVariants.{Refused};
 ghost use Rattle.idl_term.specs.declared.error.TermRefusal.TheVariants.{LeftOut};
 ghost use Rattle.idl_scope.specs.code.Kept.{FoundIs, IsNearPlace};
+ghost use Rattle.idl_scope.specs.Limits.{names_limit};
+ghost use Rattle.idl_scope.specs.code.LocalNames.{scope_in};
 ghost use Rattle.idl_term.specs.code.Shapes.{Lowers};
+ghost use Rattle.idl_term.specs.code.Walks.{LowersNames};
 
 use crate::applied::as_formula;
 use crate::error::{LeftOutTerm, TermError, TermRefusal};
 use crate::reserved::is_reserved;
 use idl_linear::{CONSTANT_LIMIT, Linear};
 use idl_node::{Node, Nodes, Sort};
-use idl_scope::{FoundName, Lowered};
+use idl_scope::{FoundName, Locals, Lowered};
 use smt_lex::{TokenKind, numeral_value};
 use std::alloc::Global;
 use stn_core::Literal;
@@ -69,6 +72,26 @@ pub fn lower_symbol(
         return Err(TermError::Refused(TermRefusal::IllFormedTerm));
     }
     lower_found(meaning, nodes)
+}
+
+/// Two symbols. Both are looked up first, so that neither look-up waits for what the other finds. After an error the table may
+/// be longer.
+#[inline(always)]
+pub(crate) fn lower_names(
+    first: &[u8],
+    second: &[u8],
+    locals: &Locals,
+    nodes: &mut Nodes,
+) -> Result<(Lowered, Lowered), TermError>
+    requires few { length locals.now.outer.declared ≤ names_limit }
+    ensures makes { LowersNames (scope_in locals.now) nodes.old nodes.new first.now second.now result }
+    ensures front { take (length nodes.old) nodes.new ≡ nodes.old }
+{
+    let first_found = locals.find(first);
+    let second_found = locals.find(second);
+    let first_term = lower_symbol(first, first_found, nodes)?;
+    let second_term = lower_symbol(second, second_found, nodes)?;
+    Ok((first_term, second_term))
 }
 
 /// The number that digits stand for.

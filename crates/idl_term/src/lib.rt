@@ -9,6 +9,7 @@ mod comparing;
 mod error;
 mod evaluation;
 mod examples;
+mod few_terms;
 mod head;
 mod laws;
 mod leaf;
@@ -16,7 +17,9 @@ mod lowering;
 mod machine;
 mod operator;
 mod pairing;
+mod repeated;
 mod reserved;
+mod rows;
 mod symbol;
 
 pub use error::{LeftOutTerm, TermError, TermRefusal};

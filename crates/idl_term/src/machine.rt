@@ -1,12 +1,12 @@
 //! A machine that lowers a term, with stacks of its own in place of recursion.
-ghost use Rattle.std.specs.Prelude.{◌≡◌, ◌<◌, ◌≤◌, ◌+◌, ◌-◌, ◌∷◌, [], List, length, take, true, OnOk, Ok, Err};
+ghost use Rattle.std.specs.Prelude.{◌≡◌, ◌<◌, ◌≤◌, ◌+◌, ◌-◌, ◌∷◌, [], List, length, take, true, IfSome, OnOk, Ok, Err};
 ghost use Rattle.smt_sexpr.specs.Tree.{more, none, IsLeaf};
 ghost use Rattle.idl_node.specs.Nodes.{NodeValue};
 ghost use Rattle.idl_scope.specs.Limits.{names_limit};
 ghost use Rattle.idl_term.specs.Lowered.{lowered, lowered_leaf, lowered_list, are_bindings, is_binding};
 ghost use Rattle.idl_term.specs.code.Shapes.{Lowers};
 ghost use Rattle.idl_term.specs.code.Trees.{tree_of, trees_of, IsTree, AreTrees, size_of, sizes_of};
-ghost use Rattle.idl_term.specs.code.Walks.{at_start, IsReady, IsReadyWith, IsWaiting, Steps, outcome, outcome_of, outcome_behind, outcome_from, scope_at, weight, with_frame, let_made, application_made, bound_to};
+ghost use Rattle.idl_term.specs.code.Walks.{at_start, AreNamesBefore, IsReady, IsReadyWith, IsWaiting, Steps, outcome, outcome_of, outcome_behind, outcome_behind_names, outcome_from, scope_at, weight, with_frame, let_made, application_made, bound_to};
 ghost use Rattle.idl_term.specs.Operators.{takes_count};
 ghost use Rattle.idl_term.specs.declared.error.TermError.TheVariants.{Refused};
 ghost use Rattle.idl_term.specs.declared.error.TermRefusal.TheVariants.{IllFormedTerm};
@@ -16,7 +16,7 @@ use crate::applied::apply;
 use crate::binding::let_parts;
 use crate::error::{TermError, TermRefusal};
 use crate::head::{Head, head_of};
-use crate::leaf::{lower_symbol, lower_token};
+use crate::leaf::{lower_names, lower_symbol, lower_token};
 use crate::operator::Operator;
 use idl_node::Nodes;
 use idl_scope::{Locals, Lowered, Scope};
@@ -49,6 +49,24 @@ fn ill_formed() -> TermError
     ensures { result ≡ Refused IllFormedTerm }
 {
     TermError::Refused(TermRefusal::IllFormedTerm)
+}
+
+/// The names of two symbols at the front, and what is behind them.
+fn names_at_front<'s, 'a>(
+    sexprs: &Sexprs<'a>,
+    arguments: &'s [SexprId],
+) -> Option<(&'a [u8], &'a [u8], &'s [SexprId])>
+    requires { AreTrees sexprs.now arguments.now }
+    ensures { IfSome result (λ p. AreNamesBefore sexprs.now arguments.now p.0.now p.1.now p.2.now) }
+{
+    match arguments {
+        [first, second, others @ ..] => {
+            let first_name = sexprs.symbol(*first)?;
+            let second_name = sexprs.symbol(*second)?;
+            Some((first_name, second_name, others))
+        }
+        _ => None,
+    }
 }
 
 #[derive(Drop)]
@@ -108,6 +126,24 @@ impl<'s, 'a> Machine<'s, 'a> {
             _ => lower_token(self.alloc, kind, text)?,
         };
         self.values.push(value)?;
+        Ok(())
+    }
+
+    /// The terms of two names are made.
+    fn enter_names(
+        &mut self,
+        first: &[u8],
+        second: &[u8],
+        nodes: &mut Nodes,
+    ) -> Result<(), TermError>
+        requires ready { IsReadyWith (length self.old.values + 2) self.old }
+        ensures steps { Steps (outcome_behind_names self.old nodes.old first.now second.now)
+            (weight self.old.table self.old.frames + 1) self.old self.new nodes.new result }
+        ensures front { take (length nodes.old) nodes.new ≡ nodes.old }
+    {
+        let (first_term, second_term) = lower_names(first, second, &self.locals, nodes)?;
+        self.values.push(first_term)?;
+        self.values.push(second_term)?;
         Ok(())
     }
 
@@ -232,6 +268,14 @@ impl<'s, 'a> Machine<'s, 'a> {
             nodes.new result }
         ensures front { take (length nodes.old) nodes.new ≡ nodes.old }
     {
+        if let Some((first, second, others)) = names_at_front(self.sexprs, rest) {
+            self.frames.push(Frame::Apply {
+                operator,
+                rest: others,
+                base,
+            })?;
+            return self.enter_names(first, second, nodes);
+        }
         let Some((argument, rest)) = rest.split_first() else {
             return self.finish_application(operator, base, nodes);
         };

@@ -95,6 +95,7 @@ fn quoted(rest: &[u8]) -> Front
 }
 
 /// By the first byte.
+#[inline(always)]
 #[tactic(auto, unfolding(crate::specs::code::Front::front_of))]
 fn front_parts(bytes: &[u8]) -> Front
     requires { 0 < length bytes.now }
@@ -124,6 +125,7 @@ fn front_parts(bytes: &[u8]) -> Front
 }
 
 /// What stands at the front of bytes that are not empty.
+#[inline(always)]
 pub fn front(bytes: &[u8]) -> Front
     requires { 0 < length bytes.now }
     ensures token { IfOk result (λ x. LongestToken bytes.now x.0 x.1) }

@@ -84,6 +84,7 @@ impl<'a> Lexer<'a> {
     }
 
     /// The next token, or `None` at the end, where it stays. After an error it gives that error again.
+    #[inline(always)]
     pub fn next(&mut self) -> Result<Option<Token>, LexError>
         ensures bytes { self.new.bytes ≡ self.old.bytes }
         ensures reads { self.old.failed ≡ None → Reads self.old.bytes self.old.place result self.new.place }
@@ -96,36 +97,24 @@ impl<'a> Lexer<'a> {
         if let Some(error) = self.failed {
             return Err(error);
         }
-        let (result, place) = read(self.bytes, self.place);
-        self.place = place;
-        if let Err(error) = result {
-            self.failed = Some(error);
+        let start = self.place + gap(&self.bytes[self.place..]);
+        self.place = start;
+        let rest = &self.bytes[start..];
+        if rest.is_empty() {
+            return Ok(None);
         }
-        result
-    }
-}
-
-/// What stands behind the place, and the place behind that.
-fn read(bytes: &[u8], place: usize) -> (Result<Option<Token>, LexError>, usize)
-    requires { place ≤ length bytes.now }
-    ensures reads { Reads bytes.now place result.0 result.1 }
-    ensures forward { (t : Token) → result.0 ≡ Ok (Some t) → place < result.1 }
-    ensures within { result.1 ≤ length bytes.now }
-{
-    let gap_len = gap(&bytes[place..]);
-    let start = place + gap_len;
-    let rest = &bytes[start..];
-    if rest.is_empty() {
-        return (Ok(None), start);
-    }
-    match front(rest) {
-        Ok((kind, length)) => {
-            let end = start + length;
-            (Ok(Some(Token { kind, start, end })), end)
-        }
-        Err((kind, offset)) => {
-            let place = start + offset;
-            (Err(LexError { place, kind }), start)
+        match front(rest) {
+            Ok((kind, length)) => {
+                let end = start + length;
+                self.place = end;
+                Ok(Some(Token { kind, start, end }))
+            }
+            Err((kind, offset)) => {
+                let place = start + offset;
+                let error = LexError { place, kind };
+                self.failed = Some(error);
+                Err(error)
+            }
         }
     }
 }

@@ -1,16 +1,18 @@
 -- What the machine that lowers a term still does, and how far it is from its end. These are words of the code, and no part
 -- of the meaning.
-use Rattle.std.specs.Prelude.{◌≡◌, ℕ, ◌+◌, ◌-◌, ◌<◌, ◌≤◌, List, [], ◌∷◌, ◌++◌, length, take, drop, true, if◌then◌else◌, Result, Ok, Err}
+use Rattle.std.specs.Prelude.{◌≡◌, ℕ, ◌+◌, ◌-◌, ◌<◌, ◌≤◌, List, [], ◌∷◌, ◌++◌, length, take, drop, true, if◌then◌else◌, Some, Result, Ok, Err}
 use Rattle.smt_sexpr.specs.Table.{Table}
-use Rattle.smt_sexpr.specs.Tree.{Items}
+use Rattle.smt_lex.specs.declared.token.TokenKind.TheVariants.{Symbol}
+use Rattle.smt_sexpr.specs.Tree.{Items, symbol_of}
 use Rattle.idl_node.specs.Nodes.{NodeValue}
 use Rattle.idl_term.specs.Applied.{Made, applied}
 use Rattle.idl_term.specs.Comparing.{follows}
 use Rattle.idl_scope.specs.Limits.{names_limit}
 use Rattle.idl_scope.specs.code.LocalNames.{Inner, scope_in, without}
-use Rattle.idl_term.specs.Lowered.{lowered, lowered_each, lowered_bound, lowered_let, is_let, with_bound, variables_in, are_bindings, count_of}
+use Rattle.idl_term.specs.Lowered.{lowered, lowered_leaf, lowered_each, lowered_bound, lowered_let, is_let, with_bound, variables_in, are_bindings, count_of}
 use Rattle.idl_term.specs.Operators.{takes_count}
-use Rattle.idl_scope.specs.Scopes.{LoweredTerm, bindings_of, Scope}
+use Rattle.idl_scope.specs.Scopes.{LoweredTerm, bindings_of, Scope, shown_term}
+use Rattle.idl_scope.specs.declared.lowered.Lowered.{Lowered}
 use Rattle.idl_term.specs.code.Trees.{tree_of, trees_of, IsTree, AreTrees, size_of, sizes_of}
 use Rattle.idl_term.specs.declared.error.TermError.{TermError}
 use Rattle.idl_term.specs.declared.error.TermError.TheVariants.{OutOfMemory, Refused}
@@ -67,6 +69,26 @@ outcome_behind w first = follows first (λ made. finished w.table w.inner w.fram
 -- what comes out where the term of an id is made first
 abbrev pub outcome_from : Walk → List NodeValue → ℕ → Result Made TermRefusal
 outcome_from w nodes id = outcome_behind w (lowered (scope_at w) nodes (tree_of w.table id))
+
+-- what comes out where the terms of these two names are made first
+abbrev pub outcome_behind_names : Walk → List NodeValue → List ℕ → List ℕ → Result Made TermRefusal
+outcome_behind_names w nodes first second =
+    follows (lowered_leaf (scope_at w) nodes Symbol first) (λ m. outcome_behind (record w { values = w.values ++ m.is ∷ [] }) (lowered_leaf (scope_at w) m.nodes Symbol second))
+
+-- the terms of two names, made one after the other; want of memory says nothing
+abbrev pub LowersNames : Scope → List NodeValue → List NodeValue → List ℕ → List ℕ → Result (Lowered × Lowered) TermError → Type 0
+LowersNames scope old new first second (Ok terms) =
+    (mid : List NodeValue) × (lowered_leaf scope old Symbol first ≡ Ok (record { nodes = mid; is = shown_term terms.0 })) × (lowered_leaf scope mid Symbol second ≡ Ok (record { nodes = new; is = shown_term terms.1 }))
+LowersNames scope old new first second (Err (Refused why)) = follows (lowered_leaf scope old Symbol first) (λ m. lowered_leaf scope m.nodes Symbol second) ≡ Err why
+LowersNames scope old new first second (Err OutOfMemory) = Unit {0}
+
+-- the ids are those of two symbols of these names, and then the rest
+pub record AreNamesBefore (t : Table) (ids first second rest : List ℕ) : Type 0 where
+  pub one : ℕ
+  pub other : ℕ
+  pub all : ids ≡ one ∷ other ∷ rest
+  pub one_is : symbol_of (tree_of t one) ≡ Some first
+  pub other_is : symbol_of (tree_of t other) ≡ Some second
 
 -- the frames fit so many variables, and so many values when they go on
 abbrev pub AreFrames : Table → ℕ → ℕ → List Frame → Type 0

@@ -1,0 +1,10 @@
+use Rattle.std.proofs.Common.{ℕ, ◌<◌}
+use Rattle.idl_scope.specs.code.GuardBounds.{AreGuardsBelow}
+use Rattle.idl_term.specs.code.Repeats.{term_at}
+use Rattle.idl_term.proofs.Arguments.{seen}
+use Rattle.idl_term.proofs.repeated.fingerprints.Given as goal
+
+abbrev pub invariant-loop-term : goal.invariant-loop-term
+invariant-loop-term l = record {
+  guarded : (k : ℕ) → k < l.term-index → AreGuardsBelow l.count (term_at (seen l.terms) k);
+}
