@@ -1,5 +1,5 @@
 -- Numerals that ascend, and the points that they are read as.
-use Rattle.std.proofs.Common.{◌≡◌, ◌∙◌, refl, sym, ap, subst, arith, ℕ, zero, suc, ◌+◌, ◌-◌, ◌<◌, ◌^◌, Bool, true, false, true≢false, List, [], ◌∷◌, map, length, get_or}
+use Rattle.std.proofs.Common.{◌≡◌, refl, sym, subst, arith, ℕ, zero, suc, ◌+◌, ◌-◌, ◌<◌, ◌^◌, Bool, true, false, true≢false, List, [], ◌∷◌, map, get_or}
 use Rattle.std.specs.Prelude.{All, min, nat_lt, ◌&&◌}
 use Rattle.std.specs.List.{AllByRecursion}
 use Rattle.std.specs.List.Sorted.{IsStrictlyIncreasing}

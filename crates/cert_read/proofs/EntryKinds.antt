@@ -1,5 +1,5 @@
 -- Entries, kind by kind: what a further kind adds to what is read, and to the forms that are read alone, stands in this file.
-use Rattle.std.proofs.Common.{◌≡◌, ◌⊎◌, inl, inr, ◌∙◌, refl, sym, ap, subst, arith, ℕ, ◌<◌, ◌≤◌, ◌-◌, ◌^◌, ℤ, Bool, true, false, List, [], ◌∷◌, map, Option, Some, None}
+use Rattle.std.proofs.Common.{◌≡◌, inl, inr, ◌∙◌, refl, sym, ap, subst, arith, ℕ, ◌<◌, ◌≤◌, ◌-◌, ◌^◌, ℤ, Bool, true, false, List, [], ◌∷◌, map, Option, Some, None}
 use Rattle.std.specs.Prelude.{All, codes, option_map, option_and_then, if◌then◌else◌}
 use Rattle.std.specs.List.Sorted.{IsStrictlyIncreasing}
 use Rattle.std.specs.Str.{bytes_eq}
@@ -95,7 +95,7 @@ points_only (list xs) set w e =
 
 -- ---- the parts of an entry of a least value, and of one of a term that has none
 
-best_parts : (o : Option ℤ) (p : Option (List NamedValue)) (q : Option (List Item)) (entry : FileEntry) → best_with o p q ≡ Some entry → (m : ℤ) × (values : List NamedValue) × (items : List Item) × (o ≡ Some m) × (p ≡ Some values) × (q ≡ Some items) × (Best m values items ≡ entry)
+pub best_parts : (o : Option ℤ) (p : Option (List NamedValue)) (q : Option (List Item)) (entry : FileEntry) → best_with o p q ≡ Some entry → (m : ℤ) × (values : List NamedValue) × (items : List Item) × (o ≡ Some m) × (p ≡ Some values) × (q ≡ Some items) × (Best m values items ≡ entry)
 best_parts None p q entry e = absurd (none_some entry e)
 best_parts (Some m) None q entry e = absurd (none_some entry e)
 best_parts (Some m) (Some values) None entry e = absurd (none_some entry e)
@@ -120,7 +120,7 @@ best_behind version (more first (more second xs)) entry w e =
       λ plain. more_same first (number_of_value p.0) (more second xs) (more (values_sexpr p.1) (items_of (map item_sexpr p.2))) m.1 (more_same second (values_sexpr p.1) xs (items_of (map item_sexpr p.2)) v.1 (i.1 plain.2)),
     )
 
-unbounded_parts : (o : Option (List ℤ)) (p : Option (List ℕ)) (entry : FileEntry) → unbounded_with o p ≡ Some entry → (values : List ℤ) × (set : List ℕ) × (o ≡ Some values) × (p ≡ Some set) × (Unbounded values set ≡ entry)
+pub unbounded_parts : (o : Option (List ℤ)) (p : Option (List ℕ)) (entry : FileEntry) → unbounded_with o p ≡ Some entry → (values : List ℤ) × (set : List ℕ) × (o ≡ Some values) × (p ≡ Some set) × (Unbounded values set ≡ entry)
 unbounded_parts None p entry e = absurd (none_some entry e)
 unbounded_parts (Some values) None entry e = absurd (none_some entry e)
 unbounded_parts (Some values) (Some set) entry e = (values, set, refl, refl, some_same (Unbounded values set) entry e)

@@ -16,3 +16,6 @@ pub mod LemmaForms
 pub mod QuickTexts
 pub mod EntryKinds
 pub mod OpenedLines
+pub mod KeepWord
+pub mod KeepsNone
+pub mod ReadOn

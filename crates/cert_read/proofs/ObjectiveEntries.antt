@@ -4,7 +4,6 @@ use Rattle.smt_sexpr.specs.Tree.{Sexpr, Items, none, more}
 use Rattle.stn_core.specs.declared.named.NamedValue.{NamedValue}
 use Rattle.kept_lemmas.specs.declared.item.Item.{Item}
 use Rattle.cert_text.specs.declared.entry.Version.{Version}
-use Rattle.cert_text.specs.declared.entry.FileEntry.{FileEntry}
 use Rattle.cert_text.specs.declared.entry.FileEntry.TheVariants.{Best, Unbounded}
 use Rattle.cert_read.specs.Parts.{each_of, item_of, whole_of, values_of, schedule_of, points_of, best_with, best_from, unbounded_with, unbounded_from}
 use Rattle.cert_read.specs.code.Lines.{HasNoFirst}

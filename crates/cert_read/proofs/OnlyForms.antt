@@ -127,7 +127,7 @@ between most (negsuc n) h = (omega (arith, ints, h), omega (arith, ints, h))
 abbrev pub Only : {A : Type 0} → (Sexpr → Option A) → (A → Sexpr) → (A → Type 0) → (A → Type 0) → Type 0
 Only {A} f g Fits Plain = (x : Sexpr) (a : A) → IsWritable x → f x ≡ Some a → Fits a × (Plain a → x ≡ g a)
 
-put_parts : {A : Type 0} (o : Option A) (p : Option (List A)) (ys : List A) → put o p ≡ Some ys → (z : A) × (zs : List A) × (o ≡ Some z) × (p ≡ Some zs) × (z ∷ zs ≡ ys)
+pub put_parts : {A : Type 0} (o : Option A) (p : Option (List A)) (ys : List A) → put o p ≡ Some ys → (z : A) × (zs : List A) × (o ≡ Some z) × (p ≡ Some zs) × (z ∷ zs ≡ ys)
 put_parts None p ys e = absurd (none_some ys e)
 put_parts (Some z) None ys e = absurd (none_some ys e)
 put_parts (Some z) (Some zs) ys e = (z, zs, refl, refl, some_same (z ∷ zs) ys e)

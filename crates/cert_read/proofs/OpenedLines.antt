@@ -1,6 +1,6 @@
 -- What stands in place of an entry: a parenthesis, items, and a parenthesis.
 use Rattle.std.proofs.Common.{◌≡◌, ◌≢◌, ◌∙◌, inl, inr, refl, sym, ap, subst, arith, ℕ, ◌<◌, ◌+◌, Bool, true, false, List, Option, Some, None, Err}
-use Rattle.std.specs.Prelude.{codes, slice_range, if◌then◌else◌, option_map, option_and_then}
+use Rattle.std.specs.Prelude.{codes, slice_range, option_map, option_and_then}
 use Rattle.std.specs.Option.{option_map_or}
 use Rattle.std.specs.Str.{bytes_eq}
 use Rattle.smt_lex.specs.declared.token.TokenKind.{TokenKind}

@@ -1,6 +1,6 @@
 -- Entries of a minimize, read behind their heads.
 use Rattle.std.proofs.Common.{◌≡◌, ◌≢◌, ℕ, ℤ, List, None}
-use Rattle.smt_sexpr.specs.Tree.{Sexpr, Items, none, more}
+use Rattle.smt_sexpr.specs.Tree.{Items, none, more}
 use Rattle.stn_core.specs.declared.named.NamedValue.{NamedValue}
 use Rattle.kept_lemmas.specs.declared.item.Item.{Item}
 use Rattle.cert_text.specs.declared.entry.Version.{Version}

@@ -2,3 +2,4 @@
 pub mod Shapes
 pub mod Lines
 pub mod Quick
+pub mod Entries

@@ -1,6 +1,6 @@
 //! The reader of certificates: the text that `cert_text` writes, from the bytes to the entries.
 //!
-//! [`read_certificate`] reads a certificate to the end of the text, [`read_entries`] what stands behind the header, and
+//! An [`EntryReader`] reads a certificate entry by entry, to the end of the text, and holds none of them;
 //! [`header_version`] tells the headers of both versions from other s-expressions. `specs/Parts.antt` says what each s-expression stands for,
 //! and `specs/Certificates.antt` which texts are certificates, and why another is refused. The laws: a text is one thing
 //! at most ([`one_certificate`]), what was written is read again ([`certificate_reads_back`]), and nothing but the form of
@@ -10,8 +10,9 @@
 //! to the first item that has another form; from there on each item is read as an s-expression.
 #![tactic(auto)]
 
-mod certificate;
+mod entries;
 mod error;
+mod header;
 mod laws;
 mod line;
 mod lists;
@@ -19,6 +20,7 @@ mod number;
 mod part;
 mod quick;
 
-pub use certificate::{Certificate, header_version, read_certificate, read_entries};
+pub use entries::EntryReader;
 pub use error::{CertReadError, CertificateRefusal};
+pub use header::header_version;
 pub use laws::{certificate_reads_back, examples_law, numeral_law, one_certificate, only_entries};

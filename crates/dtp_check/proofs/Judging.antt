@@ -10,6 +10,11 @@ use Rattle.stn_core.specs.declared.named.NamedValue.{NamedValue}
 use Rattle.stn_core.specs.declared.named.NamedValue.TheVariants.{Int, Truth}
 use Rattle.cert_text.specs.declared.entry.FileEntry.{FileEntry}
 use Rattle.cert_text.specs.declared.entry.FileEntry.TheVariants as file
+use Rattle.cert_read.specs.Certificates.{RefusesBehind}
+use Rattle.cert_read.specs.Laws.{OneRest}
+use Rattle.cert_read.specs.code.Entries.{EntriesFrom, IsReadTo, AreAllLeft}
+use Rattle.cert_read.specs.declared.error.CertificateRefusal.{CertificateRefusal}
+use Rattle.cert_read.proofs.ReadOn.{read_none}
 use Rattle.idl_node.specs.declared.sort.Sort.{Sort}
 use Rattle.idl_node.specs.declared.sort.Sort.TheVariants as sorts
 use Rattle.idl_node.specs.Nodes.{NodeValue}
@@ -45,25 +50,15 @@ use Rattle.dtp_check.specs.declared.judge.Progress.{Progress}
 use Rattle.dtp_check.specs.declared.judge.Progress.TheVariants.{Going, Judged}
 use Rattle.dtp_check.specs.declared.earlier.Earlier.{Earlier}
 use Rattle.dtp_check.specs.declared.earlier.Earlier.TheVariants.{Unkept, Shelved}
-use Rattle.dtp_check.specs.code.Earlier.{KeepsNone, Holds, Suffices}
-use Rattle.dtp_check.specs.code.Turns.{Leads, ComesTo, StandsAt, GoesTo, IsAnswerTurn, IsQuestionTurn, IsJudgedTurn}
+use Rattle.dtp_check.specs.code.Earlier.{Holds, Suffices}
+use Rattle.dtp_check.specs.code.Turns.{Leads, ComesTo, IsSoOfAll, IsRightTurn, IsAgainst, StandsAt, with_left, GoesTo, IsAnswerTurn, IsQuestionTurn, IsJudgedTurn}
 use Rattle.dtp_check.specs.declared.judgement.EntryFlaw.{EntryFlaw}
 use Rattle.dtp_check.specs.declared.judgement.EntryFlaw.TheVariants.{WrongCount, WrongSort, FalseAssertion}
 use Rattle.dtp_check.specs.declared.judgement.Judgement.{Judgement}
-use Rattle.dtp_check.specs.declared.judgement.Judgement.TheVariants.{Accepted, Script, Missing, Entry as BadEntry, Surplus}
+use Rattle.dtp_check.specs.declared.judgement.Judgement.TheVariants.{Accepted, Script, Certificate, Missing, Entry as BadEntry}
 use Rattle.dtp_check.specs.Judged.{is_of_sort, first_of_wrong_sort, is_true, first_false, first_of_two, values_flaw, entry_flaw, placed, told_by, surplus_of, judged_entry, judged_turns}
 use Rattle.dtp_check.specs.code.Roots.{first_unmarked}
-
--- ---- entries that are left
-
-left_by : (n : ℕ) (es : List FileEntry) → 0 < length es → surplus_of n es ≡ Surplus n
-left_by n [] h = absurd (omega arith)
-left_by n (e ∷ es) h = refl
-
-pub entries_left : (n used : ℕ) (entries : List FileEntry) → used < length entries → surplus_of n (drop used entries) ≡ Surplus n
-entries_left n zero entries h = left_by n entries (omega arith)
-entries_left n (suc used) [] h = absurd (omega arith)
-entries_left n (suc used) (e ∷ entries) h = entries_left n used entries (omega arith)
+use Rattle.dtp_check.proofs.Entries.{of_all, so_also, behind_one, so_at_end, so_at_fault}
 
 -- ---- the sorts of a sat entry's values
 
@@ -193,16 +188,6 @@ module _ (kept : Kept) (s : State) (stands : Stands kept s) (values : List Named
 
 -- ---- a question
 
-kept_at : (used : ℕ) (entries : List FileEntry) (entry : FileEntry) → AllByRecursion KeepsNone entries → used < length entries → entry ≡ get_or entries used entry → KeepsNone entry
-kept_at used [] entry h within there = absurd (omega (arith, within))
-kept_at zero (e ∷ entries) entry h within there = subst KeepsNone (sym there) h.0
-kept_at (suc used) (e ∷ entries) entry h within there = kept_at used entries entry h.1 (omega (arith, within)) there
-
--- what suffices for all entries suffices for one of them
-pub suffices_at : (earlier : Earlier) (used : ℕ) (entries : List FileEntry) (entry : FileEntry) → Suffices earlier entries → used < length entries → entry ≡ get_or entries used entry → Suffices earlier (entry ∷ [])
-suffices_at Unkept used entries entry h within there = (kept_at used entries entry h within there, tt)
-suffices_at (Shelved shelf) used entries entry h within there = tt
-
 -- of an entry with items as of the items alone
 pub suffices_items : (earlier : Earlier) (m : ℤ) (values : List NamedValue) (items : List Item) → Suffices earlier (file.Best m values items ∷ []) → Suffices earlier (file.Unsat items ∷ [])
 suffices_items Unkept m values items h = h
@@ -210,42 +195,39 @@ suffices_items (Shelved shelf) m values items h = h
 
 -- ---- an answer
 
-left_is : (used : ℕ) (entries : List FileEntry) (entry : FileEntry) → used < length entries → entry ≡ get_or entries used entry → drop used entries ≡ entry ∷ drop (used + 1) entries
-left_is used entries entry within there = drop_more entries used entry within ∙ ap (λ (first : FileEntry). first ∷ drop (used + 1) entries) (sym there)
+module _ {K : Type 0} (leads : Leads K) (first next : K) (question : Question) (x : Sexpr) (s : State) (number : ℕ) (before : List Placed) (old new : EntriesFrom) (counted : ℕ) (kept : Kept) (later : Earlier) where
+  module _ (entry : FileEntry) (reads : IsReadTo old new (entry ∷ [])) where
+    -- an entry without a flaw: the script goes on behind its verdict
+    pub answer_right : IsRightTurn leads first next question x s before entry kept later → counted ≡ number + 1
+        → IsAnswerTurn leads first next question x s number before old new counted kept later Going
+    answer_right right more = (entry, reads, right, more)
 
-module _ {K : Type 0} (leads : Leads K) (first next : K) (question : Question) (x : Sexpr) (s : State) (number used : ℕ) (before : List Placed) (entries : List FileEntry) (counted : ℕ) (kept : Kept) (later : Earlier) where
-  -- an entry without a flaw: the script goes on behind its verdict
-  pub answer_right : (entry : FileEntry) (verdict : Satisfiability) (flaw : Option EntryFlaw) → Stands kept (settled verdict s) → verdict ≡ told_by entry
-      → Holds later (before ++ placed question s.context entry ∷ []) → leads first next before question x s.context entry → used < length entries → entry ≡ get_or entries used entry
-      → flaw ≡ entry_flaw before question x s.context entry → flaw ≡ None → counted ≡ number + 1
-      → IsAnswerTurn leads first next question x s number used before entries counted kept later (Going (used + 1))
-  answer_right entry verdict flaw stands e held led within there f none more = (
-    entry,
-    left_is used entries entry within there,
-    sym f ∙ none,
-    led,
-    subst (λ (v : Satisfiability). Stands kept (settled v s)) e stands,
-    held,
-    refl,
-    omega arith,
-    more,
-  )
+    pub answer_flawed : (found : Option EntryFlaw) (flaw : EntryFlaw) (n : ℕ) → found ≡ entry_flaw before question x s.context entry → found ≡ Some flaw → n ≡ new.count
+        → IsAnswerTurn leads first next question x s number before old new counted kept later (Judged (BadEntry n flaw))
+    answer_flawed found flaw n f is same =
+        let counts = reads.count in
+        let here : n ≡ old.count + 1 = omega (arith, same, counts) in
+        behind_one old new entry (IsAgainst before question x s.context (old.count + 1) (BadEntry n flaw)) reads (λ left. (flaw, sym f ∙ is, ap (λ (k : ℕ). BadEntry k flaw) here))
 
-  pub answer_flawed : (entry : FileEntry) (found : Option EntryFlaw) (flaw : EntryFlaw) → used < length entries → entry ≡ get_or entries used entry → found ≡ entry_flaw before question x s.context entry → found ≡ Some flaw
-      → IsAnswerTurn leads first next question x s number used before entries counted kept later (Judged (BadEntry (used + 1) flaw))
-  answer_flawed entry found flaw within there f is = inr (entry, flaw, drop (used + 1) entries, left_is used entries entry within there, sym f ∙ is, refl)
+  module _ (one : OneRest) (same : new ≡ old) where
+    -- no entry is left
+    pub answer_missing : (n : ℕ) → AreAllLeft old [] → n ≡ new.count → IsAnswerTurn leads first next question x s number before old new counted kept later (Judged (Missing (n + 1)))
+    answer_missing n over counts =
+        let here : n ≡ old.count = counts ∙ ap (λ (e : EntriesFrom). e.count) same in
+        so_at_end one old new (IsAgainst before question x s.context (old.count + 1) (Missing (n + 1))) same over (ap (λ (k : ℕ). Missing (k + 1)) here)
 
-  pub answer_missing : length entries ≤ used → IsAnswerTurn leads first next question x s number used before entries counted kept later (Judged (Missing (used + 1)))
-  answer_missing few = inl (drop_all used entries few, refl)
+    -- the text has a fault
+    pub answer_unread : (why : CertificateRefusal) → RefusesBehind old.version old.bytes old.count old.place why → IsAnswerTurn leads first next question x s number before old new counted kept later (Judged (Certificate why))
+    answer_unread why h = so_at_fault one old new (IsAgainst before question x s.context (old.count + 1) (Certificate why)) same why h
 
   -- a question that is taken, and one that isn't
-  pub question_taken : (found : Option Kind) (progress : Progress) → found ≡ refusal_of question s x → found ≡ None → IsAnswerTurn leads first next question x s number used before entries counted kept later progress
-      → IsQuestionTurn leads first next question x s number used before entries counted kept later progress
+  pub question_taken : (found : Option Kind) (progress : Progress) → found ≡ refusal_of question s x → found ≡ None → IsAnswerTurn leads first next question x s number before old new counted kept later progress
+      → IsQuestionTurn leads first next question x s number before old new counted kept later progress
   question_taken found progress e none turn = inl (sym e ∙ none, turn)
 
-  pub question_barred : (found : Option Kind) (kind : Kind) → found ≡ refusal_of question s x → found ≡ Some kind
-      → IsQuestionTurn leads first next question x s number used before entries counted kept later (Judged (Script number kind))
-  question_barred found kind e is = inr (kind, sym e ∙ is, refl)
+  pub question_barred : (found : Option Kind) (kind : Kind) → found ≡ refusal_of question s x → found ≡ Some kind → new ≡ old
+      → IsQuestionTurn leads first next question x s number before old new counted kept later (Judged (Script number kind))
+  question_barred found kind e is same = inr (kind, sym e ∙ is, refl, same)
 
 -- ---- a command
 
@@ -280,83 +262,101 @@ module _ {K : Type 0} (leads : Leads K) (before : List Placed) (first : K) where
   pub comes_as : (turns others : List (Turn FileEntry)) (judgement : Judgement) (last : K) → turns ≡ others → ComesTo leads before first others judgement last → ComesTo leads before first turns judgement last
   comes_as turns others judgement last e h = subst (λ (ts : List (Turn FileEntry)). ComesTo leads before first ts judgement last) (sym e) h
 
-  module _ (entries : List FileEntry) (number used : ℕ) (old : Kept) (earlier : Earlier) (p : Place FileEntry) (at : StandsAt entries number used old earlier p before) where
+  module _ (e : EntriesFrom) (number : ℕ) (old : Kept) (earlier : Earlier) (p : Place FileEntry) (at : StandsAt number e.count old earlier p before) where
     -- behind the script
-    pub comes_over : (turns : List (Turn FileEntry)) (s : State) (judgement : Judgement) → turns ≡ turn p s ends ∷ [] → judgement ≡ surplus_of (used + 1) (drop used entries) → ComesTo leads before first turns judgement first
-    comes_over turns s judgement e is =
-        comes_as turns (turn p s ends ∷ []) judgement first e (record {
-          judged = ap (λ (n : ℕ). surplus_of (n + 1) p.left) at.count ∙ ap (surplus_of (used + 1)) at.left ∙ sym is;
+    pub comes_over : (turns : List (Turn FileEntry)) (s : State) (all : List FileEntry) (judgement : Judgement) → turns ≡ turn (with_left p all) s ends ∷ [] → judgement ≡ surplus_of (e.count + 1) all → ComesTo leads before first turns judgement first
+    comes_over turns s all judgement same is =
+        comes_as turns (turn (with_left p all) s ends ∷ []) judgement first same (record {
+          judged = ap (λ (n : ℕ). surplus_of (n + 1) all) at.count ∙ sym is;
           kept = λ a. refl;
         })
 
+    -- what the turns come to with these entries
+    abbrev Comes : Sexpr → Judgement → K → List FileEntry → Type 0
+    Comes x judgement last all = (xs : List Sexpr) → ComesTo leads before first (course told_by (with_left p all) (x ∷ xs) ended) judgement last
+
     module _ (w : Walk) (x : Sexpr) where
-      pub notice_judged : OnlyExitEnds → (notice : Notice) → used ≤ length entries → Walked w p.state x (Tell notice) → w.number ≡ number + 1 → GoesTo leads first first p before entries x w.number w.state earlier used
-      notice_judged only notice le h counted = record {
+      pub notice_judged : OnlyExitEnds → (notice : Notice) → Walked w p.state x (Tell notice) → w.number ≡ number + 1 → GoesTo leads first first p before e e x w.number w.state earlier
+      notice_judged only notice h counted = record {
         behind = behind_told p h.next;
         placed = before;
-        there = record { numbered = ap (λ (n : ℕ). n + 1) at.numbered ∙ sym counted; stands = h.stands; held = at.held; count = at.count; left = at.left };
+        taken = [];
+        there = record { numbered = ap (λ (n : ℕ). n + 1) at.numbered ∙ sym counted; stands = h.stands; held = at.held; count = at.count };
+        takes = read_none e;
         counted = counted ∙ ap (λ (n : ℕ). n + 1) (sym at.numbered);
         goes_on = not_exit only p.state x (step_of h.next (Tell notice)) h.leads (told_apart notice);
-        within = le;
-        gives = λ xs judgement last c. comes_as _ _ judgement last (told_turn told_by p x h.next notice h.leads xs ended) (record { judged = c.judged; kept = c.kept });
+        gives = λ left xs judgement last c. comes_as _ _ judgement last (told_turn told_by (with_left p left) x h.next notice h.leads xs ended) (record { judged = c.judged; kept = c.kept });
       }
 
-      pub exit_judged : (judgement : Judgement) → Walked w p.state x Exit → judgement ≡ surplus_of (used + 1) (drop used entries) → (xs : List Sexpr) → ComesTo leads before first (course told_by p (x ∷ xs) ended) judgement first
-      exit_judged judgement h is xs = comes_over _ h.next judgement (exit_turn told_by p x h.next h.leads xs ended) is
+      pub exit_judged : (judgement : Judgement) (new : EntriesFrom) → Walked w p.state x Exit → IsSoOfAll e new (λ all. judgement ≡ surplus_of (e.count + 1) all) → IsSoOfAll e new (Comes x judgement first)
+      exit_judged judgement new h so =
+          so_also e new (λ all. judgement ≡ surplus_of (e.count + 1) all) (Comes x judgement first)
+          (λ all is xs. comes_over _ h.next all judgement (exit_turn told_by (with_left p all) x h.next h.leads xs ended) is) so
 
-      pub refused_judged : (v : Walk) (kind : Kind) (last : K) → Refuses v w p.state x kind → w.number ≡ number → (xs : List Sexpr) → ComesTo leads before first (course told_by p (x ∷ xs) ended) (Script w.number kind) last
-      refused_judged v kind last h same xs =
-          comes_as _ _ (Script w.number kind) last (refused_turn told_by p x h.why h.refuses xs ended) (record {
+      pub refused_judged : (v : Walk) (kind : Kind) (last : K) → Refuses v w p.state x kind → w.number ≡ number → IsSoOfAll e e (Comes x (Script w.number kind) last)
+      refused_judged v kind last h same = of_all e (Comes x (Script w.number kind) last) (λ all xs.
+          comes_as _ _ (Script w.number kind) last (refused_turn told_by (with_left p all) x h.why h.refuses xs ended) (record {
             judged = ap (λ (k : ℕ). Script k (kind_of h.why)) (at.numbered ∙ sym same) ∙ ap (Script w.number) (sym h.is);
             kept = λ a. absurd (script_refused w.number kind a);
-          })
+          }))
 
       -- what is kept behind the answer is `settled`
-      module _ (only : OnlyExitEnds) (question : Question) (counted : ℕ) (settled : Kept) (later : Earlier) (next : K) (h : Walked w p.state x (Ask question)) (same : w.number ≡ number) where
-        answer_judged : (progress : Progress) → refusal_of question h.next x ≡ None → IsAnswerTurn leads first next question x h.next w.number used before entries counted settled later progress
-            → IsJudgedTurn leads first next p before entries x counted settled later progress
-        answer_judged (Going now) taken (entry, left, none, led, stands, held, one, le, counts) =
+      module _ (only : OnlyExitEnds) (question : Question) (counted : ℕ) (settled : Kept) (later : Earlier) (next : K) (new : EntriesFrom) (h : Walked w p.state x (Ask question)) (same : w.number ≡ number) where
+        answered : (entry : FileEntry) → refusal_of question h.next x ≡ None → IsReadTo e new (entry ∷ []) → IsRightTurn leads first next question x h.next before entry settled later → counted ≡ w.number + 1
+            → GoesTo leads first next p before e new x counted settled later
+        answered entry taken reads right counts =
             let s = h.next in
-            let q = behind_answer told_by p s entry (drop now entries) in
             let sofar = before ++ placed question s.context entry ∷ [] in
             let more = length-append before (placed question s.context entry ∷ []) in
             let count = at.count in
+            let one = reads.count in
             record {
-              behind = q;
+              behind = behind_answer told_by p s entry [];
               placed = sofar;
-              there = record { numbered = ap (λ (n : ℕ). n + 1) (at.numbered ∙ sym same) ∙ sym counts; stands = stands; held = held; count = omega (arith, more, count, one); left = refl };
+              taken = entry ∷ [];
+              there = record { numbered = ap (λ (n : ℕ). n + 1) (at.numbered ∙ sym same) ∙ sym counts; stands = right.stands; held = right.held; count = omega (arith, more, count, one) };
+              takes = reads;
               counted = counts ∙ ap (λ (n : ℕ). n + 1) (same ∙ sym at.numbered);
               goes_on = not_exit only p.state x (step_of s (Ask question)) h.leads (ask_apart question);
-              within = le;
-              gives = λ xs judgement last c.
-                  comes_as _ _ judgement last (answered_turn told_by p x s question entry (drop now entries) h.leads taken (at.left ∙ left) xs ended) (record {
-                    judged = ap (λ (found : Option EntryFlaw). judged_entry (length before + 1) found (judged_turns sofar (course told_by q xs ended))) none ∙ c.judged;
-                    kept = λ a. (next, led, c.kept a);
+              gives = λ left xs judgement last c.
+                  let q = behind_answer told_by p s entry left in
+                  comes_as _ _ judgement last (answered_turn told_by (with_left p (entry ∷ left)) x s question entry left h.leads taken refl xs ended) (record {
+                    judged = ap (λ (found : Option EntryFlaw). judged_entry (length before + 1) found (judged_turns sofar (course told_by q xs ended))) right.right ∙ c.judged;
+                    kept = λ a. (next, right.led, c.kept a);
                   });
             }
-        answer_judged (Judged judgement) taken (inl (none, is)) = λ xs.
-            comes_as _ _ judgement next (unanswered_turn told_by p x h.next question h.leads taken (at.left ∙ none) xs ended)
-            (record { judged = ap (λ (n : ℕ). Missing (n + 1)) at.count ∙ sym is; kept = λ a. absurd (missing_refused (used + 1) (sym is ∙ a)) })
-        answer_judged (Judged judgement) taken (inr (entry, flaw, left, left_is, flawed, is)) = λ xs.
+
+        unanswered : (judgement : Judgement) → refusal_of question h.next x ≡ None → (all : List FileEntry) → IsAgainst before question x h.next.context (e.count + 1) judgement all → Comes x judgement next all
+        unanswered judgement taken [] is = λ xs.
+            comes_as _ _ judgement next (unanswered_turn told_by (with_left p []) x h.next question h.leads taken refl xs ended)
+            (record { judged = ap (λ (n : ℕ). Missing (n + 1)) at.count ∙ sym is; kept = λ a. absurd (missing_refused (e.count + 1) (sym is ∙ a)) })
+        unanswered judgement taken (entry ∷ left) (flaw, flawed, is) = λ xs.
             let s = h.next in
             let q = behind_answer told_by p s entry left in
             let sofar = before ++ placed question s.context entry ∷ [] in
-            comes_as _ _ judgement next (answered_turn told_by p x s question entry left h.leads taken (at.left ∙ left_is) xs ended) (record {
+            comes_as _ _ judgement next (answered_turn told_by (with_left p (entry ∷ left)) x s question entry left h.leads taken refl xs ended) (record {
               judged = ap (λ (found : Option EntryFlaw). judged_entry (length before + 1) found (judged_turns sofar (course told_by q xs ended))) flawed ∙ ap (λ (n : ℕ). BadEntry (n + 1) flaw) at.count ∙ sym is;
-              kept = λ a. absurd (entry_refused (used + 1) flaw (sym is ∙ a));
+              kept = λ a. absurd (entry_refused (e.count + 1) flaw (sym is ∙ a));
             })
 
-        barred_judged : (kind : Kind) → refusal_of question h.next x ≡ Some kind → (xs : List Sexpr) → ComesTo leads before first (course told_by p (x ∷ xs) ended) (Script w.number kind) next
-        barred_judged kind barred xs =
-            comes_as _ _ (Script w.number kind) next (barred_turn told_by p x h.next question kind h.leads barred xs ended) (record {
+        answer_judged : (progress : Progress) → refusal_of question h.next x ≡ None → IsAnswerTurn leads first next question x h.next w.number before e new counted settled later progress
+            → IsJudgedTurn leads first next p before e new x counted settled later progress
+        answer_judged Going taken (entry, reads, right, counts) = answered entry taken reads right counts
+        answer_judged (Judged judgement) taken so =
+            so_also e new (IsAgainst before question x h.next.context (e.count + 1) judgement) (Comes x judgement next) (unanswered judgement taken) so
+
+        barred_judged : (kind : Kind) → refusal_of question h.next x ≡ Some kind → IsSoOfAll e e (Comes x (Script w.number kind) next)
+        barred_judged kind barred = of_all e (Comes x (Script w.number kind) next) (λ all xs.
+            comes_as _ _ (Script w.number kind) next (barred_turn told_by (with_left p all) x h.next question kind h.leads barred xs ended) (record {
               judged = ap (λ (k : ℕ). Script k kind) (at.numbered ∙ sym same);
               kept = λ a. absurd (script_refused w.number kind a);
-            })
+            }))
 
-        pub question_judged : (progress : Progress) → IsQuestionTurn leads first next question x h.next w.number used before entries counted settled later progress → IsJudgedTurn leads first next p before entries x counted settled later progress
+        pub question_judged : (progress : Progress) → IsQuestionTurn leads first next question x h.next w.number before e new counted settled later progress → IsJudgedTurn leads first next p before e new x counted settled later progress
         question_judged progress (inl (taken, turn)) = answer_judged progress taken turn
-        question_judged progress (inr (kind, barred, is)) =
-            subst (λ (t : Progress). IsJudgedTurn leads first next p before entries x counted settled later t) (sym is) (barred_judged kind barred)
+        question_judged progress (inr (kind, barred, is, stays)) =
+            subst (λ (t : Progress). IsJudgedTurn leads first next p before e new x counted settled later t) (sym is)
+            (subst (λ (n : EntriesFrom). IsSoOfAll e n (Comes x (Script w.number kind) next)) (sym stays) (barred_judged kind barred))
 
 pub course_none : (p : Place FileEntry) → course told_by p [] ended ≡ turn p p.state ends ∷ []
 unfolding course

@@ -1,3 +1,4 @@
+pub mod Entries
 pub mod Walking
 pub mod Judging
 pub mod Reading

@@ -92,5 +92,5 @@ nothing_made kept made none = λ apart. subst (IsMadeOf kept) (sym none) tt
 pub made_as : (old new : Kept) (made : Option Problem) → new ≡ old → IsMadeStill old made → IsMadeStill new made
 made_as old new made e h = subst (λ (k : Kept). IsMadeStill k made) (sym e) h
 
-pub going_on : (progress : Progress) (used : ℕ) → progress ≡ Going used → GoesOn progress
-going_on progress used e = subst GoesOn (sym e) tt
+pub going_on : (progress : Progress) → progress ≡ Going → GoesOn progress
+going_on progress e = subst GoesOn (sym e) tt

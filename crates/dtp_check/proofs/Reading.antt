@@ -1,5 +1,5 @@
 -- What is read of the script's part is what stands there.
-use Rattle.std.proofs.Common.{refl, sym, ap, subst, ◌∙◌, ◌≡◌, ◌+◌, ℕ, List, [], ◌∷◌, drop, Bool, true, false}
+use Rattle.std.proofs.Common.{refl, sym, ap, subst, ◌∙◌, ◌≡◌, ◌+◌, ℕ, List, [], ◌∷◌, ◌++◌, append_assoc, Bool, true, false}
 use Rattle.smt_sexpr.specs.Tree.{Sexpr}
 use Rattle.smt_sexpr.specs.Commands.{ended}
 use Rattle.smt_sexpr.specs.declared.error.SexprRefusal.{SexprRefusal}
@@ -24,12 +24,15 @@ use Rattle.dtp_check.specs.declared.judge.Progress.TheVariants.{Going, Judged}
 use Rattle.dtp_check.specs.declared.judgement.Judgement.{Judgement}
 use Rattle.cert_read.specs.Certificates.{CertificateOutcome}
 use Rattle.cert_read.specs.Laws.{OneCertificate, OneRest}
+use Rattle.cert_read.specs.code.Entries.{EntriesFrom, IsReadTo}
+use Rattle.cert_read.proofs.ReadOn.{read_none, read_more}
 use Rattle.dtp_check.specs.Judged.{CertificateBehind, judged_with, JudgedPart, EndsPart, IsApart, ExitEnds, FollowsExit, ScriptPart, told_by, surplus_of, turns_with}
 use Rattle.dtp_check.specs.Laws.{OneJudgement}
 use Rattle.dtp_check.specs.code.Parts.{IsReadable}
 use Rattle.dtp_check.specs.declared.earlier.Earlier.{Earlier}
 use Rattle.dtp_check.specs.code.Earlier.{Holds}
-use Rattle.dtp_check.specs.code.Turns.{Leads, ComesTo, StandsAt, GoesTo, IsJudgedTurn}
+use Rattle.dtp_check.specs.code.Turns.{Leads, ComesTo, IsSoOfAll, StandsAt, with_left, GoesTo, IsJudgedTurn, ScriptComesTo}
+use Rattle.dtp_check.proofs.Entries.{of_all, so_also, so_behind}
 use Rattle.dtp_check.proofs.Judging.{course_none, comes_over}
 
 -- the command that was read is the script's next
@@ -40,37 +43,41 @@ pub record IsMore (bytes : List ℕ) (after : ℕ) (x : Sexpr) (rest : List Sexp
 
 -- ---- the loop
 
-module _ {K : Type 0} (leads : Leads K) (bytes : List ℕ) (entries : List FileEntry) (first : K) where
-  -- what is left of the script comes to what the whole does
-  pub record IsLeft (place : Place FileEntry) (at : ℕ) (before : List Placed) (now : K) (xs : List Sexpr) (end : PartEnd) (behind : ℕ) : Type 0 where
+module _ {K : Type 0} (leads : Leads K) (bytes : List ℕ) (start : EntriesFrom) (first : K) where
+  -- what is left of the script comes to what the whole does, behind these entries and with those that are left
+  pub record IsLeft (taken : List FileEntry) (place : Place FileEntry) (at : ℕ) (before : List Placed) (now : K) (xs : List Sexpr) (end : PartEnd) (behind : ℕ) : Type 0 where
     pub rest : List Sexpr
     pub stands_there : ScriptPart bytes at rest end behind
-    pub gives : (judgement : Judgement) (last : K) → ComesTo leads before now (course told_by place rest ended) judgement last → ComesTo leads [] first (turns_with entries xs) judgement last
+    pub gives : (left : List FileEntry) (judgement : Judgement) (last : K) → ComesTo leads before now (course told_by (with_left place left) rest ended) judgement last → ComesTo leads [] first (turns_with (taken ++ left) xs) judgement last
 
-  pub record IsJudging (at number used : ℕ) (kept : Kept) (earlier : Earlier) (now : K) : Type 0 where
+  pub record IsJudging (at number : ℕ) (here : EntriesFrom) (kept : Kept) (earlier : Earlier) (now : K) : Type 0 where
     pub place : Place FileEntry
     pub before : List Placed
-    pub there : StandsAt entries number used kept earlier place before
-    pub left : (xs : List Sexpr) (end : PartEnd) (behind : ℕ) → ScriptPart bytes 0 xs end behind → IsReadable end → IsLeft place at before now xs end behind
+    pub taken : List FileEntry
+    pub takes : IsReadTo start here taken
+    pub there : StandsAt number here.count kept earlier place before
+    pub left : (xs : List Sexpr) (end : PartEnd) (behind : ℕ) → ScriptPart bytes 0 xs end behind → IsReadable end → IsLeft taken place at before now xs end behind
 
-  pub judging_starts : (w : Walk) (earlier : Earlier) → Holds earlier [] → IsStart w → IsJudging w.lexer.place w.number 0 w.state earlier first
-  judging_starts w earlier held h =
-      subst (λ (at : ℕ). IsJudging at w.number 0 w.state earlier first) (sym h.place) (record {
-        place = start_with entries;
+  pub judging_starts : (w : Walk) (earlier : Earlier) → start.count ≡ 0 → Holds earlier [] → IsStart w → IsJudging w.lexer.place w.number start w.state earlier first
+  judging_starts w earlier none held h =
+      subst (λ (at : ℕ). IsJudging at w.number start w.state earlier first) (sym h.place) (record {
+        place = start_with [];
         before = [];
-        there = record { numbered = sym h.number; stands = h.stands; held = held; count = refl; left = refl };
-        left = λ xs end behind part_of r. record { rest = xs; stands_there = part_of; gives = λ judgement last c. c };
+        taken = [];
+        takes = read_none start;
+        there = record { numbered = sym h.number; stands = h.stands; held = held; count = sym none };
+        left = λ xs end behind part_of r. record { rest = xs; stands_there = part_of; gives = λ left judgement last c. c };
       })
 
 -- reading leaves what the commands led to
-pub stands_as : (entries : List FileEntry) (used : ℕ) (earlier : Earlier) (place : Place FileEntry) (before : List Placed) (v w : Walk) → w.number ≡ v.number → w.state ≡ v.state
-    → StandsAt entries v.number used v.state earlier place before → StandsAt entries w.number used w.state earlier place before
-stands_as entries used earlier place before v w number state h = record { numbered = h.numbered ∙ sym number; stands = subst (λ (kept : Kept). Stands kept place.state) (sym state) h.stands; held = h.held; count = h.count; left = h.left }
+pub stands_as : (used : ℕ) (earlier : Earlier) (place : Place FileEntry) (before : List Placed) (v w : Walk) → w.number ≡ v.number → w.state ≡ v.state
+    → StandsAt v.number used v.state earlier place before → StandsAt w.number used w.state earlier place before
+stands_as used earlier place before v w number state h = record { numbered = h.numbered ∙ sym number; stands = subst (λ (kept : Kept). Stands kept place.state) (sym state) h.stands; held = h.held; count = h.count }
 
 -- where the script goes on
-pub goes_to : {K : Type 0} (leads : Leads K) (first next : K) (place : Place FileEntry) (before : List Placed) (entries : List FileEntry) (x : Sexpr) (number : ℕ) (new : Kept) (later : Earlier) (progress : Progress) (now : ℕ) → progress ≡ Going now
-    → IsJudgedTurn leads first next place before entries x number new later progress → GoesTo leads first next place before entries x number new later now
-goes_to leads first next place before entries x number new later progress now is j = subst (λ (t : Progress). IsJudgedTurn leads first next place before entries x number new later t) is j
+pub goes_to : {K : Type 0} (leads : Leads K) (first next : K) (place : Place FileEntry) (before : List Placed) (old new : EntriesFrom) (x : Sexpr) (number : ℕ) (kept : Kept) (later : Earlier) (progress : Progress) → progress ≡ Going
+    → IsJudgedTurn leads first next place before old new x number kept later progress → GoesTo leads first next place before old new x number kept later
+goes_to leads first next place before old new x number kept later progress is j = subst (λ (t : Progress). IsJudgedTurn leads first next place before old new x number kept later t) is j
 
 module _ (one : OneOutcome) where
   pub same_sexpr : (bytes : List ℕ) (place : ℕ) (x y : Sexpr) (m n : ℕ) → Spells bytes place x m → Spells bytes place y n → (x ≡ y) × (m ≡ n)
@@ -187,16 +194,18 @@ module _ (one : OneOutcome) where
 
   -- ---- a turn of the loop
 
-  module _ {K : Type 0} (leads : Leads K) (bytes : List ℕ) (entries : List FileEntry) (first : K) where
-    module _ (place number used : ℕ) (kept : Kept) (earlier : Earlier) (now : K) (h : IsJudging leads bytes entries first place number used kept earlier now) where
+  module _ {K : Type 0} (leads : Leads K) (bytes : List ℕ) (start : EntriesFrom) (first : K) where
+    module _ (place number : ℕ) (here : EntriesFrom) (kept : Kept) (earlier : Earlier) (now : K) (h : IsJudging leads bytes start first place number here kept earlier now) where
       -- what is left comes to
-      left_comes : (rest others : List Sexpr) (judgement : Judgement) (last : K) → rest ≡ others → ComesTo leads h.before now (course told_by h.place others ended) judgement last → ComesTo leads h.before now (course told_by h.place rest ended) judgement last
-      left_comes rest others judgement last e c = subst (λ (ys : List Sexpr). ComesTo leads h.before now (course told_by h.place ys ended) judgement last) (sym e) c
+      left_comes : (left : List FileEntry) (rest others : List Sexpr) (judgement : Judgement) (last : K) → rest ≡ others → ComesTo leads h.before now (course told_by (with_left h.place left) others ended) judgement last → ComesTo leads h.before now (course told_by (with_left h.place left) rest ended) judgement last
+      left_comes left rest others judgement last e c = subst (λ (ys : List Sexpr). ComesTo leads h.before now (course told_by (with_left h.place left) ys ended) judgement last) (sym e) c
 
-      pub judging_goes_on : (after : ℕ) (x : Sexpr) (more : ℕ) (new : Kept) (later : Earlier) (next : K) (count : ℕ) → Spells bytes place x after → IsApart x → GoesTo leads now next h.place h.before entries x more new later count → IsJudging leads bytes entries first after more count new later next
-      judging_goes_on after x more new later next count spells apart w = record {
+      pub judging_goes_on : (after : ℕ) (x : Sexpr) (more : ℕ) (there : EntriesFrom) (new : Kept) (later : Earlier) (next : K) → Spells bytes place x after → IsApart x → GoesTo leads now next h.place h.before here there x more new later → IsJudging leads bytes start first after more there new later next
+      judging_goes_on after x more there new later next spells apart w = record {
         place = w.behind;
         before = w.placed;
+        taken = h.taken ++ w.taken;
+        takes = read_more start here h.taken h.takes there w.taken w.takes;
         there = w.there;
         left = λ xs end behind part_of readable. (
             let l = h.left xs end behind part_of readable in
@@ -204,27 +213,38 @@ module _ (one : OneOutcome) where
             record {
               rest = m.others;
               stands_there = subst (λ (b : Bool). FollowsExit b (ExitEnds after m.others end behind) (ScriptPart bytes after m.others end behind)) w.goes_on m.follows;
-              gives = λ judgement last c. l.gives judgement last (left_comes l.rest (x ∷ m.others) judgement last m.is (w.gives m.others judgement last c));
+              gives = λ left judgement last c.
+                  subst (λ (all : List FileEntry). ComesTo leads [] first (turns_with all xs) judgement last) (sym (append_assoc h.taken w.taken left))
+                  (l.gives (w.taken ++ left) judgement last (left_comes (w.taken ++ left) l.rest (x ∷ m.others) judgement last m.is (w.gives left m.others judgement last c)));
             });
       }
 
-      pub judged_here : (after : ℕ) (x : Sexpr) (more : ℕ) (new : Kept) (later : Earlier) (next : K) (progress : Progress) (judgement : Judgement) → Spells bytes place x after → IsApart x → progress ≡ Judged judgement → IsJudgedTurn leads now next h.place h.before entries x more new later progress
-          → (xs : List Sexpr) (end : PartEnd) (behind : ℕ) → ScriptPart bytes 0 xs end behind → IsReadable end → ComesTo leads [] first (turns_with entries xs) judgement next
-      judged_here after x more new later next progress judgement spells apart is j xs end behind part_of readable =
-          let w : IsJudgedTurn leads now next h.place h.before entries x more new later (Judged judgement) = subst (λ (t : Progress). IsJudgedTurn leads now next h.place h.before entries x more new later t) is j in
-          let l = h.left xs end behind part_of readable in
-          let m = part_is_more bytes place after x l.rest end behind l.stands_there spells apart in
-          l.gives judgement next (left_comes l.rest (x ∷ m.others) judgement next m.is (w m.others))
+      module _ (there : EntriesFrom) (judgement : Judgement) (last : K) where
+        -- what all entries come to, by those that are left
+        whole : (Says : List FileEntry → Type 0) → ((all : List FileEntry) → Says all → ScriptComesTo leads first last bytes judgement (h.taken ++ all)) → IsSoOfAll here there Says → IsSoOfAll start there (ScriptComesTo leads first last bytes judgement)
+        whole Says comes so =
+            so_behind start here there h.taken (ScriptComesTo leads first last bytes judgement) h.takes
+            (so_also here there Says (λ all. ScriptComesTo leads first last bytes judgement (h.taken ++ all)) comes so)
 
-      pub judged_over : (after : ℕ) (found : PartEnd) (judgement : Judgement) → EndsPart bytes place found after → judgement ≡ surplus_of (used + 1) (drop used entries)
-          → (xs : List Sexpr) (end : PartEnd) (behind : ℕ) → ScriptPart bytes 0 xs end behind → IsReadable end → ComesTo leads [] first (turns_with entries xs) judgement now
-      judged_over after found judgement e is xs end behind part_of readable =
+        pub judged_here : (after : ℕ) (x : Sexpr) (more : ℕ) (new : Kept) (later : Earlier) (progress : Progress) → Spells bytes place x after → IsApart x → progress ≡ Judged judgement → IsJudgedTurn leads now last h.place h.before here there x more new later progress
+            → IsSoOfAll start there (ScriptComesTo leads first last bytes judgement)
+        judged_here after x more new later progress spells apart is j =
+            let w : IsJudgedTurn leads now last h.place h.before here there x more new later (Judged judgement) = subst (λ (t : Progress). IsJudgedTurn leads now last h.place h.before here there x more new later t) is j in
+            whole (λ all. (xs : List Sexpr) → ComesTo leads h.before now (course told_by (with_left h.place all) (x ∷ xs) ended) judgement last) (λ all comes xs end behind part_of readable.
+            let l = h.left xs end behind part_of readable in
+            let m = part_is_more bytes place after x l.rest end behind l.stands_there spells apart in
+            l.gives all judgement last (left_comes all l.rest (x ∷ m.others) judgement last m.is (comes m.others))) w
+
+      pub judged_over : (there : EntriesFrom) (after : ℕ) (found : PartEnd) (judgement : Judgement) → EndsPart bytes place found after → IsSoOfAll here there (λ all. judgement ≡ surplus_of (here.count + 1) all)
+          → IsSoOfAll start there (ScriptComesTo leads first now bytes judgement)
+      judged_over there after found judgement e so =
+          whole there judgement now (λ all. judgement ≡ surplus_of (here.count + 1) all) (λ all is xs end behind part_of readable.
           let l = h.left xs end behind part_of readable in
           let over = part_is_over bytes place after l.rest end found behind l.stands_there e in
-          l.gives judgement now (left_comes l.rest [] judgement now over (comes_over leads h.before now entries number used kept earlier h.place h.there (course told_by h.place [] ended) h.place.state judgement (course_none h.place) is))
+          l.gives all judgement now (left_comes all l.rest [] judgement now over (comes_over leads h.before now here number kept earlier h.place h.there (course told_by (with_left h.place all) [] ended) h.place.state all judgement (course_none (with_left h.place all)) is))) so
 
-      pub judged_unread : (after : ℕ) (kind : Kind) (judgement : Judgement) → EndsPart bytes place (part.Unread kind) after
-          → (xs : List Sexpr) (end : PartEnd) (behind : ℕ) → ScriptPart bytes 0 xs end behind → IsReadable end → ComesTo leads [] first (turns_with entries xs) judgement now
-      judged_unread after kind judgement e xs end behind part_of readable =
+      pub judged_unread : (after : ℕ) (kind : Kind) (judgement : Judgement) → EndsPart bytes place (part.Unread kind) after → IsSoOfAll start here (ScriptComesTo leads first now bytes judgement)
+      judged_unread after kind judgement e =
+          whole here judgement now (λ all. Unit {0}) (λ all u xs end behind part_of readable.
           let l = h.left xs end behind part_of readable in
-          absurd (part_is_readable bytes place after l.rest end kind behind l.stands_there readable e)
+          absurd (part_is_readable bytes place after l.rest end kind behind l.stands_there readable e)) (of_all here (λ all. Unit {0}) (λ all. tt))

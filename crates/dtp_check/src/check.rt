@@ -6,7 +6,7 @@ ghost use Rattle.dtp_entry.specs.Written.{Writes};
 ghost use Rattle.dtp_check.specs.Judged.{IsJudged};
 ghost use Rattle.dtp_check.specs.Answered.{IsAnswer, IsAnswerPart};
 
-use crate::certificate_behind::{Behind, read_behind};
+use crate::certificate_behind::{Behind, open_behind};
 use crate::judge::judge_script;
 use crate::judgement::Judgement;
 use crate::keeps::KeepsNothing;
@@ -34,9 +34,10 @@ fn judgement_of(alloc: Global, bytes: &[u8]) -> Result<Judgement, AllocError>
         PartEnd::Unread(kind) => return Ok(Judgement::Script(part.commands + 1, kind)),
         _ => {}
     }
-    match read_behind(alloc, &mut lexer, part.end)? {
-        Behind::Read(certificate) => {
-            let judgement = judge_script(alloc, bytes, &certificate.entries, &mut KeepsNothing)?;
+    let behind = open_behind(alloc, lexer, part.end)?;
+    match behind {
+        Behind::Opened(mut entries) => {
+            let judgement = judge_script(alloc, bytes, &mut entries, &mut KeepsNothing)?;
             Ok(judgement)
         }
         Behind::Refused(why) => Ok(Judgement::Certificate(why)),
@@ -45,7 +46,8 @@ fn judgement_of(alloc: Global, bytes: &[u8]) -> Result<Judgement, AllocError>
 
 /// Writes the line that accepts or refuses a script with its certificate, which stand one behind the other.
 ///
-/// It takes time and memory of the order of the source, beside what the script's largest state takes at each check-sat.
+/// It takes time of the order of the source, beside what the script's largest state takes at each check-sat. Of the
+/// certificate no entry but the one that is judged takes memory, and where an entry may keep a lemma those before it.
 pub fn check_pair<K: Sink>(
     alloc: Global,
     bytes: &[u8],

@@ -1,6 +1,5 @@
 //! What is held of the entries that were found right, for those that come.
 ghost use Rattle.std.specs.Prelude.{◌≡◌, ◌↔◌, [], ◌∷◌, ◌++◌, map, All, IfOk, IfErr, IsOk, OnOk, List, IsTrue, None};
-ghost use Rattle.std.specs.List.{AllByRecursion};
 ghost use Rattle.kept_lemmas.specs.Entries.{Placed as Place, IsOwn, shelf_of, without_items};
 ghost use Rattle.kept_lemmas.specs.Facts.{Shelf as Facts};
 ghost use Rattle.cert_text.specs.declared.entry.FileEntry.{FileEntry as Shown};
@@ -9,10 +8,10 @@ ghost use Rattle.lemma_shelf.specs.ItemFlaws.{items_flaw};
 ghost use Rattle.lemma_shelf.specs.Lowering.{StandFor};
 ghost use Rattle.cert_check.specs.Flaws.{TellsFlaw};
 ghost use Rattle.refute_tree.specs.Trees.{IsRefutation};
-ghost use Rattle.dtp_check.specs.code.Earlier.{KeepsNone, Holds, Suffices, LastRefutes, RefusesBy};
+ghost use Rattle.dtp_check.specs.code.Earlier.{Holds, Suffices, SufficesFrom, LastRefutes, RefusesBy};
 
 use cert_check::CheckError;
-use cert_text::FileEntry;
+use cert_read::EntryReader;
 use kept_lemmas::Item;
 use lemma_shelf::{Shelf, check_items};
 use refute_tree::Refutation;
@@ -38,30 +37,11 @@ fn is_own(item: &Item) -> bool
     }
 }
 
-/// Whether the entry keeps no lemma.
-fn keeps_none(entry: &FileEntry) -> bool
-    ensures { IsTrue result → KeepsNone entry.now }
-{
-    match entry {
-        FileEntry::Sat(_) => true,
-        FileEntry::Unsat(items) => are_own(items.as_slice()),
-        FileEntry::Best(_, _, items) => are_own(items.as_slice()),
-        FileEntry::Unbounded(_, _) => true,
-    }
-}
-
 /// Whether all items are lemmas of the entry's own.
 fn are_own(items: &[Item]) -> bool
     ensures { IsTrue result ↔ All IsOwn items.now }
 {
     items.iter().all(|item| is_own(item))
-}
-
-/// Whether none of the entries keeps a lemma.
-fn keep_none(entries: &[FileEntry]) -> bool
-    ensures { IsTrue result → AllByRecursion KeepsNone entries.now }
-{
-    entries.iter().all(|entry| keeps_none(entry))
 }
 
 /// The lemmas of an entry that keeps none.
@@ -80,12 +60,12 @@ fn own_lemmas(alloc: Global, items: &[Item]) -> Result<Refutation, AllocError>
 }
 
 impl Earlier {
-    /// What is held before the first of these entries.
-    pub fn new(alloc: Global, entries: &[FileEntry]) -> Self
+    /// What is held before the first of the entries that are read.
+    pub fn new(alloc: Global, entries: &EntryReader) -> Self
         ensures holds { Holds result [] }
-        ensures suffices { Suffices result entries.now }
+        ensures suffices { SufficesFrom result entries.now }
     {
-        if keep_none(entries) {
+        if entries.keeps_none() {
             Earlier::Unkept
         } else {
             Earlier::Shelved(Shelf::new(alloc))

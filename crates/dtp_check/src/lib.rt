@@ -19,7 +19,7 @@ mod unbounded_entry;
 
 pub use asking::{with_question, without_question};
 pub use best_entry::least_flaw;
-pub use certificate_behind::{Behind, read_behind};
+pub use certificate_behind::{Behind, open_behind};
 pub use check::{Checked, check_pair};
 pub use earlier::Earlier;
 pub use judge::{judge_script, told_by};

@@ -10,7 +10,7 @@ use crate::converting::Converting;
 use crate::lines::write_lines;
 use cert_text::Entry;
 use dtp_check::{
-    Behind, Checked, Judgement, PartEnd, judge_script, judgement_line, read_behind, read_part,
+    Behind, Checked, Judgement, PartEnd, judge_script, judgement_line, open_behind, read_part,
 };
 use dtp_entry::{SessionError, write_text};
 use dtp_io::Sink;
@@ -39,12 +39,14 @@ fn examine(alloc: Global, bytes: &[u8]) -> Result<Examined, AllocError>
         }
         _ => {}
     }
-    match read_behind(alloc, &mut lexer, part.end)? {
-        Behind::Read(certificate) => {
+    let behind = open_behind(alloc, lexer, part.end)?;
+    match behind {
+        Behind::Opened(mut entries) => {
             let mut converting = Converting::new(alloc);
-            match judge_script(alloc, bytes, &certificate.entries, &mut converting)? {
+            let judgement = judge_script(alloc, bytes, &mut entries, &mut converting)?;
+            match judgement {
                 Judgement::Accepted => Ok(Examined::Converted(converting.entries)),
-                judgement => Ok(Examined::Refused(judgement)),
+                _ => Ok(Examined::Refused(judgement)),
             }
         }
         Behind::Refused(why) => Ok(Examined::Refused(Judgement::Certificate(why))),
@@ -54,7 +56,7 @@ fn examine(alloc: Global, bytes: &[u8]) -> Result<Examined, AllocError>
 /// Writes the certificate that stands behind a script anew, in the first version, where the two are accepted; else the line
 /// that refuses them.
 ///
-/// It takes the time of checking the pair and of writing it, and memory for the certificate as it is read and as it is written.
+/// It takes the time of checking the pair and of writing it, and memory for the certificate as it is written, beside what checking the pair takes.
 pub fn convert_pair<K: Sink>(
     alloc: Global,
     bytes: &[u8],

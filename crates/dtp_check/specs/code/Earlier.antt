@@ -3,7 +3,8 @@
 use Rattle.std.specs.Prelude.{◌≡◌, ◌<◌, ◌-◌, ℕ, List, length, All, Option, Some, None}
 use Rattle.std.specs.List.{AllByRecursion}
 use Rattle.cert_text.specs.declared.entry.FileEntry.{FileEntry}
-use Rattle.cert_text.specs.declared.entry.FileEntry.TheVariants.{Sat, Unsat, Best, Unbounded}
+use Rattle.cert_read.specs.Certificates.{HoldsEntries}
+use Rattle.cert_read.specs.code.Entries.{EntriesFrom, KeepsNone}
 use Rattle.stn_core.specs.declared.literal.Literal.{Literal}
 use Rattle.cert_check.specs.declared.flaw.Flaw.{Flaw}
 use Rattle.cert_check.specs.declared.flaw.CheckError.{CheckError}
@@ -15,13 +16,6 @@ use Rattle.lemma_shelf.specs.ItemFlaws.{items_flaw}
 use Rattle.lemma_shelf.specs.Lowering.{Refutes}
 use Rattle.dtp_check.specs.declared.earlier.Earlier.{Earlier}
 use Rattle.dtp_check.specs.declared.earlier.Earlier.TheVariants.{Unkept, Shelved}
-
--- the entry keeps no lemma
-abbrev pub KeepsNone : FileEntry → Type 0
-KeepsNone (Sat values) = Unit {0}
-KeepsNone (Unsat items) = All IsOwn items
-KeepsNone (Best m values items) = All IsOwn items
-KeepsNone (Unbounded values set) = Unit {0}
 
 -- what is held is what these entries state
 abbrev pub Holds : Earlier → List Placed → Type 0
@@ -37,6 +31,11 @@ Suffices (Shelved shelf) entries = Unit {0}
 abbrev pub SufficesFor : Earlier → FileEntry → Type 0
 SufficesFor Unkept entry = KeepsNone entry
 SufficesFor (Shelved shelf) entry = Unit {0}
+
+-- the same of all entries from here on, as far as they are read
+abbrev pub SufficesFrom : Earlier → EntriesFrom → Type 0
+SufficesFrom earlier e =
+    (entries : List FileEntry) (here : ℕ) → HoldsEntries e.version e.bytes e.place entries here → Suffices earlier entries
 
 -- the last entry that is held refutes the problem: where nothing is held, its items are own lemmas that do
 abbrev pub LastRefutes : Earlier → ℕ → List (List Literal) → List Item → Type 0

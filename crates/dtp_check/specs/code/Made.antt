@@ -25,5 +25,5 @@ IsMadeStill kept made = kept.mode ≢ mode.Nothing → IsMadeOf kept made
 
 -- the script goes on
 abbrev pub GoesOn : Progress → Type 0
-GoesOn (Going used) = Unit {0}
+GoesOn Going = Unit {0}
 GoesOn (Judged judgement) = ⊥

@@ -1,34 +1,42 @@
-use Rattle.std.proofs.Common.{ap}
-use Rattle.script_walk.specs.declared.walk.Walk.{Walk}
-use Rattle.dtp_check.proofs.Judging.{answer_right, answer_flawed, answer_missing, suffices_at}
-use Rattle.dtp_check.proofs.Making.{made_settled}
+use Rattle.std.proofs.Common.{ap, arith}
+use Rattle.std.specs.Prelude.{is_some}
+use Rattle.cert_read.specs.Certificates.{RefusesBehind}
+use Rattle.dtp_check.proofs.Entries.{one_read, suffices_here, suffices_behind}
+use Rattle.dtp_check.proofs.Judging.{answer_right, answer_flawed, answer_missing, answer_unread}
+use Rattle.dtp_check.proofs.Telling.{refusal_told}
 use Rattle.dtp_check.proofs.judge.judge_answer.Goals as goal
 
-pub keep-requires-clause-suffices : goal.keep-requires-clause-suffices
-keep-requires-clause-suffices g c =
-    let there = c.in-Some.ensures.lookup.3 in
-    suffices_at c.args.earlier.now c.args.used c.args.entries.now c.in-Some.entry.now c.requires.suffices there.0 (there.1 c.in-Some.entry.now)
+pub judge_entry-requires-clause-suffices : goal.judge_entry-requires-clause-suffices
+judge_entry-requires-clause-suffices g c =
+    let reads = one_read c.args.entries.now c.next.new.self _ c.in-Ok-Some.entry c.in-Ok-Some.field-0-is c.in-Ok-Some.ensures.entry in
+    suffices_here c.args.earlier.now c.args.entries.now c.next.new.self c.in-Ok-Some.entry c.requires.suffices reads
 
-pub returns-in-Some-2-clause-turn : goal.returns-in-Some-2-clause-turn
-returns-in-Some-2-clause-turn g c = λ s x before asked held.
-    let there = c.in-Some.ensures.lookup.3 in
-    answer_flawed g.K.Keeps.leads c.args.keeps.now c.keep.new.self c.args.question x s c.args.walk.now.number c.args.used before c.args.entries.now c.args.walk.now.number c.args.walk.now.state c.keep.new.earlier c.in-Some.entry.now c.in_ok-flaw-in-Some.field-0 c.in-Some-2.flaw there.0 (there.1 c.in-Some.entry.now)
-    (c.in_ok-flaw-in-Some.ensures.flaw s x before asked held) c.in-Some-2.is
+pub returns-in-Ok-Some-clause-turn : goal.returns-in-Ok-Some-clause-turn
+returns-in-Ok-Some-clause-turn g c = λ s x before asked held.
+    let reads = one_read c.args.entries.now c.next.new.self _ c.in-Ok-Some.entry c.in-Ok-Some.field-0-is c.in-Ok-Some.ensures.entry in
+    let judged = c.in_ok-flaw-in-Ok-Some.ensures in
+    (c.in-Ok-Some.entry, reads, judged.right c.in-None.is s x before asked held, judged.number c.in-None.is)
 
-pub returns-in-None-2-clause-turn : goal.returns-in-None-2-clause-turn
-returns-in-None-2-clause-turn g c = λ s x before asked held.
-    let there = c.in-Some.ensures.lookup.3 in
-    answer_right g.K.Keeps.leads c.args.keeps.now c.keep.new.self c.args.question x s c.args.walk.now.number c.args.used before c.args.entries.now c.settle.new.self.number c.settle.new.self.state c.keep.new.earlier c.in-Some.entry.now c.told_by.result c.in_ok-flaw-in-Some.field-0
-    (c.settle.ensures.stands s asked.stands) c.told_by.ensures
-    (c.in_ok-flaw-in-Some.ensures.held c.in-None-2.is s x before asked held) (c.in_ok-flaw-in-Some.ensures.kept c.in-None-2.is s x before asked held) there.0 (there.1 c.in-Some.entry.now)
-    (c.in_ok-flaw-in-Some.ensures.flaw s x before asked held) c.in-None-2.is (ap (λ (w : Walk). w.number) c.settle.ensures.rest)
+pub returns-in-Ok-Some-clause-suffices : goal.returns-in-Ok-Some-clause-suffices
+returns-in-Ok-Some-clause-suffices g c = λ more.
+    let reads = one_read c.args.entries.now c.next.new.self _ c.in-Ok-Some.entry c.in-Ok-Some.field-0-is c.in-Ok-Some.ensures.entry in
+    suffices_behind c.args.earlier.now c.judge_entry.new.earlier c.args.entries.now c.next.new.self c.in-Ok-Some.entry c.requires.suffices reads c.in_ok-flaw-in-Ok-Some.ensures.suffices
 
-pub returns-in-None-clause-turn : goal.returns-in-None-clause-turn
-returns-in-None-clause-turn g c = λ s x before asked held.
-    answer_missing g.K.Keeps.leads c.args.keeps.now c.args.keeps.now c.args.question x s c.args.walk.now.number c.args.used before c.args.entries.now c.args.walk.now.number c.args.walk.now.state c.args.earlier.now c.in-None.ensures.lookup.3
+pub overflow_add-result : goal.overflow_add-result
+overflow_add-result g c = let few = c.count-in-Ok-None.ensures.few in omega (arith, few)
 
-pub returns-in-None-2-clause-made : goal.returns-in-None-2-clause-made
-returns-in-None-2-clause-made g c = λ more.
-    let asked = c.requires.asked in
-    let stands = c.settle.ensures.stands asked.0 asked.2.stands in
-    made_settled c.args.walk.now.state c.settle.new.self.state asked.0 c.told_by.result c.let_go_if_assumed.new.made asked.2.stands stands c.let_go_if_assumed.ensures.made c.let_go_if_assumed.ensures.gone
+pub returns-in-Ok-None-clause-turn : goal.returns-in-Ok-None-clause-turn
+returns-in-Ok-None-clause-turn g c = λ s x before asked held.
+    let walk = c.args.walk.now in
+    let none = ap is_some c.in-Ok-None.field-0-is in
+    answer_missing g.K.Keeps.leads c.args.keeps.now c.args.keeps.now c.args.question x s walk.number before c.args.entries.now c.next.new.self walk.number walk.state c.args.earlier.now
+    c.one_certificate.ensures.entries (c.in-Ok-None.ensures.stays none) c.count-in-Ok-None.result (c.in-Ok-None.ensures.end none) c.count-in-Ok-None.ensures.count
+
+pub returns-in-Err-Refused-clause-turn : goal.returns-in-Err-Refused-clause-turn
+returns-in-Err-Refused-clause-turn g c = λ s x before asked held.
+    let walk = c.args.walk.now in
+    let old = c.args.entries.now in
+    let why = c.in-Err-Refused.why in
+    let refused = refusal_told (RefusesBehind old.version old.bytes old.count old.place) c.in-Err-Refused.field-0 why c.in-Err-Refused.field-0-is c.in-Err-Refused.ensures.refused in
+    rw c.in-Err-Refused.why-is (answer_unread g.K.Keeps.leads c.args.keeps.now c.args.keeps.now c.args.question x s walk.number before old c.next.new.self walk.number walk.state c.args.earlier.now
+    c.one_certificate.ensures.entries c.in-Err-Refused.ensures.err why refused)

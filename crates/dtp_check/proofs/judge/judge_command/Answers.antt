@@ -45,7 +45,7 @@ pub returns-in-Told-clause-turn : goal.returns-in-Told-clause-turn
 returns-in-Told-clause-turn g c = λ p before x at means.
     let v = c.args.walk.now in
     let h = carries v c.carry_out.new.self p.state x _ (Told c.in-Told.field-0 c.in-Told.field-1) c.in-Told.is (c.in_ok-carry_out.ensures.carries p.state x at.stands means) in
-    notice_judged g.K.Keeps.leads before c.args.keeps.now c.args.entries.now v.number c.args.used v.state c.args.earlier.now p at c.carry_out.new.self x c.exit_law.ensures.alone c.in-Told.field-1 c.requires.used h.1 h.2
+    notice_judged g.K.Keeps.leads before c.args.keeps.now c.args.entries.now v.number v.state c.args.earlier.now p at c.carry_out.new.self x c.exit_law.ensures.alone c.in-Told.field-1 h.1 h.2
 
 pub returns-in_ok-progress-in-Asked-clause-turn : goal.returns-in_ok-progress-in-Asked-clause-turn
 returns-in_ok-progress-in-Asked-clause-turn g c = λ p before x at means.
@@ -54,20 +54,20 @@ returns-in_ok-progress-in-Asked-clause-turn g c = λ p before x at means.
     let later = c.judge_question.new.walk in
     let question = c.in-Asked.question in
     let h = asks v w p.state x c.in-Asked.field-0 question _ c.in-Asked.is (c.in_ok-carry_out.ensures.carries p.state x at.stands means) in
-    question_judged g.K.Keeps.leads before c.args.keeps.now c.args.entries.now v.number c.args.used v.state c.args.earlier.now p at w x c.exit_law.ensures.alone question later.number later.state c.judge_question.new.earlier c.judge_question.new.keeps h.0 h.1 c.in_ok-progress-in-Asked.progress
+    question_judged g.K.Keeps.leads before c.args.keeps.now c.args.entries.now v.number v.state c.args.earlier.now p at w x c.exit_law.ensures.alone question later.number later.state c.judge_question.new.earlier c.judge_question.new.keeps c.judge_question.new.entries h.0 h.1 c.in_ok-progress-in-Asked.progress
     (c.in_ok-progress-in-Asked.ensures.turn h.0.next x before (asked_by v w p.state x question at.stands h.0) at.held)
 
-pub returns-in-Ended-clause-turn : goal.returns-in-Ended-clause-turn
-returns-in-Ended-clause-turn g c = λ p before x at means.
+pub returns-in_ok-judgement-in-Ended-clause-turn : goal.returns-in_ok-judgement-in-Ended-clause-turn
+returns-in_ok-judgement-in-Ended-clause-turn g c = λ p before x at means.
     let v = c.args.walk.now in
     let h = carries v c.carry_out.new.self p.state x _ Ended c.in-Ended.is (c.in_ok-carry_out.ensures.carries p.state x at.stands means) in
-    exit_judged g.K.Keeps.leads before c.args.keeps.now c.args.entries.now v.number c.args.used v.state c.args.earlier.now p at c.carry_out.new.self x c.surplus.result h.0 c.surplus.ensures
+    exit_judged g.K.Keeps.leads before c.args.keeps.now c.args.entries.now v.number v.state c.args.earlier.now p at c.carry_out.new.self x c.in_ok-judgement-in-Ended.judgement c.surplus.new.entries h.0 c.in_ok-judgement-in-Ended.ensures
 
 pub returns-in-Failed-clause-turn : goal.returns-in-Failed-clause-turn
 returns-in-Failed-clause-turn g c = λ p before x at means.
     let v = c.args.walk.now in
     let h = carries v c.carry_out.new.self p.state x _ (Failed c.in-Failed.kind) c.in-Failed.is (c.in_ok-carry_out.ensures.carries p.state x at.stands means) in
-    refused_judged g.K.Keeps.leads before c.args.keeps.now c.args.entries.now v.number c.args.used v.state c.args.earlier.now p at c.carry_out.new.self x v c.in-Failed.kind c.args.keeps.now h.0 h.1
+    refused_judged g.K.Keeps.leads before c.args.keeps.now c.args.entries.now v.number v.state c.args.earlier.now p at c.carry_out.new.self x v c.in-Failed.kind c.args.keeps.now h.0 h.1
 
 pub judge_question-requires-clause-made : goal.judge_question-requires-clause-made
 judge_question-requires-clause-made g c =

@@ -1,5 +1,5 @@
 use Rattle.std.proofs.Common.{◌≡◌, ◌≤◌, ◌<◌, ◌-◌, ◌+◌, ◌^◌, length, None}
-use Rattle.dtp_check.specs.code.Earlier.{Suffices}
+use Rattle.dtp_check.specs.code.Earlier.{SufficesFrom}
 use Rattle.dtp_check.specs.code.Made.{IsMadeStill}
 use Rattle.dtp_check.proofs.Reading.{IsJudging}
 use Rattle.dtp_check.proofs.judge.judge_each.Given as goal
@@ -12,10 +12,9 @@ invariant-script g l = record {
   within : l.walk.lexer.place ≤ length l.bytes;
   counted : l.walk.number ≤ l.walk.lexer.place + 1;
   few : length l.bytes < 2 ^ 63;
-  used : l.used ≤ length l.entries;
-  suffices : Suffices l.earlier l.entries;
+  suffices : SufficesFrom l.earlier l.entries;
   made : IsMadeStill l.walk.state l.made;
-  judging : IsJudging g.K.Keeps.leads l.bytes l.entries l.fn.keeps l.walk.lexer.place l.walk.number l.used l.walk.state l.earlier l.keeps;
+  judging : IsJudging g.K.Keeps.leads l.bytes l.fn.entries l.fn.keeps l.walk.lexer.place l.walk.number l.entries l.walk.state l.earlier l.keeps;
 }
 
 abbrev pub decreases-script : goal.decreases-script

@@ -2,7 +2,7 @@ use Rattle.std.proofs.Common.{◌∙◌, sym, ap}
 use Rattle.smt_sexpr.specs.Tree.{list}
 use Rattle.smt_sexpr.proofs.Shapes.{listed, two_of}
 use Rattle.cert_read.proofs.HeaderAndEnd.{header_of, header_named}
-use Rattle.cert_read.proofs.certificate.header_version.Goals as goal
+use Rattle.cert_read.proofs.header.header_version.Goals as goal
 
 pub is_symbol-requires : goal.is_symbol-requires
 is_symbol-requires c =
