@@ -88,6 +88,10 @@ impl<T: Clone> Vec<T> {
     pub fn from_slice(_: Global, s: &[T]) -> Result<Self, AllocError> {
         Ok(Vec(s.to_vec()))
     }
+    pub fn extend_from_within(&mut self, range: std::ops::Range<usize>) -> Result<(), AllocError> {
+        self.0.extend_from_within(range);
+        Ok(())
+    }
     pub fn resize(&mut self, n: usize, x: T) -> Result<(), AllocError> {
         self.0.resize(n, x);
         Ok(())
@@ -125,7 +129,7 @@ macro_rules! vec_in {
     [in $a:expr; $x:expr; $n:expr] => { { let _ = $a; Ok::<_, $crate::AllocError>($crate::Vec(vec![$x; $n])) } };
     [in $a:expr; $($x:expr),*] => { { let _ = $a; Ok::<_, $crate::AllocError>($crate::Vec(vec![$($x),*])) } };
 }
-/// As the hasher of the proved library's maps: each word is multiplied to 128 bits, and the halves are joined by xor.
+/// As the hasher of the proved library's maps: it multiplies 16 bytes at a time to 128 bits, and joins the halves by xor.
 #[derive(Clone, Copy)]
 pub struct FoldHasher(u64);
 impl Default for FoldHasher {
@@ -133,11 +137,25 @@ impl Default for FoldHasher {
         FoldHasher(0x243f_6a88_85a3_08d3)
     }
 }
-impl FoldHasher {
-    #[inline(always)]
-    fn fold(&mut self, word: u64, bytes: u64) {
-        let product = u128::from(self.0 ^ word) * u128::from(0x9e37_79b9_7f4a_7c15 ^ (2 * bytes));
-        self.0 = product as u64 ^ (product >> 64) as u64;
+const MULTIPLIER: u64 = 0x9e37_79b9_7f4a_7c15;
+fn folded_multiply(a: u64, b: u64) -> u64 {
+    let product = u128::from(a) * u128::from(b);
+    product as u64 ^ (product >> 64) as u64
+}
+fn read_u32(bytes: &[u8], at: usize) -> u64 {
+    u64::from(u32::from_le_bytes([bytes[at], bytes[at + 1], bytes[at + 2], bytes[at + 3]]))
+}
+fn read_u64(bytes: &[u8], at: usize) -> u64 {
+    read_u32(bytes, at) | read_u32(bytes, at + 4) << 32
+}
+fn read_short(bytes: &[u8]) -> u64 {
+    let len = bytes.len();
+    if len >= 4 {
+        read_u32(bytes, 0) | read_u32(bytes, len - 4) << 32
+    } else if len > 0 {
+        u64::from(bytes[0]) | u64::from(bytes[len / 2]) << 8 | u64::from(bytes[len - 1]) << 16
+    } else {
+        0
     }
 }
 impl std::hash::Hasher for FoldHasher {
@@ -145,19 +163,21 @@ impl std::hash::Hasher for FoldHasher {
         self.0
     }
     fn write(&mut self, bytes: &[u8]) {
-        for chunk in bytes.chunks(8) {
-            let mut word = [0; 8];
-            word[..chunk.len()].copy_from_slice(chunk);
-            self.fold(u64::from_le_bytes(word), chunk.len() as u64);
+        let len = bytes.len();
+        if len <= 8 {
+            self.0 = folded_multiply(self.0 ^ read_short(bytes), MULTIPLIER ^ (2 * len as u64));
+            return;
         }
-    }
-    #[inline(always)]
-    fn write_u32(&mut self, x: u32) {
-        self.fold(u64::from(x) | u64::from(x) << 32, 4);
-    }
-    #[inline(always)]
-    fn write_i64(&mut self, x: i64) {
-        self.fold(x as u64, 8);
+        let mut state = self.0.wrapping_add(len as u64);
+        let mut at = 0;
+        while len - at > 16 {
+            state = folded_multiply(read_u64(bytes, at) ^ state, read_u64(bytes, at + 8) ^ MULTIPLIER);
+            at += 16;
+        }
+        self.0 = folded_multiply(
+            read_u64(bytes, len.saturating_sub(16)) ^ state,
+            read_u64(bytes, len - 8) ^ MULTIPLIER,
+        );
     }
 }
 type Fold = std::hash::BuildHasherDefault<FoldHasher>;
@@ -231,82 +251,150 @@ impl<T> Vec<T> {
         Ok(Vec(self.0.split_off(n)))
     }
 }
+/// Twelve lanes of a table, as the proved library has them: a tag of the hash and the place of an entry in each, and which tags went on to the next group.
+#[derive(Clone, Copy)]
+struct Group {
+    tags: [u8; 16],
+    places: [u32; 12],
+}
+const LOAD: usize = 9;
+fn tag(hash: u32) -> u8 {
+    ((hash >> 24) as u8).max(1)
+}
+impl Group {
+    const EMPTY: Group = Group { tags: [0; 16], places: [0; 12] };
+    #[inline(always)]
+    fn lanes(&self, tag: u8) -> u32 {
+        use std::arch::x86_64::{__m128i, _mm_cmpeq_epi8, _mm_loadu_si128, _mm_movemask_epi8, _mm_set1_epi8};
+        // SAFETY: every x86-64 has SSE2, and sixteen bytes are read.
+        let lanes = unsafe {
+            let tags = _mm_loadu_si128(self.tags.as_ptr().cast::<__m128i>());
+            _mm_movemask_epi8(_mm_cmpeq_epi8(tags, _mm_set1_epi8(tag as i8)))
+        };
+        lanes as u32 & 0xFFF
+    }
+    fn overflow(&self) -> u32 {
+        u32::from_le_bytes([self.tags[12], self.tags[13], self.tags[14], self.tags[15]])
+    }
+    fn is_overflowed(&self, hash: u32) -> bool {
+        self.overflow() >> (tag(hash) & 31) & 1 != 0
+    }
+    fn mark_overflow(&mut self, hash: u32) {
+        let marked = self.overflow() | 1 << (tag(hash) & 31);
+        self.tags[12..].copy_from_slice(&marked.to_le_bytes());
+    }
+}
+#[derive(Clone, Copy)]
+struct Bucket {
+    hash: u32,
+    slot: u32,
+}
 /// Keys in order, each once, found by hash in a table of places; a removed key leaves its place to the last one.
 pub struct IndexMap<K, V> {
     keys: std::vec::Vec<K>,
     values: std::vec::Vec<V>,
-    hashes: std::vec::Vec<u64>,
-    table: std::vec::Vec<u32>,
+    groups: std::vec::Vec<Group>,
+    buckets: std::vec::Vec<Bucket>,
+    growth_left: usize,
 }
-const NONE: u32 = u32::MAX;
-fn hash_of<Q: std::hash::Hash + ?Sized>(k: &Q) -> u64 {
-    let mut state = std::collections::hash_map::DefaultHasher::new();
+#[inline(always)]
+fn hash_of<Q: std::hash::Hash + ?Sized>(k: &Q) -> u32 {
+    let mut state = FoldHasher::default();
     k.hash(&mut state);
-    std::hash::Hasher::finish(&state)
+    let hash = std::hash::Hasher::finish(&state);
+    (hash ^ hash >> 32) as u32
 }
 impl<K: std::hash::Hash + Eq, V> IndexMap<K, V> {
     pub fn new(_: Global) -> Self {
         IndexMap {
             keys: vec![],
             values: vec![],
-            hashes: vec![],
-            table: vec![NONE; 8],
+            groups: vec![],
+            buckets: vec![],
+            growth_left: 0,
         }
     }
-    fn slot_of<Q: std::hash::Hash + Eq + ?Sized>(&self, k: &Q, hash: u64) -> usize
+    #[inline(always)]
+    fn find<Q: std::hash::Hash + Eq + ?Sized>(&self, k: &Q, hash: u32) -> Option<usize>
     where
         K: std::borrow::Borrow<Q>,
     {
-        let mask = self.table.len() - 1;
-        let mut slot = hash as usize & mask;
+        let count = self.groups.len();
+        if count == 0 {
+            return None;
+        }
+        let start = hash as usize & (count - 1);
+        let mut at = start;
         loop {
-            let place = self.table[slot];
-            if place == NONE || (self.hashes[place as usize] == hash && self.keys[place as usize].borrow() == k) {
-                return slot;
+            let group = &self.groups[at];
+            let mut lanes = group.lanes(tag(hash));
+            while lanes != 0 {
+                let place = group.places[lanes.trailing_zeros() as usize] as usize;
+                if self.keys[place].borrow() == k {
+                    return Some(place);
+                }
+                lanes &= lanes - 1;
             }
-            slot = (slot + 1) & mask;
-        }
-    }
-    fn rebuild(&mut self, length: usize) {
-        self.table.clear();
-        self.table.resize(length, NONE);
-        let mask = length - 1;
-        for (place, hash) in self.hashes.iter().enumerate() {
-            let mut slot = *hash as usize & mask;
-            while self.table[slot] != NONE {
-                slot = (slot + 1) & mask;
+            if !group.is_overflowed(hash) {
+                return None;
             }
-            self.table[slot] = place as u32;
-        }
-    }
-    /// Empties a slot, and moves up what stands behind it.
-    fn unhook(&mut self, mut slot: usize) {
-        let mask = self.table.len() - 1;
-        let mut next = (slot + 1) & mask;
-        while self.table[next] != NONE {
-            let home = self.hashes[self.table[next] as usize] as usize & mask;
-            if (next.wrapping_sub(home) & mask) >= (next.wrapping_sub(slot) & mask) {
-                self.table[slot] = self.table[next];
-                slot = next;
+            at = (at + 1) & (count - 1);
+            if at == start {
+                return None;
             }
-            next = (next + 1) & mask;
         }
-        self.table[slot] = NONE;
     }
-    fn slot_of_place(&self, place: usize) -> usize {
-        let mask = self.table.len() - 1;
-        let mut slot = self.hashes[place] as usize & mask;
-        while self.table[slot] != place as u32 {
-            slot = (slot + 1) & mask;
+    fn hook(groups: &mut [Group], hash: u32, place: usize) -> Bucket {
+        let count = groups.len();
+        let mut at = hash as usize & (count - 1);
+        loop {
+            let group = &mut groups[at];
+            let empty = group.lanes(0);
+            if empty != 0 {
+                let lane = empty.trailing_zeros() as usize;
+                group.tags[lane] = tag(hash);
+                group.places[lane] = place as u32;
+                return Bucket { hash, slot: (16 * at + lane) as u32 };
+            }
+            group.mark_overflow(hash);
+            at = (at + 1) & (count - 1);
         }
-        slot
     }
+    #[inline(never)]
+    fn grow(&mut self) {
+        let len = self.keys.len();
+        let mut count = 1;
+        while LOAD * count < (len + 1).max(LOAD * self.groups.len() + 1) {
+            count *= 2;
+        }
+        if len < LOAD * self.groups.len() / 2 {
+            count = self.groups.len();
+        }
+        self.groups.clear();
+        self.groups.resize(count, Group::EMPTY);
+        for (place, bucket) in self.buckets.iter_mut().enumerate() {
+            *bucket = Self::hook(&mut self.groups, bucket.hash, place);
+        }
+        self.growth_left = LOAD * count - len;
+        self.buckets.reserve_exact(self.growth_left);
+        self.keys.reserve_exact(self.growth_left);
+        self.values.reserve_exact(self.growth_left);
+    }
+    /// Empties a lane, and gives the last entry its place.
+    fn unhook(&mut self, place: usize) {
+        let last = self.buckets[self.buckets.len() - 1].slot as usize;
+        self.groups[last / 16].places[last % 16] = place as u32;
+        let slot = self.buckets.swap_remove(place).slot as usize;
+        let group = &mut self.groups[slot / 16];
+        group.tags[slot % 16] = 0;
+        self.growth_left += usize::from(group.overflow() == 0);
+    }
+    #[inline(always)]
     pub fn get_index_of<Q: std::hash::Hash + Eq + ?Sized>(&self, k: &Q) -> Option<usize>
     where
         K: std::borrow::Borrow<Q>,
     {
-        let place = self.table[self.slot_of(k, hash_of(k))];
-        (place != NONE).then_some(place as usize)
+        self.find(k, hash_of(k))
     }
     pub fn get<Q: std::hash::Hash + Eq + ?Sized>(&self, k: &Q) -> Option<&V>
     where
@@ -321,21 +409,21 @@ impl<K: std::hash::Hash + Eq, V> IndexMap<K, V> {
         let place = self.get_index_of(k)?;
         self.values.get_mut(place)
     }
+    #[inline(always)]
     pub fn insert_full(&mut self, k: K, v: V) -> Result<(usize, Option<V>), AllocError> {
         let hash = hash_of(&k);
-        let slot = self.slot_of(&k, hash);
-        let place = self.table[slot];
-        if place != NONE {
-            return Ok((place as usize, Some(std::mem::replace(&mut self.values[place as usize], v))));
+        if let Some(place) = self.find(&k, hash) {
+            return Ok((place, Some(std::mem::replace(&mut self.values[place], v))));
+        }
+        if self.growth_left == 0 {
+            self.grow();
         }
         let place = self.keys.len();
-        self.table[slot] = place as u32;
+        let bucket = Self::hook(&mut self.groups, hash, place);
+        self.growth_left -= 1;
+        self.buckets.push(bucket);
         self.keys.push(k);
         self.values.push(v);
-        self.hashes.push(hash);
-        if self.keys.len() * 4 > self.table.len() * 3 {
-            self.rebuild(self.table.len() * 2);
-        }
         Ok((place, None))
     }
     pub fn insert(&mut self, k: K, v: V) -> Result<Option<V>, AllocError> {
@@ -346,22 +434,15 @@ impl<K: std::hash::Hash + Eq, V> IndexMap<K, V> {
         K: std::borrow::Borrow<Q>,
     {
         let place = self.get_index_of(k)?;
-        let last = self.keys.len() - 1;
-        self.unhook(self.slot_of_place(place));
-        if place < last {
-            let slot = self.slot_of_place(last);
-            self.table[slot] = place as u32;
-        }
+        self.unhook(place);
         self.keys.swap_remove(place);
-        self.hashes.swap_remove(place);
         Some(self.values.swap_remove(place))
     }
     pub fn truncate(&mut self, n: usize) {
         while self.keys.len() > n {
-            self.unhook(self.slot_of_place(self.keys.len() - 1));
+            self.unhook(self.keys.len() - 1);
             self.keys.pop();
             self.values.pop();
-            self.hashes.pop();
         }
     }
     pub fn clear(&mut self) {
@@ -384,6 +465,7 @@ impl<T: std::hash::Hash + Eq> IndexSet<T> {
     pub fn new(a: Global) -> Self {
         IndexSet(IndexMap::new(a))
     }
+    #[inline(always)]
     pub fn get_index_of<Q: std::hash::Hash + Eq + ?Sized>(&self, k: &Q) -> Option<usize>
     where
         T: std::borrow::Borrow<Q>,
@@ -650,9 +732,13 @@ pub mod bstr {
         fn push_str<B: AsRef<[u8]>>(&mut self, bytes: B) -> Result<(), AllocError>;
     }
     pub trait ByteSlice {
+        fn contains_str(&self, needle: &[u8]) -> bool;
         fn rfind(&self, needle: &[u8]) -> Option<usize>;
     }
     impl ByteSlice for [u8] {
+        fn contains_str(&self, needle: &[u8]) -> bool {
+            self.windows(needle.len()).any(|w| w == needle)
+        }
         fn rfind(&self, needle: &[u8]) -> Option<usize> {
             self.windows(needle.len()).rposition(|w| w == needle)
         }
