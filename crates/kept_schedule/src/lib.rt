@@ -3,8 +3,10 @@
 //! tested.
 #![tactic(auto)]
 
+mod guessing;
 mod kept;
 mod naming;
+mod raising;
 mod sweeping;
 mod testing;
 mod wanting;
