@@ -55,11 +55,15 @@ leaf_right problem base cycle b among =
       All-cons (LemmaIsOver problem.points) (last_lemma (cycle_steps base cycle)) [] over (All-nil (LemmaIsOver problem.points)),
     )
 
-pub units_refuted : (problem : Problem) (given : List (List Literal)) (base : Base) (shown cycle items clause : List Literal) (answer : Greatest) (steps : List Step) (lemmas res : List Lemma) → given ≡ problem.clauses → IsBase given base → shown ≡ base.literals → IsAnswer problem.points shown answer → answer ≡ Negative cycle → items ≡ cycle → steps ≡ cycle_steps base items → clause ≡ [] → lemmas ≡ record { clause = clause; steps = steps } ∷ [] → res ≡ lemmas → IsRight problem (Unsat res)
-units_refuted problem given base shown cycle items clause answer steps lemmas res same b e a is ei es ec el er =
+-- the one lemma of a refutation by a cycle
+pub one_lemma : (base : Base) (cycle clause : List Literal) (steps : List Step) (lemmas res : List Lemma) → steps ≡ cycle_steps base cycle → clause ≡ [] → lemmas ≡ record { clause = clause; steps = steps } ∷ [] → res ≡ lemmas → res ≡ last_lemma (cycle_steps base cycle) ∷ []
+one_lemma base cycle clause steps lemmas res es ec el er =
+    let lemma_is : record { clause = clause; steps = steps } ≡ last_lemma (cycle_steps base cycle) = ap (λ (c : List Literal). record { clause = c; steps = steps }) ec ∙ ap last_lemma es in
+    er ∙ (el ∙ ap (λ (l : Lemma). l ∷ []) lemma_is)
+
+pub units_refuted : (problem : Problem) (given : List (List Literal)) (base : Base) (shown cycle items : List Literal) (answer : Greatest) (res : List Lemma) → given ≡ problem.clauses → IsBase given base → shown ≡ base.literals → IsAnswer problem.points shown answer → answer ≡ Negative cycle → items ≡ cycle → res ≡ last_lemma (cycle_steps base items) ∷ [] → IsRight problem (Unsat res)
+units_refuted problem given base shown cycle items answer res same b e a is ei er =
     let among : IsCycleAmong base.literals cycle = subst (λ (ls : List Literal). IsCycleAmong ls cycle) e (subst (IsAnswer problem.points shown) is a) in
     let base_right : IsBase problem.clauses base = subst (λ (cs : List (List Literal)). IsBase cs base) same b in
-    let steps_are : steps ≡ cycle_steps base cycle = es ∙ ap (cycle_steps base) ei in
-    let lemma_is : record { clause = clause; steps = steps } ≡ last_lemma (cycle_steps base cycle) = ap (λ (c : List Literal). record { clause = c; steps = steps }) ec ∙ ap last_lemma steps_are in
-    let all : res ≡ last_lemma (cycle_steps base cycle) ∷ [] = er ∙ (el ∙ ap (λ (l : Lemma). l ∷ []) lemma_is) in
+    let all : res ≡ last_lemma (cycle_steps base cycle) ∷ [] = er ∙ ap (λ (ls : List Literal). last_lemma (cycle_steps base ls) ∷ []) ei in
     subst (λ (ls : List Lemma). IsRight problem (Unsat ls)) (sym all) (leaf_right problem base cycle base_right among)

@@ -9,7 +9,7 @@ mod solve;
 mod tools;
 mod units;
 
-pub use base::decide_units;
+pub use base::{decide_units, refute_along};
 pub use finding::Finding;
 pub use pacing::Pacing;
 pub use solve::{finish, solve_one};

@@ -36,6 +36,18 @@ fn unit_of(clause: &Clause) -> Option<Literal>
     }
 }
 
+// The same, where one is noted for the literal's first point: its second.
+fn noted_unit_of(clause: &Clause, noted: &[u32]) -> Option<Literal>
+    ensures { IfSome result (λ l. clause.now ≡ l ∷ []) }
+{
+    let literal = unit_of(clause)?;
+    if noted.get(literal.x as usize).copied() == Some(literal.y) {
+        Some(literal)
+    } else {
+        None
+    }
+}
+
 impl Units {
     pub fn of(alloc: Global, clauses: &[Clause]) -> Result<Self, AllocError>
         ensures base { IfOk result (IsBase clauses.now) }
@@ -47,6 +59,23 @@ impl Units {
         };
         for (number, clause) in clauses.iter().enumerate() {
             if let Some(literal) = unit_of(clause) {
+                units.add(literal, number)?;
+            }
+        }
+        Ok(units)
+    }
+
+    /// Of these literals those that lead from a point to the one that is noted for it.
+    pub fn along(alloc: Global, clauses: &[Clause], noted: &[u32]) -> Result<Self, AllocError>
+        ensures base { IfOk result (IsBase clauses.now) }
+        ensures over { IfOk result (BaseIsOver clauses.now) }
+    {
+        let mut units = Units {
+            literals: IndexSet::new(alloc),
+            numbers: Vec::new(alloc),
+        };
+        for (number, clause) in clauses.iter().enumerate() {
+            if let Some(literal) = noted_unit_of(clause, noted) {
                 units.add(literal, number)?;
             }
         }

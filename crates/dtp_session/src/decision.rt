@@ -14,6 +14,7 @@ use crate::options::SearchOptions;
 use crate::shown::refuted;
 use crate::wanted::Wanted;
 use book_core::Verdict;
+use book_search::refute_along;
 use cert_text::Entry;
 use clause_form::restrict;
 use smt_script::{Question, State};
@@ -31,16 +32,21 @@ pub struct Decision {
     pub given: Option<NamedValues>,
 }
 
-/// Decides the problem by as many workers as are asked for; one is the caller itself.
+/// Decides the problem: by clauses of one literal along what is noted, where these refute it, and else by as many workers as are asked for; one is
+/// the caller itself.
 fn search<R: Threads + Wait + Sync, G: Gate>(
     rt: &R,
     alloc: Global,
     problem: &Problem,
+    noted: &[u32],
     options: SearchOptions,
     gate: &G,
 ) -> Result<Verdict, AllocError>
     ensures { IfOk result (IsRight problem.now) }
 {
+    if let Some(verdict) = refute_along(alloc, problem, noted)? {
+        return Ok(verdict);
+    }
     let slice = u64::from(options.slice);
     if options.workers == 1 {
         solve_one(alloc, problem, slice)
@@ -55,6 +61,7 @@ fn satisfy<R: Threads + Wait + Sync, G: Gate>(
     alloc: Global,
     state: &State,
     problem: Problem,
+    noted: &[u32],
     wanted: Wanted,
     options: SearchOptions,
     gate: &G,
@@ -70,7 +77,7 @@ fn satisfy<R: Threads + Wait + Sync, G: Gate>(
     stn_core::negation_kept();
     best_values::unbounded_law();
     unsat_cores::core_law();
-    match search(rt, alloc, &problem, options, gate)? {
+    match search(rt, alloc, &problem, noted, options, gate)? {
         Verdict::Sat(schedule) => {
             let values = restrict(alloc, schedule.as_slice(), state.names().sorts())?;
             let found = Found::shown(Entry::Sat(values));
@@ -85,6 +92,7 @@ fn satisfy<R: Threads + Wait + Sync, G: Gate>(
 
 /// Decides a question over the problem of the assertions. Where no entry is wanted, a refutation stays as the search left it,
 /// and is put in its form when it is written.
+/// `noted` has for some points another one, along which unit clauses may refute a check-sat: a hint.
 /// The time of the search may grow with the number of ways to choose a literal of each clause.
 pub fn decide<R: Threads + Wait + Sync, G: Gate>(
     rt: &R,
@@ -92,6 +100,7 @@ pub fn decide<R: Threads + Wait + Sync, G: Gate>(
     state: &State,
     question: Question,
     problem: Problem,
+    noted: &[u32],
     wanted: Wanted,
     options: SearchOptions,
     gate: &G,
@@ -101,7 +110,7 @@ pub fn decide<R: Threads + Wait + Sync, G: Gate>(
         → IsDecision (version_wanted wanted) question x s.context decision) }
 {
     match question {
-        Question::CheckSat => satisfy(rt, alloc, state, problem, wanted, options, gate),
+        Question::CheckSat => satisfy(rt, alloc, state, problem, noted, wanted, options, gate),
         Question::Minimize(objective) => {
             minimize(rt, alloc, state, objective, problem, wanted, options, gate)
         }

@@ -316,6 +316,7 @@ impl<'a> Session<'a> {
             &self.walk.state,
             question,
             problem,
+            self.kept.noted(),
             wanted,
             self.options,
             gate,

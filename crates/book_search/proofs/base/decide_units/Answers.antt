@@ -1,4 +1,3 @@
-use Rattle.std.proofs.Common.{◌∙◌}
 use Rattle.book_search.proofs.Deciding.{units_over, unit_solution, units_refuted}
 use Rattle.book_search.proofs.base.decide_units.Goals as goal
 
@@ -10,5 +9,5 @@ returns-then-all_hold c = unit_solution c.args.problem.now c.as_slice-2.result.n
     c.in_ok-schedule.ensures c.in-Greatest.is c.as_slice-in-Greatest-2.ensures c.as_slice-in-Greatest.ensures c.all_hold.ensures c.if-all_hold.true
 
 pub returns : goal.returns
-returns c = units_refuted c.args.problem.now c.as_slice.result.now c.in_ok-units.units c.as_slice-2.result.now c.in-Negative.cycle c.as_slice-in-Negative.result.now c.new-in-Negative.result c.in_ok-schedule.field-0 c.in_ok-steps-in-Negative.steps c.in_ok-vec-in-Negative.field-0.items c.new-refutation.result
-    c.as_slice.ensures c.in_ok-units.ensures.base c.as_slice-2.ensures c.in_ok-schedule.ensures c.in-Negative.is c.as_slice-in-Negative.ensures c.in_ok-steps-in-Negative.ensures (c.new-in-Negative.ensures ∙ c.new.ensures.items) c.in_ok-vec-in-Negative.ensures.items c.new-refutation.ensures
+returns c = units_refuted c.args.problem.now c.as_slice.result.now c.in_ok-units.units c.as_slice-2.result.now c.in-Negative.cycle c.as_slice-in-Negative.result.now c.in_ok-schedule.field-0 _
+    c.as_slice.ensures c.in_ok-units.ensures.base c.as_slice-2.ensures c.in_ok-schedule.ensures c.in-Negative.is c.as_slice-in-Negative.ensures c.in_ok-refutation-in-Negative.ensures
