@@ -27,8 +27,8 @@ use Rattle.book_core.specs.Verdicts.{IsRight, EndsEmpty, last_lemma, ended_by}
 use Rattle.book_core.specs.code.Closing.{AreOver}
 use Rattle.book_core.proofs.Sound.{sound, negation_twice}
 
-pub kept_sound : (problem : Problem) (events : List Event) (s : State) (halves : Option (ℕ × ℕ)) (room : ℕ) → IsKept problem events s halves room → IsSound problem s
-kept_sound problem events s halves room k = subst (IsSound problem) (sym k.same) (sound problem batch_moved joined events k.run)
+pub kept_sound : (problem : Problem) (first : ℕ) (events : List Event) (s : State) (halves : Option (ℕ × ℕ)) (room : ℕ) → IsKept problem first events s halves room → IsSound problem s
+kept_sound problem first events s halves room k = subst (IsSound problem) (sym k.same) (sound problem batch_moved joined (take first s.lemmas) events k.opens k.run)
 
 negation_over : (points : ℕ) (l : Literal) → IsOver points l → IsOver points (negation_of l)
 negation_over points l h = let a = h.low in let b = h.high in record { x_in = h.y_in; y_in = h.x_in; low = omega (arith, ints); high = omega (arith, ints) }

@@ -12,13 +12,14 @@ use Rattle.cover_tree.specs.declared.node.Node.TheVariants.{Free, Held, Shut, Sp
 use Rattle.cover_tree.specs.Covers.{Cubes, cube_at, divided, node_at}
 use Rattle.cover_tree.proofs.Parts.{as_long}
 use Rattle.cover_tree.proofs.Branching.{cube_first}
+use Rattle.refute_tree.specs.declared.lemma.Lemma.{Lemma}
 use Rattle.book_core.specs.declared.event.Event.{Event}
 use Rattle.book_core.specs.declared.event.Event.TheVariants.{Take, Deliver, Release}
 use Rattle.book_core.specs.declared.event.Taken.TheVariants.{Done, Idle, Cube}
 use Rattle.book_core.specs.declared.event.Outcome.TheVariants.{Found, Shut as ShutBy, Split as SplitBy}
 use Rattle.refute_tree.specs.Moves.{moved_number}
 use Rattle.refute_tree.specs.Batches.{MovedBatchLaw, JoinedLaw}
-use Rattle.book_core.specs.Books.{State, opening, IsDecidable, IsAllowed, after, first_found}
+use Rattle.book_core.specs.Books.{State, opened, IsOpening, IsDecidable, IsAllowed, after, first_found}
 use Rattle.stn_core.specs.Solution.{IsAtom}
 use Rattle.book_core.specs.Facts.{IsApart, IsSound}
 use Rattle.book_core.specs.Runs.{IsRun, IsRunFrom, replayed, replayed_from}
@@ -203,5 +204,6 @@ module _ (problem : Problem) (moved_batch : MovedBatchLaw) (joined : JoinedLaw) 
       let later = few_from (after s e) events next r.1 none in
       counted e events (left_to_do problem s) (left_to_do problem (after s e)) (left_to_do problem (replayed_from (after s e) events)) first later
 
-  pub few : (events : List Event) → IsRun problem events → (replayed events).found ≡ None → deliveries events + left_to_do problem (replayed events) ≤ left_to_do problem opening
-  few events r none = few_from opening events (opening_sound problem moved_batch joined) r none
+  pub few : (opening : List Lemma) (events : List Event) → IsOpening problem opening → IsRun problem opening events → (replayed opening events).found ≡ None
+      → deliveries events + left_to_do problem (replayed opening events) ≤ left_to_do problem (opened opening)
+  few opening events opens r none = few_from (opened opening) events (opening_sound problem moved_batch joined opening opens) r none

@@ -19,9 +19,10 @@ use Rattle.cover_tree.specs.declared.node.Node.TheVariants.{Free, Held, Shut, Sp
 use Rattle.cover_tree.specs.Covers.{Cubes, node_at, with_node, divided, held_count}
 use Rattle.cover_tree.proofs.Tables.{count_set, count_two}
 use Rattle.book_core.specs.declared.event.Event.{Event}
+use Rattle.book_core.specs.declared.event.Event.TheVariants.{Take, Deliver, Release}
 use Rattle.book_core.specs.declared.event.Taken.{Taken}
 use Rattle.book_core.specs.declared.event.Taken.TheVariants.{Done, Idle, Cube}
-use Rattle.book_core.specs.Books.{State, opening, IsAllowed, MayAnswer, IsJustified, cover_taken, cover_delivered, after}
+use Rattle.book_core.specs.Books.{State, opened, IsOpening, IsAllowed, MayAnswer, IsJustified, cover_taken, cover_delivered, after}
 use Rattle.book_core.specs.Halves.{halves_after, halves_from, halves_of}
 use Rattle.book_core.specs.Runs.{IsRun, IsRunFrom, replayed_from, replayed, Ledger, ledger, state_of, with_event, IsKept}
 
@@ -31,7 +32,7 @@ replayed_push s (x ∷ es) e = replayed_push (after s x) es e
 
 -- the state of a ledger that is one event longer
 pub state_next : (b now : Ledger) (e : Event) → now ≡ with_event b e → state_of now ≡ after (state_of b) e
-state_next b now e is = ap (λ (k : Ledger). state_of k) is ∙ replayed_push opening b.journal e
+state_next b now e is = ap (λ (k : Ledger). state_of k) is ∙ replayed_push (opened b.opening) b.journal e
 
 run_push : (problem : Problem) (s : State) (es : List Event) (e : Event) → IsRunFrom problem s es → IsAllowed problem (replayed_from s es) e → IsRunFrom problem s (es ++ e ∷ [])
 run_push problem s [] e h a = (a, tt)
@@ -42,15 +43,45 @@ pub halves_push : (s : State) (last : Option (ℕ × ℕ)) (es : List Event) (e 
 halves_push s last [] e = refl
 halves_push s last (x ∷ es) e = halves_push (after s x) (halves_after s x last) es e
 
-pub kept_more : (problem : Problem) (es es_new : List Event) (s s_new : State) (e : Event) (halves halves_new : Option (ℕ × ℕ)) (room room_new : ℕ) → IsKept problem es s halves room → IsAllowed problem s e → es_new ≡ es ++ e ∷ [] → s_new ≡ after s e
-    → halves_new ≡ halves_after s e halves → length es + 1 + held_count s_new.cover.nodes ≤ room_new → IsKept problem es_new s_new halves_new room_new
-kept_more problem es es_new s s_new e halves halves_new room room_new k a ee es_is divided le =
-    let allowed : IsAllowed problem (replayed es) e = subst (λ (t : State). IsAllowed problem t e) k.same a in
-    let state : s_new ≡ replayed es_new = es_is ∙ (ap (λ (t : State). after t e) k.same ∙ (sym (replayed_push opening es e) ∙ ap replayed (sym ee))) in
-    let run : IsRun problem es_new = subst (IsRun problem) (sym ee) (run_push problem opening es e k.run allowed) in
+take_front : {A : Type 0} (n : ℕ) (xs ys : List A) → n ≤ length xs → take n (xs ++ ys) ≡ take n xs
+take_front zero [] ys le = front_none ys
+  where
+    front_none : {A : Type 0} (zs : List A) → take 0 zs ≡ []
+    front_none [] = refl
+    front_none (z ∷ zs) = refl
+take_front zero (x ∷ xs) ys le = refl
+take_front (suc n) [] ys le = absurd (omega arith)
+take_front (suc n) (x ∷ xs) ys le = ap (λ zs. x ∷ zs) (take_front n xs ys (omega arith))
+
+-- an event leaves the first lemmas as they are
+pub after_front : (s : State) (e : Event) (n : ℕ) → n ≤ length s.lemmas → take n (after s e).lemmas ≡ take n s.lemmas
+after_front s (Take seat taken) n le = refl
+after_front s (Deliver seat id batch outcome) n le = take_front n s.lemmas (moved (length s.lemmas) batch).lemmas le
+after_front s (Release seat id) n le = refl
+
+after_longer : (s : State) (e : Event) (n : ℕ) → n ≤ length s.lemmas → n ≤ length (after s e).lemmas
+after_longer s (Take seat taken) n le = le
+after_longer s (Deliver seat id batch outcome) n le = omega (arith, le, length-append s.lemmas (moved (length s.lemmas) batch).lemmas)
+after_longer s (Release seat id) n le = le
+
+pub kept_more : (problem : Problem) (first : ℕ) (es es_new : List Event) (s s_new : State) (e : Event) (halves halves_new : Option (ℕ × ℕ)) (room room_new : ℕ) → IsKept problem first es s halves room → IsAllowed problem s e → es_new ≡ es ++ e ∷ [] → s_new ≡ after s e
+    → halves_new ≡ halves_after s e halves → length es + 1 + held_count s_new.cover.nodes ≤ room_new → IsKept problem first es_new s_new halves_new room_new
+kept_more problem first es es_new s s_new e halves halves_new room room_new k a ee es_is divided le =
+    let opening : List Lemma = take first s.lemmas in
+    let front : take first s_new.lemmas ≡ opening = ap (λ (t : State). take first t.lemmas) es_is ∙ after_front s e first k.within in
+    let allowed : IsAllowed problem (replayed opening es) e = subst (λ (t : State). IsAllowed problem t e) k.same a in
+    let state : s_new ≡ replayed opening es_new = es_is ∙ (ap (λ (t : State). after t e) k.same ∙ (sym (replayed_push (opened opening) es e) ∙ ap (replayed opening) (sym ee))) in
+    let run : IsRun problem opening es_new = subst (IsRun problem opening) (sym ee) (run_push problem (opened opening) es e k.run allowed) in
     let count : length es_new ≡ length es + 1 = ap length ee ∙ length-append es (e ∷ []) in
-    let last : halves_new ≡ halves_of es_new = divided ∙ ((λ i. halves_after (k.same i) e (k.divided i)) ∙ (sym (halves_push opening None es e) ∙ ap halves_of (sym ee))) in
-    record { run = run; same = state; divided = last; reserved = omega arith }
+    let last : halves_new ≡ halves_of opening es_new = divided ∙ ((λ i. halves_after (k.same i) e (k.divided i)) ∙ (sym (halves_push (opened opening) None es e) ∙ ap (halves_of opening) (sym ee))) in
+    record {
+      within = subst (λ (t : State). first ≤ length t.lemmas) (sym es_is) (after_longer s e first k.within);
+      opens = subst (IsOpening problem) (sym front) k.opens;
+      run = subst (λ (ls : List Lemma). IsRun problem ls es_new) (sym front) run;
+      same = state ∙ ap (λ (ls : List Lemma). replayed ls es_new) (sym front);
+      divided = last ∙ ap (λ (ls : List Lemma). halves_of ls es_new) (sym front);
+      reserved = omega arith;
+    }
 
 abbrev pub state : Cubes → List Lemma → Option (List ℤ) → State
 state cover lemmas found = record { cover = cover; lemmas = lemmas; found = found }
@@ -59,8 +90,8 @@ abbrev pub with_cover : State → Cubes → State
 with_cover s cover = record { cover = cover; lemmas = s.lemmas; found = s.found }
 
 -- what is said of the shown book, of its parts
-pub at_inside : (problem : Problem) (events : List Event) (s : State) (b : Ledger) (k : ℕ) (o : Option Node) → ledger problem events ≡ b → s ≡ replayed events → node_at (state_of b).cover k ≡ o → node_at s.cover k ≡ o
-at_inside problem events s b k o view same e = ap (λ (t : State). node_at t.cover k) (same ∙ ap state_of view) ∙ e
+pub at_inside : (problem : Problem) (opening : List Lemma) (events : List Event) (s : State) (b : Ledger) (k : ℕ) (o : Option Node) → ledger problem opening events ≡ b → s ≡ replayed opening events → node_at (state_of b).cover k ≡ o → node_at s.cover k ≡ o
+at_inside problem opening events s b k o view same e = ap (λ (t : State). node_at t.cover k) (same ∙ ap state_of view) ∙ e
 
 pub some_held : (nodes : List Node) (k seat : ℕ) → slice_get nodes k ≡ Some (Held seat) → 1 ≤ held_count nodes
 some_held nodes k seat e = omega (arith, count_set nodes k (Held seat) Free e)
@@ -85,14 +116,15 @@ pub all_come : {A : Type 0} (done rest whole : List A) → length rest ≡ 0 →
 all_come done [] whole h e = sym (append-nil done) ∙ e
 all_come done (x ∷ rest) whole h e = absurd (omega arith)
 
-pub inside : (P : Problem → State → Type 0) (problem : Problem) (events : List Event) (s : State) (b : Ledger) → ledger problem events ≡ b → s ≡ replayed events → P b.problem (state_of b) → P problem s
-inside P problem events s b view same h = subst (λ (t : State). P problem t) (sym same) (subst (λ (k : Ledger). P k.problem (state_of k)) (sym view) h)
+pub inside : (P : Problem → State → Type 0) (problem : Problem) (opening : List Lemma) (events : List Event) (s : State) (b : Ledger) → ledger problem opening events ≡ b → s ≡ replayed opening events → P b.problem (state_of b) → P problem s
+inside P problem opening events s b view same h = subst (λ (t : State). P problem t) (sym same) (subst (λ (k : Ledger). P k.problem (state_of k)) (sym view) h)
 
-pub outside : (P : Problem → State → Type 0) (problem : Problem) (events : List Event) (s : State) (b : Ledger) → ledger problem events ≡ b → s ≡ replayed events → P problem s → P b.problem (state_of b)
-outside P problem events s b view same h = subst (λ (k : Ledger). P k.problem (state_of k)) view (subst (λ (t : State). P problem t) same h)
+pub outside : (P : Problem → State → Type 0) (problem : Problem) (opening : List Lemma) (events : List Event) (s : State) (b : Ledger) → ledger problem opening events ≡ b → s ≡ replayed opening events → P problem s → P b.problem (state_of b)
+outside P problem opening events s b view same h = subst (λ (k : Ledger). P k.problem (state_of k)) view (subst (λ (t : State). P problem t) same h)
 
-pub added_outside : (problem : Problem) (events events_new : List Event) (b : Ledger) (e : Event) → ledger problem events ≡ b → events_new ≡ events ++ e ∷ [] → ledger problem events_new ≡ with_event b e
-added_outside problem events events_new b e view is = ap (λ (es : List Event). ledger problem es) is ∙ ap (λ (k : Ledger). with_event k e) view
+pub added_outside : (problem : Problem) (opening opening_new : List Lemma) (events events_new : List Event) (b : Ledger) (e : Event) → ledger problem opening events ≡ b → opening_new ≡ opening → events_new ≡ events ++ e ∷ [] → ledger problem opening_new events_new ≡ with_event b e
+added_outside problem opening opening_new events events_new b e view first is =
+    ap (λ (ls : List Lemma). ledger problem ls events_new) first ∙ ap (λ (es : List Event). ledger problem opening es) is ∙ ap (λ (k : Ledger). with_event k e) view
 
 pub not_found : (found : Option (List ℤ)) (b : Bool) → b ≡ false → b ≡ is_some found → found ≡ None
 not_found None b e is = refl
@@ -151,5 +183,5 @@ allowed_from problem s [] i e r at = absurd cc
 allowed_from problem s (x ∷ events) zero e r at = let same : x ≡ e = cc in subst (λ (y : Event). IsAllowed problem s y) same r.0
 allowed_from problem s (x ∷ events) (suc i) e r at = allowed_from problem (after s x) events i e r.1 at
 
-pub allowed_at : (problem : Problem) (events : List Event) (i : ℕ) (e : Event) (b : Ledger) → IsRun problem events → slice_get events i ≡ Some e → b ≡ ledger problem (take i events) → IsAllowed b.problem (state_of b) e
-allowed_at problem events i e b r at is = subst (λ (k : Ledger). IsAllowed k.problem (state_of k) e) (sym is) (allowed_from problem opening events i e r at)
+pub allowed_at : (problem : Problem) (opening : List Lemma) (events : List Event) (i : ℕ) (e : Event) (b : Ledger) → IsRun problem opening events → slice_get events i ≡ Some e → b ≡ ledger problem opening (take i events) → IsAllowed b.problem (state_of b) e
+allowed_at problem opening events i e b r at is = subst (λ (k : Ledger). IsAllowed k.problem (state_of k) e) (sym is) (allowed_from problem (opened opening) events i e r at)

@@ -19,12 +19,13 @@ use Rattle.cover_tree.specs.Covers.{Cubes, opening as no_split, changes, divides
 use Rattle.cover_tree.proofs.Sets.{by_eq, get_set_same, get_set_other, get_two, get_longer}
 use Rattle.cover_tree.proofs.Parts.{as_long}
 use Rattle.cover_tree.proofs.Branching.{cubes_all, cubes_every, cube_kept}
+use Rattle.refute_tree.specs.declared.lemma.Lemma.{Lemma}
 use Rattle.book_core.specs.declared.event.Event.{Event}
 use Rattle.book_core.specs.declared.event.Event.TheVariants.{Take, Deliver, Release}
 use Rattle.book_core.specs.declared.event.Taken.TheVariants.{Done, Idle, Cube}
 use Rattle.book_core.specs.declared.event.Outcome.{Outcome}
 use Rattle.book_core.specs.declared.event.Outcome.TheVariants.{Found, Shut as ShutBy, Split as SplitBy}
-use Rattle.book_core.specs.Books.{State, opening, IsDone, IsDecidable, IsShutBy, IsJustified, IsAllowed, first_found, found_delivered, lemmas_delivered, after}
+use Rattle.book_core.specs.Books.{State, opened, IsOpening, IsDone, IsDecidable, IsShutBy, IsJustified, IsAllowed, first_found, found_delivered, lemmas_delivered, after}
 use Rattle.stn_core.specs.Solution.{IsSolution, IsAtom}
 use Rattle.book_core.specs.Runs.{IsRun, IsRunFrom, replayed_from, replayed}
 use Rattle.book_core.specs.Facts.{IsApart, AreShut, IsSound}
@@ -93,13 +94,13 @@ apart_nil i j d lt within = absurd (omega arith)
 module _ (problem : Problem)
     (moved_batch : MovedBatchLaw)
     (joined : JoinedLaw) where
-  pub opening_sound : IsSound problem opening
-  opening_sound = record {
+  pub opening_sound : (lemmas : List Lemma) → IsOpening problem lemmas → IsSound problem (opened lemmas)
+  opening_sound lemmas opens = record {
     cover = no_split;
     decided = opening_decided;
     apart = opening_apart;
-    refuted = tt;
-    over = All-nil (LemmaIsOver problem.points);
+    refuted = opens.refuted;
+    over = opens.over;
     shut = λ k j e. absurd (opening_shut k j e);
     found = tt;
   }
@@ -213,8 +214,8 @@ module _ (problem : Problem)
   run_sound s [] h r = h
   run_sound s (e ∷ es) h r = run_sound (after s e) es (event_sound s e h r.0) r.1
 
-  pub sound : (events : List Event) → IsRun problem events → IsSound problem (replayed events)
-  sound events r = run_sound opening events opening_sound r
+  pub sound : (opening : List Lemma) (events : List Event) → IsOpening problem opening → IsRun problem opening events → IsSound problem (replayed opening events)
+  sound opening events opens r = run_sound (opened opening) events (opening_sound opening opens) r
 
 some_first : (found : Option (List ℤ)) (values : List ℤ) → IsSome (first_found found values)
 some_first None values = refl

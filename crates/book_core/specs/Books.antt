@@ -28,9 +28,14 @@ pub record State : Type 0 where
 abbrev pub state_with : Cubes → List Lemma → Option (List ℤ) → State
 state_with cover lemmas found = record { cover = cover; lemmas = lemmas; found = found }
 
--- one Free leaf, no lemma
-abbrev pub opening : State
-opening = state_with whole [] None
+-- one Free leaf, and the lemmas that the book opens with
+abbrev pub opened : List Lemma → State
+opened lemmas = state_with whole lemmas None
+
+-- what a book may open with: each lemma is refuted over the problem and those before it, and within the limits
+pub record IsOpening (problem : Problem) (lemmas : List Lemma) : Type 0 where
+  pub refuted : AreRefuted problem.points problem.clauses [] lemmas
+  pub over : All (LemmaIsOver problem.points) lemmas
 
 -- a schedule is found, or every leaf is Shut
 abbrev pub IsDone : State → Type 0

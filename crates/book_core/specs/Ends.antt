@@ -7,7 +7,8 @@ use Rattle.cover_tree.specs.declared.node.Node.TheVariants.{Free, Held, Shut, Sp
 use Rattle.cover_tree.specs.Covers.{cube_at}
 use Rattle.book_core.specs.declared.event.Event.{Event}
 use Rattle.book_core.specs.declared.event.Event.TheVariants.{Take, Deliver, Release}
-use Rattle.book_core.specs.Books.{State, opening, IsAllowed, after}
+use Rattle.refute_tree.specs.declared.lemma.Lemma.{Lemma}
+use Rattle.book_core.specs.Books.{State, opened, IsOpening, IsAllowed, after}
 use Rattle.book_core.specs.Runs.{IsRun, replayed, Ledger, state_of}
 
 -- the literals of all clauses
@@ -53,16 +54,16 @@ Leaves (Release seat id) before now = now ≡ before
 -- each literal of a cube is decided once, so that no cube has more literals than all clauses together
 abbrev pub ShortLaw : Type 0
 ShortLaw =
-    (problem : Problem) (events : List Event) → IsRun problem events
-    → (k : ℕ) → length (cube_at (replayed events).cover k) ≤ length (all_literals problem)
+    (problem : Problem) (opening : List Lemma) (events : List Event) → IsOpening problem opening → IsRun problem opening events
+    → (k : ℕ) → length (cube_at (replayed opening events).cover k) ≤ length (all_literals problem)
 
 -- and so, until a schedule is found, each delivery leaves less to do: a split decides one more atom of its
 -- cube
 abbrev pub EndsLaw : Type 0
 EndsLaw =
-    (problem : Problem) (events : List Event) (e : Event)
-    → IsRun problem events → IsAllowed problem (replayed events) e → (replayed events).found ≡ None
-    → Leaves e (left_to_do problem (replayed events)) (left_to_do problem (after (replayed events) e))
+    (problem : Problem) (opening : List Lemma) (events : List Event) (e : Event) → IsOpening problem opening
+    → IsRun problem opening events → IsAllowed problem (replayed opening events) e → (replayed opening events).found ≡ None
+    → Leaves e (left_to_do problem (replayed opening events)) (left_to_do problem (after (replayed opening events) e))
 
 -- how many deliveries there were
 abbrev pub deliveries : List Event → ℕ
@@ -74,5 +75,6 @@ deliveries (Release seat id ∷ events) = deliveries events
 -- so a run that has found no schedule has few deliveries
 abbrev pub FewLaw : Type 0
 FewLaw =
-    (problem : Problem) (events : List Event) → IsRun problem events → (replayed events).found ≡ None
-    → deliveries events + left_to_do problem (replayed events) ≤ left_to_do problem opening
+    (problem : Problem) (opening : List Lemma) (events : List Event) → IsOpening problem opening → IsRun problem opening events
+    → (replayed opening events).found ≡ None
+    → deliveries events + left_to_do problem (replayed opening events) ≤ left_to_do problem (opened opening)

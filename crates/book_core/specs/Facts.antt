@@ -3,13 +3,14 @@ use Rattle.std.specs.Prelude.{◌≡◌, ◌≢◌, ℕ, ℤ, AllPairs, List, []
 use Rattle.stn_core.specs.declared.literal.Literal.{Literal}
 use Rattle.stn_core.specs.declared.problem.Problem.{Problem}
 use Rattle.stn_core.specs.Literal.{negation_of}
+use Rattle.refute_tree.specs.declared.lemma.Lemma.{Lemma}
 use Rattle.refute_tree.specs.Trees.{stated}
 use Rattle.refute_tree.specs.Batches.{AreRefuted, LemmaIsOver}
 use Rattle.cover_tree.specs.declared.node.Node.TheVariants.{Shut}
 use Rattle.cover_tree.specs.Covers.{Cubes, IsCover, node_at, cube_at}
 use Rattle.cover_tree.specs.Partition.{IsInOne}
 use Rattle.book_core.specs.declared.event.Event.{Event}
-use Rattle.book_core.specs.Books.{State, IsDecidable, IsShutBy, IsDone, IsAllowed, after}
+use Rattle.book_core.specs.Books.{State, IsOpening, IsDecidable, IsShutBy, IsDone, IsAllowed, after}
 use Rattle.stn_core.specs.Solution.{IsSolution}
 use Rattle.book_core.specs.Runs.{IsRun, replayed}
 
@@ -33,13 +34,14 @@ pub record IsSound (problem : Problem) (s : State) : Type 0 where
 -- what always holds, holds after every run
 abbrev pub SoundLaw : Type 0
 SoundLaw =
-    (problem : Problem) (events : List Event) → IsRun problem events → IsSound problem (replayed events)
+    (problem : Problem) (opening : List Lemma) (events : List Event) → IsOpening problem opening → IsRun problem opening events
+    → IsSound problem (replayed opening events)
 
 -- and every list of point values satisfies exactly one leaf's cube
 abbrev pub DividedLaw : Type 0
 DividedLaw =
-    (problem : Problem) (events : List Event) → IsRun problem events
-    → (values : List ℤ) → IsInOne values (replayed events).cover
+    (problem : Problem) (opening : List Lemma) (events : List Event) → IsOpening problem opening → IsRun problem opening events
+    → (values : List ℤ) → IsInOne values (replayed opening events).cover
 
 -- Done is kept by every later event
 abbrev pub DoneKeptLaw : Type 0

@@ -5,7 +5,8 @@ use Rattle.book_core.specs.declared.event.Event.{Event}
 use Rattle.book_core.specs.declared.event.Event.TheVariants.{Take, Deliver, Release}
 use Rattle.book_core.specs.declared.event.Outcome.{Outcome}
 use Rattle.book_core.specs.declared.event.Outcome.TheVariants.{Found, Shut, Split}
-use Rattle.book_core.specs.Books.{State, opening, after}
+use Rattle.refute_tree.specs.declared.lemma.Lemma.{Lemma}
+use Rattle.book_core.specs.Books.{State, opened, after}
 
 -- what a delivery leaves of its cube, where it divides it
 abbrev pub halves_made : Cubes → Outcome → Option (ℕ × ℕ)
@@ -24,5 +25,5 @@ halves_from s last [] = last
 halves_from s last (e ∷ es) = halves_from (after s e) (halves_after s e last) es
 
 -- those of the last delivery, where it divided its cube
-abbrev pub halves_of : List Event → Option (ℕ × ℕ)
-halves_of events = halves_from opening None events
+abbrev pub halves_of : List Lemma → List Event → Option (ℕ × ℕ)
+halves_of opening events = halves_from (opened opening) None events

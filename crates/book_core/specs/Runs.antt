@@ -1,6 +1,7 @@
--- A book is a problem and its journal; the journal is a run, and its replay is the state.
-use Rattle.std.specs.Prelude.{◌≡◌, ℕ, ◌+◌, ◌≤◌, List, [], ◌∷◌, ◌++◌, length, Option, Some}
+-- A book is a problem, the lemmas that it opened with, and its journal; the journal is a run, and its replay is the state.
+use Rattle.std.specs.Prelude.{◌≡◌, ℕ, ◌+◌, ◌≤◌, List, [], ◌∷◌, ◌++◌, length, take, Option, Some}
 use Rattle.stn_core.specs.declared.problem.Problem.{Problem}
+use Rattle.refute_tree.specs.declared.lemma.Lemma.{Lemma}
 use Rattle.cover_tree.specs.declared.node.Node.TheVariants.{Free}
 use Rattle.cover_tree.specs.Covers.{Cubes, node_at, cube_at, held_count}
 use Rattle.book_core.specs.declared.event.Event.{Event}
@@ -9,7 +10,7 @@ use Rattle.book_core.specs.declared.event.Taken.{Taken}
 use Rattle.book_core.specs.declared.event.Taken.TheVariants.{Done, Idle, Cube}
 use Rattle.book_core.specs.declared.answer.Answer.{Answer}
 use Rattle.book_core.specs.declared.answer.Answer.TheVariants.{Done as AnswerDone, Idle as AnswerIdle, Cube as AnswerCube}
-use Rattle.book_core.specs.Books.{State, opening, IsAllowed, after}
+use Rattle.book_core.specs.Books.{State, opened, IsOpening, IsAllowed, after}
 use Rattle.book_core.specs.Halves.{halves_of}
 
 -- each event may come where it comes
@@ -18,30 +19,31 @@ IsRunFrom problem s [] = Unit {0}
 IsRunFrom problem s (e ∷ es) = IsAllowed problem s e × IsRunFrom problem (after s e) es
 
 -- a run: from the opening on
-abbrev pub IsRun : Problem → List Event → Type 0
-IsRun problem events = IsRunFrom problem opening events
+abbrev pub IsRun : Problem → List Lemma → List Event → Type 0
+IsRun problem opening events = IsRunFrom problem (opened opening) events
 
 abbrev pub replayed_from : State → List Event → State
 replayed_from s [] = s
 replayed_from s (e ∷ es) = replayed_from (after s e) es
 
 -- the state that the events lead to
-abbrev pub replayed : List Event → State
-replayed events = replayed_from opening events
+abbrev pub replayed : List Lemma → List Event → State
+replayed opening events = replayed_from (opened opening) events
 
 pub record Ledger : Type 0 where
   pub problem : Problem
+  pub opening : List Lemma
   pub journal : List Event
 
-abbrev pub ledger : Problem → List Event → Ledger
-ledger problem journal = record { problem = problem; journal = journal }
+abbrev pub ledger : Problem → List Lemma → List Event → Ledger
+ledger problem opening journal = record { problem = problem; opening = opening; journal = journal }
 
 abbrev pub state_of : Ledger → State
-state_of b = replayed b.journal
+state_of b = replayed b.opening b.journal
 
 -- the ledger with one event more
 abbrev pub with_event : Ledger → Event → Ledger
-with_event b e = record { problem = b.problem; journal = b.journal ++ e ∷ [] }
+with_event b e = record { problem = b.problem; opening = b.opening; journal = b.journal ++ e ∷ [] }
 
 -- the call added this event, which may come there
 abbrev pub Records : Ledger → Event → Ledger → Type 0
@@ -66,11 +68,13 @@ told_as AnswerDone = Done
 told_as AnswerIdle = Idle
 told_as (AnswerCube id cube) = Cube id
 
--- Of the code and not of the meaning: its state is the journal's replay, the halves are those of its last
--- delivery, and there is room for an event of each Held leaf
-pub record IsKept (problem : Problem) (events : List Event) (s : State) (halves : Option (ℕ × ℕ)) (room : ℕ)
+-- Of the code and not of the meaning: the first so many lemmas are those that it opened with, its state is the journal's
+-- replay from them, the halves are those of its last delivery, and there is room for an event of each Held leaf
+pub record IsKept (problem : Problem) (count : ℕ) (events : List Event) (s : State) (halves : Option (ℕ × ℕ)) (room : ℕ)
     : Type 0 where
-  pub run : IsRun problem events
-  pub same : s ≡ replayed events
-  pub divided : halves ≡ halves_of events
+  pub within : count ≤ length s.lemmas
+  pub opens : IsOpening problem (take count s.lemmas)
+  pub run : IsRun problem (take count s.lemmas) events
+  pub same : s ≡ replayed (take count s.lemmas) events
+  pub divided : halves ≡ halves_of (take count s.lemmas) events
   pub reserved : length events + held_count s.cover.nodes ≤ room

@@ -1,10 +1,10 @@
 //! The book itself.
-ghost use Rattle.std.specs.Prelude.{◌≡◌, ◌+◌, ◌<◌, ◌^◌, ◌++◌, ◌∷◌, [], ℕ, length, map, IfOk, OnOk, OnErr, IfErr, IfSome, IfNone, Some, slice_get};
+ghost use Rattle.std.specs.Prelude.{◌≡◌, ◌+◌, ◌<◌, ◌^◌, ◌++◌, ◌∷◌, [], ℕ, length, map, take, IfOk, OnOk, OnErr, IfErr, IfSome, IfNone, Some, slice_get};
 ghost use Rattle.cover_tree.specs.declared.node.Node.TheVariants.{Held, Free};
 ghost use Rattle.cover_tree.specs.Covers.{node_at, holder_of, NoneHeld};
 ghost use Rattle.book_core.specs.declared.event.Event.TheVariants.{Take, Deliver, Release};
 ghost use Rattle.book_core.specs.declared.event.Taken.TheVariants.{Cube};
-ghost use Rattle.book_core.specs.Books.{IsJustifiedIn, IsHeldBy, IsAllowed, MayAnswer, cover_taken};
+ghost use Rattle.book_core.specs.Books.{IsOpening, IsJustifiedIn, IsHeldBy, IsAllowed, MayAnswer, cover_taken};
 ghost use Rattle.book_core.specs.Shared.{lemmas_of};
 ghost use Rattle.book_core.specs.Facts.{IsSound};
 ghost use Rattle.book_core.specs.Halves.{halves_of};
@@ -14,8 +14,8 @@ ghost use Rattle.book_core.specs.Verdicts.{Concludes};
 use crate::answer::Answer;
 use crate::delivery::{Delivery, Refused};
 use crate::event::{Event, Outcome, Taken};
-use crate::prepared::{Prepared, prepare, publish, settle};
-use crate::refutation::{into_refutation, refutation_of};
+use crate::prepared::{Prepared, prepare, publish, settle, share};
+use crate::refutation::{copies, into_refutation, refutation_of};
 use crate::verdict::Verdict;
 use cover_tree::Cover;
 use refute_tree::{Batch, Lemma};
@@ -29,6 +29,8 @@ use stn_core::{Problem, Schedule};
 pub struct Book {
     problem: Problem,
     cover: Cover,
+    /// With so many of the lemmas it was opened; they are the first.
+    opened: usize,
     lemmas: Vec<Arc<Lemma>>,
     found: Option<Schedule>,
     halves: Option<(usize, usize)>,
@@ -36,40 +38,59 @@ pub struct Book {
 }
 
 impl Model for Book {
-    ghost use Rattle.std.specs.Prelude.{vec_capacity};
+    ghost use Rattle.std.specs.Prelude.{vec_capacity, take};
     ghost use Rattle.book_core.specs.Books.{state_with};
     ghost use Rattle.book_core.specs.Shared.{lemmas_of};
     ghost use Rattle.book_core.specs.Runs.{Ledger, ledger, IsKept};
 
     ghost Value = { Ledger };
 
-    ghost view = { λ b. ledger b.problem b.journal.items };
+    ghost view = { λ b. ledger b.problem (take b.opened (lemmas_of b.lemmas.items)) b.journal.items };
 
-    ghost invariant = { λ b. IsKept b.problem b.journal.items
+    ghost invariant = { λ b. IsKept b.problem b.opened b.journal.items
         (state_with b.cover (lemmas_of b.lemmas.items) b.found) b.halves (vec_capacity b.journal) };
 }
 
 impl Book {
-    /// The book of a problem, with one free cube.
+    /// The book of a problem, with one free cube and no lemma.
     pub fn new(alloc: Global, problem: Problem) -> Result<Self, AllocError>
-        ensures { IfOk result (λ book. book ≡ ledger problem []) }
+        ensures { IfOk result (λ book. book ≡ ledger problem [] []) }
     {
+        Book::new_with(alloc, problem, Batch::new(0, Vec::new(alloc)))
+    }
+
+    /// The book of a problem, with one free cube and these lemmas.
+    pub fn new_with(alloc: Global, problem: Problem, opening: Batch) -> Result<Self, AllocError>
+        requires seen { opening.seen ≡ 0 }
+        requires opening { IsOpening problem opening.lemmas }
+        ensures { IfOk result (λ book. book ≡ ledger problem opening.lemmas []) }
+    {
+        let cover = Cover::new(alloc)?;
+        let lemmas = share(alloc, opening.into_lemmas())?;
         Ok(Book {
             problem,
-            cover: Cover::new(alloc)?,
-            lemmas: Vec::new(alloc),
+            cover,
+            opened: lemmas.len(),
+            lemmas,
             found: None,
             halves: None,
             journal: Vec::new(alloc),
         })
     }
 
-    /// The book that these calls lead to. It takes their time again, but for what `take` looked for.
-    pub fn replay(alloc: Global, problem: Problem, events: &[Event]) -> Result<Self, AllocError>
-        requires { IsRun problem events.now }
-        ensures { IfOk result (λ book. book ≡ ledger problem events.now) }
+    /// The book that these calls lead to from its opening on. It takes their time again, but for what `take` looked for.
+    pub fn replay(
+        alloc: Global,
+        problem: Problem,
+        opening: Batch,
+        events: &[Event],
+    ) -> Result<Self, AllocError>
+        requires seen { opening.seen ≡ 0 }
+        requires opening { IsOpening problem opening.lemmas }
+        requires run { IsRun problem opening.lemmas events.now }
+        ensures { IfOk result (λ book. book ≡ ledger problem opening.lemmas events.now) }
     {
-        let mut book = Book::new(alloc, problem)?;
+        let mut book = Book::new_with(alloc, problem, opening)?;
         for event in events {
             book.repeat(event)?;
         }
@@ -88,6 +109,24 @@ impl Book {
         ensures { result.now ≡ self.now.journal }
     {
         self.journal.as_slice()
+    }
+
+    /// With how many lemmas the book was opened: they are the first ones.
+    pub fn opened(&self) -> usize
+        ensures count { result ≡ length self.now.opening }
+        ensures first { self.now.opening ≡ take result (state_of self.now).lemmas }
+    {
+        self.opened
+    }
+
+    /// Copies of the lemmas that the book was opened with, as a batch.
+    pub fn opening(&self) -> Result<Batch, AllocError>
+        ensures seen { IfOk result (λ batch. batch.seen ≡ 0) }
+        ensures lemmas { IfOk result (λ batch. batch.lemmas ≡ self.now.opening) }
+    {
+        let alloc = *self.lemmas.allocator();
+        let lemmas = copies(alloc, self.lemmas.as_slice(), self.opened)?;
+        Ok(Batch::new(0, lemmas))
     }
 
     /// How many lemmas there are.
@@ -129,7 +168,8 @@ impl Book {
 
     /// What always holds of a book.
     pub fn sound(&self)
-        ensures run { IsRun self.now.problem self.now.journal }
+        ensures opening { IsOpening self.now.problem self.now.opening }
+        ensures run { IsRun self.now.problem self.now.opening self.now.journal }
         ensures sound { IsSound self.now.problem (state_of self.now) }
     {
         let _ = &self.problem;
@@ -137,7 +177,7 @@ impl Book {
 
     /// The two halves of the last delivery, by their numbers, where it divided its cube.
     pub fn halves(&self) -> Option<(usize, usize)>
-        ensures { result ≡ halves_of self.now.journal }
+        ensures { result ≡ halves_of self.now.opening self.now.journal }
     {
         self.halves
     }
@@ -359,6 +399,7 @@ impl Book {
         let Book {
             problem,
             cover,
+            opened: _,
             lemmas,
             found,
             halves: _,

@@ -45,7 +45,7 @@ pub(crate) fn prepare(alloc: Global, base: usize, batch: Batch) -> Result<Prepar
     Ok(Prepared { shared, handed })
 }
 
-fn share(alloc: Global, lemmas: Vec<Lemma>) -> Result<Vec<Arc<Lemma>>, AllocError>
+pub(crate) fn share(alloc: Global, lemmas: Vec<Lemma>) -> Result<Vec<Arc<Lemma>>, AllocError>
     ensures { IfOk result (λ shared. lemmas_of shared.items ≡ lemmas.items) }
 {
     let mut shared = Vec::with_capacity(alloc, lemmas.len())?;

@@ -5,7 +5,7 @@ use Rattle.std.proofs.Math.Seq.{drop-append_seam}
 use Rattle.refute_tree.specs.declared.lemma.Lemma.{Lemma}
 use Rattle.book_core.specs.declared.event.Event.{Event}
 use Rattle.book_core.specs.Books.{IsAllowed}
-use Rattle.book_core.specs.Runs.{IsRun, replayed}
+use Rattle.book_lock.specs.Begun.{Runs, reached}
 use Rattle.book_lock.specs.declared.view.View.{View}
 use Rattle.book_lock.specs.declared.cube.Cube.{Cube}
 use Rattle.book_lock.specs.SeatEvents.{events_by, seat_of, held_from, held_after, IsDue, IsOrderlyFrom, idle_from, is_idle, ended_idle}
@@ -31,7 +31,7 @@ orderly_snoc held (x ∷ es) e h d = (h.0, orderly_snoc (held_after x) es e h.1 
 abbrev pub told_of : View → List Event → Event → View
 told_of v log e = resting (telling (entered v log) (log ++ e ∷ []))
 
-module _ (v : View) (log : List Event) (e : Event) (rests : v.turn ≡ false) (blank : v.known ≡ []) (en : Entered v log) (own : seat_of e ≡ v.number) (a : IsAllowed v.problem (replayed log) e) where
+module _ (v : View) (log : List Event) (e : Event) (rests : v.turn ≡ false) (blank : v.known ≡ []) (en : Entered v log) (own : seat_of e ≡ v.number) (a : IsAllowed v.begun.problem (reached v.begun log) e) where
   abbrev between : List Event
   between = en.1.0
 
@@ -44,8 +44,8 @@ module _ (v : View) (log : List Event) (e : Event) (rests : v.turn ≡ false) (b
   pub view_after : told_of v log e ≡ calling v between e
   view_after = λ i. record v { turn = sym rests i; known = sym blank i; front = sym whole i ++ e ∷ []; events = v.events ++ last i }
 
-  pub run_after : IsRun v.problem (log ++ e ∷ [])
-  run_after = run_snoc v.problem log e en.0 a
+  pub run_after : Runs v.begun (log ++ e ∷ [])
+  run_after = run_snoc v.begun log e en.0 a
 
   pub events_after : events_by v.number (log ++ e ∷ []) ≡ v.events ++ e ∷ []
   events_after = events_own v.number log e own ∙ ap (λ (es : List Event). es ++ e ∷ []) en.2
@@ -53,8 +53,8 @@ module _ (v : View) (log : List Event) (e : Event) (rests : v.turn ≡ false) (b
   pub called : (w : View) → w ≡ told_of v log e → Called v w between e
   called w is = record {
     view = is ∙ view_after;
-    allowed = subst (λ (es : List Event). IsAllowed v.problem (replayed es) e) (sym whole) a;
-    run = subst (λ (x : View). IsRun v.problem x.front) (sym is) run_after;
+    allowed = subst (λ (es : List Event). IsAllowed v.begun.problem (reached v.begun es) e) (sym whole) a;
+    run = subst (λ (x : View). Runs v.begun x.front) (sym is) run_after;
     made = subst (λ (x : View). events_by v.number x.front ≡ x.events) (sym is) (events_after ∙ ap (λ (es : List Event). v.events ++ es) (sym last));
   }
 
@@ -62,8 +62,9 @@ module _ (v : View) (log : List Event) (e : Event) (rests : v.turn ≡ false) (b
   pub seated_without : (lemmas : List Lemma) (holding : Option Cube) (place now : ℕ) (waits : Bool) (idle : Bool) → IsSeated v lemmas holding place waits → IsDue (id_of holding) e → held_after e ≡ None → is_idle e ≡ idle → now ≡ length (log ++ e ∷ [])
       → IsSeated (told_of v log e) lemmas None now idle
   seated_without lemmas holding place now waits idle s due none is count = record {
+    opens = s.opens;
     run = run_after;
-    seen = prefix_trans lemmas (replayed v.front).lemmas (replayed (log ++ e ∷ [])).lemmas s.seen (lemmas_prefix v.front (log ++ e ∷ []) (between ++ e ∷ [], more_front));
+    seen = prefix_trans lemmas (reached v.begun v.front).lemmas (reached v.begun (log ++ e ∷ [])).lemmas s.seen (lemmas_prefix v.begun v.front (log ++ e ∷ []) (between ++ e ∷ [], more_front));
     holds = tt;
     orderly = subst (λ (es : List Event). IsOrderlyFrom None (v.events ++ es)) (sym last) (orderly_snoc None v.events e s.orderly (subst (λ (h : Option ℕ). IsDue h e) (sym s.held) due));
     held = ap (λ (es : List Event). held_from None (v.events ++ es)) last ∙ (held_snoc None v.events e ∙ none);

@@ -5,6 +5,7 @@ use Rattle.std.proofs.lemmas.Bool.{cases_lt}
 use mathlib.Core.Logic.{dite}
 use native.Mathlib.Decide.{ℕ_discrete}
 use Rattle.stn_core.specs.declared.problem.Problem.{Problem}
+use Rattle.refute_tree.specs.declared.lemma.Lemma.{Lemma}
 use Rattle.refute_tree.specs.Batches.{LemmaBatch}
 use Rattle.refute_tree.specs.Moves.{moved_number}
 use Rattle.cover_tree.specs.declared.node.Node.{Node}
@@ -16,8 +17,9 @@ use Rattle.book_core.specs.declared.event.Event.TheVariants.{Take, Deliver, Rele
 use Rattle.book_core.specs.declared.event.Taken.TheVariants.{Done, Idle, Cube as TakenCube}
 use Rattle.book_core.specs.declared.event.Outcome.{Outcome}
 use Rattle.book_core.specs.declared.event.Outcome.TheVariants.{Found, Shut as ShutBy, Split as SplitBy}
-use Rattle.book_core.specs.Books.{State, opening, IsAllowed, IsDone, after, cover_delivered}
-use Rattle.book_core.specs.Runs.{IsRun, IsRunFrom, replayed_from, replayed}
+use Rattle.book_core.specs.Books.{State, opened, IsAllowed, IsDone, after, cover_delivered}
+use Rattle.book_core.specs.Runs.{Ledger, IsRunFrom, replayed_from}
+use Rattle.book_lock.specs.Begun.{Runs, reached}
 use Rattle.book_core.proofs.Sound.{done_kept}
 use Rattle.book_lock.specs.declared.view.View.{View}
 use Rattle.book_lock.specs.declared.view.Kept.{Kept}
@@ -109,9 +111,9 @@ holders p s (e ∷ es) h r o hb id n is =
     held_next h e (events_by n es) n (seat_of e == n)
     ∙ holders p (after s e) es (next h e) r.1 (λ m. orderly_next h e (events_by m es) m (seat_of e == m) (o m)) (held_step p s e h r.0 (due_here h e es (o (seat_of e))) hb) id n is
 
-none_at_first : HeldBy opening (λ _. None)
-none_at_first zero n e = absurd (cc (e))
-none_at_first (suc id) n e = absurd (cc (e))
+none_at_first : (lemmas : List Lemma) → HeldBy (opened lemmas) (λ _. None)
+none_at_first lemmas zero n e = absurd (cc (e))
+none_at_first lemmas (suc id) n e = absurd (cc (e))
 
 ended_of : (n : ℕ) (ks : List Kept) (cs : List Event) → AllEnded ks → kept_of n ks ≡ Some cs → AreEnded cs
 ended_of n [] cs all e = absurd (cc (e))
@@ -120,7 +122,7 @@ ended_of n (k ∷ ks) cs all e = dite (ℕ_discrete k.number n)
     (λ ne. ended_of n ks cs all.1 (sym (ap (λ (b : Bool). cond b (Some k.events) (kept_of n ks)) (ne_eqb k.number n ne)) ∙ e))
 
 -- where the events of all seats are known, and each ended its cubes, no leaf is held
-pub none_held : (p : Problem) (v : View) → IsRun p v.front → AllKnown v → AreEnded v.events → AllEnded v.kept → NoneHeld (replayed v.front).cover
+pub none_held : (p : Ledger) (v : View) → Runs p v.front → AllKnown v → AreEnded v.events → AllEnded v.kept → NoneHeld (reached p v.front).cover
 none_held p v run known mine all id n is =
     let ended : (m : ℕ) → AreEnded (events_by m v.front) = λ m. dite (ℕ_discrete m 0)
     (λ z. subst AreEnded (sym known.0 ∙ ap (λ (j : ℕ). events_by j v.front) (sym z)) mine)
@@ -128,7 +130,7 @@ none_held p v run known mine all id n is =
     (λ (l : m < v.seats). ended_of m v.kept (events_by m v.front) all (known.1 m (omega (arith, nz)) l))
     (λ (l : v.seats ≤ m). subst AreEnded (sym (known.2 m l)) (tt, refl))
     (cases_lt m v.seats)) in
-    let a : held_from None (events_by n v.front) ≡ Some id = holders p opening v.front (λ _. None) run (λ m. (ended m).0) none_at_first id n is in
+    let a : held_from None (events_by n v.front) ≡ Some id = holders p.problem (opened p.opening) v.front (λ _. None) run (λ m. (ended m).0) (none_at_first p.opening) id n is in
     let b : None ≡ Some id = sym (ended n).1 ∙ a in
     cc (b)
 
@@ -145,5 +147,5 @@ done_from p s (x ∷ es) n zero r e =
 done_from p s (x ∷ es) n (suc k) r e = done_from p (after s x) es n k r.1 e
 
 -- where a seat was answered Done, the book is done
-pub was_done : (p : Problem) (es : List Event) → IsRun p es → WasDone es → IsDone (replayed es)
-was_done p es run (n, k, e) = done_from p opening es n k run e
+pub was_done : (p : Ledger) (es : List Event) → Runs p es → WasDone es → IsDone (reached p es)
+was_done p es run (n, k, e) = done_from p.problem (opened p.opening) es n k run e

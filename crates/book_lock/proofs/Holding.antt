@@ -21,8 +21,9 @@ use Rattle.book_core.specs.declared.event.Event.TheVariants.{Take, Deliver, Rele
 use Rattle.book_core.specs.declared.event.Taken.TheVariants.{Done, Idle, Cube as TakenCube}
 use Rattle.book_core.specs.declared.event.Outcome.{Outcome}
 use Rattle.book_core.specs.declared.event.Outcome.TheVariants.{Found, Shut as ShutBy, Split as SplitBy}
-use Rattle.book_core.specs.Books.{State, opening, IsAllowed, after, cover_delivered}
-use Rattle.book_core.specs.Runs.{IsRun, IsRunFrom, replayed_from, replayed}
+use Rattle.book_core.specs.Books.{State, opened, IsAllowed, after, cover_delivered}
+use Rattle.book_core.specs.Runs.{Ledger, IsRunFrom, replayed_from}
+use Rattle.book_lock.specs.Begun.{Runs, reached}
 use Rattle.book_lock.specs.declared.cube.Cube.{Cube}
 use Rattle.book_lock.specs.SeatEvents.{events_by, seat_of}
 use Rattle.book_lock.specs.Seats.{IsCubeOfSeat}
@@ -41,8 +42,8 @@ pub lemmas_grow : (s : State) (es : List Event) → IsPrefix s.lemmas (replayed_
 lemmas_grow s [] = prefix_self s.lemmas
 lemmas_grow s (e ∷ es) = prefix_trans s.lemmas (after s e).lemmas (replayed_from s (e ∷ es)).lemmas (lemmas_step s e) (lemmas_grow (after s e) es)
 
-pub lemmas_prefix : (xs ys : List Event) → IsPrefix xs ys → IsPrefix (replayed xs).lemmas (replayed ys).lemmas
-lemmas_prefix xs ys p = subst (λ (s : State). IsPrefix (replayed xs).lemmas s.lemmas) (sym (replayed_more _ xs p.0) ∙ ap replayed p.1) (lemmas_grow (replayed xs) p.0)
+pub lemmas_prefix : (b : Ledger) (xs ys : List Event) → IsPrefix xs ys → IsPrefix (reached b xs).lemmas (reached b ys).lemmas
+lemmas_prefix b xs ys p = subst (λ (s : State). IsPrefix (reached b xs).lemmas s.lemmas) (sym (replayed_more (opened b.opening) xs p.0) ∙ ap (reached b) p.1) (lemmas_grow (reached b xs) p.0)
 
 -- what stands at a number, with the literals on the path to it
 pub record Stands (c : Cubes) (k : ℕ) (n : Node) (cube : List Literal) : Type 0 where
@@ -119,13 +120,15 @@ pub quiet_between : (n : ℕ) (xs ys zs events : List Event) → xs ++ ys ≡ zs
 quiet_between n xs ys zs events e a b = none_left (events_by n xs) (events_by n ys) events (sym (events_append n xs ys) ∙ (ap (events_by n) e ∙ a)) b
 
 -- the cube that a seat holds by its front is held in each longer journal without more events by it
-pub still_held : (p : Problem) (front log events : List Event) (n : ℕ) (cube : Cube) → IsRun p log → IsPrefix front log → events_by n log ≡ events → events_by n front ≡ events → IsCubeOfSeat (replayed front).cover n cube → IsCubeOfSeat (replayed log).cover n cube
-still_held p front log events n cube run pre made seen h =
-    let whole : IsRunFrom p opening (front ++ pre.0) = subst (IsRun p) (sym pre.1) run in
-    let covered = covered_by p opening front opening_whole (run_first p opening front pre.0 whole) in
+pub still_held : (b : Ledger) (front log events : List Event) (n : ℕ) (cube : Cube) → Runs b log → IsPrefix front log → events_by n log ≡ events → events_by n front ≡ events → IsCubeOfSeat (reached b front).cover n cube → IsCubeOfSeat (reached b log).cover n cube
+still_held b front log events n cube run pre made seen h =
+    let p : Problem = b.problem in
+    let first : State = opened b.opening in
+    let whole : IsRunFrom p first (front ++ pre.0) = subst (Runs b) (sym pre.1) run in
+    let covered = covered_by p first front opening_whole (run_first p first front pre.0 whole) in
     let quiet : events_by n pre.0 ≡ [] = quiet_between n front pre.0 log events pre.1 made seen in
-    let then = stands p (replayed front) pre.0 cube.id n (cube_at (replayed front).cover cube.id) (run_rest p opening front pre.0 whole) quiet (stands_at (replayed front).cover cube.id n covered h.0) in
-    let same : replayed_from (replayed front) pre.0 ≡ replayed log = sym (replayed_more opening front pre.0) ∙ ap replayed pre.1 in
-    let node : node_at (replayed log).cover cube.id ≡ Some (Held n) = ap (λ (s : State). node_at s.cover cube.id) (sym same) ∙ then.node in
-    let path : cube_at (replayed log).cover cube.id ≡ cube_at (replayed front).cover cube.id = ap (λ (s : State). cube_at s.cover cube.id) (sym same) ∙ get_or_from_slice_get (replayed_from (replayed front) pre.0).cover.paths cube.id (cube_at (replayed front).cover cube.id) [] then.path in
+    let then = stands p (reached b front) pre.0 cube.id n (cube_at (reached b front).cover cube.id) (run_rest p first front pre.0 whole) quiet (stands_at (reached b front).cover cube.id n covered h.0) in
+    let same : replayed_from (reached b front) pre.0 ≡ reached b log = sym (replayed_more first front pre.0) ∙ ap (reached b) pre.1 in
+    let node : node_at (reached b log).cover cube.id ≡ Some (Held n) = ap (λ (s : State). node_at s.cover cube.id) (sym same) ∙ then.node in
+    let path : cube_at (reached b log).cover cube.id ≡ cube_at (reached b front).cover cube.id = ap (λ (s : State). cube_at s.cover cube.id) (sym same) ∙ get_or_from_slice_get (replayed_from (reached b front) pre.0).cover.paths cube.id (cube_at (reached b front).cover cube.id) [] then.path in
     (node, h.1 ∙ sym path)

@@ -4,8 +4,9 @@ use Rattle.book_lock.proofs.Fronts.{prefix_whole, prefix_length}
 use mathlib.Core.List.{IsPrefix}
 use Rattle.book_core.specs.declared.event.Event.{Event}
 use Rattle.stn_core.specs.declared.problem.Problem.{Problem}
-use Rattle.book_core.specs.Books.{State, opening, IsAllowed, after}
-use Rattle.book_core.specs.Runs.{IsRun, IsRunFrom, replayed_from, replayed}
+use Rattle.book_core.specs.Books.{State, opened, IsAllowed, after}
+use Rattle.book_core.specs.Runs.{Ledger, IsRunFrom, replayed_from}
+use Rattle.book_lock.specs.Begun.{Runs, reached}
 use Rattle.book_lock.specs.SeatEvents.{events_by, seat_of}
 
 pub replayed_more : (s : State) (xs ys : List Event) → replayed_from s (xs ++ ys) ≡ replayed_from (replayed_from s xs) ys
@@ -16,8 +17,8 @@ run_from_snoc : (p : Problem) (s : State) (es : List Event) (e : Event) → IsRu
 run_from_snoc p s [] e h a = (a, tt)
 run_from_snoc p s (x ∷ es) e h a = (h.0, run_from_snoc p (after s x) es e h.1 a)
 
-pub run_snoc : (p : Problem) (es : List Event) (e : Event) → IsRun p es → IsAllowed p (replayed es) e → IsRun p (es ++ e ∷ [])
-run_snoc p es e h a = run_from_snoc p opening es e h a
+pub run_snoc : (b : Ledger) (es : List Event) (e : Event) → Runs b es → IsAllowed b.problem (reached b es) e → Runs b (es ++ e ∷ [])
+run_snoc b es e h a = run_from_snoc b.problem (opened b.opening) es e h a
 
 pub run_first : (p : Problem) (s : State) (xs ys : List Event) → IsRunFrom p s (xs ++ ys) → IsRunFrom p s xs
 run_first p s [] ys h = tt

@@ -14,11 +14,11 @@ use native.Mathlib.Decide.{ℕ_discrete}
 use lib.ListN.{get_elem?}
 use Rattle.atomic_table.specs.Table.{step, keeps, Allows, Splits, Joins, opening}
 use Rattle.atomic_table.proofs.Lists.{at_set, set_again, set_here, set_else, at_longer, at_last}
-use Rattle.stn_core.specs.declared.problem.Problem.{Problem}
 use Rattle.book_core.specs.declared.event.Event.{Event}
 use Rattle.book_lock.specs.declared.view.View.{View}
 use Rattle.book_lock.specs.declared.view.Kept.{Kept}
-use Rattle.book_core.specs.Runs.{Ledger, ledger, IsRun}
+use Rattle.book_core.specs.Runs.{Ledger}
+use Rattle.book_lock.specs.Begun.{Opens, Runs, with_events}
 use Rattle.book_lock.specs.SeatEvents.{events_by}
 use Rattle.book_lock.specs.Rules.{St, Mine, At, Active, kept_of, AllBegin, Fits, Seen, Sees, Holds, opener}
 use Rattle.book_lock.specs.Seats.{counted, newcomer, longer, merged, OneBegins, nobody, AllJoined, AllKnown}
@@ -27,11 +27,12 @@ use Rattle.book_lock.proofs.Journals.{events_none, events_between}
 use Rattle.book_lock.proofs.Steps.{at_below, same_at, each, true_false}
 
 -- the table at the start
-pub starts : (p : Problem) → Holds p (opening (0 ∷ 0 ∷ []) (Some (ledger p []) ∷ []) (opener p))
-starts p = record {
+pub starts : (p : Ledger) → Opens p → Holds p (opening (0 ∷ 0 ∷ []) (Some (with_events p []) ∷ []) (opener p))
+starts p opens = record {
   log = [];
   seats = 1;
   kept = [];
+  opens = opens;
   run = tt;
   head = (opener p, refl, refl, refl, refl, refl);
   wide = refl;
@@ -42,7 +43,7 @@ starts p = record {
   busy = λ n. absurd (n refl);
   one = λ i j u v a b t _. absurd (true_false u.turn t (only (λ v. v.turn ≡ false) refl i u a));
   spent = only (λ v. v.spent ≡ true → v.turn ≡ false) (λ _. refl);
-  fits = only (λ v. v.spent ≡ false → Fits p [] 1 v) (λ _. record { front = prefix_self []; made = refl; seen = refl; problem = refl; known = λ t. absurd (true_false false t refl); below = omega arith });
+  fits = only (λ v. v.spent ≡ false → Fits p [] 1 v) (λ _. record { front = prefix_self []; made = refl; seen = refl; begun = refl; known = λ t. absurd (true_false false t refl); below = omega arith });
   apart = λ i j u v a b _ _ _. at_zero i u a ∙ sym (at_zero j v b);
   joined = λ n l. inl (0, opener p, refl, refl, omega arith);
   away = only (λ v. v.spent ≡ false → kept_of v.number [] ≡ None) (λ _. refl);
@@ -75,7 +76,7 @@ each_end P views id w x mine new others j u e =
     (at_end (set views id w) x u j e)
 
 -- seat 0 makes a seat
-module _ (p : Problem) (id : ℕ) (v : View) (first : v.number ≡ 0) (unspent : v.spent ≡ false) (s : St) (r : Holds p s) (at : At s.views id v) where
+module _ (p : Ledger) (id : ℕ) (v : View) (first : v.number ≡ 0) (unspent : v.spent ≡ false) (s : St) (r : Holds p s) (at : At s.views id v) where
   pub is_head : (id ≡ 0) × (v ≡ r.head.0)
   is_head = let h = r.head in let e : id ≡ 0 = r.apart id 0 v h.0 at h.1 unspent h.3 (first ∙ sym h.2) in
       (e, same_at s.views 0 v h.0 (subst (λ (k : ℕ). At s.views k v) e at) h.1)
@@ -84,7 +85,7 @@ module _ (p : Problem) (id : ℕ) (v : View) (first : v.number ≡ 0) (unspent :
   made = ap (λ (x : View). x.seats) is_head.1 ∙ r.head.4
 
 -- a change that leaves other seats: the number of the views
-module _ (p : Problem) (id : ℕ) (v : View) (first : v.number ≡ 0) (unspent : v.spent ≡ false) (rests : v.turn ≡ false) where
+module _ (p : Ledger) (id : ℕ) (v : View) (first : v.number ≡ 0) (unspent : v.spent ≡ false) (rests : v.turn ≡ false) where
   abbrev parted : St → St
   parted s = record { words = s.words; homes = s.homes; views = set s.views id (counted v) ++ newcomer v ∷ [] }
 
@@ -105,6 +106,7 @@ module _ (p : Problem) (id : ℕ) (v : View) (first : v.number ≡ 0) (unspent :
         log = r.log;
         seats = r.seats + 1;
         kept = r.kept;
+        opens = r.opens;
         run = r.run;
         head = (w, subst (λ (k : ℕ). At (vs ++ x ∷ []) k w) h.0 mine, first, unspent, ap (λ (k : ℕ). k + 1) seats, ap (λ (y : View). y.kept) h.1 ∙ r.head.5);
         wide = r.wide;
@@ -121,9 +123,9 @@ module _ (p : Problem) (id : ℕ) (v : View) (first : v.number ≡ 0) (unspent :
             i u a;
         spent = each_end (λ j u. u.spent ≡ true → u.turn ≡ false) s.views id w x (λ _. rests) (λ _ _ _. refl) (λ j u _ a. r.spent j u a);
         fits = each_end (λ j u. u.spent ≡ false → Fits p r.log (r.seats + 1) u) s.views id w x
-            (λ _. record { front = f.front; made = f.made; seen = f.seen; problem = f.problem; known = f.known; below = let b = f.below in omega (arith, b) })
-            (λ _ _ _. let none : events_by v.seats r.log ≡ [] = r.beyond v.seats (omega (arith, seats)) in record { front = f.front; made = none; seen = events_none v.seats v.front r.log f.front none; problem = f.problem; known = λ t. absurd (true_false false t refl); below = omega (arith, seats) })
-            (λ j u _ a sp. let g = r.fits j u a sp in record { front = g.front; made = g.made; seen = g.seen; problem = g.problem; known = g.known; below = let b = g.below in omega (arith, b) });
+            (λ _. record { front = f.front; made = f.made; seen = f.seen; begun = f.begun; known = f.known; below = let b = f.below in omega (arith, b) })
+            (λ _ _ _. let none : events_by v.seats r.log ≡ [] = r.beyond v.seats (omega (arith, seats)) in record { front = f.front; made = none; seen = events_none v.seats v.front r.log f.front none; begun = f.begun; known = λ t. absurd (true_false false t refl); below = omega (arith, seats) })
+            (λ j u _ a sp. let g = r.fits j u a sp in record { front = g.front; made = g.made; seen = g.seen; begun = g.begun; known = g.known; below = let b = g.below in omega (arith, b) });
         apart = λ i j u y a b.
             each_end (λ i u. u.spent ≡ false → y.spent ≡ false → u.number ≡ y.number → i ≡ j) s.views id w x
             (each_end (λ j y. v.spent ≡ false → y.spent ≡ false → v.number ≡ y.number → id ≡ j) s.views id w x (λ _ _ _. refl)
@@ -172,7 +174,7 @@ longer_whole xs ys zs p q one =
     prefix_whole (longer xs ys) zs t.0 c
 
 -- seat 0 takes in another seat
-module _ (p : Problem) (id : ℕ) (v : View) (first : v.number ≡ 0) (unspent : v.spent ≡ false) (rests : v.turn ≡ false) (other : ℕ) (w : View) (unspent' : w.spent ≡ false) (rests' : w.turn ≡ false) where
+module _ (p : Ledger) (id : ℕ) (v : View) (first : v.number ≡ 0) (unspent : v.spent ≡ false) (rests : v.turn ≡ false) (other : ℕ) (w : View) (unspent' : w.spent ≡ false) (rests' : w.turn ≡ false) where
   pub joins : Joins (Holds p) id v other w (merged v w) nobody
   joins s r at apart_ there =
       let b : View = merged v w in
@@ -203,6 +205,7 @@ module _ (p : Problem) (id : ℕ) (v : View) (first : v.number ≡ 0) (unspent :
         log = r.log;
         seats = r.seats;
         kept = more;
+        opens = r.opens;
         run = r.run;
         head = (b, subst (λ (k : ℕ). At (set vs other nobody) k b) h.0 mine, first, unspent, seats, ap (λ (l : List Kept). let k : Kept = record { number = w.number; front = w.front; events = w.events } in k ∷ l) kept);
         wide = r.wide;
@@ -221,7 +224,7 @@ module _ (p : Problem) (id : ℕ) (v : View) (first : v.number ≡ 0) (unspent :
             i u a;
         spent = all (λ j u. u.spent ≡ true → u.turn ≡ false) (λ _. rests) (λ _. refl) (λ j u _ _ a. r.spent j u a);
         fits = all (λ j u. u.spent ≡ false → Fits p r.log r.seats u)
-            (λ _. record { front = t.0; made = f.made; seen = events_between v.number v.front (longer v.front w.front) r.log t.1 t.0 (f.seen ∙ sym f.made) ∙ f.seen; problem = f.problem; known = f.known; below = f.below })
+            (λ _. record { front = t.0; made = f.made; seen = events_between v.number v.front (longer v.front w.front) r.log t.1 t.0 (f.seen ∙ sym f.made) ∙ f.seen; begun = f.begun; known = f.known; below = f.below })
             (λ sp. absurd (true_false true refl sp))
             (λ j u _ _ a. r.fits j u a);
         apart = λ i j u y a c.
@@ -250,7 +253,7 @@ module _ (p : Problem) (id : ℕ) (v : View) (first : v.number ≡ 0) (unspent :
       }
 
 -- a step that changes nothing, and tells what the rule says of fronts
-module _ (p : Problem) (id : ℕ) (v : View) (unspent : v.spent ≡ false) where
+module _ (p : Ledger) (id : ℕ) (v : View) (unspent : v.spent ≡ false) where
   abbrev stays : ℕ → ℕ
   stays n = either (n == 2) 2 n
 
@@ -266,9 +269,9 @@ module _ (p : Problem) (id : ℕ) (v : View) (unspent : v.spent ≡ false) where
       let w : ℕ = slice_index s.words 0 in
       let same : either (w == 2) 2 w ≡ w = same_word w (w == 2) refl in
       let words : set s.words 0 (either (w == 2) 2 w) ≡ s.words = ap (set s.words 0) same ∙ set-get_or s.words 0 0 in
-      (v, keeps, tt, subst (λ (t : List ℕ × List View). Holds p record { words = t.0; homes = s.homes; views = t.1 }) (λ i. (sym words i, sym (set_again s.views id v at) i)) r, (refl, (r.log, ((r.fits id v at unspent).front, sees_kept s r at, subst (λ (q : Problem). IsRun q r.log) (sym (r.fits id v at unspent).problem) r.run))))
+      (v, keeps, tt, subst (λ (t : List ℕ × List View). Holds p record { words = t.0; homes = s.homes; views = t.1 }) (λ i. (sym words i, sym (set_again s.views id v at) i)) r, (refl, (r.log, ((r.fits id v at unspent).front, sees_kept s r at, subst (λ (q : Ledger). Runs q r.log) (sym (r.fits id v at unspent).begun) r.run))))
 
-pub sees_as : (p : Problem) (id slots : ℕ) (m : Mine) → slots ≡ 1 → m.1 ≡ [] → m.0.spent ≡ false → Allows (Holds p) slots id m 0 (λ n. either (n == 2) 2 n) (Sees (step slots 0 2 2 none) m)
+pub sees_as : (p : Ledger) (id slots : ℕ) (m : Mine) → slots ≡ 1 → m.1 ≡ [] → m.0.spent ≡ false → Allows (Holds p) slots id m 0 (λ n. either (n == 2) 2 n) (Sees (step slots 0 2 2 none) m)
 sees_as p id slots m one empty unspent =
     subst (λ (t : ℕ × List (ℕ × Option Ledger)). Allows (Holds p) t.0 id (m.0, t.1) 0 (λ n. either (n == 2) 2 n) (Sees (step t.0 0 2 2 none) (m.0, t.1))) (λ i. (sym one i, sym empty i)) (sees p id m.0 unspent)
 
@@ -295,8 +298,8 @@ join_fronts v w x y m1 m2 same is ev ew first seen =
     (one_begins v.front w.front m2.0.front h.0 front (subst (λ (l : List Event). IsPrefix l h.0) (sym front) h.1.0) (h.1.1 first).0)
 
 -- the table at the end, when all seats were joined
-pub closes : (p : Problem) (id : ℕ) (v : View) → v.number ≡ 0 → v.spent ≡ false → v.turn ≡ false → AllJoined v → (s : St) → Holds p s → At s.views id v
-    → (get_elem? s.homes 0 ≡ some (some (Some (ledger p v.front)))) × AllKnown v × IsRun p v.front × AllBegin v.kept v.front
+pub closes : (p : Ledger) (id : ℕ) (v : View) → v.number ≡ 0 → v.spent ≡ false → v.turn ≡ false → AllJoined v → (s : St) → Holds p s → At s.views id v
+    → (get_elem? s.homes 0 ≡ some (some (Some (with_events p v.front)))) × AllKnown v × Runs p v.front × AllBegin v.kept v.front × Opens p
 closes p id v first unspent rests joined s r at =
     let h = is_head p id v first unspent s r at in
     let seats : v.seats ≡ r.seats = ap (λ (y : View). y.seats) h.1 ∙ r.head.4 in
@@ -311,7 +314,7 @@ closes p id v first unspent rests joined s r at =
     let free : slice_index s.words 0 ≡ 0 = dite (ℕ_discrete (slice_index s.words 0) 0) (λ z. z) (λ n. let k = r.busy n in absurd (still k.0 k.1 k.2 k.3)) in
     let m = r.longest in
     let whole : v.front ≡ r.log = ap (λ (y : View). y.front) (same_at s.views id v m.1 at (subst (λ (k : ℕ). At s.views k m.1) (alone m.0 m.1 m.2 m.3) m.2)) ∙ m.4 in (
-      r.free free ∙ ap (λ (l : List Event). some (some (Some (ledger p l)))) (sym whole),
+      r.free free ∙ ap (λ (l : List Event). some (some (Some (with_events p l)))) (sym whole),
       (
         ap (λ (n : ℕ). events_by n v.front) (sym first) ∙ f.seen,
         (λ n pos l. ⊎_elim
@@ -320,8 +323,9 @@ closes p id v first unspent rests joined s r at =
             (r.joined n (omega (arith, seats, l)))),
         (λ n l. ap (events_by n) whole ∙ r.beyond n (omega (arith, seats, l))),
       ),
-      subst (IsRun p) (sym whole) r.run,
+      subst (Runs p) (sym whole) r.run,
       subst (λ (t : List Kept × List Event). AllBegin t.0 t.1) (λ i. (sym kept i, sym whole i)) r.fronts,
+      r.opens,
     )
   where
     is_none : {A : Type 0} (o : Option A) → o ≡ None → IsSome o → ⊥

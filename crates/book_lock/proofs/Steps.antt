@@ -12,11 +12,11 @@ use lib.ListN.{get_elem?}
 use prog.Atomic.{either}
 use Rattle.atomic_table.specs.Table.{Step, step, Act, keeps, takes, gives, Valid, stepped, carried_after, rest, Allows}
 use Rattle.atomic_table.proofs.Lists.{at_set, set_here, set_else, set_again}
-use Rattle.stn_core.specs.declared.problem.Problem.{Problem}
 use Rattle.book_core.specs.declared.event.Event.{Event}
 use Rattle.book_lock.specs.declared.view.View.{View}
 use Rattle.book_lock.specs.declared.view.Kept.{Kept}
-use Rattle.book_core.specs.Runs.{Ledger, ledger, IsRun}
+use Rattle.book_core.specs.Runs.{Ledger}
+use Rattle.book_lock.specs.Begun.{Runs, with_events}
 use Rattle.book_lock.specs.SeatEvents.{events_by, seat_of}
 use Rattle.book_lock.specs.Rules.{St, Mine, At, Active, kept_of, AllBegin, Fits, Holds, entered, Entered, Enters, journal_of, telling, Tells, resting, Leaves}
 use Rattle.book_lock.proofs.Fronts.{prefix_self, prefix_trans}
@@ -50,11 +50,11 @@ begin_more [] xs ys p h = tt
 begin_more (k ∷ ks) xs ys p h = (prefix_trans k.front xs ys h.0 p, begin_more ks xs ys p h.1)
 
 -- The seat id goes from the view v to w, and the journal from r.log to log
-pub record Change (p : Problem) (s : St) (r : Holds p s) (id : ℕ) (v w : View) (words : List ℕ) (homes : List (mathlib.Core.Option.Option (Option Ledger))) (log : List Event) : Type 0 where
+pub record Change (p : Ledger) (s : St) (r : Holds p s) (id : ℕ) (v w : View) (words : List ℕ) (homes : List (mathlib.Core.Option.Option (Option Ledger))) (log : List Event) : Type 0 where
   pub was : At s.views id v
   pub unspent : v.spent ≡ false
   pub stays : (w.spent ≡ false) × (w.number ≡ v.number) × (w.seats ≡ v.seats) × (w.kept ≡ v.kept)
-  pub run : IsRun p log
+  pub run : Runs p log
   pub wide : length words ≡ 2
   pub told : slice_index words 1 ≡ length log
   pub grows : IsPrefix r.log log
@@ -62,12 +62,12 @@ pub record Change (p : Problem) (s : St) (r : Holds p s) (id : ℕ) (v w : View)
   pub alone : w.turn ≡ true → (j : ℕ) (u : View) → j ≢ id → At s.views j u → u.turn ≡ false
   pub quiet : (j : ℕ) (u : View) → j ≢ id → At s.views j u → u.turn ≡ true → r.log ≡ log
   pub longest : (i : ℕ) × (u : View) × At (set s.views id w) i u × (u.spent ≡ false) × (u.front ≡ log)
-  pub free : slice_index words 0 ≡ 0 → get_elem? homes 0 ≡ some (some (Some (ledger p log)))
+  pub free : slice_index words 0 ≡ 0 → get_elem? homes 0 ≡ some (some (Some (with_events p log)))
   pub idle : slice_index words 0 ≡ 0 → (w.turn ≡ false) × ((j : ℕ) (u : View) → j ≢ id → At s.views j u → u.turn ≡ false)
   pub busy : slice_index words 0 ≢ 0 → w.turn ≡ true
   pub mine : Fits p log r.seats w
 
-module _ (p : Problem) (s : St) (r : Holds p s) (id : ℕ) (v w : View) (words : List ℕ) (homes : List (mathlib.Core.Option.Option (Option Ledger))) (log : List Event) (c : Change p s r id v w words homes log) where
+module _ (p : Ledger) (s : St) (r : Holds p s) (id : ℕ) (v w : View) (words : List ℕ) (homes : List (mathlib.Core.Option.Option (Option Ledger))) (log : List Event) (c : Change p s r id v w words homes log) where
   here : At (set s.views id w) id w
   here = set_here s.views id w (at_below s.views id v c.was)
 
@@ -94,7 +94,7 @@ module _ (p : Problem) (s : St) (r : Holds p s) (id : ℕ) (v w : View) (words :
     front = prefix_trans u.front r.log log f.front c.grows;
     made = c.events u.number (other_number j u ne at sp) ∙ f.made;
     seen = f.seen;
-    problem = f.problem;
+    begun = f.begun;
     known = λ t. f.known t ∙ c.quiet j u ne at t;
     below = f.below;
   }
@@ -104,6 +104,7 @@ module _ (p : Problem) (s : St) (r : Holds p s) (id : ℕ) (v w : View) (words :
     log = log;
     seats = r.seats;
     kept = r.kept;
+    opens = r.opens;
     run = c.run;
     head = head_of (ℕ_discrete id 0);
     wide = c.wide;
@@ -134,18 +135,18 @@ module _ (p : Problem) (s : St) (r : Holds p s) (id : ℕ) (v w : View) (words :
     unmade = r.unmade;
   }
 
-longest_of : (p : Problem) (s : St) (r : Holds p s) (id : ℕ) (v w : View) → At s.views id v → w.spent ≡ false → w.front ≡ v.front
+longest_of : (p : Ledger) (s : St) (r : Holds p s) (id : ℕ) (v w : View) → At s.views id v → w.spent ≡ false → w.front ≡ v.front
     → (i : ℕ) × (u : View) × At (set s.views id w) i u × (u.spent ≡ false) × (u.front ≡ r.log)
 longest_of p s r id v w at sp same = let m = r.longest in dite (ℕ_discrete m.0 id)
     (λ e. (id, w, set_here s.views id w (at_below s.views id v at), sp, same ∙ (ap (λ (x : View). x.front) (same_at s.views id v m.1 at (subst (λ (k : ℕ). At s.views k m.1) e m.2)) ∙ m.4)))
     (λ ne. (m.0, m.1, set_else s.views id m.0 w ne ∙ m.2, m.3, m.4))
 
 -- the turn is taken, or nothing changes
-module _ (p : Problem) (id : ℕ) (v : View) (unspent : v.spent ≡ false) where
+module _ (p : Ledger) (id : ℕ) (v : View) (unspent : v.spent ≡ false) where
   abbrev Try : St → Bool → Type 0
   Try s b = (w : View) × (a : Act (Option Ledger)) × Valid s.homes [] a × Holds p (stepped s 0 (either b 1 (slice_index s.words 0)) id [] w a)
       × MatchBool b
-      ((log : List Event) × (◌≡◌ {A = Mine} (w, carried_after [] a) (entered v log, (0, Some (ledger v.problem log)) ∷ [])) × Entered v log)
+      ((log : List Event) × (◌≡◌ {A = Mine} (w, carried_after [] a) (entered v log, (0, Some (with_events v.begun log)) ∷ [])) × Entered v log)
       (◌≡◌ {A = Mine} (w, carried_after [] a) (v, []))
 
   won : (s : St) (r : Holds p s) → At s.views id v → slice_index s.words 0 ≡ 0 → Try s true
@@ -153,7 +154,7 @@ module _ (p : Problem) (id : ℕ) (v : View) (unspent : v.spent ≡ false) where
       let f = r.fits id v at unspent in
       let l : List Event = r.log in
       let w : View = entered v l in
-      let b : Ledger = ledger v.problem l in
+      let b : Ledger = with_events v.begun l in
       let few : 0 < length s.words = omega (arith, r.wide) in
       let taken : get_or (set s.words 0 1) 0 0 ≡ 1 = get_or-set_same s.words 0 1 0 few in
       let homes : List (mathlib.Core.Option.Option (Option Ledger)) = set s.homes 0 none in
@@ -172,9 +173,9 @@ module _ (p : Problem) (id : ℕ) (v : View) (unspent : v.spent ≡ false) where
         free = λ z'. absurd (omega (arith, taken, z'));
         idle = λ z'. absurd (omega (arith, taken, z'));
         busy = λ _. refl;
-        mine = record { front = f.front; made = f.made; seen = f.seen; problem = f.problem; known = λ _. refl; below = f.below };
+        mine = record { front = f.front; made = f.made; seen = f.seen; begun = f.begun; known = λ _. refl; below = f.below };
       } in
-      (w, takes 0 (Some b), r.free z ∙ ap (λ (q : Problem). some (some (Some (ledger q l)))) (sym f.problem), moved p s r id v w (set s.words 0 1) homes l change, (l, refl, (subst (λ (q : Problem). IsRun q l) (sym f.problem) r.run, f.front, f.made, f.seen)))
+      (w, takes 0 (Some b), r.free z ∙ ap (λ (q : Ledger). some (some (Some (with_events q l)))) (sym f.begun), moved p s r id v w (set s.words 0 1) homes l change, (l, refl, (subst (λ (q : Ledger). Runs q l) (sym f.begun) r.run, f.front, f.made, f.seen)))
 
   lost : (s : St) (r : Holds p s) → At s.views id v → Try s false
   lost s r at = (v, keeps, tt, subst (λ (t : List ℕ × List View). Holds p record { words = t.0; homes = s.homes; views = t.1 }) (λ i. (sym (set-get_or s.words 0 0) i, sym (set_again s.views id v at) i)) r, refl)
@@ -187,11 +188,11 @@ module _ (p : Problem) (id : ℕ) (v : View) (unspent : v.spent ≡ false) where
   enters s r deep at small = tries s r at (slice_index s.words 0 == 0) refl
 
 -- the event at the end of the journal in hand becomes known
-module _ (p : Problem) (id : ℕ) (v : View) (turn : v.turn ≡ true) (unspent : v.spent ≡ false) where
+module _ (p : Ledger) (id : ℕ) (v : View) (turn : v.turn ≡ true) (unspent : v.spent ≡ false) where
   none_else : (s : St) (r : Holds p s) → At s.views id v → (j : ℕ) (u : View) → j ≢ id → At s.views j u → u.turn ≡ false
   none_else s r at j u ne at' = not_true u.turn (λ t. ne (r.one j id u v at' at t turn))
 
-  pub tells : (e : Event) (new : ℕ) (cs : List (ℕ × Option Ledger)) → seat_of e ≡ v.number → IsRun v.problem (v.known ++ e ∷ []) → new ≡ length (v.known ++ e ∷ []) → journal_of cs ≡ v.known ++ e ∷ []
+  pub tells : (e : Event) (new : ℕ) (cs : List (ℕ × Option Ledger)) → seat_of e ≡ v.number → Runs v.begun (v.known ++ e ∷ []) → new ≡ length (v.known ++ e ∷ []) → journal_of cs ≡ v.known ++ e ∷ []
       → Allows (Holds p) 1 id (v, cs) 1 (λ _. new) (λ _. Tells (step 1 1 new 0 none) (v, cs) new)
   tells e new cs own run count is s r deep at small =
       let f = r.fits id v at unspent in
@@ -208,7 +209,7 @@ module _ (p : Problem) (id : ℕ) (v : View) (turn : v.turn ≡ true) (unspent :
         was = at;
         unspent = unspent;
         stays = (unspent, refl, refl, refl);
-        run = subst (λ (t : Problem × List Event). IsRun t.0 t.1) (λ i. (f.problem i, sym is i)) run;
+        run = subst (λ (t : Ledger × List Event). Runs t.0 t.1) (λ i. (f.begun i, sym is i)) run;
         wide = length-set s.words 1 new ∙ r.wide;
         told = get_or-set_same s.words 1 new 0 few ∙ (count ∙ ap length (sym is));
         grows = (e ∷ [], sym longer);
@@ -219,22 +220,22 @@ module _ (p : Problem) (id : ℕ) (v : View) (turn : v.turn ≡ true) (unspent :
         free = λ z. absurd (true_false v.turn turn (r.idle (sym turn_word ∙ z) id v at));
         idle = λ z. absurd (true_false v.turn turn (r.idle (sym turn_word ∙ z) id v at));
         busy = λ _. turn;
-        mine = record { front = prefix_self j; made = mine; seen = mine; problem = f.problem; known = λ _. refl; below = f.below };
+        mine = record { front = prefix_self j; made = mine; seen = mine; begun = f.begun; known = λ _. refl; below = f.below };
       } in
       (w, keeps, tt, moved p s r id v w words s.homes j change, refl)
 
-  pub leaves : Allows (Holds p) 1 id (v, (0, Some (ledger v.problem v.known)) ∷ []) 0 (λ _. 0) (λ _. Leaves (step 1 0 0 0 none) (v, (0, Some (ledger v.problem v.known)) ∷ []) 0)
+  pub leaves : Allows (Holds p) 1 id (v, (0, Some (with_events v.begun v.known)) ∷ []) 0 (λ _. 0) (λ _. Leaves (step 1 0 0 0 none) (v, (0, Some (with_events v.begun v.known)) ∷ []) 0)
   leaves s r deep at small =
       let f = r.fits id v at unspent in
       let w : View = resting v in
       let known : v.known ≡ r.log = f.known turn in
       let words : List ℕ = set s.words 0 0 in
-      let book : Option Ledger = Some (ledger v.problem v.known) in
+      let book : Option Ledger = Some (with_events v.begun v.known) in
       let homes : List (mathlib.Core.Option.Option (Option Ledger)) = set s.homes 0 (some book) in
       let few : 0 < length s.words = omega (arith, r.wide) in
       let freed : get_or words 0 0 ≡ 0 = get_or-set_same s.words 0 0 0 few in
       let deep' : 0 < length s.homes = omega (arith, deep) in
-      let same : book ≡ Some (ledger p r.log) = λ i. Some (ledger (f.problem i) (known i)) in
+      let same : book ≡ Some (with_events p r.log) = λ i. Some (with_events (f.begun i) (known i)) in
       let change : Change p s r id v w words homes r.log = record {
         was = at;
         unspent = unspent;
@@ -250,27 +251,27 @@ module _ (p : Problem) (id : ℕ) (v : View) (turn : v.turn ≡ true) (unspent :
         free = λ _. set_here s.homes 0 (some book) deep' ∙ ap (λ (b : Option Ledger). some (some b)) same;
         idle = λ _. (refl, none_else s r at);
         busy = λ n. absurd (n freed);
-        mine = record { front = f.front; made = f.made; seen = f.seen; problem = f.problem; known = λ t. absurd (true_false false t refl); below = f.below };
+        mine = record { front = f.front; made = f.made; seen = f.seen; begun = f.begun; known = λ t. absurd (true_false false t refl); below = f.below };
       } in
       (w, gives, tt, moved p s r id v w words homes r.log change, refl)
 
 -- the same at what a seat is known to be
-pub enters_as : (p : Problem) (id slots : ℕ) (m : Mine) → slots ≡ 1 → m.1 ≡ [] → m.0.spent ≡ false → Allows (Holds p) slots id m 0 (λ n. either (n == 0) 1 n) (Enters (step slots 0 0 1 none) m)
+pub enters_as : (p : Ledger) (id slots : ℕ) (m : Mine) → slots ≡ 1 → m.1 ≡ [] → m.0.spent ≡ false → Allows (Holds p) slots id m 0 (λ n. either (n == 0) 1 n) (Enters (step slots 0 0 1 none) m)
 enters_as p id slots m one empty unspent =
     subst (λ (t : ℕ × List (ℕ × Option Ledger)). Allows (Holds p) t.0 id (m.0, t.1) 0 (λ n. either (n == 0) 1 n) (Enters (step t.0 0 0 1 none) (m.0, t.1))) (λ i. (sym one i, sym empty i)) (enters p id m.0 unspent)
 
-pub entered_at : (st : Step (Option Ledger)) (m : Mine) (n : ℕ) (m' : Mine) → Enters st m n m' → n ≡ 0 → (log : List Event) × (m' ≡ (entered m.0 log, (0, Some (ledger m.0.problem log)) ∷ m.1)) × Entered m.0 log
+pub entered_at : (st : Step (Option Ledger)) (m : Mine) (n : ℕ) (m' : Mine) → Enters st m n m' → n ≡ 0 → (log : List Event) × (m' ≡ (entered m.0 log, (0, Some (with_events m.0.begun log)) ∷ m.1)) × Entered m.0 log
 entered_at st m n m' h z = subst (λ (k : ℕ). Enters st m k m') z h
 
 pub kept_out : (st : Step (Option Ledger)) (m : Mine) (n : ℕ) (m' : Mine) → Enters st m n m' → n ≢ 0 → m' ≡ m
-kept_out st m n m' h z = subst (λ (b : Bool). MatchBool b ((log : List Event) × (m' ≡ (entered m.0 log, (0, Some (ledger m.0.problem log)) ∷ m.1)) × Entered m.0 log) (m' ≡ m)) (ne_eqb n 0 z) h
+kept_out st m n m' h z = subst (λ (b : Bool). MatchBool b ((log : List Event) × (m' ≡ (entered m.0 log, (0, Some (with_events m.0.begun log)) ∷ m.1)) × Entered m.0 log) (m' ≡ m)) (ne_eqb n 0 z) h
 
-pub tells_as : (p : Problem) (id slots new : ℕ) (m : Mine) (e : Event) → slots ≡ 1 → m.0.turn ≡ true → m.0.spent ≡ false → seat_of e ≡ m.0.number → IsRun m.0.problem (m.0.known ++ e ∷ []) → new ≡ length (m.0.known ++ e ∷ []) → journal_of m.1 ≡ m.0.known ++ e ∷ []
+pub tells_as : (p : Ledger) (id slots new : ℕ) (m : Mine) (e : Event) → slots ≡ 1 → m.0.turn ≡ true → m.0.spent ≡ false → seat_of e ≡ m.0.number → Runs m.0.begun (m.0.known ++ e ∷ []) → new ≡ length (m.0.known ++ e ∷ []) → journal_of m.1 ≡ m.0.known ++ e ∷ []
     → Allows (Holds p) slots id m 1 (λ _. new) (λ _. Tells (step slots 1 new 0 none) m new)
 tells_as p id slots new m e one turn unspent own run count is =
     subst (λ (k : ℕ). Allows (Holds p) k id m 1 (λ _. new) (λ _. Tells (step k 1 new 0 none) m new)) (sym one) (tells p id m.0 turn unspent e new m.1 own run count is)
 
-pub leaves_as : (p : Problem) (id slots : ℕ) (m : Mine) → slots ≡ 1 → m.0.turn ≡ true → m.0.spent ≡ false → m.1 ≡ (0, Some (ledger m.0.problem m.0.known)) ∷ []
+pub leaves_as : (p : Ledger) (id slots : ℕ) (m : Mine) → slots ≡ 1 → m.0.turn ≡ true → m.0.spent ≡ false → m.1 ≡ (0, Some (with_events m.0.begun m.0.known)) ∷ []
     → Allows (Holds p) slots id m 0 (λ _. 0) (λ _. Leaves (step slots 0 0 0 none) m 0)
 leaves_as p id slots m one turn unspent is =
     subst (λ (t : ℕ × List (ℕ × Option Ledger)). Allows (Holds p) t.0 id (m.0, t.1) 0 (λ _. 0) (λ _. Leaves (step t.0 0 0 0 none) (m.0, t.1) 0)) (λ i. (sym one i, sym is i)) (leaves p id m.0 turn unspent)
@@ -289,17 +290,17 @@ found_in_hand cs x y is now = ap in_front (sym now ∙ is)
 pub put_in : (m old : Mine) (b : Ledger) → m ≡ (old.0, (0, Some b) ∷ rest old.1) → old.1 ≡ (0, None) ∷ [] → m ≡ (old.0, (0, Some b) ∷ [])
 put_in m old b now was = now ∙ ap (λ (l : List (ℕ × Option Ledger)). let x : Mine = (old.0, (0, Some b) ∷ rest l) in x) was
 
-pub leaves_at : (p : Problem) (id slots : ℕ) (m : Mine) (v : View) (b : Ledger) → m ≡ (v, (0, Some b) ∷ []) → slots ≡ 1 → v.turn ≡ true → v.spent ≡ false → b ≡ ledger v.problem v.known
+pub leaves_at : (p : Ledger) (id slots : ℕ) (m : Mine) (v : View) (b : Ledger) → m ≡ (v, (0, Some b) ∷ []) → slots ≡ 1 → v.turn ≡ true → v.spent ≡ false → b ≡ with_events v.begun v.known
     → Allows (Holds p) slots id m 0 (λ _. 0) (λ _. Leaves (step slots 0 0 0 none) m 0)
 leaves_at p id slots m v b is one turn unspent book =
     subst (λ (x : Mine). Allows (Holds p) slots id x 0 (λ _. 0) (λ _. Leaves (step slots 0 0 0 none) x 0)) (sym is)
     (leaves_as p id slots (v, (0, Some b) ∷ []) one turn unspent (ap (λ (x : Ledger). (0, Some x) ∷ []) book))
 
-pub tells_at : (p : Problem) (id slots new : ℕ) (m : Mine) (v : View) (b : Ledger) (e : Event) → m ≡ (v, (0, Some b) ∷ []) → slots ≡ 1 → v.turn ≡ true → v.spent ≡ false → seat_of e ≡ v.number → IsRun v.problem b.journal → b.journal ≡ v.known ++ e ∷ [] → new ≡ length b.journal
+pub tells_at : (p : Ledger) (id slots new : ℕ) (m : Mine) (v : View) (b : Ledger) (e : Event) → m ≡ (v, (0, Some b) ∷ []) → slots ≡ 1 → v.turn ≡ true → v.spent ≡ false → seat_of e ≡ v.number → Runs v.begun b.journal → b.journal ≡ v.known ++ e ∷ [] → new ≡ length b.journal
     → Allows (Holds p) slots id m 1 (λ _. new) (λ _. Tells (step slots 1 new 0 none) m new)
 tells_at p id slots new m v b e is one turn unspent own run book count =
     subst (λ (x : Mine). Allows (Holds p) slots id x 1 (λ _. new) (λ _. Tells (step slots 1 new 0 none) x new)) (sym is)
-    (tells_as p id slots new (v, (0, Some b) ∷ []) e one turn unspent own (subst (IsRun v.problem) book run) (count ∙ ap length book) book)
+    (tells_as p id slots new (v, (0, Some b) ∷ []) e one turn unspent own (subst (Runs v.begun) book run) (count ∙ ap length book) book)
 
 -- the seat after it told of the event
 pub told : (m' m : Mine) (v : View) (b : Ledger) → m' ≡ (telling m.0 (journal_of m.1), m.1) → m ≡ (v, (0, Some b) ∷ []) → m' ≡ (telling v b.journal, (0, Some b) ∷ [])

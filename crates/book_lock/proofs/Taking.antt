@@ -11,7 +11,7 @@ use Rattle.refute_tree.specs.Trees.{stated}
 use Rattle.refute_tree.specs.Batches.{LemmaBatch, AreRefuted}
 use Rattle.cover_tree.specs.Covers.{Cubes, node_at, cube_at}
 use Rattle.book_core.specs.declared.event.Outcome.{Outcome}
-use Rattle.book_core.specs.Books.{State, opening, after, IsAllowed, IsJustified, IsJustifiedIn, Fits}
+use Rattle.book_core.specs.Books.{State, opened, after, IsAllowed, IsJustified, IsJustifiedIn, Fits}
 use Rattle.book_core.specs.declared.answer.Answer.{Answer}
 use Rattle.book_core.specs.declared.answer.Answer.TheVariants.{Done as AnswerDone, Idle as AnswerIdle, Cube as AnswerCube}
 use Rattle.book_core.specs.declared.event.Event.{Event}
@@ -57,7 +57,7 @@ justified_now problem s id lemmas cube batch outcome p is h =
     }
 
 looked_lemmas : (old new : Ledger) (e : Event) → new ≡ with_event old e → (after (state_of old) e).lemmas ≡ (state_of old).lemmas → (state_of new).lemmas ≡ (state_of old).lemmas
-looked_lemmas old new e longer same = ap (λ (b : Ledger). (state_of b).lemmas) longer ∙ (ap (λ (s : State). s.lemmas) (replayed_more opening old.journal (e ∷ [])) ∙ same)
+looked_lemmas old new e longer same = ap (λ (b : Ledger). (state_of b).lemmas) longer ∙ (ap (λ (s : State). s.lemmas) (replayed_more (opened old.opening) old.journal (e ∷ [])) ∙ same)
 
 pub looked_from : (old new : Ledger) (n : ℕ) (answer : Answer) → Answers old n answer new → Looked old n (dealt_of answer) (cube_of answer) new
 looked_from old new n AnswerDone h = record { event = Take n Done; allowed = h.0; longer = h.1; own = refl; taken = (refl, refl); lemmas = looked_lemmas old new (Take n Done) h.1 refl }

@@ -1,4 +1,5 @@
 pub mod SeatEvents
+pub mod Begun
 pub mod Rules
 pub mod Seats
 pub use Rattle.refute_tree.specs.Trees

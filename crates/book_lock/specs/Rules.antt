@@ -8,12 +8,12 @@ use mathlib.Core.List.{IsPrefix}
 use lib.ListN.{get_elem?}
 use Rattle.atomic_table.specs.Seated.{TableId}
 use Rattle.atomic_table.specs.Table.{State, Me, Step}
-use Rattle.stn_core.specs.declared.problem.Problem.{Problem}
 use Rattle.book_core.specs.declared.event.Event.{Event}
 use Rattle.book_lock.specs.declared.view.View.{View}
 use Rattle.book_lock.specs.declared.view.Kept.{Kept}
-use Rattle.book_core.specs.Runs.{Ledger, ledger, IsRun}
+use Rattle.book_core.specs.Runs.{Ledger}
 use Rattle.book_lock.specs.SeatEvents.{seat_of, events_by}
+use Rattle.book_lock.specs.Begun.{Opens, Runs, with_events}
 
 abbrev pub St : Type 0
 St = State (Option Ledger) View
@@ -40,25 +40,26 @@ AllBegin [] log = Unit {0}
 AllBegin (k ∷ ks) log = IsPrefix k.front log × AllBegin ks log
 
 -- what holds of each view that isn't spent, n being the number of seats that were made
-pub record Fits (p : Problem) (log : List Event) (n : ℕ) (v : View) : Type 0 where
+pub record Fits (p : Ledger) (log : List Event) (n : ℕ) (v : View) : Type 0 where
   pub front : IsPrefix v.front log
   pub made : events_by v.number log ≡ v.events
   pub seen : events_by v.number v.front ≡ v.events
-  pub problem : v.problem ≡ p
+  pub begun : v.begun ≡ p
   pub known : v.turn ≡ true → v.known ≡ log
   pub below : v.number < n
 
-pub record Holds (p : Problem) (s : St) : Type 0 where
+pub record Holds (p : Ledger) (s : St) : Type 0 where
   pub log : List Event
   pub seats : ℕ
   pub kept : List Kept
-  pub run : IsRun p log
+  pub opens : Opens p
+  pub run : Runs p log
   pub head : (v : View) × At s.views 0 v × (v.number ≡ 0) × (v.spent ≡ false) × (v.seats ≡ seats)
       × (v.kept ≡ kept)
   pub wide : length s.words ≡ 2
   pub told : slice_index s.words 1 ≡ length log
   pub longest : (i : ℕ) × (v : View) × At s.views i v × (v.spent ≡ false) × (v.front ≡ log)
-  pub free : slice_index s.words 0 ≡ 0 → get_elem? s.homes 0 ≡ some (some (Some (ledger p log)))
+  pub free : slice_index s.words 0 ≡ 0 → get_elem? s.homes 0 ≡ some (some (Some (with_events p log)))
   pub idle : slice_index s.words 0 ≡ 0 → (i : ℕ) (v : View) → At s.views i v → v.turn ≡ false
   pub busy : slice_index s.words 0 ≢ 0 → (i : ℕ) × (v : View) × At s.views i v × (v.turn ≡ true)
   pub one : (i j : ℕ) (u v : View)
@@ -74,13 +75,13 @@ pub record Holds (p : Problem) (s : St) : Type 0 where
   pub unmade : (n : ℕ) → seats ≤ n → kept_of n kept ≡ None
 
 -- the table's first view
-abbrev pub opener : Problem → View
+abbrev pub opener : Ledger → View
 opener p = record {
   number = 0;
   seats = 1;
   turn = false;
   spent = false;
-  problem = p;
+  begun = p;
   front = [];
   known = [];
   events = [];
@@ -102,8 +103,8 @@ HasTurn me = (me.1 ≡ (0, None) ∷ []) × (me.0.turn ≡ true) × (me.0.spent 
 -- the book's journal is a run, the known one and an event of the seat
 abbrev pub HasOneMore : View → Ledger → Type 0
 HasOneMore v book =
-    (e : Event) × (book ≡ ledger v.problem (v.known ++ e ∷ [])) × (seat_of e ≡ v.number)
-    × IsRun v.problem book.journal
+    (e : Event) × (book ≡ with_events v.begun (v.known ++ e ∷ [])) × (seat_of e ≡ v.number)
+    × Runs v.begun book.journal
 
 -- The turn was free, and the seat has it, with the book; or nothing changed
 abbrev pub entered : View → List Event → View
@@ -111,13 +112,13 @@ entered v log = record v { turn = true; known = log }
 
 abbrev pub Entered : View → List Event → Type 0
 Entered v log =
-    IsRun v.problem log × IsPrefix v.front log × (events_by v.number log ≡ v.events)
+    Runs v.begun log × IsPrefix v.front log × (events_by v.number log ≡ v.events)
     × (events_by v.number v.front ≡ v.events)
 
 abbrev pub Enters : Step (Option Ledger) → Mine → ℕ → Mine → Type 0
 Enters st me n me' =
     MatchBool (n == 0)
-    ((log : List Event) × (me' ≡ (entered me.0 log, (0, Some (ledger me.0.problem log)) ∷ me.1))
+    ((log : List Event) × (me' ≡ (entered me.0 log, (0, Some (with_events me.0.begun log)) ∷ me.1))
     × Entered me.0 log)
     (me' ≡ me)
 
@@ -142,7 +143,7 @@ Leaves st me n me' = me' ≡ (resting me.0, [])
 
 -- nothing changed, and the seat's front is of one journal, a run, with those of the seats that it took in
 abbrev pub Seen : View → List Event → Type 0
-Seen v log = IsPrefix v.front log × (v.number ≡ 0 → AllBegin v.kept log) × IsRun v.problem log
+Seen v log = IsPrefix v.front log × (v.number ≡ 0 → AllBegin v.kept log) × Runs v.begun log
 
 abbrev pub Sees : Step (Option Ledger) → Mine → ℕ → Mine → Type 0
 Sees st me n me' = (me' ≡ me) × ((log : List Event) × Seen me.0 log)

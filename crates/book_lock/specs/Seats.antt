@@ -4,6 +4,7 @@ use Rattle.std.proofs.Common.{arith}
 use mathlib.Core.List.{IsPrefix}
 use Rattle.atomic_table.specs.Seated.{TableId}
 use Rattle.stn_core.specs.declared.problem.Problem.{Problem}
+use Rattle.book_core.specs.Runs.{Ledger}
 use Rattle.refute_tree.specs.declared.lemma.Lemma.{Lemma}
 use Rattle.cover_tree.specs.declared.node.Node.TheVariants.{Free, Held}
 use Rattle.cover_tree.specs.Covers.{Cubes, node_at, cube_at}
@@ -12,7 +13,6 @@ use Rattle.book_core.specs.declared.event.Event.TheVariants.{Take}
 use Rattle.book_core.specs.declared.event.Taken.TheVariants.{Done as TakeDone, Idle as TakeIdle, Cube as TakeCube}
 use Rattle.book_core.specs.Books.{State, IsAllowed}
 use Rattle.book_core.specs.Halves.{halves_after}
-use Rattle.book_core.specs.Runs.{IsRun, replayed}
 use Rattle.book_lock.specs.declared.cube.Cube.{Cube}
 use Rattle.book_lock.specs.declared.cube.Dealt.{Dealt}
 use Rattle.book_lock.specs.declared.cube.Dealt.TheVariants.{Done, Idle, Cube as DealtCube}
@@ -20,10 +20,12 @@ use Rattle.book_lock.specs.declared.view.View.{View}
 use Rattle.book_lock.specs.declared.view.Kept.{Kept}
 use Rattle.book_lock.specs.SeatEvents.{events_by, held_from, IsOrderlyFrom, ended_idle, HasNewsFor}
 use Rattle.book_lock.specs.Rules.{kept_of}
+use Rattle.book_lock.specs.Begun.{Opens, Runs, reached, fresh}
 
 pub record Place : Type 0 where
   pub id : TableId
-  pub problem : Problem
+  -- the book without a call
+  pub begun : Ledger
 
 -- a seat: its desk, what it knows, the lemmas that it has seen, the cube that it holds, and the two halves of
 -- its own last delivery, where it divided its cube
@@ -57,13 +59,14 @@ AllEnded (k ∷ ks) = AreEnded k.events × AllEnded ks
 abbrev pub WasTaken : View → Cube → Type 0
 WasTaken v cube =
     (past : List Event) × IsPrefix past v.front × (events_by v.number past ≡ v.events)
-    × IsCubeOfSeat (replayed past).cover v.number cube
+    × IsCubeOfSeat (reached v.begun past).cover v.number cube
 
 -- Of the code and not of the meaning: how a seat's parts hang together
 pub record IsSeated (v : View) (lemmas : List Lemma) (holding : Option Cube) (place : ℕ) (waits : Bool)
     : Type 0 where
-  pub run : IsRun v.problem v.front
-  pub seen : IsPrefix lemmas (replayed v.front).lemmas
+  pub opens : Opens v.begun
+  pub run : Runs v.begun v.front
+  pub seen : IsPrefix lemmas (reached v.begun v.front).lemmas
   pub holds : IfSome holding (WasTaken v)
   pub orderly : IsOrderlyFrom None v.events
   pub held : held_from None v.events ≡ id_of holding
@@ -81,8 +84,8 @@ calling v between e = record v { front = (v.front ++ between) ++ e ∷ []; event
 -- events are its old ones and this call's, and they are the front's with its number
 pub record Called (v w : View) (between : List Event) (e : Event) : Type 0 where
   pub view : w ≡ calling v between e
-  pub allowed : IsAllowed v.problem (replayed (v.front ++ between)) e
-  pub run : IsRun v.problem w.front
+  pub allowed : IsAllowed v.begun.problem (reached v.begun (v.front ++ between)) e
+  pub run : Runs v.begun w.front
   pub made : events_by v.number w.front ≡ w.events
 
 -- the event of a take, and the cube after it, by the answer
@@ -99,9 +102,9 @@ pub record Takes (old new : Sight) (answer : Dealt) : Type 0 where
   pub between : List Event
   pub event : Event
   pub called : Called old.view new.view between event
-  pub answered : DealtAs old.view.number (replayed (old.view.front ++ between)) answer event new.cube
+  pub answered : DealtAs old.view.number (reached old.view.begun (old.view.front ++ between)) answer event new.cube
   pub desk : new.desk ≡ old.desk
-  pub lemmas : new.lemmas ≡ (replayed new.view.front).lemmas
+  pub lemmas : new.lemmas ≡ (reached old.view.begun new.view.front).lemmas
   pub halves : new.halves ≡ old.halves
   pub waited : ended_idle old.view.events ≡ true → HasNewsFor old.view.number (old.view.front ++ between)
 
@@ -113,15 +116,15 @@ IsCubeNear c cube id = node_at c id ≡ Some Free → IfSome cube (λ (k : Cube)
 abbrev pub TakesNear : Sight → Sight → Option ℕ → Dealt → Type 0
 TakesNear old new near answer =
     (takes : Takes old new answer)
-    × IfSome near (IsCubeNear (replayed (old.view.front ++ takes.between)).cover new.cube)
+    × IfSome near (IsCubeNear (reached old.view.begun (old.view.front ++ takes.between)).cover new.cube)
 
 -- what a call does that ends the seat's cube, which is still held by it there, with the same literals
 pub record Ends (old new : Sight) (event : Event) : Type 0 where
   pub between : List Event
   pub called : Called old.view new.view between event
   pub same : new ≡ sight old.desk new.view old.lemmas None
-      (halves_after (replayed (old.view.front ++ between)) event old.halves)
-  pub held : IfSome old.cube (IsCubeOfSeat (replayed (old.view.front ++ between)).cover old.view.number)
+      (halves_after (reached old.view.begun (old.view.front ++ between)) event old.halves)
+  pub held : IfSome old.cube (IsCubeOfSeat (reached old.view.begun (old.view.front ++ between)).cover old.view.number)
 
 abbrev pub counted : View → View
 counted v = record v { seats = v.seats + 1 }
@@ -133,7 +136,7 @@ newcomer v = record {
   seats = 0;
   turn = false;
   spent = false;
-  problem = v.problem;
+  begun = v.begun;
   front = v.front;
   known = [];
   events = [];
@@ -170,7 +173,7 @@ nobody = record {
   seats = 0;
   turn = false;
   spent = true;
-  problem = no_problem;
+  begun = fresh no_problem [];
   front = [];
   known = [];
   events = [];
@@ -196,4 +199,4 @@ WasDone front = (n : ℕ) × (k : ℕ) × (slice_get front k ≡ Some (Take n Ta
 abbrev pub IsSameSeat : Sight → Sight → Type 0
 IsSameSeat s t =
     (t.desk ≡ s.desk) × (t.view.number ≡ s.view.number) × (t.view.seats ≡ s.view.seats)
-    × (t.view.kept ≡ s.view.kept) × (t.view.problem ≡ s.view.problem)
+    × (t.view.kept ≡ s.view.kept) × (t.view.begun ≡ s.view.begun)

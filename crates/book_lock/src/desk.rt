@@ -4,9 +4,10 @@ ghost use Rattle.refute_tree.specs.Batches.{AreRefuted, LemmaIsOver};
 ghost use Rattle.cover_tree.specs.Covers.{NoneHeld};
 ghost use Rattle.book_core.specs.declared.event.Event.TheVariants.{Deliver, Release};
 ghost use Rattle.book_core.specs.Shared.{lemmas_of};
-ghost use Rattle.book_core.specs.Books.{IsDone, IsDecidable, IsJustified};
+ghost use Rattle.book_core.specs.Books.{IsDone, IsDecidable, IsJustified, IsOpening};
 ghost use Rattle.book_core.specs.Facts.{IsSound, IsApart};
-ghost use Rattle.book_core.specs.Runs.{ledger, state_of, IsRun};
+ghost use Rattle.book_core.specs.Runs.{state_of};
+ghost use Rattle.book_lock.specs.Begun.{Opens, Runs, fresh, with_events};
 ghost use Rattle.book_lock.specs.declared.cube.Cube.{Cube as HeldCube};
 ghost use Rattle.book_lock.specs.Rules.{Holds, opener, AllBegin};
 ghost use Rattle.book_lock.specs.Seats.{sight, Takes, TakesNear, Ends, counted, newcomer, merged, OneBegins, AllJoined, AllKnown, WasDone, id_of};
@@ -36,7 +37,7 @@ impl Model for Desk {
 
     ghost Value = { Place };
 
-    ghost view = { λ d. record { id = d.table.shared.table_id; problem = d.table.shared.key.value.problem } };
+    ghost view = { λ d. record { id = d.table.shared.table_id; begun = d.table.shared.key.value } };
 
     ghost invariant = { λ d. (d.table.shared.table_id.words ≡ 2) × (d.table.shared.table_id.slots ≡ 1) };
 }
@@ -96,12 +97,13 @@ impl Seat {
 
     /// What always holds of a seat.
     pub fn sound(&self)
-        ensures run { IsRun self.now.view.problem self.now.view.front }
-        ensures refuted { AreRefuted self.now.view.problem.points self.now.view.problem.clauses []
+        ensures opens { Opens self.now.view.begun }
+        ensures run { Runs self.now.view.begun self.now.view.front }
+        ensures refuted { AreRefuted self.now.view.begun.problem.points self.now.view.begun.problem.clauses []
             self.now.lemmas }
-        ensures over { All (LemmaIsOver self.now.view.problem.points) self.now.lemmas }
+        ensures over { All (LemmaIsOver self.now.view.begun.problem.points) self.now.lemmas }
         ensures decided { IfSome self.now.cube (λ cube.
-            All (IsDecidable self.now.view.problem) cube.literals) }
+            All (IsDecidable self.now.view.begun.problem) cube.literals) }
         ensures apart { IfSome self.now.cube (λ cube. AllPairs IsApart cube.literals) }
     {
         book_core::sound_law();
@@ -110,12 +112,27 @@ impl Seat {
 }
 
 impl Desk {
-    /// A book with no call, and seat 0.
+    /// A book with no call and no lemma, and seat 0.
     pub fn start(alloc: Global, problem: Problem) -> Result<(Desk, Seat), AllocError>
-        ensures { IfOk result (λ r. (r.0.problem ≡ problem)
-            × (r.1 ≡ sight r.0.id (opener problem) [] None None)) }
+        ensures { IfOk result (λ r. (r.0.begun ≡ fresh problem [])
+            × (r.1 ≡ sight r.0.id (opener (fresh problem [])) [] None None)) }
     {
-        let book = Book::new(alloc, problem)?;
+        Desk::start_with(alloc, problem, Batch::new(0, Vec::new(alloc)))
+    }
+
+    /// A book with no call, which opens with these lemmas, and seat 0, which has seen them.
+    pub fn start_with(
+        alloc: Global,
+        problem: Problem,
+        opening: Batch,
+    ) -> Result<(Desk, Seat), AllocError>
+        requires seen { opening.seen ≡ 0 }
+        requires opening { IsOpening problem opening.lemmas }
+        ensures { IfOk result (λ r. (r.0.begun ≡ fresh problem opening.lemmas)
+            × (r.1 ≡ sight r.0.id (opener (fresh problem opening.lemmas)) opening.lemmas None None)) }
+    {
+        let book = Book::new_with(alloc, problem, opening)?;
+        let lemmas = all_of(book.lemmas(), alloc)?;
         let about = Snapshot::of(&book);
         let mut slots = Vec::new(alloc);
         slots.push(Some(book))?;
@@ -127,7 +144,7 @@ impl Desk {
                     made: 1,
                     place: 0,
                     waits: false,
-                    lemmas: Vec::new(alloc),
+                    lemmas,
                     cube: None,
                     halves: None,
                     token,
@@ -216,7 +233,7 @@ impl Desk {
     ) -> Result<(), Refused>
         requires desk { seat.old.desk ≡ self.now.id }
         requires justified { (cube : HeldCube) × (seat.old.cube ≡ Some cube)
-            × IsJustified seat.old.view.problem seat.old.lemmas cube.literals batch outcome }
+            × IsJustified seat.old.view.begun.problem seat.old.lemmas cube.literals batch outcome }
         ensures ok { OnOk result (IfSome seat.old.cube (λ cube.
             Ends seat.old seat.new (Deliver seat.old.view.number cube.id batch outcome))) }
         ensures err { OnErr result (seat.new ≡ seat.old) }
@@ -299,12 +316,12 @@ impl Desk {
         requires first { seat.view.number ≡ 0 }
         requires all { AllJoined seat.view }
         requires none { seat.cube ≡ None }
-        ensures book { result ≡ ledger self.problem seat.view.front }
+        ensures book { result ≡ with_events self.begun seat.view.front }
         ensures known { AllKnown seat.view }
         ensures fronts { AllBegin seat.view.kept seat.view.front }
-        ensures run { IsRun self.problem seat.view.front }
+        ensures run { Runs self.begun seat.view.front }
         ensures free { NoneHeld (state_of result).cover }
-        ensures sound { IsSound self.problem (state_of result) }
+        ensures sound { IsSound self.begun.problem (state_of result) }
         ensures done { WasDone seat.view.front → IsDone (state_of result) }
     {
         book_core::sound_law();

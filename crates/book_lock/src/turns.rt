@@ -1,7 +1,7 @@
 //! The turn: one seat at a time has the book.
 ghost use Rattle.std.specs.Prelude.{◌≡◌, ◌<◌, [], ◌∷◌, List, length, true, false, None};
 ghost use Rattle.book_core.specs.declared.event.Event.{Event};
-ghost use Rattle.book_core.specs.Runs.{ledger};
+ghost use Rattle.book_lock.specs.Begun.{with_events};
 ghost use Rattle.book_lock.specs.SeatEvents.{HasNews};
 ghost use Rattle.book_lock.specs.Rules.{Holds, IsOfDesk, Rests, HasTurn, HasOneMore, entered, Entered, Seen, telling, resting, opener};
 
@@ -19,9 +19,9 @@ pub(crate) struct Turns;
 impl TableRule<Option<Book>, View, Snapshot<Book>> for Turns {
     ghost use Rattle.book_lock.specs.Rules.{Holds, opener};
 
-    ghost holds = { λ key. Holds key.value.problem };
+    ghost holds = { λ key. Holds key.value };
 
-    ghost first = { λ key. opener key.value.problem };
+    ghost first = { λ key. opener key.value };
 }
 
 pub(crate) struct Entering;
@@ -107,7 +107,7 @@ pub(crate) fn take_turn<R: Wait>(rt: &R, top: &Top, token: &mut Token) -> Book
     requires table { IsOfDesk token.old.table_id top.now.table_id }
     requires rests { Rests token.old.me }
     ensures same { (token.new.table_id ≡ token.old.table_id) × (token.new.id ≡ token.old.id) }
-    ensures book { result ≡ ledger token.old.me.0.problem result.journal }
+    ensures book { result ≡ with_events token.old.me.0.begun result.journal }
     ensures view { token.new.me ≡ (entered token.old.me.0 result.journal, (0, None) ∷ []) }
     ensures known { Entered token.old.me.0 result.journal }
 {
@@ -134,7 +134,7 @@ pub(crate) fn take_turn_with_news<R: Wait>(
     requires table { IsOfDesk token.old.table_id top.now.table_id }
     requires rests { Rests token.old.me }
     ensures same { (token.new.table_id ≡ token.old.table_id) × (token.new.id ≡ token.old.id) }
-    ensures book { result ≡ ledger token.old.me.0.problem result.journal }
+    ensures book { result ≡ with_events token.old.me.0.begun result.journal }
     ensures view { token.new.me ≡ (entered token.old.me.0 result.journal, (0, None) ∷ []) }
     ensures known { Entered token.old.me.0 result.journal }
     ensures news { HasNews place result.journal }
@@ -165,7 +165,7 @@ pub(crate) fn enter<R: Wait>(
     requires table { IsOfDesk token.old.table_id top.now.table_id }
     requires rests { Rests token.old.me }
     ensures same { (token.new.table_id ≡ token.old.table_id) × (token.new.id ≡ token.old.id) }
-    ensures book { result ≡ ledger token.old.me.0.problem result.journal }
+    ensures book { result ≡ with_events token.old.me.0.begun result.journal }
     ensures view { token.new.me ≡ (entered token.old.me.0 result.journal, (0, None) ∷ []) }
     ensures known { Entered token.old.me.0 result.journal }
     ensures news { waits ≡ true → HasNews place result.journal }
@@ -193,7 +193,7 @@ pub(crate) fn see(top: &Top, token: &mut Token)
 pub(crate) fn leave(top: &Top, token: &mut Token, book: Book)
     requires table { IsOfDesk token.old.table_id top.now.table_id }
     requires turn { HasTurn token.old.me }
-    requires book { book ≡ ledger token.old.me.0.problem token.old.me.0.known }
+    requires book { book ≡ with_events token.old.me.0.begun token.old.me.0.known }
     ensures same { (token.new.table_id ≡ token.old.table_id) × (token.new.id ≡ token.old.id) }
     ensures view { token.new.me ≡ (resting token.old.me.0, []) }
 {

@@ -1,7 +1,6 @@
 //! What contracts see of a seat.
-use book_core::Event;
+use book_core::{Book, Event};
 use std::collections::LinkedList;
-use stn_core::Problem;
 
 /// What a joined seat had seen, and its events.
 pub struct Kept {
@@ -17,7 +16,8 @@ pub struct View {
     pub seats: u64,
     pub turn: bool,
     pub spent: bool,
-    pub problem: Problem,
+    /// The book without a call.
+    pub begun: Book,
     pub front: LinkedList<Event>,
     /// The journal, while the seat has the turn.
     pub known: LinkedList<Event>,

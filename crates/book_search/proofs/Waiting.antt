@@ -16,7 +16,7 @@ use Rattle.book_core.specs.declared.answer.Answer.{Answer}
 use Rattle.book_core.specs.declared.answer.Answer.TheVariants.{Cube as AnswerCube, Done as AnswerDone}
 use Rattle.book_core.specs.declared.event.Outcome.{Outcome}
 use Rattle.book_core.specs.declared.event.Outcome.TheVariants.{Found, Shut as ShutBy, Split as SplitBy}
-use Rattle.book_core.specs.Books.{State, IsDone, IsHeldBy, IsJustifiedIn, after, cover_delivered}
+use Rattle.book_core.specs.Books.{State, IsOpening, IsDone, IsHeldBy, IsJustifiedIn, after, cover_delivered}
 use Rattle.book_core.specs.Runs.{Ledger, IsRun, state_of, with_event, Records, Answers}
 use Rattle.book_core.specs.Ends.{EndsLaw, left_to_do, left_in}
 use Rattle.book_core.proofs.Runs.{state_next}
@@ -94,14 +94,14 @@ left_next : (old new : Ledger) (e : Event) → new ≡ with_event old e → left
 left_next old new e is =
     ap (λ (b : Ledger). left_to_do b.problem (state_of new)) is ∙ ap (λ (s : State). left_to_do old.problem s) (state_next old new e is)
 
-pub delivered_less : EndsLaw → (old new : Ledger) (id : ℕ) (batch : LemmaBatch) (outcome : Outcome) → IsRun old.problem old.journal → IsHeldBy (state_of old) id 0 → IsJustifiedIn old.problem (state_of old) id batch outcome → (state_of old).found ≡ None → new ≡ with_event old (Deliver 0 id batch outcome) → left_in new < left_in old
-delivered_less ends old new id batch outcome run held justified none is =
-    let less = ends old.problem old.journal (Deliver 0 id batch outcome) run (held, justified) none in
+pub delivered_less : EndsLaw → (old new : Ledger) (id : ℕ) (batch : LemmaBatch) (outcome : Outcome) → IsOpening old.problem old.opening → IsRun old.problem old.opening old.journal → IsHeldBy (state_of old) id 0 → IsJustifiedIn old.problem (state_of old) id batch outcome → (state_of old).found ≡ None → new ≡ with_event old (Deliver 0 id batch outcome) → left_in new < left_in old
+delivered_less ends old new id batch outcome opens run held justified none is =
+    let less = ends old.problem old.opening old.journal (Deliver 0 id batch outcome) opens run (held, justified) none in
     omega (arith, less, left_next old new (Deliver 0 id batch outcome) is)
 
-pub taken_less : EndsLaw → (old taken new : Ledger) (id : ℕ) → IsRun old.problem old.journal → Records old (Take 0 (Cube id)) taken → left_in new < left_in taken → left_in new < left_in old
-taken_less ends old taken new id run r less =
-    let same = ends old.problem old.journal (Take 0 (Cube id)) run r.0 r.0.0 in
+pub taken_less : EndsLaw → (old taken new : Ledger) (id : ℕ) → IsOpening old.problem old.opening → IsRun old.problem old.opening old.journal → Records old (Take 0 (Cube id)) taken → left_in new < left_in taken → left_in new < left_in old
+taken_less ends old taken new id opens run r less =
+    let same = ends old.problem old.opening old.journal (Take 0 (Cube id)) opens run r.0 r.0.0 in
     omega (arith, less, same, left_next old taken (Take 0 (Cube id)) r.1)
 
 pub waiting_done : (problem : Problem) (old new : Ledger) → IsWaiting problem old → new ≡ with_event old (Take 0 Done) → IsWaiting problem new

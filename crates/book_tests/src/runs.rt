@@ -73,7 +73,12 @@ fn refuted(alloc: Global, book: &mut Book) -> Result<([Reply; 3], bool), AllocEr
 /// How many events the book has, and whether it and its replay conclude that there is no schedule.
 fn conclusions(alloc: Global, book: &Book) -> Result<(usize, bool, bool), AllocError> {
     book.sound();
-    let again = Book::replay(alloc, book.problem().copy()?, book.journal())?;
+    let again = Book::replay(
+        alloc,
+        book.problem().copy()?,
+        book.opening()?,
+        book.journal(),
+    )?;
     Ok((book.journal().len(), is_refuted(book)?, is_refuted(&again)?))
 }
 

@@ -68,7 +68,7 @@ pub(crate) fn deliver_justified<R: Wait>(
     outcome: Outcome,
 ) -> Result<bool, AllocError>
     requires desk { seat.old.desk ≡ desk.now.id }
-    requires problem { seat.old.view.problem ≡ problem.now }
+    requires problem { seat.old.view.begun.problem ≡ problem.now }
     ensures same { IsSameSeat seat.old seat.new }
 {
     let Some(cube) = seat.cube() else {

@@ -23,7 +23,7 @@ fn refuted<R: Wait>(
     other: &mut Seat,
 ) -> Result<(Option<Dealt>, bool, Option<Dealt>, [usize; 2]), AllocError>
     requires desk { (seat.old.desk ≡ desk.now.id) × (other.old.desk ≡ desk.now.id) }
-    requires problem { seat.old.view.problem ≡ problem.now }
+    requires problem { seat.old.view.begun.problem ≡ problem.now }
     ensures same { IsSameSeat seat.old seat.new × IsSameSeat other.old other.new }
 {
     let first = ask(rt, desk, seat)?;
@@ -58,7 +58,7 @@ fn taken_twice<R: Wait>(
     other: &mut Seat,
 ) -> Result<(Option<usize>, bool), AllocError>
     requires desk { (seat.old.desk ≡ desk.now.id) × (other.old.desk ≡ desk.now.id) }
-    requires problem { seat.old.view.problem ≡ problem.now }
+    requires problem { seat.old.view.begun.problem ≡ problem.now }
     ensures same { IsSameSeat seat.old seat.new × IsSameSeat other.old other.new }
 {
     let _ = ask(rt, desk, other)?;
@@ -99,7 +99,7 @@ fn divided<R: Wait>(
     other: &mut Seat,
 ) -> Result<(Option<(usize, usize)>, Option<Dealt>, Option<usize>), AllocError>
     requires desk { (seat.old.desk ≡ desk.now.id) × (other.old.desk ≡ desk.now.id) }
-    requires problem { seat.old.view.problem ≡ problem.now }
+    requires problem { seat.old.view.begun.problem ≡ problem.now }
     ensures same { IsSameSeat seat.old seat.new × IsSameSeat other.old other.new }
 {
     let _ = ask(rt, desk, seat)?;
@@ -134,7 +134,7 @@ fn idle<R: Wait>(
     other: &mut Seat,
 ) -> Result<(Option<Dealt>, bool), AllocError>
     requires desk { (seat.old.desk ≡ desk.now.id) × (other.old.desk ≡ desk.now.id) }
-    requires problem { other.old.view.problem ≡ problem.now }
+    requires problem { other.old.view.begun.problem ≡ problem.now }
     ensures same { IsSameSeat seat.old seat.new × IsSameSeat other.old other.new }
 {
     let _ = ask(rt, desk, other)?;

@@ -53,7 +53,7 @@ goes_on s t u a b = record {
 
 called_on : (old new : Sight) (between : List Event) (e : Event) → new.desk ≡ old.desk → Called old.view new.view between e → GoesOn old new
 called_on old new between e desk c = record {
-  same = (desk, ap (λ (v : View). v.number) c.view, ap (λ (v : View). v.seats) c.view, ap (λ (v : View). v.kept) c.view, ap (λ (v : View). v.problem) c.view);
+  same = (desk, ap (λ (v : View). v.number) c.view, ap (λ (v : View). v.seats) c.view, ap (λ (v : View). v.kept) c.view, ap (λ (v : View). v.begun) c.view);
   front = prefix_trans old.view.front (old.view.front ++ between) new.view.front (between, refl) (e ∷ [], sym (ap (λ (v : View). v.front) c.view));
   events = (e ∷ [], sym (ap (λ (v : View). v.events) c.view));
 }
@@ -153,14 +153,14 @@ decidable_over problem l d = elim d [
   | inr b ↦ subst (IsOver problem.points) (negation_twice l) (negation_over problem.points (negation_of l) (atom_over problem (negation_of l) b))
 ]
 
-pub decided_over : (problem : Problem) (seat : Sight) (cube : Cube) (shown : List Literal) → seat.view.problem ≡ problem → seat.cube ≡ Some cube → shown ≡ cube.literals
-    → IfSome seat.cube (λ k. All (IsDecidable seat.view.problem) k.literals) → All (IsOver problem.points) shown
+pub decided_over : (problem : Problem) (seat : Sight) (cube : Cube) (shown : List Literal) → seat.view.begun.problem ≡ problem → seat.cube ≡ Some cube → shown ≡ cube.literals
+    → IfSome seat.cube (λ k. All (IsDecidable seat.view.begun.problem) k.literals) → All (IsOver problem.points) shown
 decided_over problem seat cube shown is e same h =
-    let decided : All (IsDecidable seat.view.problem) cube.literals = subst (λ (o : Option Cube). IfSome o (λ k. All (IsDecidable seat.view.problem) k.literals)) e h in
+    let decided : All (IsDecidable seat.view.begun.problem) cube.literals = subst (λ (o : Option Cube). IfSome o (λ k. All (IsDecidable seat.view.begun.problem) k.literals)) e h in
     subst (λ (ls : List Literal). All (IsOver problem.points) ls) (sym same)
-    (subst (λ (p : Problem). All (IsOver p.points) cube.literals) is (All-weaker (IsDecidable seat.view.problem) (IsOver seat.view.problem.points) (decidable_over seat.view.problem) cube.literals decided))
+    (subst (λ (p : Problem). All (IsOver p.points) cube.literals) is (All-weaker (IsDecidable seat.view.begun.problem) (IsOver seat.view.begun.problem.points) (decidable_over seat.view.begun.problem) cube.literals decided))
 
-pub lemmas_over : (problem : Problem) (seat : Sight) (shown : List Lemma) → seat.view.problem ≡ problem → shown ≡ seat.lemmas → All (LemmaIsOver seat.view.problem.points) seat.lemmas → All (LemmaIsOver problem.points) shown
+pub lemmas_over : (problem : Problem) (seat : Sight) (shown : List Lemma) → seat.view.begun.problem ≡ problem → shown ≡ seat.lemmas → All (LemmaIsOver seat.view.begun.problem.points) seat.lemmas → All (LemmaIsOver problem.points) shown
 lemmas_over problem seat shown is same h =
     subst (λ (ls : List Lemma). All (LemmaIsOver problem.points) ls) (sym same) (subst (λ (p : Problem). All (LemmaIsOver p.points) seat.lemmas) is h)
 

@@ -30,7 +30,7 @@ module _ (desk : Place) (problem : Problem) (n : ℕ) (s t : List Worker) (w : W
   pub first_joined : IsFirst desk problem n new
   first_joined = record {
     desk_is = ap (λ (x : Sight). x.desk) is ∙ first.desk_is;
-    problem_is = ap (λ (x : Sight). x.view.problem) is ∙ first.problem_is;
+    problem_is = ap (λ (x : Sight). x.view.begun.problem) is ∙ first.problem_is;
     number = ap (λ (x : Sight). x.view.number) is ∙ first.number;
     count = ap (λ (x : Sight). x.view.seats) is ∙ first.count;
     none = ap (λ (x : Sight). x.cube) is ∙ first.none;
@@ -60,7 +60,7 @@ module _ (desk : Place) (problem : Problem) (pool : List Deque) (all more : List
       let count : new.view.seats ≡ old.view.seats + 1 = ap (λ (x : Sight). x.view.seats) is in
       record {
         desk_is = ap (λ (x : Sight). x.desk) is ∙ first.desk_is;
-        problem_is = ap (λ (x : Sight). x.view.problem) is ∙ first.problem_is;
+        problem_is = ap (λ (x : Sight). x.view.begun.problem) is ∙ first.problem_is;
         number = ap (λ (x : Sight). x.view.number) is ∙ first.number;
         count = omega (arith, longer, count, first.count);
         none = ap (λ (x : Sight). x.cube) is ∙ first.none;
@@ -76,7 +76,7 @@ module _ (desk : Place) (problem : Problem) (pool : List Deque) (all more : List
   pub work_more : AllMayWork desk problem pool all → w.hand.pool ≡ pool → IfSome w.pace (λ (pace : Pace). pace.tools ≡ problem.points) → AllMayWork desk problem pool more
   work_more was hand pace = all_pushed (λ k d. MayWork desk problem pool d) more all w e was (record {
     desk_is = ap (λ (x : Sight). x.desk) seat ∙ first.desk_is;
-    problem_is = ap (λ (x : Sight). x.view.problem) seat ∙ first.problem_is;
+    problem_is = ap (λ (x : Sight). x.view.begun.problem) seat ∙ first.problem_is;
     none = ap (λ (x : Sight). x.cube) seat;
     pool_is = hand;
     pace = pace;

@@ -42,7 +42,7 @@ IsAnswered seat Done = (seat.cube ≡ None) × HasEnded seat
 
 -- of the code: the seat's problem is this one, and the seat holds a cube of it
 pub record IsSearching (problem : Problem) (seat : Sight) : Type 0 where
-  pub problem_is : seat.view.problem ≡ problem
+  pub problem_is : seat.view.begun.problem ≡ problem
   pub holding : IsSome seat.cube
 
 -- of the code: the delivery is justified of the seat's cube, over the lemmas that the seat has seen

@@ -69,7 +69,7 @@ fn deliver<R: Wait>(
     delivery: Finding,
 ) -> Result<bool, AllocError>
     requires desk { seat.old.desk ≡ desk.now.id }
-    requires justified { IsJustifiedThere seat.old.view.problem seat.old delivery.batch delivery.outcome }
+    requires justified { IsJustifiedThere seat.old.view.begun.problem seat.old delivery.batch delivery.outcome }
     ensures seat { GoesOn seat.old seat.new }
     ensures none { seat.new.cube ≡ None }
 {

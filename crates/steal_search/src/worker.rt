@@ -99,7 +99,7 @@ pub(crate) fn go_on<R: Wait, G: Gate>(
     worker: u32,
     gate: &G,
 ) -> Result<(), AllocError>
-    requires problem { seat.old.view.problem ≡ problem.now }
+    requires problem { seat.old.view.begun.problem ≡ problem.now }
     requires desk { seat.old.desk ≡ desk.now.id }
     requires none { seat.old.cube ≡ None }
     requires hand { hand.old.pool ≡ pool.now }
@@ -150,7 +150,7 @@ pub fn work<R: Wait, G: Gate>(
     calls: &Arc<Calls>,
     gate: &G,
 ) -> Result<(), AllocError>
-    requires problem { seat.old.view.problem ≡ problem.now }
+    requires problem { seat.old.view.begun.problem ≡ problem.now }
     requires desk { seat.old.desk ≡ desk.now.id }
     requires none { seat.old.cube ≡ None }
     requires hand { hand.old.pool ≡ pool.now }

@@ -6,7 +6,7 @@ use Rattle.book_lock.specs.Seats.{Place, Sight}
 -- the seat with this number of the desk, where it has made so many seats; it holds no cube
 pub record IsSeatOf (desk : Place) (problem : Problem) (number seats : ℕ) (seat : Sight) : Type 0 where
   pub desk_is : seat.desk ≡ desk.id
-  pub problem_is : seat.view.problem ≡ problem
+  pub problem_is : seat.view.begun.problem ≡ problem
   pub number_is : seat.view.number ≡ number
   pub seats_is : seat.view.seats ≡ seats
   pub none : seat.cube ≡ None

@@ -31,7 +31,7 @@ fn run<R: Wait>(
     calls: &Arc<Calls>,
 ) -> (Seat, bool)
     requires desk { seat.desk ≡ desk.now.id }
-    requires problem { seat.view.problem ≡ problem.now }
+    requires problem { seat.view.begun.problem ≡ problem.now }
     requires none { seat.cube ≡ None }
     requires hand { hand.pool ≡ pool.now }
     ensures same { IsSameSeat seat result.0 }

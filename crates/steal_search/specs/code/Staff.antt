@@ -9,7 +9,7 @@ use Rattle.steal_search.specs.declared.dealing.Pace.{Pace}
 -- the worker's seat, hand and tools are of this desk, problem and pool, and it holds no cube
 pub record MayWork (desk : Place) (problem : Problem) (pool : List Deque) (worker : Worker) : Type 0 where
   pub desk_is : worker.seat.desk ≡ desk.id
-  pub problem_is : worker.seat.view.problem ≡ problem
+  pub problem_is : worker.seat.view.begun.problem ≡ problem
   pub none : worker.seat.cube ≡ None
   pub pool_is : worker.hand.pool ≡ pool
   pub pace : IfSome worker.pace (λ (pace : Pace). pace.tools ≡ problem.points)
@@ -42,7 +42,7 @@ AreHanded pool staff =
 -- seat 0 of the desk, which no other seat was joined to
 pub record IsFirst (desk : Place) (problem : Problem) (seats : ℕ) (seat : Sight) : Type 0 where
   pub desk_is : seat.desk ≡ desk.id
-  pub problem_is : seat.view.problem ≡ problem
+  pub problem_is : seat.view.begun.problem ≡ problem
   pub number : seat.view.number ≡ 0
   pub count : seat.view.seats ≡ seats
   pub none : seat.cube ≡ None

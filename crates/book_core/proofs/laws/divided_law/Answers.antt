@@ -3,4 +3,4 @@ use Rattle.book_core.proofs.Sound.{sound}
 use Rattle.book_core.proofs.laws.divided_law.Goals as goal
 
 pub returns : goal.returns
-returns c problem events r = c.partition_law.ensures _ (sound problem batch_moved joined events r).cover
+returns c problem opening events opens r = c.partition_law.ensures _ (sound problem batch_moved joined opening events opens r).cover

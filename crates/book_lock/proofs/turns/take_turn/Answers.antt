@@ -1,7 +1,8 @@
 use Rattle.std.proofs.Common.{rules, arith, ◌≡◌, ℕ, ◌∷◌, [], List, Option, Some, ap, ◌∙◌}
 use Rattle.atomic_table.specs.Table.{step}
 use mathlib.Core.Option as maybe
-use Rattle.book_core.specs.Runs.{Ledger, ledger}
+use Rattle.book_core.specs.Runs.{Ledger}
+use Rattle.book_lock.specs.Begun.{with_events}
 use Rattle.book_lock.specs.Rules.{Mine}
 use Rattle.book_lock.proofs.Steps.{enters_as, entered_at, in_hand}
 use Rattle.book_lock.proofs.turns.take_turn.Goals as goal
@@ -17,6 +18,6 @@ exchange-requires g c =
     let m' : Mine = c.compare_exchange-found.new.seat.me in
     let t = entered_at (step c.args.top.now.table_id.slots 0 0 1 maybe.none) m c.compare_exchange-found.result m' c.compare_exchange-found.ensures.2 c.if-found-eq0.true in
     let empty : m.1 ≡ [] = ap (λ (k : Mine). k.1) c.loop.invariant.4 ∙ c.requires.rests.0 in
-    let book : Option Ledger = Some (ledger m.0.problem t.0) in
+    let book : Option Ledger = Some (with_events m.0.begun t.0) in
     let now : m'.1 ≡ (0, book) ∷ [] = ap (λ (k : Mine). k.1) t.1 ∙ ap (λ (l : List (ℕ × Option Ledger)). (0, book) ∷ l) empty in
     (c.compare_exchange-found.ensures.0 ∙ c.loop.invariant.2 ∙ c.requires.table.0, (book, in_hand m'.1 book now))

@@ -19,7 +19,7 @@ returns-in_ok-divided-in-Cube-clause-waiting c =
 pub returns-in_ok-divided-in-Cube-clause-advances : goal.returns-in_ok-divided-in-Cube-clause-advances
 returns-in_ok-divided-in-Cube-clause-advances c =
     let t = cube_taken c.args.book.now c.take.new.self c.in_ok-id.field-0 c.in-Cube.id c.in-Cube.cube c.in-Cube.is c.in_ok-id.ensures.ok in
-    taken_less c.ends_law.ensures.ends c.args.book.now c.take.new.self c.work.new.book c.in-Cube.id c.sound.ensures.run t.0 c.in_ok-divided-in-Cube.ensures.less
+    taken_less c.ends_law.ensures.ends c.args.book.now c.take.new.self c.work.new.book c.in-Cube.id c.sound.ensures.opening c.sound.ensures.run t.0 c.in_ok-divided-in-Cube.ensures.less
 
 pub work-requires-clause-unfound : goal.work-requires-clause-unfound
 work-requires-clause-unfound c =

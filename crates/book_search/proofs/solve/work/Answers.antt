@@ -18,6 +18,6 @@ pub returns-clause-less : goal.returns-clause-less
 returns-clause-less c =
     let justified = justified_there c.problem.result.now c.args.book.now.problem (lemmas_of c.lemmas.result.now) _ c.args.cube.now _ c.in_ok-delivery.delivery.batch c.in_ok-delivery.delivery.outcome c.problem.ensures c.lemmas.ensures c.requires.cube c.in_ok-delivery.ensures.justified in
     elim c.match-deliver.branch [
-      | in-Ok w ↦ rw w.result-is (delivered_less c.ends_law.ensures.ends c.args.book.now c.deliver.new.self c.args.id c.in_ok-delivery.delivery.batch c.in_ok-delivery.delivery.outcome c.sound.ensures.run c.requires.held justified c.requires.unfound w.in-Ok.ensures.ok)
+      | in-Ok w ↦ rw w.result-is (delivered_less c.ends_law.ensures.ends c.args.book.now c.deliver.new.self c.args.id c.in_ok-delivery.delivery.batch c.in_ok-delivery.delivery.outcome c.sound.ensures.opening c.sound.ensures.run c.requires.held justified c.requires.unfound w.in-Ok.ensures.ok)
       | in-Err w ↦ rw w.result-is tt
     ]

@@ -10,5 +10,5 @@ pub returns-in-Some-first_held : goal.returns-in-Some-first_held
 returns-in-Some-first_held c =
     let s : State = state_with c.self.inside.cover (lemmas_of c.self.inside.lemmas.items) c.self.inside.found in
     let r = c.in-Some-first_held.field-0 in
-    outside (λ (p : Problem) (t : State). MayAnswer t Idle) c.self.inside.problem _ s _ c.self.view_is c.self.invariant.same
+    outside (λ (p : Problem) (t : State). MayAnswer t Idle) c.self.inside.problem _ _ s _ c.self.view_is c.self.invariant.same
     (search rules, c.in-None.ensures.none, (r.0, r.1, c.in-Some-first_held.ensures.some))

@@ -21,7 +21,7 @@ justified_inside : (c : After-len-base)
     → IsJustified c.self.inside.problem (lemmas_of c.self.inside.lemmas.items) (cube_at c.self.inside.cover c.args.id) c.delivery.inside.batch c.delivery.inside.outcome
 justified_inside c =
     let s : State = state_with c.self.inside.cover (lemmas_of c.self.inside.lemmas.items) c.self.inside.found in
-    inside (λ (p : Problem) (t : State). IsJustified p t.lemmas (cube_at t.cover c.args.id) c.delivery.inside.batch c.delivery.inside.outcome) c.self.inside.problem _ s _ c.self.view_is c.self.invariant.same
+    inside (λ (p : Problem) (t : State). IsJustified p t.lemmas (cube_at t.cover c.args.id) c.delivery.inside.batch c.delivery.inside.outcome) c.self.inside.problem _ _ s _ c.self.view_is c.self.invariant.same
     (subst (λ (h : Handing). IsJustified c.args.self.now.problem (state_of c.args.self.now).lemmas (cube_at (state_of c.args.self.now).cover c.args.id) h.batch h.outcome) (sym c.delivery.view_is) c.requires.justified)
 
 base_is : (c : After-len-base) → c.len-base.result ≡ length (lemmas_of c.self.inside.lemmas.items)
@@ -35,7 +35,7 @@ prepare-requires-clause-below c =
     (refers_below c.self.inside.problem s _ c.delivery.inside.batch c.delivery.inside.outcome (justified_inside t))
 
 pub settle-requires-clause-held : goal.settle-requires-clause-held
-settle-requires-clause-held c = (c.args.seat, at_inside _ _ _ _ c.args.id _ c.self.view_is c.self.invariant.same c.requires.held)
+settle-requires-clause-held c = (c.args.seat, at_inside _ _ _ _ _ c.args.id _ c.self.view_is c.self.invariant.same c.requires.held)
 
 pub settle-requires-clause-number : goal.settle-requires-clause-number
 settle-requires-clause-number c =
@@ -48,18 +48,18 @@ settle-requires-clause-number c =
 
 pub push_reserved-requires : goal.push_reserved-requires
 push_reserved-requires c =
-    let here = at_inside _ _ _ _ c.args.id _ c.self.view_is c.self.invariant.same c.requires.held in
+    let here = at_inside _ _ _ _ _ c.args.id _ c.self.view_is c.self.invariant.same c.requires.held in
     omega (arith, some_held c.self.inside.cover.nodes c.args.id c.args.seat here, c.self.invariant.reserved)
 
 pub invariant_of-self-2 : goal.invariant_of-self-2
 invariant_of-self-2 c =
     let t = (goal.at.invariant_of-self-2 c).After-len-base in
-    let here = at_inside _ _ _ _ c.args.id _ c.self.view_is c.self.invariant.same c.requires.held in
+    let here = at_inside _ _ _ _ _ c.args.id _ c.self.view_is c.self.invariant.same c.requires.held in
     let s : State = state_with c.self.inside.cover (lemmas_of c.self.inside.lemmas.items) c.self.inside.found in
     let base = base_is t in
     let handed = c.in-Ok.ensures.handed ∙ c.delivery.invariant.0 in
     let shared = c.in-Ok.ensures.lemmas ∙ ap (λ (b : LemmaBatch). (moved c.len-base.result b).lemmas) c.delivery.invariant.0 in
-    kept_more _ _ _ s _ (Deliver c.args.seat c.args.id c.delivery.inside.batch c.delivery.inside.outcome) _ _ _ _ c.self.invariant (here, justified_inside t)
+    kept_more _ _ _ _ s _ (Deliver c.args.seat c.args.id c.delivery.inside.batch c.delivery.inside.outcome) _ _ _ _ c.self.invariant (here, justified_inside t)
     (c.push_reserved.ensures.items ∙ ap (λ (b : LemmaBatch). c.self.inside.journal.items ++ Deliver c.args.seat c.args.id b c.delivery.inside.outcome ∷ []) handed)
     (state_is _ _ (c.in-Ok-settle.ensures.cover ∙ ap (λ (n : ℕ). cover_delivered c.self.inside.cover c.args.id c.delivery.inside.batch.seen n c.delivery.inside.outcome) base)
     (published (λ a. arc_value {X = Stated} a) c.self.inside.lemmas.items _ _ _ c.len-base.result c.delivery.inside.batch c.publish.ensures c.reserve.ensures.items shared base)

@@ -11,7 +11,7 @@ pub invariant_of-self-2 : goal.invariant_of-self-2
 invariant_of-self-2 c =
     let s : State = state_with c.self.inside.cover (lemmas_of c.self.inside.lemmas.items) c.self.inside.found in
     let e : Event = Take c.args.seat c.args.taken in
-    let may = inside (λ (p : Problem) (t : State). MayAnswer t c.args.taken) c.self.inside.problem _ s _ c.self.view_is c.self.invariant.same c.requires in
+    let may = inside (λ (p : Problem) (t : State). MayAnswer t c.args.taken) c.self.inside.problem _ _ s _ c.self.view_is c.self.invariant.same c.requires in
     let count = count_held s _ c.args.seat c.args.taken may c.hold.ensures in
-    kept_more _ _ _ s _ e _ _ _ _ c.self.invariant may (c.push_reserved.ensures.items ∙ ap (λ (es : List Event). es ++ e ∷ []) c.in_ok-reserve.ensures.items) (ap (with_cover s) c.hold.ensures) refl
+    kept_more _ _ _ _ s _ e _ _ _ _ c.self.invariant may (c.push_reserved.ensures.items ∙ ap (λ (es : List Event). es ++ e ∷ []) c.in_ok-reserve.ensures.items) (ap (with_cover s) c.hold.ensures) refl
     (omega (arith, count, c.held_count-held.ensures, c.in_ok-reserve.ensures.ok, c.in_ok-reserve.ensures.len, c.push_reserved.ensures.capacity))

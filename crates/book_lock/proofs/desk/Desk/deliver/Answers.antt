@@ -1,6 +1,5 @@
 use Rattle.std.proofs.Common.{refl, sym, subst, ◌≡◌, Some, ap, ◌∙◌, rules}
 use Rattle.std.specs.Prelude.{IfSome}
-use Rattle.stn_core.specs.declared.problem.Problem.{Problem}
 use Rattle.book_core.specs.declared.event.Event.TheVariants.{Deliver}
 use Rattle.book_core.specs.Books.{IsJustified, IsJustifiedIn}
 use Rattle.book_core.specs.Deliveries.{Handing}
@@ -8,16 +7,16 @@ use Rattle.book_core.specs.Runs.{Ledger, state_of}
 use Rattle.book_lock.specs.declared.cube.Cube.{Cube}
 use Rattle.book_core.specs.Shared.{lemmas_of}
 use Rattle.book_lock.specs.Seats.{sight, Ends}
-use Rattle.book_lock.proofs.Turning.{held_by_number, deliver_justified, halves_told, ending_ready, ending_kept, ending_ends}
+use Rattle.book_lock.proofs.Turning.{held_by_number, held_in_book, deliver_justified, halves_told, ending_ready, ending_kept, ending_ends}
 use Rattle.book_lock.proofs.desk.Desk.deliver.Goals as goal
 
 pub receive-requires-clause-held : goal.receive-requires-clause-held
-receive-requires-clause-held g c = held_by_number c.seat.inside.number c.seat.inside.made c.seat.inside.token.me _ c.seat.inside.cube c.seat.inside.place c.seat.inside.waits c.take_turn-book.result c.unwrap.result.now c.seat.invariant c.take_turn-book.ensures.known (search rules)
+receive-requires-clause-held g c = held_in_book c.seat.inside.number c.seat.inside.made c.seat.inside.token.me _ c.seat.inside.cube c.seat.inside.place c.seat.inside.waits c.take_turn-book.result c.unwrap.result.now c.seat.invariant c.take_turn-book.ensures.known (search rules) c.take_turn-book.ensures.book
 
 pub receive-requires-clause-justified : goal.receive-requires-clause-justified
 receive-requires-clause-justified g c =
     let d = c.in_ok-delivery.delivery in
-    let asked = subst (λ (h : Handing). (k : Cube) × (c.args.seat.now.cube ≡ Some k) × IsJustified c.args.seat.now.view.problem c.args.seat.now.lemmas k.literals h.batch h.outcome) (sym c.in_ok-delivery.ensures.ok) c.requires.justified in
+    let asked = subst (λ (h : Handing). (k : Cube) × (c.args.seat.now.cube ≡ Some k) × IsJustified c.args.seat.now.view.begun.problem c.args.seat.now.lemmas k.literals h.batch h.outcome) (sym c.in_ok-delivery.ensures.ok) c.requires.justified in
     deliver_justified c.seat.inside.token.me c.take_turn-book.result c.seat.inside.number c.seat.inside.made _ c.seat.inside.cube c.seat.inside.place c.seat.inside.waits _ c.seat.inside.halves _ c.unwrap.result.now d.batch d.outcome c.seat.view_is c.seat.invariant c.take_turn-book.ensures.known c.take_turn-book.ensures.book (search rules) asked
 
 pub tell-seat-inside-requires-clause-book : goal.tell-seat-inside-requires-clause-book
@@ -26,8 +25,8 @@ tell-seat-inside-requires-clause-book g c =
     let d = c.in_ok-delivery.delivery in
     let has : c.seat.inside.cube ≡ Some c.unwrap.result.now = search rules in
     let held = held_by_number c.seat.inside.number c.seat.inside.made c.seat.inside.token.me _ c.seat.inside.cube c.seat.inside.place c.seat.inside.waits c.take_turn-book.result c.unwrap.result.now c.seat.invariant t.known has in
-    let asked = subst (λ (h : Handing). (k : Cube) × (c.args.seat.now.cube ≡ Some k) × IsJustified c.args.seat.now.view.problem c.args.seat.now.lemmas k.literals h.batch h.outcome) (sym c.in_ok-delivery.ensures.ok) c.requires.justified in
-    let j = subst (λ (p : Problem). IsJustifiedIn p (state_of c.take_turn-book.result) c.unwrap.result.now.id d.batch d.outcome) (ap (λ (b : Ledger). b.problem) t.book)
+    let asked = subst (λ (h : Handing). (k : Cube) × (c.args.seat.now.cube ≡ Some k) × IsJustified c.args.seat.now.view.begun.problem c.args.seat.now.lemmas k.literals h.batch h.outcome) (sym c.in_ok-delivery.ensures.ok) c.requires.justified in
+    let j = subst (λ (k : Ledger). IsJustifiedIn k.problem (state_of k) c.unwrap.result.now.id d.batch d.outcome) t.book
     (deliver_justified c.seat.inside.token.me c.take_turn-book.result c.seat.inside.number c.seat.inside.made _ c.seat.inside.cube c.seat.inside.place c.seat.inside.waits _ c.seat.inside.halves _ c.unwrap.result.now d.batch d.outcome c.seat.view_is c.seat.invariant t.known t.book has asked) in
     ending_ready c.seat.inside.token.me c.take_turn-book.result c.receive.new.self c.take_turn-book.new.token.me c.take_turn-book.new.token.me c.seat.inside.number c.seat.inside.made _ c.seat.inside.cube c.seat.inside.cube c.seat.inside.place 0 c.seat.inside.waits c.seat.inside.token.table_id c.seat.inside.token.table_id c.unwrap.result.now (λ n k. Deliver n k d.batch d.outcome) t.book t.view t.known c.seat.invariant has refl refl refl refl (held, j) c.in-Ok.ensures.ok
 
@@ -37,8 +36,8 @@ invariant_of-seat g c =
     let d = c.in_ok-delivery.delivery in
     let has : c.seat.inside.cube ≡ Some c.unwrap.result.now = search rules in
     let held = held_by_number c.seat.inside.number c.seat.inside.made c.seat.inside.token.me _ c.seat.inside.cube c.seat.inside.place c.seat.inside.waits c.take_turn-book.result c.unwrap.result.now c.seat.invariant t.known has in
-    let asked = subst (λ (h : Handing). (k : Cube) × (c.args.seat.now.cube ≡ Some k) × IsJustified c.args.seat.now.view.problem c.args.seat.now.lemmas k.literals h.batch h.outcome) (sym c.in_ok-delivery.ensures.ok) c.requires.justified in
-    let j = subst (λ (p : Problem). IsJustifiedIn p (state_of c.take_turn-book.result) c.unwrap.result.now.id d.batch d.outcome) (ap (λ (b : Ledger). b.problem) t.book)
+    let asked = subst (λ (h : Handing). (k : Cube) × (c.args.seat.now.cube ≡ Some k) × IsJustified c.args.seat.now.view.begun.problem c.args.seat.now.lemmas k.literals h.batch h.outcome) (sym c.in_ok-delivery.ensures.ok) c.requires.justified in
+    let j = subst (λ (k : Ledger). IsJustifiedIn k.problem (state_of k) c.unwrap.result.now.id d.batch d.outcome) t.book
     (deliver_justified c.seat.inside.token.me c.take_turn-book.result c.seat.inside.number c.seat.inside.made _ c.seat.inside.cube c.seat.inside.place c.seat.inside.waits _ c.seat.inside.halves _ c.unwrap.result.now d.batch d.outcome c.seat.view_is c.seat.invariant t.known t.book has asked) in
     let e = c.tell-seat-inside.ensures in
     ending_kept c.seat.inside.token.me c.take_turn-book.result c.receive.new.self c.take_turn-book.new.token.me c.tell-seat-inside.new.token.me c.seat.inside.number c.seat.inside.made _ c.seat.inside.cube c.put.new.slot c.seat.inside.place c.tell-seat-inside.result c.seat.inside.waits c.seat.inside.token.table_id c.tell-seat-inside.new.token.table_id c.unwrap.result.now (λ n k. Deliver n k d.batch d.outcome) t.book t.view t.known c.seat.invariant has refl refl refl refl (held, j) c.in-Ok.ensures.ok e.view e.count c.put.ensures
@@ -49,10 +48,10 @@ returns-in-Ok-clause-ok g c =
     let d = c.in_ok-delivery.delivery in
     let has : c.seat.inside.cube ≡ Some c.unwrap.result.now = search rules in
     let held = held_by_number c.seat.inside.number c.seat.inside.made c.seat.inside.token.me _ c.seat.inside.cube c.seat.inside.place c.seat.inside.waits c.take_turn-book.result c.unwrap.result.now c.seat.invariant t.known has in
-    let asked = subst (λ (h : Handing). (k : Cube) × (c.args.seat.now.cube ≡ Some k) × IsJustified c.args.seat.now.view.problem c.args.seat.now.lemmas k.literals h.batch h.outcome) (sym c.in_ok-delivery.ensures.ok) c.requires.justified in
-    let j = subst (λ (p : Problem). IsJustifiedIn p (state_of c.take_turn-book.result) c.unwrap.result.now.id d.batch d.outcome) (ap (λ (b : Ledger). b.problem) t.book)
+    let asked = subst (λ (h : Handing). (k : Cube) × (c.args.seat.now.cube ≡ Some k) × IsJustified c.args.seat.now.view.begun.problem c.args.seat.now.lemmas k.literals h.batch h.outcome) (sym c.in_ok-delivery.ensures.ok) c.requires.justified in
+    let j = subst (λ (k : Ledger). IsJustifiedIn k.problem (state_of k) c.unwrap.result.now.id d.batch d.outcome) t.book
     (deliver_justified c.seat.inside.token.me c.take_turn-book.result c.seat.inside.number c.seat.inside.made _ c.seat.inside.cube c.seat.inside.place c.seat.inside.waits _ c.seat.inside.halves _ c.unwrap.result.now d.batch d.outcome c.seat.view_is c.seat.invariant t.known t.book has asked) in
     let e = c.tell-seat-inside.ensures in
-    let told = halves_told c.take_turn-book.result c.receive.new.self c.seat.inside.number c.unwrap.result.now.id d.batch d.outcome c.seat.inside.halves c.halves-seat-inside.result c.in-Ok.ensures.ok c.halves-seat-inside.ensures in
+    let told = halves_told c.seat.inside.token.me.0.begun c.take_turn-book.result c.receive.new.self c.seat.inside.number c.unwrap.result.now.id d.batch d.outcome c.seat.inside.halves c.halves-seat-inside.result t.book c.in-Ok.ensures.ok c.halves-seat-inside.ensures in
     subst (λ (h : Handing). IfSome c.args.seat.now.cube (λ (k : Cube). Ends c.args.seat.now (sight c.tell-seat-inside.new.token.table_id c.tell-seat-inside.new.token.me.0 (lemmas_of c.seat.inside.lemmas.items) c.put.new.slot c.halves-seat-inside.result) (Deliver c.args.seat.now.view.number k.id h.batch h.outcome))) c.in_ok-delivery.ensures.ok
     (ending_ends c.seat.inside.token.me c.take_turn-book.result c.receive.new.self c.take_turn-book.new.token.me c.tell-seat-inside.new.token.me c.seat.inside.number c.seat.inside.made _ c.seat.inside.cube c.put.new.slot c.seat.inside.place c.tell-seat-inside.result c.seat.inside.waits c.seat.inside.token.table_id c.tell-seat-inside.new.token.table_id c.unwrap.result.now (λ n k. Deliver n k d.batch d.outcome) t.book t.view t.known c.seat.invariant has refl refl refl refl (held, j) c.in-Ok.ensures.ok _ c.seat.inside.halves c.halves-seat-inside.result e.view c.seat.view_is (e.same.0 ∙ t.same.0) c.put.ensures told)

@@ -1,11 +1,11 @@
 use Rattle.std.proofs.Common.{refl, ◌≡◌, Some, ◌∙◌, rules}
 use Rattle.book_core.specs.declared.event.Event.TheVariants.{Release}
-use Rattle.book_lock.proofs.Turning.{held_by_number, ending_ready, ending_kept, ending_ends}
+use Rattle.book_lock.proofs.Turning.{held_by_number, held_in_book, ending_ready, ending_kept, ending_ends}
 use Rattle.book_lock.proofs.desk.Desk.release.Goals as goal
 
 pub release-requires : goal.release-requires
 release-requires g c =
-    held_by_number c.seat.inside.number c.seat.inside.made c.seat.inside.token.me _ c.seat.inside.cube c.seat.inside.place c.seat.inside.waits c.take_turn-book.result c.unwrap-cube.result c.seat.invariant c.take_turn-book.ensures.known (search rules)
+    held_in_book c.seat.inside.number c.seat.inside.made c.seat.inside.token.me _ c.seat.inside.cube c.seat.inside.place c.seat.inside.waits c.take_turn-book.result c.unwrap-cube.result c.seat.invariant c.take_turn-book.ensures.known (search rules) c.take_turn-book.ensures.book
 
 pub tell-seat-inside-requires-clause-book : goal.tell-seat-inside-requires-clause-book
 tell-seat-inside-requires-clause-book g c =

@@ -8,7 +8,7 @@ use Rattle.book_lock.proofs.Turning.{seen_now, taking_ready, taking_kept, taking
 use Rattle.book_lock.proofs.desk.Desk.take_some.Goals as goal
 
 pub look-requires : goal.look-requires
-look-requires g c = seen_now c.seat.inside.number c.seat.inside.made c.seat.inside.token.me _ c.seat.inside.cube c.seat.inside.place c.seat.inside.waits c.enter-book.result c.seat.invariant c.enter-book.ensures.known
+look-requires g c = seen_now c.seat.inside.number c.seat.inside.made c.seat.inside.token.me _ c.seat.inside.cube c.seat.inside.place c.seat.inside.waits c.enter-book.result c.seat.invariant c.enter-book.ensures.known c.enter-book.ensures.book
 
 pub tell-seat-inside-requires-clause-book : goal.tell-seat-inside-requires-clause-book
 tell-seat-inside-requires-clause-book g c =
