@@ -63,6 +63,10 @@ impl<T> Vec<T> {
         self.0.sort();
         Ok(())
     }
+    pub fn sort_by_key<K: Ord, F: FnMut(&T) -> K>(&mut self, key: F) -> Result<(), AllocError> {
+        self.0.sort_by_key(key);
+        Ok(())
+    }
     pub fn shrink_to_fit(&mut self) -> Result<(), AllocError> {
         self.0.shrink_to_fit();
         Ok(())

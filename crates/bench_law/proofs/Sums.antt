@@ -7,7 +7,7 @@ use Rattle.smt_sexpr.specs.Shapes.{symbol}
 use Rattle.idl_linear.specs.Linear.{LinearValue, sum_of, is_limited, number_alone, point_alone}
 use Rattle.idl_node.specs.Limits.{nodes_limit}
 use Rattle.idl_node.specs.Nodes.{NodeValue}
-use Rattle.idl_scope.specs.Guarded.{plain}
+use Rattle.idl_cases.specs.Guarded.{plain}
 use Rattle.idl_scope.specs.Scopes.{Scope, linear_term}
 use Rattle.idl_term.specs.Applied.{applied, as_number}
 use Rattle.idl_term.specs.Lowered.{operator, head_of}

@@ -16,3 +16,6 @@ pub mod Putting
 pub mod Walking
 pub mod Totals
 pub mod Finishing
+pub mod Greatest
+pub mod EndingRuns
+pub mod SumLaws

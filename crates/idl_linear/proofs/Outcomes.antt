@@ -33,7 +33,7 @@ by_ends a b p e =
     let number : neg_ℤ (a.constant +ℤ (neg_ℤ b.constant +ℤ pos 0)) ≡ b.constant -ℤ a.constant = omega (arith, ints) in
     by_less a b ∙ ap (λ (o : Option (ℕ × ℕ)). difference_by o (a.constant +ℤ (neg_ℤ b.constant +ℤ pos 0))) e ∙ ap (by_number p) number
 
-accepted_by : (p : ℕ × ℕ) (z n : ℤ) (b : Bool) → Some n ≡ cond b (Some z) None → cond {A = Result Difference DifferenceRefusal} b (Ok (record { x = p.0; y = p.1; n = z })) (Err BoundTooLarge) ≡ Ok (record { x = p.0; y = p.1; n = n })
+pub accepted_by : (p : ℕ × ℕ) (z n : ℤ) (b : Bool) → Some n ≡ cond b (Some z) None → cond {A = Result Difference DifferenceRefusal} b (Ok (record { x = p.0; y = p.1; n = z })) (Err BoundTooLarge) ≡ Ok (record { x = p.0; y = p.1; n = n })
 accepted_by p z n true h =
     let same : z ≡ n = cc in
     ap (λ (k : ℤ). Ok (record { x = p.0; y = p.1; n = k })) same
@@ -44,7 +44,7 @@ pub accepted : (a b : LinearValue) (p : ℕ × ℕ) (z n : ℤ) → ends_of (les
 unfolding by_number
 accepted a b p z n e h number = by_ends a b p e ∙ ap (by_number p) (sym number) ∙ accepted_by p z n (is_within number_limit z) h
 
-refused_by : (p : ℕ × ℕ) (z : ℤ) (b : Bool) → None ≡ cond b (Some z) None → cond {A = Result Difference DifferenceRefusal} b (Ok (record { x = p.0; y = p.1; n = z })) (Err BoundTooLarge) ≡ Err BoundTooLarge
+pub refused_by : (p : ℕ × ℕ) (z : ℤ) (b : Bool) → None ≡ cond b (Some z) None → cond {A = Result Difference DifferenceRefusal} b (Ok (record { x = p.0; y = p.1; n = z })) (Err BoundTooLarge) ≡ Err BoundTooLarge
 refused_by p z true h = absurd cc
 refused_by p z false h = refl
 

@@ -19,7 +19,7 @@ both_kept : (b c : Bool) → b ≡ true → c ≡ true → (b && c) ≡ true
 both_kept b c e f = ap (λ (x : Bool). x && c) e ∙ f
 
 -- within a limit by bounds
-is_within_by : (limit : ℕ) (n : ℤ) → neg_ℤ (pos limit) ≤ℤ n → n ≤ℤ pos limit → is_within limit n ≡ true
+pub is_within_by : (limit : ℕ) (n : ℤ) → neg_ℤ (pos limit) ≤ℤ n → n ≤ℤ pos limit → is_within limit n ≡ true
 is_within_by limit n low high = both_kept (int_le (neg_ℤ (pos limit)) n) (int_le n (pos limit)) (grind (arith, ints)) (grind (arith, ints))
 
 pub within-negative : (limit : ℕ) (n : ℤ) → is_within limit n ≡ true → is_within limit (neg_ℤ n) ≡ true

@@ -80,6 +80,16 @@ total_of_all s t ls e f =
     let number : pos 0 +ℤ constants_of ls ≡ constants_of ls = omega (arith, ints) in
     ap term_of (f ∙ ap (λ (u : SumValue). with_terms u ls) e) ∙ ap (total (summands_of ls)) number
 
+-- and more of them
+pub total_less : (ls ms : List LinearValue) (s t u : SumValue) → s ≡ record { summands = []; constant = pos 0; terms = 0 } → t ≡ with_terms s ls → u ≡ with_terms t ms → term_of u ≡ sum_of (ls ++ ms)
+unfolding sum_of
+total_less ls ms s t u e f g =
+    let both = constants-append ls ms in
+    let number : (pos 0 +ℤ constants_of ls) +ℤ constants_of ms ≡ constants_of (ls ++ ms) = omega (arith, ints, both) in
+    ap term_of (g ∙ ap (λ (w : SumValue). with_terms w ms) (f ∙ ap (λ (w : SumValue). with_terms w ls) e))
+    ∙ ap (λ (xs : List Summand). total xs ((pos 0 +ℤ constants_of ls) +ℤ constants_of ms)) (sym (summands-append ls ms))
+    ∙ ap (total (summands_of (ls ++ ms))) number
+
 module _ (before behind : List LinearValue) (base : LinearValue) (others : List LinearValue) (s t u v : SumValue) (is : s ≡ record { summands = []; constant = pos 0; terms = 0 }) where
   -- its other terms, and then one of the first
   module _ (e : t ≡ with_terms s before) (f : u ≡ with_terms t behind) (g : v ≡ with_terms u others) (each : AllByRecursion IsSummand v.summands) (linear : IsLinear base) where

@@ -1,15 +1,18 @@
 //! Two linear terms that are compared.
-ghost use Rattle.std.specs.Prelude.{◌≡◌, ◌<◌, IfOk, IfErr, Ok, Err};
+ghost use Rattle.std.specs.Prelude.{◌≡◌, ◌<◌, ◌+◌, ◌^◌, ◌++◌, length, map, ℤ, neg_ℤ, IfOk, IfErr, Ok, Err, Some};
 ghost use Rattle.idl_linear.specs.Limits.{points_limit};
-ghost use Rattle.idl_linear.specs.Differences.{difference_of};
+ghost use Rattle.idl_linear.specs.Differences.{difference_by, difference_in, difference_of};
+ghost use Rattle.idl_linear.specs.Linear.{negative_of, sum_of};
 ghost use Rattle.idl_linear.specs.code.Steps.{ends_with};
 
 use crate::error::DifferenceRefusal;
 use crate::limits::NUMBER_LIMIT;
 use crate::linear::Linear;
+use crate::linear_sum::LinearSum;
 use crate::merge::Merge;
 use crate::summand::Summand;
 use crate::within::within;
+use std::alloc::{AllocError, Global};
 
 /// The difference `x - y` of two time points, with the number `n` that it is compared with.
 #[derive(Clone, Copy, Debug, PartialEq, Eq)]
@@ -49,11 +52,42 @@ pub fn compare(a: &Linear, b: &Linear) -> Result<Difference, DifferenceRefusal>
     }
 }
 
+/// The sum of the first terms less the others, compared with 0: their difference, where it is one of two time points and a number within
+/// 2^60. No limit of Int terms holds of the sum.
+pub fn compare_less(
+    alloc: Global,
+    terms: &[&Linear],
+    taken: &[&Linear],
+) -> Result<Result<Difference, DifferenceRefusal>, AllocError>
+    requires few { length terms.now + length taken.now < 2 ^ 64 }
+    ensures { IfOk result (λ made. made
+        ≡ difference_in (sum_of (map (λ l. l.now) terms.now ++ map negative_of (map (λ l. l.now) taken.now)))) }
+{
+    let mut sum = LinearSum::new(alloc);
+    sum.add_all(terms)?;
+    sum.subtract_all(taken)?;
+    sum.difference()
+}
+
+/// The difference of these ends and this number.
+pub(crate) fn difference_by(ends: Ends, number: i128) -> Result<Difference, DifferenceRefusal>
+    ensures { (constant : ℤ) → neg_ℤ constant ≡ number → result ≡ difference_by (Some (ends.x, ends.y)) constant }
+{
+    match within(NUMBER_LIMIT, number) {
+        Some(n) => Ok(Difference {
+            x: ends.x,
+            y: ends.y,
+            n,
+        }),
+        None => Err(DifferenceRefusal::BoundTooLarge),
+    }
+}
+
 /// The time points that were met with coefficient 1 and with -1; the zero point where there is none.
 #[derive(Clone, Copy)]
-struct Ends {
-    x: u32,
-    y: u32,
+pub(crate) struct Ends {
+    pub(crate) x: u32,
+    pub(crate) y: u32,
 }
 
 impl Ends {
@@ -69,6 +103,24 @@ impl Ends {
             -1 if self.y == 0 => Some(Ends {
                 x: self.x,
                 y: summand.point,
+            }),
+            _ => None,
+        }
+    }
+
+    /// With a coefficient that may be beyond the limit of Int terms.
+    pub(crate) fn with_any(self, point: u32, coefficient: i128) -> Option<Ends>
+        ensures { result ≡ ends_with self (record { point = point; coefficient = coefficient }) }
+    {
+        match coefficient {
+            0 => Some(self),
+            1 if self.x == 0 => Some(Ends {
+                x: point,
+                y: self.y,
+            }),
+            -1 if self.y == 0 => Some(Ends {
+                x: self.x,
+                y: point,
             }),
             _ => None,
         }

@@ -1,10 +1,11 @@
 ghost use Rattle.std.specs.Prelude.{◌≡◌, IfOk};
 ghost use Rattle.idl_linear.specs.code.Held.{held_summands};
 ghost use Rattle.idl_linear.specs.code.Steps.{IsRest};
-ghost use Rattle.idl_linear.specs.code.Trees.{signed};
+ghost use Rattle.idl_linear.specs.code.Trees.{signed, AllWithin};
 ghost use Rattle.idl_linear.specs.code.Branching.{IsBranches};
 
 use crate::cursor::Cursor;
+use crate::leaf::greatest_of;
 use crate::summand::Summand;
 use crate::tree::Tree;
 use std::alloc::{AllocError, Global};
@@ -76,6 +77,17 @@ impl Held {
             Held::One(_) => 1,
             Held::Many(summands) => summands.len(),
             Held::Shared { tree, .. } => tree.count(),
+        }
+    }
+
+    /// No coefficient is beyond this in its absolute value.
+    pub(crate) fn greatest(&self) -> u64
+        ensures { AllWithin result (held_summands self.now) }
+    {
+        match self {
+            Held::One(summand) => summand.coefficient.unsigned_abs(),
+            Held::Many(summands) => greatest_of(summands),
+            Held::Shared { tree, .. } => tree.greatest(),
         }
     }
 

@@ -1,5 +1,6 @@
 //! Summands of a leaf.
 ghost use Rattle.std.specs.Prelude.{◌≡◌, ◌<◌, ◌≤◌, ◌≤ℤ◌, ◌+ℤ◌, ◌++◌, ◌^◌, neg_ℤ, pos, length, take, drop, true, IfOk, IfErr};
+ghost use Rattle.idl_linear.specs.code.Trees.{AllWithin};
 ghost use Rattle.idl_linear.specs.Limits.{coefficient_limit};
 ghost use Rattle.idl_linear.specs.Linear.{with_summand, put_before, is_within};
 ghost use Rattle.idl_linear.specs.Forms.{AscendAbove};
@@ -20,6 +21,17 @@ pub(crate) fn count_below(items: &[Summand], point: u32) -> usize
     ensures from { AllFrom point (drop result items.now) }
 {
     items.partition_point(|summand| summand.point < point)
+}
+
+/// The greatest absolute value of a coefficient, or 0 where there is none.
+pub(crate) fn greatest_of(items: &[Summand]) -> u64
+    ensures { AllWithin result items.now }
+{
+    let mut greatest = 0u64;
+    for summand in items {
+        greatest = greatest.max(summand.coefficient.unsigned_abs());
+    }
+    greatest
 }
 
 /// A coefficient, and how many summands stand up to it.

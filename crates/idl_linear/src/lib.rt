@@ -20,7 +20,7 @@ mod tree;
 mod within;
 
 pub use cursor::Cursor;
-pub use difference::{Difference, compare};
+pub use difference::{Difference, compare, compare_less};
 pub use error::{DifferenceRefusal, LinearError};
 pub use examples::{worked_comparisons, worked_linear_terms};
 pub use laws::{comparison_law, linear_law};

@@ -1,14 +1,15 @@
 //! Linear terms.
 ghost use Rattle.std.specs.Prelude.{◌≡◌, ◌<◌, ◌≤◌, true, map, IfOk};
-ghost use Rattle.idl_linear.specs.Limits.{points_limit, constant_limit};
+ghost use Rattle.idl_linear.specs.Limits.{points_limit, coefficient_limit, constant_limit};
 ghost use Rattle.idl_linear.specs.Linear.{number_alone, point_alone, negative_summand, is_within};
 ghost use Rattle.idl_linear.specs.code.Held.{held_summands};
-ghost use Rattle.idl_linear.specs.code.Trees.{signed};
+ghost use Rattle.idl_linear.specs.code.Trees.{signed, AllWithin};
 ghost use Rattle.idl_linear.specs.code.Branching.{IsBranches};
 ghost use Rattle.idl_linear.specs.Forms.{IsLinear};
 
 use crate::cursor::Cursor;
 use crate::held::{Branches, Held};
+use crate::limits::COEFFICIENT_LIMIT;
 use crate::summand::Summand;
 use std::alloc::{AllocError, Global};
 use std::marker::Model;
@@ -109,6 +110,15 @@ impl Linear {
     /// How many summands there are, as far as is known.
     pub(crate) fn count(&self) -> usize {
         self.summands.count()
+    }
+
+    /// No coefficient is beyond this in its absolute value. It takes no time in proportion to the summands.
+    pub fn greatest(&self) -> u64
+        ensures within { AllWithin result self.now.summands }
+        ensures limit { result ≤ coefficient_limit }
+        ensures linear { IsLinear self.now }
+    {
+        self.summands.greatest().min(COEFFICIENT_LIMIT)
     }
 
     /// What is added to the summands. It is within 2^62.

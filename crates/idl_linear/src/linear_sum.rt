@@ -1,16 +1,18 @@
 //! Sums of linear terms that are being made.
 ghost use Rattle.std.specs.Prelude.{◌≡◌, ◌+◌, ◌<◌, ◌^◌, ◌++◌, map, [], true, pos, neg_ℤ, length, take, if◌then◌else◌, OnOk, OnErr, IfOk, IfErr};
 ghost use Rattle.std.specs.List.{AllByRecursion};
+ghost use Rattle.idl_linear.specs.Differences.{difference_in};
 ghost use Rattle.idl_linear.specs.Linear.{is_limited, negative_of};
 ghost use Rattle.idl_linear.specs.Forms.{IsLinear, IsSummand, with_term, with_negative, with_terms, with_signed, term_of};
 ghost use Rattle.idl_linear.specs.code.Steps.{IsRest, Refuses};
 
 use crate::cursor::Cursor;
-use crate::error::LinearError;
+use crate::difference::{Difference, difference_by};
+use crate::error::{DifferenceRefusal, LinearError};
 use crate::held::Held;
 use crate::limits::CONSTANT_LIMIT;
 use crate::linear::Linear;
-use crate::runs::{combine, put_runs};
+use crate::runs::{combine, ends_of_runs, put_runs};
 use crate::summand::Summand;
 use crate::within::within;
 use std::alloc::{AllocError, AllocFailed, Global};
@@ -117,6 +119,18 @@ impl LinearSum {
         };
         let held = Held::new(alloc, summands)?;
         Ok(Linear::from_parts(held, constant))
+    }
+
+    /// The sum compared with 0. No limit of Int terms holds of it. It takes a time of n log n for n summands.
+    pub(crate) fn difference(self) -> Result<Result<Difference, DifferenceRefusal>, AllocError>
+        ensures { IfOk result (λ made. made ≡ difference_in (term_of self)) }
+    {
+        let mut summands = self.summands;
+        summands.sort_by_key(|summand| summand.point)?;
+        match ends_of_runs(&summands) {
+            Some(ends) => Ok(difference_by(ends, -self.constant)),
+            None => Ok(Err(DifferenceRefusal::NotADifference)),
+        }
     }
 
     /// The sum with one more term or its negative. Where that term has by far the most summands the others go into its tree.

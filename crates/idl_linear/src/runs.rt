@@ -1,13 +1,15 @@
 //! Runs of equal time points in sorted summands.
-ghost use Rattle.std.specs.Prelude.{◌≡◌, ◌<◌, ◌≤◌, ◌++◌, ◌+ℤ◌, length, drop, true, OnOk, IfOk, IfErr};
+ghost use Rattle.std.specs.Prelude.{◌≡◌, ◌<◌, ◌≤◌, ◌++◌, ◌+ℤ◌, length, drop, option_map, true, OnOk, IfOk, IfErr};
 ghost use Rattle.std.specs.List.{AllByRecursion};
 ghost use Rattle.idl_linear.specs.Linear.{collected, put_before, with_summand, is_within, are_limited};
+ghost use Rattle.idl_linear.specs.Differences.{ends_of};
 ghost use Rattle.idl_linear.specs.Forms.{IsSummand};
 ghost use Rattle.idl_linear.specs.Limits.{coefficient_limit};
 ghost use Rattle.idl_linear.specs.code.Steps.{IsRest, RiseFrom, Refuses};
 ghost use Rattle.idl_linear.specs.code.Trees.{coefficient_at, signed};
 ghost use Rattle.idl_linear.specs.code.FirstRuns.{IsFirstRun, IsSmallRun, signed_run};
 
+use crate::difference::Ends;
 use crate::error::LinearError;
 use crate::limits::COEFFICIENT_LIMIT;
 use crate::summand::Summand;
@@ -73,6 +75,22 @@ pub(crate) fn combine(summands: &mut Vec<Summand>) -> Result<(), LinearError>
     }
     summands.truncate(kept);
     Ok(())
+}
+
+/// The ends of a difference in summands that are sorted by time points, where they are one.
+pub(crate) fn ends_of_runs(summands: &[Summand]) -> Option<Ends>
+    requires each { AllByRecursion IsSummand summands.now }
+    requires rises { RiseFrom 1 summands.now }
+    ensures { option_map (λ e. (e.x, e.y)) result ≡ ends_of (collected summands.now) }
+{
+    let mut ends = Ends { x: 0, y: 0 };
+    let mut start = 0;
+    while start < summands.len() {
+        let run = first_run(&summands[start..]);
+        ends = ends.with_any(run.point, run.sum)?;
+        start += run.len;
+    }
+    Some(ends)
 }
 
 /// The tree with a run, or with its negative.

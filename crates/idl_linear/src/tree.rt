@@ -5,10 +5,10 @@ ghost use Rattle.idl_linear.specs.Limits.{coefficient_limit, points_limit};
 ghost use Rattle.idl_linear.specs.Linear.{with_summand, is_within};
 ghost use Rattle.idl_linear.specs.Forms.{AscendAbove};
 ghost use Rattle.idl_linear.specs.code.Steps.{IsRest, Refuses};
-ghost use Rattle.idl_linear.specs.code.Trees.{coefficient_at, since, AllFrom, AllUpTo};
+ghost use Rattle.idl_linear.specs.code.Trees.{coefficient_at, since, AllFrom, AllUpTo, AllWithin};
 
 use crate::error::LinearError;
-use crate::leaf::{count_below, leaf_with};
+use crate::leaf::{count_below, greatest_of, leaf_with};
 use crate::summand::Summand;
 use std::alloc::{AllocError, Global};
 use std::marker::Model;
@@ -37,6 +37,8 @@ pub(crate) enum Part {
         middle: u32,
         /// How many summands there are, as far as is known.
         count: usize,
+        /// No coefficient is beyond this in its absolute value.
+        greatest: u64,
         left: Arc<Tree>,
         right: Arc<Tree>,
     },
@@ -73,6 +75,16 @@ impl Tree {
         match &self.part {
             Part::Leaf(items) => items.len(),
             Part::Fork { count, .. } => *count,
+        }
+    }
+
+    /// No coefficient is beyond this in its absolute value.
+    pub(crate) fn greatest(&self) -> u64
+        ensures { AllWithin result self.now.summands }
+    {
+        match &self.part {
+            Part::Leaf(items) => greatest_of(items),
+            Part::Fork { greatest, .. } => *greatest,
         }
     }
 
@@ -145,10 +157,12 @@ fn fork(alloc: Global, middle: u32, left: Arc<Tree>, right: Arc<Tree>) -> Tree
     ensures { result.summands ≡ left.value.summands ++ right.value.summands }
 {
     let count = left.count().saturating_add(right.count());
+    let greatest = left.greatest().max(right.greatest());
     Tree {
         part: Part::Fork {
             middle,
             count,
+            greatest,
             left,
             right,
         },

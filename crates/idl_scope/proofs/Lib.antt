@@ -1,6 +1,4 @@
 pub mod NamesKept
 pub mod NamesFound
 pub mod LocalsKept
-pub mod CasesUnfolded
 pub mod ShortKeys
-pub mod GuardsBounded

@@ -1,5 +1,5 @@
 pub mod Limits
-pub mod Guarded
 pub mod Scopes
 pub use Rattle.idl_linear.specs.Linear
+pub use Rattle.idl_cases.specs.Guarded
 pub mod code

@@ -4,7 +4,3 @@ use Rattle.std.specs.Prelude.{ℕ}
 -- the greatest number of declared names
 abbrev pub names_limit : ℕ
 names_limit = 65536
-
--- the greatest number of cases of an Int term, and of a pair of them that is compared
-abbrev pub cases_limit : ℕ
-cases_limit = 4096

@@ -3,7 +3,7 @@ use Rattle.std.specs.Prelude.{ℕ, ◌+◌, List, [], ◌∷◌, map, Bool, true
 use Rattle.std.specs.Str.{bytes_eq}
 use Rattle.idl_linear.specs.Linear.{LinearValue}
 use Rattle.idl_node.specs.declared.sort.Sort.{Sort}
-use Rattle.idl_scope.specs.Guarded.{CaseValue, plain}
+use Rattle.idl_cases.specs.Guarded.{CaseValue, plain}
 use Rattle.idl_scope.specs.declared.lowered.Lowered.{Lowered}
 use Rattle.idl_scope.specs.declared.lowered.Lowered.TheVariants.{Truth, Number}
 

@@ -1,7 +1,4 @@
 -- Words of the code alone, which contracts of the code's own calls cite: no part of the meaning.
-pub mod CaseShapes
-pub mod CaseTrees
-pub mod GuardBounds
 pub mod Kept
 pub mod Keys
 pub mod LocalNames

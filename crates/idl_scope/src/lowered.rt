@@ -3,7 +3,7 @@ ghost use Rattle.std.specs.Prelude.{◌≡◌, IfOk};
 ghost use Rattle.idl_scope.specs.code.Kept.{sort_of};
 ghost use Rattle.idl_scope.specs.Scopes.{linear_term, shown_term};
 
-use crate::cases::Cases;
+use idl_cases::Cases;
 use idl_linear::Linear;
 use idl_node::Sort;
 use std::alloc::AllocError;

@@ -1,22 +1,13 @@
--- How many choices there are, and what is made of a pair of cases, step by step.
-use Rattle.std.proofs.Common.{refl, ap, sym, subst, arith, ◌∙◌, ◌≡◌, ◌<◌, ◌≤◌, ◌+◌, ◌*◌, ◌-◌, ◌^◌, min, ℕ, zero, suc, List, [], ◌∷◌, ◌++◌, length, map, drop, get_or, Bool, true, false, Bor, Some, append-nil}
-use Rattle.std.specs.Prelude.{Result, Ok, Err, nat_le, slice_get}
+-- How many choices there are.
+use Rattle.std.proofs.Common.{refl, ap, sym, arith, ◌∙◌, ◌≡◌, ◌<◌, ◌≤◌, ◌+◌, ◌*◌, ◌-◌, ◌^◌, min, ℕ, zero, suc, List, [], ◌∷◌, length, map, drop, get_or, Bool, true, false, Bor}
+use Rattle.std.specs.Prelude.{nat_le}
 use Rattle.std.proofs.Math.Nat.{mul-suc, suc-mul}
 use Rattle.std.proofs.lemmas.Bool.Decides.{nat_tests}
 use Rattle.std.proofs.lemmas.List.{at_drop_more, length-append, length-map}
-use Rattle.std.proofs.lemmas.Option.{get_or_from_slice_get, slice_get_within}
-use Rattle.idl_linear.specs.Linear.{LinearValue}
-use Rattle.idl_node.specs.Making.{disjoined}
-use Rattle.idl_node.specs.Nodes.{NodeValue, Placed}
-use Rattle.idl_scope.specs.Guarded.{CaseValue}
-use Rattle.idl_scope.specs.Limits.{cases_limit}
+use Rattle.idl_cases.specs.Guarded.{CaseValue}
+use Rattle.idl_cases.specs.Limits.{cases_limit}
 use Rattle.idl_term.specs.Choices.{Choice, with_case, with_term, choices_from, count_from, are_few}
-use Rattle.idl_term.specs.Comparing.{follows, or_too_large, compared, case_compared, both_cases, case_pairs, each_case_compared}
-use Rattle.idl_term.specs.code.Shapes.{GoesOn, Places}
-use Rattle.idl_term.specs.declared.comparing.Relation.{Relation}
-use Rattle.idl_term.specs.declared.error.TermError.{TermError}
-use Rattle.idl_term.specs.declared.error.TermError.TheVariants.{OutOfMemory, Refused}
-use Rattle.idl_term.specs.declared.error.TermRefusal.{TermRefusal}
+use Rattle.idl_term.specs.Comparing.{case_pairs}
 use Rattle.idl_term.proofs.Arguments.{seen}
 
 -- ---- how many choices there are
@@ -59,89 +50,6 @@ count_taken terms i count capped term within at e =
     at_drop_more (λ (ts : List (Bor (List CaseValue))). are_few (count_from count (seen ts))) terms i term within
     ∙ ap (λ (b : Bor (List CaseValue)). are_few (count_from (count * length b.now) (seen (drop (i + 1) terms)))) at
     ∙ capped_by (count * length term.now) capped (seen (drop (i + 1) terms)) (nat_le (count * length term.now) cases_limit) refl e
-
--- ---- the pair in a case of each of its terms
-
-module _ (r : Relation) (a b : CaseValue) (n0 n1 : List NodeValue) (m0 m1 gs hs : List ℕ) (e0 : m0 ≡ []) (eg : gs ≡ a.guards) (eh : hs ≡ b.guards) where
-  abbrev after_first : Result Placed TermRefusal
-  after_first = case_compared r n1 m1 b.guards a.linear b.linear
-
-  begins : both_cases r n0 (a, b) ≡ case_compared r n0 m0 (gs ++ b.guards) a.linear b.linear
-  begins = ap (λ (ms : List ℕ). case_compared r n0 ms (a.guards ++ b.guards) a.linear b.linear) (sym e0) ∙ ap (λ (ks : List ℕ). case_compared r n0 m0 (ks ++ b.guards) a.linear b.linear) (sym eg)
-
-  pub first_fails : (now : List NodeValue) (error : TermError) → GoesOn (case_compared r n0 m0 (gs ++ b.guards) a.linear b.linear) after_first (Err error) → Places now (both_cases r n0 (a, b)) (Err error)
-  first_fails now OutOfMemory h = tt
-  first_fails now (Refused why) h = begins ∙ h
-
-  module _ (first : case_compared r n0 m0 (gs ++ b.guards) a.linear b.linear ≡ after_first) (n2 : List NodeValue) (m2 : List ℕ) where
-    goes_on : both_cases r n0 (a, b) ≡ case_compared r n1 m1 (hs ++ []) a.linear b.linear
-    goes_on = begins ∙ first ∙ ap (λ (ks : List ℕ). case_compared r n1 m1 ks a.linear b.linear) (sym (append-nil b.guards) ∙ ap (λ (ks : List ℕ). ks ++ []) (sym eh))
-
-    pub second_fails : (now : List NodeValue) (error : TermError) → GoesOn (case_compared r n1 m1 (hs ++ []) a.linear b.linear) (case_compared r n2 m2 [] a.linear b.linear) (Err error) → Places now (both_cases r n0 (a, b)) (Err error)
-    second_fails now OutOfMemory h = tt
-    second_fails now (Refused why) h = goes_on ∙ h
-
-    module _ (second : case_compared r n1 m1 (hs ++ []) a.linear b.linear ≡ case_compared r n2 m2 [] a.linear b.linear) (la lb : LinearValue) (ea : la ≡ a.linear) (eb : lb ≡ b.linear) where
-      abbrev ends : Placed → Result Placed TermRefusal
-      ends p = or_too_large (disjoined p.nodes (m2 ++ p.number ∷ []))
-
-      pair_left : both_cases r n0 (a, b) ≡ follows (compared r n2 la lb) ends
-      pair_left = goes_on ∙ second ∙ ap (λ (l : LinearValue). follows (compared r n2 l b.linear) ends) (sym ea) ∙ ap (λ (l : LinearValue). follows (compared r n2 la l) ends) (sym eb)
-
-      pub pair_fails : (now : List NodeValue) (error : TermError) → Places now (compared r n2 la lb) (Err error) → Places now (both_cases r n0 (a, b)) (Err error)
-      pair_fails now OutOfMemory h = tt
-      pair_fails now (Refused why) h = pair_left ∙ ap (λ (o : Result Placed TermRefusal). follows o ends) h
-
-      pub pair_made : (n3 now : List NodeValue) (number : ℕ) (members : List ℕ) (result : Result ℕ TermError) → compared r n2 la lb ≡ Ok (record { nodes = n3; number = number }) → members ≡ m2 ++ number ∷ []
-          → Places now (or_too_large (disjoined n3 members)) result → Places now (both_cases r n0 (a, b)) result
-      pair_made n3 now number members result made are h =
-          subst (λ (o : Result Placed TermRefusal). Places now o result)
-          (ap (λ (ms : List ℕ). or_too_large (disjoined n3 ms)) are ∙ sym (pair_left ∙ ap (λ (o : Result Placed TermRefusal). follows o ends) made)) h
-
--- ---- one case with each of another term
-
-module _ (r : Relation) (a : CaseValue) (bs : List CaseValue) (k : ℕ) (b : CaseValue) (at : slice_get bs k ≡ Some b) (nodes : List NodeValue) (members : List ℕ) where
-  abbrev from : List NodeValue → List ℕ → List CaseValue → List (CaseValue × CaseValue) → Result Placed TermRefusal
-  from ns ms cs rest = each_case_compared r ns ms (map (λ (c : CaseValue). (a, c)) cs ++ rest)
-
-  row_at : (rest : List (CaseValue × CaseValue)) → from nodes members (drop k bs) rest ≡ follows (both_cases r nodes (a, b)) (λ (q : Placed). from q.nodes (members ++ q.number ∷ []) (drop (k + 1) bs) rest)
-  row_at rest =
-      at_drop_more (λ (cs : List CaseValue). from nodes members cs rest) bs k b (slice_get_within bs k b at)
-      ∙ ap (λ (c : CaseValue). from nodes members (c ∷ drop (k + 1) bs) rest) (get_or_from_slice_get bs k b b at)
-
-  pub row_step : (later : List NodeValue) (number : ℕ) (more : List ℕ) → both_cases r nodes (a, b) ≡ Ok (record { nodes = later; number = number }) → more ≡ members ++ number ∷ []
-      → (rest : List (CaseValue × CaseValue)) → from nodes members (drop k bs) rest ≡ from later more (drop (k + 1) bs) rest
-  row_step later number more made are rest =
-      row_at rest
-      ∙ ap (λ (o : Result Placed TermRefusal). follows o (λ (q : Placed). from q.nodes (members ++ q.number ∷ []) (drop (k + 1) bs) rest)) made
-      ∙ ap (λ (ms : List ℕ). from later ms (drop (k + 1) bs) rest) (sym are)
-
-  pub row_fails : (before : List (CaseValue × CaseValue) → Result Placed TermRefusal) (after : List (CaseValue × CaseValue) → Result Placed TermRefusal) (now : List NodeValue) (error : TermError)
-      → ((rest : List (CaseValue × CaseValue)) → before rest ≡ from nodes members (drop k bs) rest) → Places now (both_cases r nodes (a, b)) (Err error) → (rest : List (CaseValue × CaseValue)) → GoesOn (before rest) (after rest) (Err error)
-  row_fails before after now OutOfMemory same h rest = tt
-  row_fails before after now (Refused why) same h rest =
-      same rest ∙ row_at rest ∙ ap (λ (o : Result Placed TermRefusal). follows o (λ (q : Placed). from q.nodes (members ++ q.number ∷ []) (drop (k + 1) bs) rest)) h
-
--- ---- each case with those of another term
-
-module _ (r : Relation) (firsts bs : List CaseValue) (k : ℕ) (a : CaseValue) (at : slice_get firsts k ≡ Some a) (nodes : List NodeValue) (members : List ℕ) where
-  abbrev rows : List NodeValue → List ℕ → List CaseValue → Result Placed TermRefusal
-  rows ns ms cs = each_case_compared r ns ms (case_pairs cs bs)
-
-  abbrev row : List NodeValue → List ℕ → Result Placed TermRefusal
-  row ns ms = each_case_compared r ns ms (map (λ (c : CaseValue). (a, c)) bs ++ case_pairs (drop (k + 1) firsts) bs)
-
-  rows_at : rows nodes members (drop k firsts) ≡ row nodes members
-  rows_at =
-      at_drop_more (λ (cs : List CaseValue). rows nodes members cs) firsts k a (slice_get_within firsts k a at)
-      ∙ ap (λ (c : CaseValue). rows nodes members (c ∷ drop (k + 1) firsts)) (get_or_from_slice_get firsts k a a at)
-
-  pub rows_step : (later : List NodeValue) (more : List ℕ) → row nodes members ≡ rows later more (drop (k + 1) firsts) → rows nodes members (drop k firsts) ≡ rows later more (drop (k + 1) firsts)
-  rows_step later more h = rows_at ∙ h
-
-  pub rows_fail : (whole : Result Placed TermRefusal) (after : Result Placed TermRefusal) (now : List NodeValue) (error : TermError) → whole ≡ rows nodes members (drop k firsts) → GoesOn (row nodes members) after (Err error) → Places now whole (Err error)
-  rows_fail whole after now OutOfMemory e h = tt
-  rows_fail whole after now (Refused why) e h = e ∙ rows_at ∙ h
 
 -- ---- how many there are
 

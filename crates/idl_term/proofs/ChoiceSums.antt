@@ -1,262 +1,206 @@
--- Sums over the choices of some terms: what comes of a linear term, of branches, and of the terms behind them.
-use Rattle.std.proofs.Common.{refl, ap, sym, subst, arith, ◌∙◌, ◌&&◌, ◌≡◌, ◌<◌, ◌≤◌, ◌+◌, ◌*◌, ◌^◌, ℕ, zero, suc, List, [], ◌∷◌, ◌++◌, length, map, take, drop, Bool, true, false, Bor, Some, append-nil, append_assoc}
-use Rattle.std.specs.Prelude.{Result, Ok, Err}
+-- The sums in all choices of a case of each term, as cases that are added term by term.
+use Rattle.std.proofs.Common.{refl, ap, sym, arith, ◌∙◌, ◌≡◌, ◌<◌, ◌≤◌, ◌+◌, ◌^◌, ℕ, List, [], ◌∷◌, ◌++◌, length, map, take, drop, get_or, Bool, true, false, Bor}
+use Rattle.std.specs.Prelude.{Ok, Err, if◌then◌else◌}
+use Rattle.std.specs.List.{AllByRecursion}
 use Rattle.std.proofs.lemmas.Bool.Decides.{nat_tests}
-use Rattle.std.proofs.lemmas.List.{length-append, length-map, map-append}
-use Rattle.idl_linear.specs.Linear.{LinearValue, is_limited}
-use Rattle.idl_scope.specs.Guarded.{CaseValue, plain_linear, unguarded, plain, guarded, branched}
-use Rattle.idl_scope.specs.Limits.{cases_limit}
-use Rattle.idl_term.specs.Applied.{are_limited, linear_sum, sum_case}
-use Rattle.idl_term.specs.code.Applying.{GoesPast, Sums, SumsCases}
-use Rattle.idl_term.specs.Choices.{Choice, with_case, with_term, choices_from, count_from, are_few, only_choice, with_each}
-use Rattle.idl_term.specs.declared.error.TermError.{TermError}
+use Rattle.std.proofs.lemmas.List.{at_drop_more, at_drop_all, length-append, length-map, map-append}
+use Rattle.idl_linear.specs.declared.error.LinearError.{LinearError}
+use Rattle.idl_linear.specs.declared.error.LinearError.TheVariants as linear
+use Rattle.idl_linear.specs.Linear.{LinearValue, negative_of, sum_of, less_others}
+use Rattle.idl_linear.specs.code.Steps.{Refuses}
+use Rattle.idl_node.specs.Nodes.{NodeValue}
+use Rattle.idl_cases.specs.Guarded.{CaseValue}
+use Rattle.idl_cases.specs.Limits.{cases_limit}
+use Rattle.idl_cases.specs.code.CaseSums.{added, added_each, added_all, pair_sum, signed_cases, signed_linear}
+use Rattle.idl_term.specs.Applied.{a_number, are_limited, as_number, sum_case, sum_cases, summed}
+use Rattle.idl_term.specs.code.Applying.{SumsTerms, of_linear, taken_from}
+use Rattle.idl_term.specs.Choices.{Choice, no_choice, with_case, with_term, choices, choices_from, count_from, are_few}
+use Rattle.idl_term.specs.declared.error.TermRefusal.TheVariants.{BoundTooLarge, TooManyCases}
 use Rattle.idl_term.specs.declared.error.TermError.TheVariants.{OutOfMemory, Refused}
 use Rattle.idl_term.specs.declared.operator.Sign.{Sign}
+use Rattle.idl_term.specs.declared.operator.Sign.TheVariants.{Plus, Minus}
 use Rattle.idl_term.proofs.Arguments.{seen}
 use Rattle.idl_term.proofs.CaseSteps.{choices_counted}
-
--- ---- terms without conditions
+use Rattle.idl_term.proofs.SumsBehind.{sum_behind}
 
 abbrev case_of : List ℕ → LinearValue → CaseValue
 case_of guards l = record { guards = guards; linear = l }
 
-unguarded_is : (guards : List ℕ) (l m : LinearValue) → unguarded guards l ≡ Some m → case_of guards l ≡ case_of [] m
-unguarded_is [] l m e =
-    let same : l ≡ m = cc in
-    ap (case_of []) same
-unguarded_is (g ∷ guards) l m e = absurd cc
+abbrev nothing : CaseValue
+nothing = record { guards = []; linear = sum_of [] }
 
-plain_is : (cases : List CaseValue) (l : LinearValue) → plain_linear cases ≡ Some l → cases ≡ plain l
-plain_is [] l e = absurd cc
-plain_is (case ∷ []) l e = ap (λ (c : CaseValue). c ∷ []) (unguarded_is case.guards case.linear l e)
-plain_is (case ∷ other ∷ cases) l e = absurd cc
+-- ---- what holds of the linear terms of each choice
 
-once : (k : ℕ) → k * 1 ≡ k
-once k = omega arith
+abbrev Each : (List LinearValue → Type 0) → List Choice → Type 0
+Each P cs = AllByRecursion (λ (c : Choice). P c.linears) cs
 
--- no term yet, and one more
-pub past_none : (ls : List LinearValue) (terms : List (List CaseValue)) → GoesPast ls ls terms terms
-past_none ls terms = record { choices = refl; count = λ k. refl }
+module _ (P Q : List LinearValue → Type 0) (more : (ls : List LinearValue) (l : LinearValue) → P ls → Q (ls ++ l ∷ [])) where
+  each_case : (c : Choice) (cases : List CaseValue) (rest : List Choice) → P c.linears → Each Q rest → Each Q (map (with_case c) cases ++ rest)
+  each_case c [] rest p h = h
+  each_case c (x ∷ xs) rest p h = (more c.linears x.linear p, each_case c xs rest p h)
 
-pub past_more : (old now new : List LinearValue) (terms rest others : List (List CaseValue)) (cases : List CaseValue) (l : LinearValue) → GoesPast old now terms rest → rest ≡ cases ∷ others → plain_linear cases ≡ Some l → new ≡ now ++ l ∷ []
-    → GoesPast old new terms others
-past_more old now new terms rest others cases l h e f g =
-    let first : rest ≡ plain l ∷ others = e ∙ ap (λ (c : List CaseValue). c ∷ others) (plain_is cases l f) in
-    record {
-      choices = h.choices ∙ ap (λ (ts : List (List CaseValue)). choices_from (only_choice now) ts) first ∙ ap (λ (ls : List LinearValue). choices_from (only_choice ls) others) (sym g);
-      count = λ k. h.count k ∙ ap (λ (ts : List (List CaseValue)). count_from k ts) first ∙ ap (λ (n : ℕ). count_from n others) (once k);
-    }
+  each_term : (cs : List Choice) (cases : List CaseValue) → Each P cs → Each Q (with_term cs cases)
+  each_term [] cases h = tt
+  each_term (c ∷ cs) cases h = each_case c cases (with_term cs cases) h.0 (each_term cs cases h.1)
 
--- ---- branches
+each_choice : (P : List LinearValue → Type 0) → ((ls : List LinearValue) (l : LinearValue) → P ls → P (ls ++ l ∷ [])) → (terms : List (List CaseValue)) (cs : List Choice) → Each P cs → Each P (choices_from cs terms)
+each_choice P more [] cs h = h
+each_choice P more (cases ∷ terms) cs h = each_choice P more terms (with_term cs cases) (each_term P P more cs cases h)
 
-abbrev choice_of : List ℕ → List LinearValue → Choice
-choice_of guards ls = record { guards = guards; linears = ls }
+-- ---- totals
 
--- a choice behind one more guard
-abbrev behind : ℕ → Choice → Choice
-behind g c = record { guards = g ∷ c.guards; linears = c.linears }
+module _ (total : List LinearValue → LinearValue) where
+  abbrev of_choice : Choice → CaseValue
+  of_choice c = record { guards = c.guards; linear = total c.linears }
 
-with_term-append : (cs ds : List Choice) (cases : List CaseValue) → with_term (cs ++ ds) cases ≡ with_term cs cases ++ with_term ds cases
-with_term-append [] ds cases = refl
-with_term-append (c ∷ cs) ds cases =
-    ap (λ (xs : List Choice). map (with_case c) cases ++ xs) (with_term-append cs ds cases) ∙ sym (append_assoc (map (with_case c) cases) (with_term cs cases) (with_term ds cases))
+  module _ (P : List LinearValue → Type 0) where
+    abbrev Adds : Bool → Type 0
+    Adds negated = (ls : List LinearValue) (l : LinearValue) → P ls → total (ls ++ l ∷ []) ≡ pair_sum (total ls) (signed_linear negated l)
 
-choices-append : (terms : List (List CaseValue)) (cs ds : List Choice) → choices_from (cs ++ ds) terms ≡ choices_from cs terms ++ choices_from ds terms
-choices-append [] cs ds = refl
-choices-append (cases ∷ terms) cs ds =
-    ap (λ (xs : List Choice). choices_from xs terms) (with_term-append cs ds cases) ∙ choices-append terms (with_term cs cases) (with_term ds cases)
+    total_row : (negated : Bool) → Adds negated → (c : Choice) → P c.linears → (cases : List CaseValue) → map of_choice (map (with_case c) cases) ≡ map (added (of_choice c)) (signed_cases negated cases)
+    total_row true adds c p [] = refl
+    total_row true adds c p (x ∷ xs) =
+        ap (λ (l : LinearValue). case_of (c.guards ++ x.guards) l ∷ map of_choice (map (with_case c) xs)) (adds c.linears x.linear p)
+        ∙ ap (λ (cs : List CaseValue). case_of (c.guards ++ x.guards) (pair_sum (total c.linears) (negative_of x.linear)) ∷ cs) (total_row true adds c p xs)
+    total_row false adds c p [] = refl
+    total_row false adds c p (x ∷ xs) =
+        ap (λ (l : LinearValue). case_of (c.guards ++ x.guards) l ∷ map of_choice (map (with_case c) xs)) (adds c.linears x.linear p)
+        ∙ ap (λ (cs : List CaseValue). case_of (c.guards ++ x.guards) (pair_sum (total c.linears) x.linear) ∷ cs) (total_row false adds c p xs)
 
-cases-behind : (g : ℕ) (c : Choice) (cases : List CaseValue) → map (with_case (behind g c)) cases ≡ map (behind g) (map (with_case c) cases)
-cases-behind g c [] = refl
-cases-behind g c (x ∷ xs) = ap (λ (ys : List Choice). behind g (with_case c x) ∷ ys) (cases-behind g c xs)
+    total_term : (negated : Bool) → Adds negated → (cs : List Choice) → Each P cs → (cases : List CaseValue) → map of_choice (with_term cs cases) ≡ added_each (map of_choice cs) (signed_cases negated cases)
+    total_term negated adds [] h cases = refl
+    total_term negated adds (c ∷ cs) h cases =
+        map-append of_choice (map (with_case c) cases) (with_term cs cases)
+        ∙ ap (λ (xs : List CaseValue). xs ++ map of_choice (with_term cs cases)) (total_row negated adds c h.0 cases)
+        ∙ ap (λ (xs : List CaseValue). map (added (of_choice c)) (signed_cases negated cases) ++ xs) (total_term negated adds cs h.1 cases)
 
-with_term-behind : (g : ℕ) (cs : List Choice) (cases : List CaseValue) → with_term (map (behind g) cs) cases ≡ map (behind g) (with_term cs cases)
-with_term-behind g [] cases = refl
-with_term-behind g (c ∷ cs) cases =
-    ap (λ (xs : List Choice). xs ++ with_term (map (behind g) cs) cases) (cases-behind g c cases)
-    ∙ ap (λ (xs : List Choice). map (behind g) (map (with_case c) cases) ++ xs) (with_term-behind g cs cases)
-    ∙ sym (map-append (behind g) (map (with_case c) cases) (with_term cs cases))
+    total_choices : (negated : Bool) → Adds negated → ((ls : List LinearValue) (l : LinearValue) → P ls → P (ls ++ l ∷ [])) → (terms : List (List CaseValue)) (cs : List Choice) → Each P cs
+        → map of_choice (choices_from cs terms) ≡ added_all (map of_choice cs) (map (signed_cases negated) terms)
+    total_choices negated adds more [] cs h = refl
+    total_choices negated adds more (cases ∷ terms) cs h =
+        total_choices negated adds more terms (with_term cs cases) (each_term P P more cs cases h)
+        ∙ ap (λ (xs : List CaseValue). added_all xs (map (signed_cases negated) terms)) (total_term negated adds cs h cases)
 
-choices-behind : (g : ℕ) (terms : List (List CaseValue)) (cs : List Choice) → choices_from (map (behind g) cs) terms ≡ map (behind g) (choices_from cs terms)
-choices-behind g [] cs = refl
-choices-behind g (cases ∷ terms) cs =
-    ap (λ (xs : List Choice). choices_from xs terms) (with_term-behind g cs cases) ∙ choices-behind g terms (with_term cs cases)
+-- ---- `+`
 
-each-behind : (g : ℕ) (ls : List LinearValue) (cases : List CaseValue) → with_each ls (map (guarded g) cases) ≡ map (behind g) (with_each ls cases)
-each-behind g ls [] = refl
-each-behind g ls (x ∷ xs) = ap (λ (ys : List Choice). behind g (with_case (choice_of [] ls) x) ∷ ys) (each-behind g ls xs)
+abbrev Any : List LinearValue → Type 0
+Any ls = Unit {0}
 
-sums-behind : (s : Sign) (g : ℕ) (cs : List Choice) → map (sum_case s) (map (behind g) cs) ≡ map (guarded g) (map (sum_case s) cs)
-sums-behind s g [] = refl
-sums-behind s g (c ∷ cs) = ap (λ (ys : List CaseValue). guarded g (sum_case s c) ∷ ys) (sums-behind s g cs)
+plus_all : (terms : List (List CaseValue)) → map (sum_case Plus) (choices terms) ≡ added_all (nothing ∷ []) (map (signed_cases false) terms)
+plus_all terms = total_choices sum_of Any false (λ ls l p. sym (sum_behind ls l)) (λ ls l p. tt) terms (no_choice ∷ []) (tt, tt)
 
-and_assoc : (p q r : Bool) → (p && (q && r)) ≡ ((p && q) && r)
-and_assoc true q r = refl
-and_assoc false q r = refl
+-- ---- `-`
 
-module _ (s : Sign) (ls : List LinearValue) (others : List (List CaseValue)) where
-  abbrev pub sums : List CaseValue → List CaseValue
-  sums cases = map (sum_case s) (choices_from (with_each ls cases) others)
+less_none : less_others [] ≡ sum_of []
+unfolding sum_of
+less_none = refl
 
-  branch_sums : (g : ℕ) (cases : List CaseValue) → sums (map (guarded g) cases) ≡ map (guarded g) (sums cases)
-  branch_sums g cases =
-      ap (λ (cs : List Choice). map (sum_case s) (choices_from cs others)) (each-behind g ls cases)
-      ∙ ap (map (sum_case s)) (choices-behind g others (with_each ls cases))
-      ∙ sums-behind s g (choices_from (with_each ls cases) others)
+-- the first, and the negatives of the others
+abbrev less_first : List LinearValue → LinearValue
+less_first [] = sum_of []
+less_first (l ∷ ls) = sum_of (l ∷ map negative_of ls)
 
-  sums-append : (xs ys : List CaseValue) → sums (xs ++ ys) ≡ sums xs ++ sums ys
-  sums-append xs ys =
-      ap (λ (cs : List Choice). map (sum_case s) (choices_from cs others)) (map-append (with_case (choice_of [] ls)) xs ys)
-      ∙ ap (map (sum_case s)) (choices-append others (with_each ls xs) (with_each ls ys))
-      ∙ map-append (sum_case s) (choices_from (with_each ls xs) others) (choices_from (with_each ls ys) others)
+first_adds : (ls : List LinearValue) (l : LinearValue) → 0 < length ls → less_first (ls ++ l ∷ []) ≡ pair_sum (less_first ls) (negative_of l)
+first_adds [] l h = absurd (omega arith)
+first_adds (a ∷ ls) l h = ap (λ (ms : List LinearValue). sum_of (a ∷ ms)) (map-append negative_of ls (l ∷ [])) ∙ sym (sum_behind (a ∷ map negative_of ls) (negative_of l))
 
-  sums_counted : (cases : List CaseValue) → length (sums cases) ≡ count_from (length cases) others
-  sums_counted cases =
-      length-map (choices_from (with_each ls cases) others) (sum_case s)
-      ∙ choices_counted (with_each ls cases) others
-      ∙ ap (λ (n : ℕ). count_from n others) (length-map cases (with_case (choice_of [] ls)))
+one_longer : (n : ℕ) (ls : List LinearValue) (l : LinearValue) → n ≤ length ls → n < length (ls ++ l ∷ [])
+one_longer n ls l h = omega (arith, length-append ls (l ∷ []), h)
 
-  -- the sums of a linear term
-  pub plain_sums : (cases : List CaseValue) (l : LinearValue) (more : List LinearValue) (result : Result (List CaseValue) TermError) → cases ≡ plain l → more ≡ ls ++ l ∷ []
-      → SumsCases (map (sum_case s) (choices_from (only_choice more) others)) result → SumsCases (sums cases) result
-  plain_sums cases l more result e f h =
-      subst (λ (xs : List CaseValue). SumsCases xs result) (ap (λ (ms : List LinearValue). map (sum_case s) (choices_from (only_choice ms) others)) f ∙ sym (ap sums e)) h
+less_is : (ls : List LinearValue) → 1 < length ls → less_others ls ≡ less_first ls
+less_is [] h = absurd (omega arith)
+less_is (l ∷ []) h = absurd (omega arith)
+less_is (l ∷ m ∷ ms) h = refl
 
-  module _ (cases a b : List CaseValue) (c d : ℕ) (e : cases ≡ branched c d a b) where
-    pub sums_branched : sums cases ≡ branched c d (sums a) (sums b)
-    sums_branched =
-        ap sums e
-        ∙ sums-append (map (guarded c) a) (map (guarded d) b)
-        ∙ ap (λ (xs : List CaseValue). xs ++ sums (map (guarded d) b)) (branch_sums c a)
-        ∙ ap (λ (xs : List CaseValue). map (guarded c) (sums a) ++ xs) (branch_sums d b)
+less_each : (cs : List Choice) → Each (λ ls. 1 < length ls) cs → map (sum_case Minus) cs ≡ map (of_choice less_first) cs
+less_each [] h = refl
+less_each (c ∷ cs) h = ap (λ (l : LinearValue). case_of c.guards l ∷ map (sum_case Minus) cs) (less_is c.linears h.0) ∙ ap (λ (xs : List CaseValue). of_choice less_first c ∷ xs) (less_each cs h.1)
 
-    counted : length (sums a) + length (sums b) ≡ count_from (length cases) others
-    counted =
-        let whole = sums_counted cases in
-        let same = ap length sums_branched in
-        let joined = length-append (map (guarded c) (sums a)) (map (guarded d) (sums b)) in
-        let first = length-map (sums a) (guarded c) in
-        let second = length-map (sums b) (guarded d) in
-        omega (arith, whole, same, joined, first, second)
+-- of one term
+minus_one : (cases : List CaseValue) → map (sum_case Minus) (choices (cases ∷ [])) ≡ added_all (nothing ∷ []) (signed_cases true cases ∷ [])
+minus_one cases =
+    total_term less_others (λ ls. ls ≡ []) true
+    (λ ls l e.
+    ap (λ (ms : List LinearValue). less_others (ms ++ l ∷ [])) e
+    ∙ sym (sum_behind [] (negative_of l))
+    ∙ ap (λ (m : LinearValue). pair_sum m (negative_of l)) (sym (ap less_others e ∙ less_none)))
+    (no_choice ∷ []) (refl, tt) cases
+    ∙ ap (λ (l : LinearValue). added_each (case_of [] l ∷ []) (signed_cases true cases)) less_none
 
-    module _ (few : are_few (count_from (length cases) others) ≡ true) where
-      within : count_from (length cases) others ≤ cases_limit
-      within = grind (arith, nat_tests)
+-- of more
+minus_more : (first second : List CaseValue) (others : List (List CaseValue))
+    → map (sum_case Minus) (choices (first ∷ second ∷ others)) ≡ added_all (added_all (nothing ∷ []) (first ∷ [])) (map (signed_cases true) (second ∷ others))
+minus_more first second others =
+    let one : Each (λ ls. 0 < length ls) (with_term (no_choice ∷ []) first) = each_term Any (λ ls. 0 < length ls) (λ ls l p. one_longer 0 ls l (omega arith)) (no_choice ∷ []) first (tt, tt) in
+    let two : Each (λ ls. 1 < length ls) (with_term (with_term (no_choice ∷ []) first) second) =
+    each_term (λ ls. 0 < length ls) (λ ls. 1 < length ls) (λ ls l p. one_longer 1 ls l (omega (arith, p))) (with_term (no_choice ∷ []) first) second one in
+    less_each (choices (first ∷ second ∷ others)) (each_choice (λ ls. 1 < length ls) (λ ls l p. one_longer 1 ls l (omega (arith, p))) others (with_term (with_term (no_choice ∷ []) first) second) two)
+    ∙ total_choices less_first (λ ls. 0 < length ls) true first_adds (λ ls l p. one_longer 0 ls l (omega arith)) (second ∷ others) (with_term (no_choice ∷ []) first) one
+    ∙ ap (λ (xs : List CaseValue). added_all xs (map (signed_cases true) (second ∷ others)))
+    (total_term less_first (λ ls. ls ≡ []) false
+    (λ ls l e. ap (λ (ms : List LinearValue). less_first (ms ++ l ∷ [])) e ∙ sym (sum_behind [] l) ∙ ap (λ (m : LinearValue). pair_sum m l) (sym (ap less_first e)))
+    (no_choice ∷ []) (refl, tt) first)
 
-      pub few_yes : are_few (count_from (length a) others) ≡ true
-      few_yes =
-          let part : count_from (length a) others ≤ cases_limit = omega (arith, sums_counted a, counted, within) in
-          grind (arith, nat_tests)
+-- ---- either
 
-      pub few_no : are_few (count_from (length b) others) ≡ true
-      few_no =
-          let part : count_from (length b) others ≤ cases_limit = omega (arith, sums_counted b, counted, within) in
-          grind (arith, nat_tests)
+abbrev total_of : List (List CaseValue) → List (List CaseValue) → List CaseValue
+total_of front back = added_all (added_all (nothing ∷ []) (map (signed_cases false) front)) (map (signed_cases true) back)
 
-      pub few_made : (xs ys : List CaseValue) → xs ≡ sums a → ys ≡ sums b → length xs + length ys < 2 ^ 64
-      few_made xs ys f g =
-          let first = ap length f in
-          let second = ap length g in
-          omega (arith, first, second, counted, within)
+taken_all : {A : Type 0} (xs : List A) → take (length xs) xs ≡ xs
+taken_all [] = refl
+taken_all {A = A} (x ∷ xs) = ap (λ (ys : List A). x ∷ ys) (taken_all xs)
 
-    limited-append : (xs ys : List CaseValue) → are_limited (xs ++ ys) ≡ (are_limited xs && are_limited ys)
-    limited-append [] ys = refl
-    limited-append (x ∷ xs) ys = ap (λ (t : Bool). is_limited x.linear && t) (limited-append xs ys) ∙ and_assoc (is_limited x.linear) (are_limited xs) (are_limited ys)
+same_each : (xs : List (List CaseValue)) → map (signed_cases false) xs ≡ xs
+same_each [] = refl
+same_each (x ∷ xs) = ap (λ (ys : List (List CaseValue)). x ∷ ys) (same_each xs)
 
-    limited-guarded : (g : ℕ) (xs : List CaseValue) → are_limited (map (guarded g) xs) ≡ are_limited xs
-    limited-guarded g [] = refl
-    limited-guarded g (x ∷ xs) = ap (λ (t : Bool). is_limited x.linear && t) (limited-guarded g xs)
+total_is : (s : Sign) (bs : List (Bor (List CaseValue))) → total_of (seen (take (taken_from s (length bs)) bs)) (seen (drop (taken_from s (length bs)) bs)) ≡ sum_cases s (seen bs)
+total_is Plus bs =
+    ap (λ (xs : List (Bor (List CaseValue))). total_of (seen xs) (seen (drop (length bs) bs))) (taken_all bs)
+    ∙ at_drop_all (λ (xs : List (Bor (List CaseValue))). total_of (seen bs) (seen xs)) bs (length bs) (omega arith)
+    ∙ sym (plus_all (seen bs))
+total_is Minus [] = ap (λ (l : LinearValue). case_of [] l ∷ []) (sym less_none)
+total_is Minus (b ∷ []) = sym (minus_one b.now)
+total_is Minus (b ∷ c ∷ bs) = sym (minus_more b.now c.now (seen bs))
 
-    limited : are_limited (sums cases) ≡ (are_limited (sums a) && are_limited (sums b))
-    limited =
-        ap are_limited sums_branched
-        ∙ limited-append (map (guarded c) (sums a)) (map (guarded d) (sums b))
-        ∙ ap (λ (t : Bool). t && are_limited (map (guarded d) (sums b))) (limited-guarded c (sums a))
-        ∙ ap (λ (t : Bool). are_limited (sums a) && t) (limited-guarded d (sums b))
+-- what the code adds
+pub added_total : (s : Sign) (bs front back : List (Bor (List CaseValue))) (n : ℕ) (start first last : List CaseValue) → n ≡ taken_from s (length bs) → front ≡ take n bs → back ≡ drop n bs → start ≡ nothing ∷ []
+    → first ≡ added_all start (map (signed_cases false) (seen front)) → last ≡ added_all first (map (signed_cases true) (seen back)) → last ≡ sum_cases s (seen bs)
+added_total s bs front back n start first last e f g begin one two =
+    two
+    ∙ ap (λ (xs : List CaseValue). added_all xs (map (signed_cases true) (seen back))) (one ∙ ap (λ (xs : List CaseValue). added_all xs (map (signed_cases false) (seen front))) begin)
+    ∙ ap (λ (xs : List (Bor (List CaseValue))). total_of (seen xs) (seen back)) (f ∙ ap (λ (k : ℕ). take k bs) e)
+    ∙ ap (λ (xs : List (Bor (List CaseValue))). total_of (seen (take (taken_from s (length bs)) bs)) (seen xs)) (g ∙ ap (λ (k : ℕ). drop k bs) e)
+    ∙ total_is s bs
 
-    pub yes_fails : (error : TermError) → SumsCases (sums a) (Err error) → SumsCases (sums cases) (Err error)
-    yes_fails OutOfMemory h = tt
-    yes_fails (Refused why) h = (h.0, limited ∙ ap (λ (t : Bool). t && are_limited (sums b)) h.1)
+-- one more of them
+pub one_more_added : (negated : Bool) (terms : List (Bor (List CaseValue))) (k : ℕ) (term : Bor (List CaseValue)) (before after : List CaseValue) → k < length terms → after ≡ added_each before (signed_cases negated term.now)
+    → term ≡ get_or terms k term
+    → added_all before (map (signed_cases negated) (seen (drop k terms))) ≡ added_all after (map (signed_cases negated) (seen (drop (k + 1) terms)))
+one_more_added negated terms k term before after within e at =
+    at_drop_more (λ (ts : List (Bor (List CaseValue))). added_all before (map (signed_cases negated) (seen ts))) terms k term within
+    ∙ ap (λ (t : Bor (List CaseValue)). added_all (added_each before (signed_cases negated t.now)) (map (signed_cases negated) (seen (drop (k + 1) terms)))) (sym at)
+    ∙ ap (λ (xs : List CaseValue). added_all xs (map (signed_cases negated) (seen (drop (k + 1) terms)))) (sym e)
 
-    pub no_fails : (xs : List CaseValue) (error : TermError) → SumsCases (sums a) (Ok xs) → SumsCases (sums b) (Err error) → SumsCases (sums cases) (Err error)
-    no_fails xs OutOfMemory f h = tt
-    no_fails xs (Refused why) f h = (h.0, limited ∙ ap (λ (t : Bool). t && are_limited (sums b)) f.1 ∙ h.1)
+-- ---- the limits
 
-    pub both_made : (xs ys made : List CaseValue) → SumsCases (sums a) (Ok xs) → SumsCases (sums b) (Ok ys) → made ≡ branched c d xs ys → SumsCases (sums cases) (Ok made)
-    both_made xs ys made f g h = (
-      h
-          ∙ ap (λ (zs : List CaseValue). branched c d zs ys) f.0
-          ∙ ap (λ (zs : List CaseValue). branched c d (sums a) zs) g.0
-          ∙ sym sums_branched,
-      limited ∙ ap (λ (t : Bool). t && are_limited (sums b)) f.1 ∙ g.1,
-    )
+module _ (s : Sign) (terms : List (List CaseValue)) where
+  pub sums_many : are_few (count_from 1 terms) ≡ false → SumsTerms s terms (Err (Refused TooManyCases))
+  sums_many e = λ nodes. ap (λ (b : Bool). if b then as_number nodes (sum_cases s terms) else Err TooManyCases) e
 
--- ---- the terms behind
+  module _ (few : are_few (count_from 1 terms) ≡ true) (total : List CaseValue) (is : total ≡ sum_cases s terms) where
+    pub total_few : length total < 2 ^ 32
+    total_few =
+        let count : length total ≡ count_from 1 terms = ap length is ∙ length-map (choices terms) (sum_case s) ∙ choices_counted (no_choice ∷ []) terms in
+        let small : count_from 1 terms ≤ cases_limit = grind (arith, nat_tests) in
+        omega (arith, count, small)
 
-module _ (s : Sign) (old new : List LinearValue) (terms rest : List (List CaseValue)) (h : GoesPast old new terms rest) where
-  abbrev all_sums : List CaseValue
-  all_sums = map (sum_case s) (choices_from (only_choice old) terms)
+    summed_is : (nodes : List NodeValue) → summed s nodes terms ≡ as_number nodes total
+    summed_is nodes = rw few (ap (as_number nodes) (sym is))
 
-  module _ (first : List CaseValue) (others : List (List CaseValue)) (e : rest ≡ first ∷ others) where
-    pub first_few : are_few (count_from 1 terms) ≡ true → are_few (count_from (length first) others) ≡ true
-    first_few few =
-        let whole : count_from 1 terms ≡ count_from (1 * length first) others = h.count 1 ∙ ap (count_from 1) e in
-        let one : 1 * length first ≡ length first = omega arith in
-        ap are_few (sym (whole ∙ ap (λ (n : ℕ). count_from n others) one)) ∙ few
+    pub sums_made : (cases : List CaseValue) → cases ≡ total → are_limited total ≡ true → SumsTerms s terms (Ok cases)
+    sums_made cases e limited = λ nodes. summed_is nodes ∙ rw limited (ap (λ (cs : List CaseValue). Ok (a_number nodes cs)) (sym e))
 
-    pub first_sums : (result : Result (List CaseValue) TermError) → SumsCases (sums s new others first) result → SumsCases all_sums result
-    first_sums result k =
-        let same : all_sums ≡ sums s new others first =
-        ap (map (sum_case s)) (h.choices ∙ ap (choices_from (only_choice new)) e ∙ ap (λ (cs : List Choice). choices_from cs others) (append-nil (with_each new first))) in
-        subst (λ (xs : List CaseValue). SumsCases xs result) (sym same) k
-
-  module _ (e : rest ≡ []) where
-    none_left : all_sums ≡ plain (linear_sum s new)
-    none_left = ap (map (sum_case s)) (h.choices ∙ ap (choices_from (only_choice new)) e)
-
-    limit_left : (t : Bool) → is_limited (linear_sum s new) ≡ t → are_limited all_sums ≡ t
-    limit_left true f = ap are_limited none_left ∙ ap (λ (b : Bool). b && true) f
-    limit_left false f = ap are_limited none_left ∙ ap (λ (b : Bool). b && true) f
-
-    pub none_fails : (error : TermError) → Sums (linear_sum s new) (Err error) → SumsCases all_sums (Err error)
-    none_fails OutOfMemory k = tt
-    none_fails (Refused why) k = (k.0, limit_left false k.1)
-
-    pub none_made : (l : LinearValue) (made : List CaseValue) → Sums (linear_sum s new) (Ok l) → made ≡ plain l → SumsCases all_sums (Ok made)
-    none_made l made k f = (f ∙ ap plain k.0 ∙ sym none_left, limit_left true k.1)
-
--- ---- how far it is to the end
-
-abbrev pub cases_left : List (List CaseValue) → ℕ
-cases_left [] = 0
-cases_left (cases ∷ terms) = length cases + cases_left terms
-
-pub fewer_left : (n : ℕ) (terms : List (Bor (List CaseValue))) → cases_left (seen (drop n terms)) ≤ cases_left (seen terms)
-fewer_left zero terms = omega arith
-fewer_left (suc n) [] = omega arith
-fewer_left (suc n) (t ∷ terms) =
-    let rest = fewer_left n terms in
-    omega (arith, rest)
-
-pub branch_lengths : (cases a b : List CaseValue) (c d : ℕ) → cases ≡ branched c d a b → length cases ≡ length a + length b
-branch_lengths cases a b c d e =
-    let same = ap length e in
-    let joined = length-append (map (guarded c) a) (map (guarded d) b) in
-    let first = length-map a (guarded c) in
-    let second = length-map b (guarded d) in
-    omega (arith, same, joined, first, second)
-
--- what was pushed, and what came behind it, is cut off again
-front_of : {A : Type 0} (old new : List A) (x : A) → take (length (old ++ x ∷ [])) new ≡ old ++ x ∷ [] → take (length old) new ≡ old
-front_of [] new x e = refl
-front_of (o ∷ old) [] x e = absurd cc
-front_of {A = A} (o ∷ old) (n ∷ new) x e =
-    let here : n ≡ o = cc in
-    let rest : take (length (old ++ x ∷ [])) new ≡ old ++ x ∷ [] = cc in
-    ap (λ (y : A). y ∷ take (length old) new) here ∙ ap (λ (ys : List A). o ∷ ys) (front_of old new x rest)
-
-pub kept_front : {A : Type 0} (old pushed new last : List A) (x : A) (n : ℕ) → length old ≡ n → pushed ≡ old ++ x ∷ [] → take (length pushed) new ≡ pushed → last ≡ take n new → last ≡ old
-kept_front {A = A} old pushed new last x n len e f g =
-    g
-    ∙ ap (λ (k : ℕ). take k new) (sym len)
-    ∙ front_of old new x (ap (λ (ys : List A). take (length ys) new) (sym e) ∙ f ∙ e)
+    pub sums_refused : (why : LinearError) → Refuses why (are_limited total) → SumsTerms s terms (Err (of_linear why))
+    sums_refused linear.OutOfMemory h = tt
+    sums_refused linear.BoundTooLarge h = λ nodes. summed_is nodes ∙ rw h refl

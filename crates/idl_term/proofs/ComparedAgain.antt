@@ -11,8 +11,8 @@ use Rattle.idl_node.specs.Nodes.{NodeValue, atom, conjunction, disjunction, Plac
 use Rattle.idl_node.specs.code.Repeats.{IsFront}
 use Rattle.idl_node.proofs.Settling.{Repeats, placed_repeats, then_repeats, denied_repeats, conjoined_repeats, disjoined_repeats}
 use Rattle.idl_node.proofs.Steps.{front_on}
-use Rattle.idl_scope.specs.Guarded.{CaseValue}
-use Rattle.idl_scope.specs.code.GuardBounds.{AreGuardsBelow}
+use Rattle.idl_cases.specs.Guarded.{CaseValue}
+use Rattle.idl_cases.specs.code.GuardBounds.{AreGuardsBelow}
 use Rattle.idl_term.specs.Choices.{are_few, where_few}
 use Rattle.idl_term.specs.Comparing.{at_most, below, at_least, above, follows, or_too_large, related, related_by, compared, case_compared, both_cases, case_pairs, each_case_compared, cases_compared}
 use Rattle.idl_term.specs.declared.comparing.Relation.{Relation}

@@ -6,7 +6,7 @@ use Rattle.stn_core.specs.declared.literal.Literal.{Literal}
 use Rattle.idl_linear.specs.declared.difference.Difference.{Difference}
 use Rattle.idl_linear.specs.declared.error.DifferenceRefusal.{DifferenceRefusal}
 use Rattle.idl_linear.specs.declared.error.DifferenceRefusal.TheVariants.{BoundTooLarge}
-use Rattle.idl_linear.specs.Differences.{difference_by, difference_of, ends_of}
+use Rattle.idl_linear.specs.Differences.{difference_by, difference_in, difference_of, ends_of}
 use Rattle.idl_linear.specs.Limits.{number_limit}
 use Rattle.idl_linear.specs.Linear.{LinearValue, is_within, sum_of, negative_of}
 use Rattle.idl_node.specs.declared.error.NodeError.{NodeError}
@@ -33,15 +33,22 @@ by_ends None constant d e = cc
 by_ends (Some p) constant d e = tested p.0 p.1 (neg_ℤ constant) (is_within number_limit (neg_ℤ constant)) d refl e
 
 -- a comparison's number is within its limit
-pub difference_is_within : (a b : LinearValue) (d : Difference) → difference_of a b ≡ Ok d → is_within number_limit d.n ≡ true
-unfolding difference_of
-difference_is_within a b d e = by_ends (ends_of (sum_of (a ∷ negative_of b ∷ [])).summands) (sum_of (a ∷ negative_of b ∷ [])).constant d e
+pub number_is_within : (l : LinearValue) (d : Difference) → difference_in l ≡ Ok d → is_within number_limit d.n ≡ true
+number_is_within l d e = by_ends (ends_of l.summands) l.constant d e
+
+pub number_low : (l : LinearValue) (d : Difference) → difference_in l ≡ Ok d → neg_ℤ (pos number_limit) ≤ℤ d.n
+number_low l d e = let h = number_is_within l d e in grind (arith, ints, h)
+
+pub number_high : (l : LinearValue) (d : Difference) → difference_in l ≡ Ok d → d.n ≤ℤ pos number_limit
+number_high l d e = let h = number_is_within l d e in grind (arith, ints, h)
 
 pub difference_low : (a b : LinearValue) (d : Difference) → difference_of a b ≡ Ok d → neg_ℤ (pos number_limit) ≤ℤ d.n
-difference_low a b d e = let h = difference_is_within a b d e in grind (arith, ints, h)
+unfolding difference_of
+difference_low a b d e = number_low (sum_of (a ∷ negative_of b ∷ [])) d e
 
 pub difference_high : (a b : LinearValue) (d : Difference) → difference_of a b ≡ Ok d → d.n ≤ℤ pos number_limit
-difference_high a b d e = let h = difference_is_within a b d e in grind (arith, ints, h)
+unfolding difference_of
+difference_high a b d e = number_high (sum_of (a ∷ negative_of b ∷ [])) d e
 
 -- ---- a relation
 

@@ -5,7 +5,7 @@ use Rattle.std.proofs.lemmas.List.{append-nil}
 use Rattle.idl_linear.specs.Linear.{LinearValue, is_limited}
 use Rattle.idl_node.specs.Making.{conjoined}
 use Rattle.idl_node.specs.Nodes.{NodeValue, Placed}
-use Rattle.idl_scope.specs.Guarded.{CaseValue, plain, plain_linear, unguarded}
+use Rattle.idl_cases.specs.Guarded.{CaseValue, plain, plain_linear, unguarded}
 use Rattle.idl_term.specs.Applied.{a_number, as_number, linear_sum, sum_case, summed}
 use Rattle.idl_term.specs.code.Applying.{Sums, SumsTerms}
 use Rattle.idl_term.specs.Choices.{choices_from, count_from, only_choice, where_few}

@@ -13,6 +13,8 @@ pub mod ComparisonNodes
 pub mod ComparedAgain
 pub mod PairsCompared
 pub mod CaseSteps
+pub mod SumsBehind
+pub mod CasesRelated
 pub mod ChoiceSums
 pub mod SumsOfTerms
 pub mod Leaves

@@ -17,7 +17,7 @@ use Rattle.idl_node.proofs.Makers.{and_true, conjoined-made, denied-made, disjoi
 use Rattle.idl_node.proofs.Pairs.{neighbours-chain, pairs-all_pairs, neighbours-are, pairs-are}
 use Rattle.idl_node.proofs.Truths.{list_all-agree, list_any-agree}
 use Rattle.idl_node.specs.Meaning.{IsMade}
-use Rattle.idl_scope.specs.Guarded.{CaseValue, guarded, branched}
+use Rattle.idl_cases.specs.Guarded.{CaseValue, guarded, branched}
 use Rattle.idl_term.specs.Choices.{are_few}
 use Rattle.idl_term.specs.declared.comparing.Relation.{Relation}
 use Rattle.idl_term.specs.declared.error.TermRefusal.TheVariants.{TooManyCases}

@@ -39,7 +39,7 @@ use Rattle.idl_term.specs.Choices.{choices, no_choice, count_from, are_few}
 use Rattle.idl_term.specs.Comparing.{follows, or_too_large, each_compared}
 use Rattle.idl_term.specs.Meanings.{lowered_value, cases_value, IsLinearFor, IsCaseIn, AreCasesIn, IsTermIn}
 use Rattle.idl_term.specs.Operators.{takes_count}
-use Rattle.idl_scope.specs.Guarded.{CaseValue, plain, branched}
+use Rattle.idl_cases.specs.Guarded.{CaseValue, plain, branched}
 use Rattle.idl_scope.specs.Scopes.{LoweredTerm, formula, numeric, linear_term}
 use Rattle.idl_term.specs.Values.{Value, whole, truth, any_true, all_true, connective_value, total, remainder, sum_value, order_value, equal_truths, equal_numbers, truth_before, whole_before, truths_in, wholes_in, of_all, equality_value, operator_value}
 use Rattle.idl_term.proofs.BelowLinear.{ArePoints, HavePoints, points_sum, points_others, points_negatives, points_weaker, points_both, points_ascending, ascends_sum}

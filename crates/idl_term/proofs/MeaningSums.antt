@@ -8,7 +8,7 @@ use Rattle.idl_node.specs.declared.sort.Sort.{Sort}
 use Rattle.idl_node.specs.Nodes.{NodeValue}
 use Rattle.idl_node.specs.Truth.{truth}
 use Rattle.idl_node.proofs.Growing.{AreThere}
-use Rattle.idl_scope.specs.Guarded.{CaseValue}
+use Rattle.idl_cases.specs.Guarded.{CaseValue}
 use Rattle.idl_term.specs.declared.operator.Sign.{Sign}
 use Rattle.idl_term.specs.Applied.{linear_sum, sum_case, are_limited}
 use Rattle.idl_term.specs.Choices.{Choice, with_case, with_term, choices_from}

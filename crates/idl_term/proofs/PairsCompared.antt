@@ -8,7 +8,7 @@ use Rattle.idl_node.specs.Nodes.{NodeValue, Placed}
 use Rattle.idl_node.specs.code.Repeats.{IsFront, HasRepeats, IsRow, AreRows, LeadsBack, place_before}
 use Rattle.idl_node.proofs.Rows.{row_better, row_copied, row_in_order, row_push, row_taken, rows_better, rows_push}
 use Rattle.idl_node.proofs.Steps.{take_whole, front_on}
-use Rattle.idl_scope.specs.Guarded.{CaseValue}
+use Rattle.idl_cases.specs.Guarded.{CaseValue}
 use Rattle.idl_term.specs.Comparing.{cases_compared, each_compared, follows}
 use Rattle.idl_term.specs.code.Repeats.{AreCompared, AreGuarded, term_at}
 use Rattle.idl_term.specs.code.Shapes.{Places}

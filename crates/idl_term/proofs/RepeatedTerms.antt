@@ -5,8 +5,8 @@ use Rattle.std.specs.List.{AllByRecursion}
 use Rattle.std.proofs.lemmas.Bool.{cases_lt}
 use Rattle.std.proofs.lemmas.Option.{get_or_from_slice_get, slice_get-map, slice_get_read}
 use Rattle.idl_node.specs.Nodes.{NodeValue, Placed}
-use Rattle.idl_scope.specs.Guarded.{CaseValue}
-use Rattle.idl_scope.specs.code.GuardBounds.{AreGuardsBelow}
+use Rattle.idl_cases.specs.Guarded.{CaseValue}
+use Rattle.idl_cases.specs.code.GuardBounds.{AreGuardsBelow}
 use Rattle.idl_term.specs.code.Repeats.{AreGuarded, term_at}
 use Rattle.idl_term.specs.Comparing.{cases_compared}
 use Rattle.idl_term.specs.declared.comparing.Relation.{Relation}

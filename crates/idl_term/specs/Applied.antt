@@ -6,7 +6,7 @@ use Rattle.idl_linear.specs.Linear.{LinearValue, sum_of, less_others, is_limited
 use Rattle.idl_node.specs.Making.{denied, conjoined, disjoined, chosen, exclusive, implied, all_equal, all_different}
 use Rattle.idl_node.specs.Nodes.{NodeValue, Placed}
 use Rattle.idl_term.specs.Comparing.{follows, or_too_large, all_compared}
-use Rattle.idl_scope.specs.Guarded.{CaseValue, branched}
+use Rattle.idl_cases.specs.Guarded.{CaseValue, branched}
 use Rattle.idl_scope.specs.Scopes.{LoweredTerm, formula, numeric}
 use Rattle.idl_term.specs.Choices.{Choice, choices, count_from, where_few}
 use Rattle.idl_term.specs.declared.error.TermRefusal.{TermRefusal}

@@ -1,8 +1,8 @@
 -- One case of each of several Int terms: what they are worth together, where the guards of all of these cases are true.
 use Rattle.std.specs.Prelude.{ℕ, ◌*◌, List, [], ◌∷◌, ◌++◌, map, length, Bool, nat_le, if◌then◌else◌, Result, Err}
 use Rattle.idl_linear.specs.Linear.{LinearValue}
-use Rattle.idl_scope.specs.Guarded.{CaseValue}
-use Rattle.idl_scope.specs.Limits.{cases_limit}
+use Rattle.idl_cases.specs.Guarded.{CaseValue}
+use Rattle.idl_cases.specs.Limits.{cases_limit}
 use Rattle.idl_term.specs.declared.error.TermRefusal.{TermRefusal}
 use Rattle.idl_term.specs.declared.error.TermRefusal.TheVariants.{TooManyCases}
 

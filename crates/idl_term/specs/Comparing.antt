@@ -9,7 +9,7 @@ use Rattle.idl_linear.specs.Differences.{difference_of}
 use Rattle.idl_linear.specs.Linear.{LinearValue}
 use Rattle.idl_node.specs.Making.{then, denied, conjoined, disjoined, neighbours, pairs}
 use Rattle.idl_node.specs.Nodes.{NodeValue, atom, conjunction, disjunction, Placed, placed}
-use Rattle.idl_scope.specs.Guarded.{CaseValue}
+use Rattle.idl_cases.specs.Guarded.{CaseValue}
 use Rattle.idl_term.specs.Choices.{where_few}
 use Rattle.idl_term.specs.declared.comparing.Relation.{Relation}
 use Rattle.idl_term.specs.declared.comparing.Relation.TheVariants.{AtMost, Less, AtLeast, Greater, Equal, Distinct}

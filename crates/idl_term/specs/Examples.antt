@@ -7,7 +7,7 @@ use Rattle.stn_core.specs.declared.literal.Literal.{Literal}
 use Rattle.idl_node.specs.declared.sort.Sort.TheVariants as sort
 use Rattle.idl_linear.specs.Linear.{LinearValue, sum_of, number_alone, point_alone}
 use Rattle.idl_node.specs.Nodes.{NodeValue, atom}
-use Rattle.idl_scope.specs.Guarded.{CaseValue}
+use Rattle.idl_cases.specs.Guarded.{CaseValue}
 use Rattle.idl_scope.specs.Scopes.{Scope}
 use Rattle.idl_term.specs.Values.{Named, whole, truth}
 

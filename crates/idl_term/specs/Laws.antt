@@ -9,7 +9,7 @@ use Rattle.idl_term.specs.Applied.{Made}
 use Rattle.idl_term.specs.Contexts.{Context, IsContext, IsScheduleFor, environment, scope_of}
 use Rattle.idl_term.specs.Lowered.{lowered}
 use Rattle.idl_term.specs.Meanings.{IsScopeOver, IsMadeIn, Agrees, AreRoots, lowered_value}
-use Rattle.idl_scope.specs.Guarded.{CaseValue}
+use Rattle.idl_cases.specs.Guarded.{CaseValue}
 use Rattle.idl_scope.specs.Scopes.{Scope, sorts_of}
 use Rattle.idl_term.specs.Choices.{choices, count_from}
 use Rattle.idl_term.specs.Comparing.{case_pairs}

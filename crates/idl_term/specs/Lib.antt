@@ -9,7 +9,7 @@ pub mod Meanings
 pub mod Examples
 pub mod Laws
 pub use Rattle.idl_scope.specs.Limits
-pub use Rattle.idl_scope.specs.Guarded
+pub use Rattle.idl_cases.specs.Guarded
 pub use Rattle.idl_scope.specs.Scopes
 pub use Rattle.idl_scope.specs.code.Kept
 pub use Rattle.smt_sexpr.specs.Tree

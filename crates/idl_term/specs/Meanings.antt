@@ -16,7 +16,7 @@ use Rattle.idl_node.specs.Tables.{IsTableOf}
 use Rattle.idl_node.specs.Truth as node
 use Rattle.idl_term.specs.Applied.{Made}
 use Rattle.idl_term.specs.Contexts.{Context, environment, value_of_named}
-use Rattle.idl_scope.specs.Guarded.{CaseValue}
+use Rattle.idl_cases.specs.Guarded.{CaseValue}
 use Rattle.idl_scope.specs.Limits.{names_limit}
 use Rattle.idl_scope.specs.Scopes.{LoweredTerm, formula, numeric, Binding, Scope, Found, declared_at, stands_for, unknown, found, sorts_of}
 use Rattle.idl_term.specs.Values.{Value, whole, truth, Named, looked_up, value}

@@ -2,6 +2,7 @@
 pub mod Applying
 pub mod Evaluating
 pub mod Heads
+pub mod Pairing
 pub mod Repeats
 pub mod Reserved
 pub mod Shapes

@@ -11,8 +11,9 @@ use crate::comparing::{Relation, compare_all};
 use crate::error::{TermError, TermRefusal};
 use crate::few_terms::{relate_two, sum_one, sum_two};
 use crate::operator::{Connective, Equality, Operator, Order, Sign};
+use idl_cases::{CASES_LIMIT, Cases};
 use idl_node::{NodeError, Nodes};
-use idl_scope::{CASES_LIMIT, Cases, Lowered};
+use idl_scope::Lowered;
 use std::alloc::{AllocFailed, Global};
 
 /// The nodes of terms that are all Bool.

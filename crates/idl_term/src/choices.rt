@@ -1,25 +1,13 @@
 //! Sums of Int terms with cases: one of each choice of a case of each term.
-ghost use Rattle.std.specs.Prelude.{◌≡◌, ◌≤◌, true, IfOk, OnOk, length, map, take, drop};
-ghost use Rattle.idl_term.specs.Applied.{linear_sum, sum_case};
-ghost use Rattle.idl_term.specs.code.Applying.{GoesPast, Sums, SumsCases, SumsTerms};
-ghost use Rattle.idl_term.specs.Choices.{choices_from, count_from, are_few, only_choice, with_each};
+ghost use Rattle.std.specs.Prelude.{◌≡◌, ◌≤◌, IfOk, OnOk, length, map};
+ghost use Rattle.idl_cases.specs.code.CaseSums.{added_all, signed_cases, summed_cases};
+ghost use Rattle.idl_term.specs.code.Applying.{SumsTerms, taken_from};
+ghost use Rattle.idl_term.specs.Choices.{count_from, are_few};
 
-use crate::arithmetic::{add, subtract};
 use crate::error::{TermError, TermRefusal};
 use crate::operator::Sign;
-use idl_linear::Linear;
-use idl_scope::{CASES_LIMIT, Cases, Shape};
-use std::alloc::{AllocFailed, Global};
-
-/// The sum of linear terms.
-fn sum_linears(alloc: Global, sign: Sign, terms: &[&Linear]) -> Result<Linear, TermError>
-    ensures { Sums (linear_sum sign (map (λ l. l.now) terms.now)) result }
-{
-    match sign {
-        Sign::Plus => add(alloc, terms),
-        Sign::Minus => subtract(alloc, terms),
-    }
-}
+use idl_cases::{CASES_LIMIT, Cases, Summing};
+use std::alloc::{AllocError, Global};
 
 /// Whether there are so few choices that a term may have them as its cases.
 fn are_few(terms: &[&Cases]) -> bool
@@ -32,85 +20,31 @@ fn are_few(terms: &[&Cases]) -> bool
     count <= CASES_LIMIT
 }
 
-/// The linear terms of the first terms, as far as they have no conditions, behind those of the vector; and how many they are.
-fn push_plain<'t>(
-    linears: &mut Vec<&'t Linear>,
-    terms: &[&'t Cases],
-) -> Result<usize, AllocFailed<&'t Linear>>
-    ensures count { IfOk result (λ n. n ≤ length terms.now) }
-    ensures past { IfOk result (λ n. GoesPast (map (λ l. l.now) linears.old.items) (map (λ l. l.now) linears.new.items)
-        (map (λ t. t.now) terms.now) (map (λ t. t.now) (drop n terms.now))) }
-    ensures front { take (length linears.old.items) linears.new.items ≡ linears.old.items }
+/// How many terms there are that the others are taken from.
+fn taken_from(sign: Sign, count: usize) -> usize
+    ensures is { result ≡ taken_from sign count }
+    ensures within { result ≤ count }
 {
-    for (i, term) in terms.iter().enumerate() {
-        match term.plain_linear() {
-            Some(linear) => linears.push(linear)?,
-            None => return Ok(i),
-        }
-    }
-    Ok(terms.len())
-}
-
-/// The sum in each choice of a case of each of these terms, behind the linear terms of one choice of those before them.
-#[cycle(sums)]
-fn sum_behind<'t>(
-    alloc: Global,
-    sign: Sign,
-    linears: &mut Vec<&'t Linear>,
-    cases: &'t Cases,
-    others: &[&'t Cases],
-) -> Result<Cases, TermError>
-    requires few { are_few (count_from (length cases.now) (map (λ t. t.now) others.now)) ≡ true }
-    ensures sums { SumsCases (map (sum_case sign)
-        (choices_from (with_each (map (λ l. l.now) linears.old.items) cases.now) (map (λ t. t.now) others.now))) result }
-    ensures linears { OnOk result (linears.new.items ≡ linears.old.items) }
-{
-    match cases.shape() {
-        Shape::Plain(linear) => {
-            let before = linears.len();
-            linears.push(linear)?;
-            let sum = sum_others(alloc, sign, linears, others)?;
-            linears.truncate(before);
-            Ok(sum)
-        }
-        Shape::Branched {
-            condition,
-            denial,
-            yes,
-            no,
-        } => {
-            let yes = sum_behind(alloc, sign, linears, yes, others)?;
-            let no = sum_behind(alloc, sign, linears, no, others)?;
-            let sum = Cases::branched(alloc, condition, denial, yes, no)?;
-            Ok(sum)
-        }
+    match sign {
+        Sign::Plus => count,
+        Sign::Minus if count > 1 => 1,
+        Sign::Minus => 0,
     }
 }
 
-/// The sum in each choice of a case of each of these terms, behind the linear terms of one choice of those before them.
-#[cycle(sums)]
-fn sum_others<'t>(
-    alloc: Global,
-    sign: Sign,
-    linears: &mut Vec<&'t Linear>,
+/// More terms, or their negatives.
+fn add_all<'t>(
+    sum: &mut Summing<'t>,
     terms: &[&'t Cases],
-) -> Result<Cases, TermError>
-    requires few { are_few (count_from 1 (map (λ t. t.now) terms.now)) ≡ true }
-    ensures sums { SumsCases (map (sum_case sign)
-        (choices_from (only_choice (map (λ l. l.now) linears.old.items)) (map (λ t. t.now) terms.now))) result }
-    ensures front { OnOk result (take (length linears.old.items) linears.new.items ≡ linears.old.items) }
+    is_negated: bool,
+) -> Result<(), AllocError>
+    ensures { OnOk result (summed_cases sum.new
+        ≡ added_all (summed_cases sum.old) (map (signed_cases is_negated) (map (λ t. t.now) terms.now))) }
 {
-    let count = push_plain(linears, terms)?;
-    match terms[count..].split_first() {
-        Some((first, others)) => {
-            let sum = sum_behind(alloc, sign, linears, first, others)?;
-            Ok(sum)
-        }
-        None => {
-            let sum = sum_linears(alloc, sign, linears)?;
-            Ok(Cases::plain(sum))
-        }
+    for term in terms {
+        sum.add(term, is_negated)?;
     }
+    Ok(())
 }
 
 /// `+` or `-` of Int terms. The limits hold of the total in each case, and not of its parts.
@@ -120,7 +54,10 @@ pub(crate) fn sum_terms(alloc: Global, sign: Sign, terms: &[&Cases]) -> Result<C
     if !are_few(terms) {
         return Err(TermError::Refused(TermRefusal::TooManyCases));
     }
-    let mut linears = Vec::new(alloc);
-    let sum = sum_others(alloc, sign, &mut linears, terms)?;
-    Ok(sum)
+    let (first, others) = terms.split_at(taken_from(sign, terms.len()));
+    let mut sum = Summing::new(alloc);
+    add_all(&mut sum, first, false)?;
+    add_all(&mut sum, others, true)?;
+    let total = sum.finish(alloc)?;
+    Ok(total)
 }

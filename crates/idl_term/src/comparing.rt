@@ -11,9 +11,9 @@ use crate::error::TermError;
 use crate::pairing::compare_cases;
 use crate::repeated::repeats;
 use crate::rows::{Operands, compare_next};
+use idl_cases::Cases;
 use idl_linear::{Difference, Linear, compare};
 use idl_node::{Node, NodeError, Nodes};
-use idl_scope::Cases;
 use std::alloc::Global;
 use stn_core::Literal;
 
@@ -104,7 +104,7 @@ fn either(
 }
 
 /// The difference in its relation to its number.
-fn relate(
+pub(crate) fn relate(
     alloc: Global,
     nodes: &mut Nodes,
     relation: Relation,

@@ -1,44 +1,45 @@
 //! The value of an Int term.
-ghost use Rattle.std.specs.Prelude.{◌≡◌, ◌<◌, ◌+◌, ◌*ℤ◌, ◌≤ℤ◌, neg_ℤ, pos, IfOk, OnErr, List, length, map, slice_index_or, true, false};
-ghost use Rattle.std.specs.List.{AllByRecursion};
+ghost use Rattle.std.specs.Prelude.{◌≡◌, ◌<◌, ◌+◌, ◌*ℤ◌, ◌≤ℤ◌, neg_ℤ, pos, IfOk, IfSome, OnErr, List, length, map, slice_index_or, true, false};
+ghost use Rattle.std.specs.List.{AllByRecursion, list_all};
 ghost use Rattle.stn_core.specs.Literal.{value_at};
 ghost use Rattle.stn_core.specs.Named.{AreWithinLimit};
 ghost use Rattle.idl_linear.specs.Limits.{coefficient_limit};
 ghost use Rattle.idl_linear.specs.Linear.{is_within};
 ghost use Rattle.idl_linear.specs.Values.{linear_value};
-ghost use Rattle.idl_linear.specs.declared.summand.Summand.{Summand as OneSummand};
 ghost use Rattle.idl_node.specs.Nodes.{NodeValue};
 ghost use Rattle.idl_node.specs.Tables.{IsTableOver};
 ghost use Rattle.idl_node.specs.Truth.{point_values, truth, AreTruths, BeginsWith};
-ghost use Rattle.idl_scope.specs.Guarded.{guarded};
-ghost use Rattle.idl_term.specs.code.Evaluating.{product_limit, IsCaseOver, first_value};
+ghost use Rattle.idl_cases.specs.Guarded.{guarded};
+ghost use Rattle.idl_cases.specs.code.GuardBounds.{AreGuardsBelow};
+ghost use Rattle.idl_term.specs.code.Evaluating.{product_limit, both_values, first_value, signed_value, IsCaseOver, IsTermValue};
 ghost use Rattle.idl_term.specs.Meanings.{cases_value};
 
+use idl_cases::{Case, Cases, Choices, Chosen, Form};
 use idl_linear::{Linear, Summand};
 use idl_node::{Nodes, eval, eval_on, point_value};
-use idl_scope::{Cases, Shape};
 use std::alloc::AllocError;
 use stn_core::{NamedValue, NamedValues, Value};
 
-/// The value of a time point times its coefficient.
+/// The value of a time point times its coefficient: 0 where there is no such time point.
 fn product(summand: Summand, values: &[NamedValue]) -> Value
-    requires point { summand.point < length values.now + 1 }
     requires limited { is_within coefficient_limit summand.coefficient ≡ true }
     requires within { AreWithinLimit values.now }
     ensures value { result ≡ (summand.coefficient *ℤ value_at (point_values values.now) summand.point) }
     ensures low { neg_ℤ (pos product_limit) ≤ℤ result }
     ensures high { result ≤ℤ pos product_limit }
 {
+    if summand.point as usize > values.len() {
+        return 0;
+    }
     Value::from(summand.coefficient) * point_value(values, summand.point)
 }
 
 /// The value of a linear term where the names have these values: of a Bool name's time point 0 where the name is true, else 1.
 /// Each Int name's value is within `NAMED_VALUE_LIMIT`, so that the sum is a `Value`. It takes no memory.
 fn eval_linear(linear: &Linear, values: &NamedValues) -> Value
-    requires points { AllByRecursion (λ (s : OneSummand). s.point < length values.now + 1)
-        linear.now.summands }
     requires within { AreWithinLimit values.now }
-    ensures { result ≡ linear_value (point_values values.now) linear.now }
+    ensures value { result ≡ linear_value (point_values values.now) linear.now }
+    ensures small { IsTermValue result }
 {
     let values = values.as_slice();
     let mut cursor = linear.cursor();
@@ -49,16 +50,68 @@ fn eval_linear(linear: &Linear, values: &NamedValues) -> Value
     sum
 }
 
+/// The sum of the two, where there are both: it is the value of an Int term too.
+fn both_values(first: Option<Value>, second: Option<Value>) -> Option<Value>
+    requires first { IfSome first IsTermValue }
+    requires second { IfSome second IsTermValue }
+    requires sum { IfSome (both_values first second) IsTermValue }
+    ensures is { result ≡ both_values first second }
+    ensures small { IfSome result IsTermValue }
+{
+    let Some(a) = first else {
+        return None;
+    };
+    let Some(b) = second else {
+        return None;
+    };
+    Some(a + b)
+}
+
+/// The value, or its negative.
+fn signed_value(is_negated: bool, found: Option<Value>) -> Option<Value>
+    requires { IfSome found IsTermValue }
+    ensures is { result ≡ signed_value is_negated found }
+    ensures small { IfSome result IsTermValue }
+{
+    let Some(value) = found else {
+        return None;
+    };
+    if is_negated {
+        Some(-value)
+    } else {
+        Some(value)
+    }
+}
+
 /// The value of the first case whose guards are all true, by the marks of the nodes.
 #[cycle(marked)]
 fn first_marked(cases: &Cases, values: &NamedValues, marks: &[bool]) -> Option<Value>
-    requires cases { AllByRecursion (IsCaseOver (length values.now + 1) (length marks.now)) cases.now }
+    requires guards { AreGuardsBelow (length marks.now) cases.now }
     requires within { AreWithinLimit values.now }
-    ensures { result ≡ first_value (λ g. slice_index_or marks.now g false) (point_values values.now) cases.now }
+    ensures is { result ≡ first_value (λ g. slice_index_or marks.now g false) (point_values values.now) cases.now }
+    ensures small { IfSome result IsTermValue }
 {
-    match cases.shape() {
-        Shape::Plain(linear) => Some(eval_linear(linear, values)),
-        Shape::Branched {
+    match cases.chosen() {
+        Chosen::Plain(linear) => Some(eval_linear(linear, values)),
+        Chosen::Choices(choices) => first_chosen(choices, values, marks),
+        Chosen::Moved(by, choices) => {
+            let moved = eval_linear(by, values);
+            both_values(Some(moved), first_chosen(choices, values, marks))
+        }
+    }
+}
+
+/// The same of choices.
+#[cycle(marked)]
+fn first_chosen(choices: &Choices, values: &NamedValues, marks: &[bool]) -> Option<Value>
+    requires guards { AreGuardsBelow (length marks.now) choices.now }
+    requires within { AreWithinLimit values.now }
+    ensures is { result ≡ first_value (λ g. slice_index_or marks.now g false) (point_values values.now) choices.now }
+    ensures small { IfSome result IsTermValue }
+{
+    let (form, is_negated) = choices.form();
+    match form {
+        Form::Branched {
             condition,
             denial,
             yes,
@@ -66,9 +119,19 @@ fn first_marked(cases: &Cases, values: &NamedValues, marks: &[bool]) -> Option<V
         } => {
             let first = first_behind(condition, yes, values, marks);
             if first.is_some() {
-                return first;
+                return signed_value(is_negated, first);
             }
-            first_behind(denial, no, values, marks)
+            let second = first_behind(denial, no, values, marks);
+            signed_value(is_negated, second)
+        }
+        Form::Sum { first, second } => {
+            let outside = first_chosen(first, values, marks);
+            let inside = first_chosen(second, values, marks);
+            signed_value(is_negated, both_values(outside, inside))
+        }
+        Form::Listed(listed) => {
+            let found = first_listed(listed, values, marks);
+            signed_value(is_negated, found)
         }
     }
 }
@@ -77,15 +140,43 @@ fn first_marked(cases: &Cases, values: &NamedValues, marks: &[bool]) -> Option<V
 #[cycle(marked)]
 fn first_behind(guard: u32, cases: &Cases, values: &NamedValues, marks: &[bool]) -> Option<Value>
     requires guard { guard < length marks.now }
-    requires cases { AllByRecursion (IsCaseOver (length values.now + 1) (length marks.now)) cases.now }
+    requires guards { AreGuardsBelow (length marks.now) cases.now }
     requires within { AreWithinLimit values.now }
-    ensures { result ≡ first_value (λ g. slice_index_or marks.now g false) (point_values values.now) (map (guarded guard) cases.now) }
+    ensures is { result ≡ first_value (λ g. slice_index_or marks.now g false) (point_values values.now) (map (guarded guard) cases.now) }
+    ensures small { IfSome result IsTermValue }
 {
     if marks[guard as usize] {
         first_marked(cases, values, marks)
     } else {
         None
     }
+}
+
+/// The same of cases one after the other.
+fn first_listed(cases: &[Case], values: &NamedValues, marks: &[bool]) -> Option<Value>
+    requires guards { AreGuardsBelow (length marks.now) cases.now }
+    requires within { AreWithinLimit values.now }
+    ensures is { result ≡ first_value (λ g. slice_index_or marks.now g false) (point_values values.now) cases.now }
+    ensures small { IfSome result IsTermValue }
+{
+    for case in cases {
+        if are_marked(case.guards(), marks) {
+            return Some(eval_linear(case.linear(), values));
+        }
+    }
+    None
+}
+
+fn are_marked(guards: &[u32], marks: &[bool]) -> bool
+    requires { AllByRecursion (λ g. g < length marks.now) guards.now }
+    ensures { result ≡ list_all (λ g. slice_index_or marks.now g false) guards.now }
+{
+    for guard in guards {
+        if !marks[*guard as usize] {
+            return false;
+        }
+    }
+    true
 }
 
 /// The value of the case whose guards are true, by the marks of the nodes.
@@ -126,17 +217,47 @@ fn first_true(
     marks: &mut Vec<bool>,
 ) -> Result<Option<Value>, AllocError>
     requires table { IsTableOver (length values.now + 1) nodes.now }
-    requires cases { AllByRecursion (IsCaseOver (length values.now + 1) (length nodes.now)) cases.now }
+    requires guards { AreGuardsBelow (length nodes.now) cases.now }
     requires within { AreWithinLimit values.now }
     requires marks { AreTruths nodes.now (point_values values.now) marks.old.items }
     ensures value { IfOk result (λ o. o
         ≡ first_value (truth nodes.now (point_values values.now)) (point_values values.now) cases.now) }
+    ensures small { IfOk result (λ o. IfSome o IsTermValue) }
     ensures marks { AreTruths nodes.now (point_values values.now) marks.new.items }
     ensures front { BeginsWith marks.new.items marks.old.items }
 {
-    match cases.shape() {
-        Shape::Plain(linear) => Ok(Some(eval_linear(linear, values))),
-        Shape::Branched {
+    match cases.chosen() {
+        Chosen::Plain(linear) => Ok(Some(eval_linear(linear, values))),
+        Chosen::Choices(choices) => first_true_chosen(choices, nodes, values, marks),
+        Chosen::Moved(by, choices) => {
+            let moved = eval_linear(by, values);
+            let found = first_true_chosen(choices, nodes, values, marks)?;
+            Ok(both_values(Some(moved), found))
+        }
+    }
+}
+
+/// The same of choices.
+#[cycle(asked)]
+fn first_true_chosen(
+    choices: &Choices,
+    nodes: &Nodes,
+    values: &NamedValues,
+    marks: &mut Vec<bool>,
+) -> Result<Option<Value>, AllocError>
+    requires table { IsTableOver (length values.now + 1) nodes.now }
+    requires guards { AreGuardsBelow (length nodes.now) choices.now }
+    requires within { AreWithinLimit values.now }
+    requires marks { AreTruths nodes.now (point_values values.now) marks.old.items }
+    ensures value { IfOk result (λ o. o
+        ≡ first_value (truth nodes.now (point_values values.now)) (point_values values.now) choices.now) }
+    ensures small { IfOk result (λ o. IfSome o IsTermValue) }
+    ensures marks { AreTruths nodes.now (point_values values.now) marks.new.items }
+    ensures front { BeginsWith marks.new.items marks.old.items }
+{
+    let (form, is_negated) = choices.form();
+    match form {
+        Form::Branched {
             condition,
             denial,
             yes,
@@ -144,9 +265,19 @@ fn first_true(
         } => {
             let first = first_true_behind(condition, yes, nodes, values, marks)?;
             if first.is_some() {
-                return Ok(first);
+                return Ok(signed_value(is_negated, first));
             }
-            first_true_behind(denial, no, nodes, values, marks)
+            let second = first_true_behind(denial, no, nodes, values, marks)?;
+            Ok(signed_value(is_negated, second))
+        }
+        Form::Sum { first, second } => {
+            let outside = first_true_chosen(first, nodes, values, marks)?;
+            let inside = first_true_chosen(second, nodes, values, marks)?;
+            Ok(signed_value(is_negated, both_values(outside, inside)))
+        }
+        Form::Listed(listed) => {
+            let found = first_true_listed(listed, nodes, values, marks)?;
+            Ok(signed_value(is_negated, found))
         }
     }
 }
@@ -162,11 +293,12 @@ fn first_true_behind(
 ) -> Result<Option<Value>, AllocError>
     requires table { IsTableOver (length values.now + 1) nodes.now }
     requires guard { guard < length nodes.now }
-    requires cases { AllByRecursion (IsCaseOver (length values.now + 1) (length nodes.now)) cases.now }
+    requires guards { AreGuardsBelow (length nodes.now) cases.now }
     requires within { AreWithinLimit values.now }
     requires marks { AreTruths nodes.now (point_values values.now) marks.old.items }
     ensures value { IfOk result (λ o. o ≡ first_value (truth nodes.now (point_values values.now))
         (point_values values.now) (map (guarded guard) cases.now)) }
+    ensures small { IfOk result (λ o. IfSome o IsTermValue) }
     ensures marks { AreTruths nodes.now (point_values values.now) marks.new.items }
     ensures front { BeginsWith marks.new.items marks.old.items }
 {
@@ -175,6 +307,52 @@ fn first_true_behind(
     } else {
         Ok(None)
     }
+}
+
+/// The same of cases one after the other.
+fn first_true_listed(
+    cases: &[Case],
+    nodes: &Nodes,
+    values: &NamedValues,
+    marks: &mut Vec<bool>,
+) -> Result<Option<Value>, AllocError>
+    requires table { IsTableOver (length values.now + 1) nodes.now }
+    requires guards { AreGuardsBelow (length nodes.now) cases.now }
+    requires within { AreWithinLimit values.now }
+    requires marks { AreTruths nodes.now (point_values values.now) marks.old.items }
+    ensures value { IfOk result (λ o. o
+        ≡ first_value (truth nodes.now (point_values values.now)) (point_values values.now) cases.now) }
+    ensures small { IfOk result (λ o. IfSome o IsTermValue) }
+    ensures marks { AreTruths nodes.now (point_values values.now) marks.new.items }
+    ensures front { BeginsWith marks.new.items marks.old.items }
+{
+    for case in cases {
+        if are_true(case.guards(), nodes, values, marks)? {
+            return Ok(Some(eval_linear(case.linear(), values)));
+        }
+    }
+    Ok(None)
+}
+
+fn are_true(
+    guards: &[u32],
+    nodes: &Nodes,
+    values: &NamedValues,
+    marks: &mut Vec<bool>,
+) -> Result<bool, AllocError>
+    requires table { IsTableOver (length values.now + 1) nodes.now }
+    requires guards { AllByRecursion (λ g. g < length nodes.now) guards.now }
+    requires marks { AreTruths nodes.now (point_values values.now) marks.old.items }
+    ensures value { IfOk result (λ all. all ≡ list_all (truth nodes.now (point_values values.now)) guards.now) }
+    ensures marks { AreTruths nodes.now (point_values values.now) marks.new.items }
+    ensures front { BeginsWith marks.new.items marks.old.items }
+{
+    for guard in guards {
+        if !eval_on(nodes, *guard, values, marks)? {
+            return Ok(false);
+        }
+    }
+    Ok(true)
 }
 
 /// The value of an Int term of the table where the names have these values: that of the case whose guards are true. `marks` tells

@@ -1,7 +1,7 @@
 //! Sums and comparisons of one or two Int terms, for which no lists are made. After an error the table may be longer than
 //! before it: the caller cuts it.
 ghost use Rattle.std.specs.Prelude.{◌≡◌, ◌∷◌, [], length, map, take};
-ghost use Rattle.idl_scope.specs.Guarded.{plain};
+ghost use Rattle.idl_cases.specs.Guarded.{plain};
 ghost use Rattle.idl_term.specs.Applied.{related_numbers};
 ghost use Rattle.idl_term.specs.code.Applying.{SumsTerms};
 ghost use Rattle.idl_term.specs.code.Shapes.{Lowers};
@@ -12,9 +12,10 @@ use crate::comparing::Relation;
 use crate::error::TermError;
 use crate::operator::Sign;
 use crate::pairing::compare_cases;
+use idl_cases::Cases;
 use idl_linear::Linear;
 use idl_node::Nodes;
-use idl_scope::{Cases, Lowered};
+use idl_scope::Lowered;
 use std::alloc::Global;
 
 /// The sum of terms without conditions.

@@ -1,23 +1,25 @@
 //! The nodes of a pair of Int terms that is compared, case by case. After an error the table may be longer than before it:
 //! the caller cuts it.
-ghost use Rattle.std.specs.Prelude.{◌≡◌, ◌++◌, ℕ, List, [], length, map, take};
+ghost use Rattle.std.specs.Prelude.{◌≡◌, ◌++◌, ◌<◌, ◌^◌, ℕ, List, [], length, take};
+ghost use Rattle.idl_linear.specs.Differences.{difference_in};
 ghost use Rattle.idl_linear.specs.Linear.{LinearValue};
-ghost use Rattle.idl_scope.specs.Guarded.{CaseValue};
-ghost use Rattle.idl_term.specs.Comparing.{both_cases, case_compared, case_pairs, cases_compared, each_case_compared};
+ghost use Rattle.idl_cases.specs.code.CaseSums.{summed_cases};
+ghost use Rattle.idl_term.specs.Comparing.{cases_compared, related_by};
 ghost use Rattle.idl_term.specs.code.Shapes.{GoesOn, Places};
+ghost use Rattle.idl_term.specs.code.Pairing.{case_related, each_related};
 ghost use Rattle.idl_term.specs.declared.comparing.Relation.{Relation as Relations};
 
-use crate::comparing::{Relation, compare_two, conjoin, disjoin};
+use crate::comparing::{Relation, compare_two, conjoin, disjoin, relate};
 use crate::error::{TermError, TermRefusal};
+use idl_cases::{CASES_LIMIT, CaseParts, Cases, Summing};
 use idl_node::Nodes;
-use idl_scope::{CASES_LIMIT, Case, Cases, Unfolded};
 use std::alloc::Global;
 
 /// The denials of the guards, behind the members.
 fn deny_all(nodes: &mut Nodes, guards: &[u32], members: &mut Vec<u32>) -> Result<(), TermError>
-    ensures goes { (relation : Relations) (rest : List ℕ) (a b : LinearValue)
-        → GoesOn (case_compared relation nodes.old members.old.items (guards.now ++ rest) a b)
-        (case_compared relation nodes.new members.new.items rest a b) result }
+    ensures goes { (relation : Relations) (rest : List ℕ) (l : LinearValue)
+        → GoesOn (case_related relation nodes.old members.old.items (guards.now ++ rest) l)
+        (case_related relation nodes.new members.new.items rest l) result }
     ensures front { take (length nodes.old) nodes.new ≡ nodes.old }
 {
     for guard in guards {
@@ -26,59 +28,56 @@ fn deny_all(nodes: &mut Nodes, guards: &[u32], members: &mut Vec<u32>) -> Result
     Ok(())
 }
 
-/// The pair in a case of each of its terms.
-fn compare_both(
+/// The difference of the pair in one case.
+fn compare_difference(
     alloc: Global,
     nodes: &mut Nodes,
     relation: Relation,
-    a: &Case,
-    b: &Case,
+    case: &CaseParts,
 ) -> Result<u32, TermError>
-    ensures makes { Places nodes.new (both_cases relation nodes.old (a.now, b.now)) result }
+    ensures makes { Places nodes.new (related_by relation nodes.old (difference_in case.now.linear)) result }
     ensures front { take (length nodes.old) nodes.new ≡ nodes.old }
 {
-    let mut members = Vec::new(alloc);
-    deny_all(nodes, a.guards(), &mut members)?;
-    deny_all(nodes, b.guards(), &mut members)?;
-    members.push(compare_two(alloc, nodes, relation, a.linear(), b.linear())?)?;
+    let made = case.difference(alloc)?;
+    let difference = made?;
+    let number = relate(alloc, nodes, relation, difference)?;
+    Ok(number)
+}
+
+/// The pair in one case.
+fn compare_case(
+    alloc: Global,
+    nodes: &mut Nodes,
+    relation: Relation,
+    case: &CaseParts,
+) -> Result<u32, TermError>
+    ensures makes { Places nodes.new (case_related relation nodes.old [] case.now.guards case.now.linear) result }
+    ensures front { take (length nodes.old) nodes.new ≡ nodes.old }
+{
+    let guards = case.guards();
+    let mut members = Vec::with_capacity(alloc, guards.len().saturating_add(1))?;
+    deny_all(nodes, guards, &mut members)?;
+    members.push(compare_difference(alloc, nodes, relation, case)?)?;
     disjoin(nodes, members)
 }
 
-/// The pair in one case of its first term and each of the second, behind the parts.
+/// The pair in each case, by the difference of its terms.
 fn compare_each(
     alloc: Global,
     nodes: &mut Nodes,
     relation: Relation,
-    a: &Case,
-    b: &Unfolded,
-    parts: &mut Vec<u32>,
-) -> Result<(), TermError>
-    ensures goes { (rest : List (CaseValue × CaseValue))
-        → GoesOn (each_case_compared relation nodes.old parts.old.items (map (λ c. (a.now, c)) b.now ++ rest))
-        (each_case_compared relation nodes.new parts.new.items rest) result }
-    ensures front { take (length nodes.old) nodes.new ≡ nodes.old }
-{
-    for k in 0..b.len() {
-        parts.push(compare_both(alloc, nodes, relation, a, b.at(k))?)?;
-    }
-    Ok(())
-}
-
-/// The pair in all cases of its terms: those of the first outside, those of the second inside.
-fn compare_all_cases(
-    alloc: Global,
-    nodes: &mut Nodes,
-    relation: Relation,
-    a: &Unfolded,
-    b: &Unfolded,
+    difference: &Summing,
 ) -> Result<u32, TermError>
-    ensures makes { Places nodes.new
-        (each_case_compared relation nodes.old [] (case_pairs a.now b.now)) result }
+    requires { length (summed_cases difference.now) < 2 ^ 32 }
+    ensures makes { Places nodes.new (each_related relation nodes.old [] (summed_cases difference.now)) result }
     ensures front { take (length nodes.old) nodes.new ≡ nodes.old }
 {
+    let by = difference.plain(alloc)?;
+    let mut case = CaseParts::new(alloc);
     let mut parts = Vec::new(alloc);
-    for k in 0..a.len() {
-        compare_each(alloc, nodes, relation, a.at(k), b, &mut parts)?;
+    for place in 0..difference.len() {
+        difference.case_at(by.as_ref(), place, &mut case)?;
+        parts.push(compare_case(alloc, nodes, relation, &case)?)?;
     }
     conjoin(nodes, parts)
 }
@@ -100,7 +99,8 @@ pub(crate) fn compare_cases(
     if a.len().saturating_mul(b.len()) > CASES_LIMIT {
         return Err(TermError::Refused(TermRefusal::TooManyCases));
     }
-    let first = a.unfolded(alloc)?;
-    let second = b.unfolded(alloc)?;
-    compare_all_cases(alloc, nodes, relation, &first, &second)
+    let mut difference = Summing::new(alloc);
+    difference.add(a, false)?;
+    difference.add(b, true)?;
+    compare_each(alloc, nodes, relation, &difference)
 }

@@ -3,7 +3,7 @@ ghost use Rattle.std.specs.Prelude.{◌≡◌, ◌<◌, length, map, slice_get, 
 ghost use Rattle.idl_node.specs.code.Repeats.{HasRepeats, LeadsBack};
 ghost use Rattle.idl_term.specs.code.Repeats.{AreGuarded};
 
-use idl_scope::{CASES_LIMIT, Cases};
+use idl_cases::{CASES_LIMIT, Cases};
 use indexmap::IndexMap;
 use std::alloc::{AllocError, Global};
 

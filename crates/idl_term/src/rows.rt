@@ -1,7 +1,7 @@
 //! Int terms that are all compared in pairs, row by row: a term with each behind it. What was made of an equal pair isn't made again.
 ghost use Rattle.std.specs.Prelude.{◌≡◌, ◌<◌, ◌+◌, ◌-◌, ◌∷◌, ◌++◌, ℕ, List, [], length, map, take, drop, Err, IfErr, IfOk, OnOk};
 ghost use Rattle.idl_node.specs.code.Repeats.{AreRows, HasRepeats, IsRow, LeadsBack};
-ghost use Rattle.idl_scope.specs.Guarded.{CaseValue};
+ghost use Rattle.idl_cases.specs.Guarded.{CaseValue};
 ghost use Rattle.idl_term.specs.Comparing.{cases_compared, each_compared};
 ghost use Rattle.idl_term.specs.code.Repeats.{AreCompared, AreGuarded, term_at};
 ghost use Rattle.idl_term.specs.code.Shapes.{Places};
@@ -9,8 +9,8 @@ ghost use Rattle.idl_term.specs.code.Shapes.{Places};
 use crate::comparing::Relation;
 use crate::error::TermError;
 use crate::pairing::compare_cases;
+use idl_cases::Cases;
 use idl_node::{Nodes, place_before};
-use idl_scope::Cases;
 use std::alloc::Global;
 
 /// Terms that are compared, and of each the place of an equal one before it, or its own.

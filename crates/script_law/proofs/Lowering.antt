@@ -16,7 +16,7 @@ use Rattle.idl_node.specs.Limits.{nodes_limit}
 use Rattle.idl_node.specs.Making.{disjoined}
 use Rattle.idl_node.specs.Nodes.{NodeValue, atom, disjunction, Placed, placed, placed_by, number_in}
 use Rattle.idl_node.specs.declared.sort.Sort.TheVariants as sort
-use Rattle.idl_scope.specs.Guarded.{plain}
+use Rattle.idl_cases.specs.Guarded.{plain}
 use Rattle.idl_scope.specs.Scopes.{LoweredTerm, formula, linear_term, Scope, found, declared_at}
 use Rattle.idl_term.specs.Applied.{Made, applied, as_number, a_formula}
 use Rattle.idl_term.specs.Comparing.{follows, or_too_large, compared, related_by, each_case_compared, each_compared, at_most, at_least}

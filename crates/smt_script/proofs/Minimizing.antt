@@ -17,7 +17,7 @@ use Rattle.idl_node.specs.declared.sort.Sort.{Sort}
 use Rattle.idl_node.specs.declared.sort.Sort.TheVariants as sort
 use Rattle.idl_node.specs.Sorts.{IsIntPoint}
 use Rattle.idl_node.specs.Truth.{point_values}
-use Rattle.idl_scope.specs.Guarded.{CaseValue, plain, plain_linear, unguarded}
+use Rattle.idl_cases.specs.Guarded.{CaseValue, plain, plain_linear, unguarded}
 use Rattle.idl_term.proofs.ComparisonNodes.{difference_low, difference_high}
 use Rattle.idl_term.specs.Applied.{Made}
 use Rattle.idl_term.specs.Contexts.{Context, IsContext, IsScheduleFor, environment, scope_of}

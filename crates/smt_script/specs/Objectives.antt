@@ -11,7 +11,7 @@ use Rattle.idl_linear.specs.declared.difference.Difference.{Difference}
 use Rattle.idl_linear.specs.declared.error.DifferenceRefusal.{DifferenceRefusal}
 use Rattle.idl_node.specs.Sorts.{IsIntPoint}
 use Rattle.idl_node.specs.Truth.{point_values}
-use Rattle.idl_scope.specs.Guarded.{plain_linear}
+use Rattle.idl_cases.specs.Guarded.{plain_linear}
 use Rattle.idl_term.specs.Applied.{Made}
 use Rattle.idl_term.specs.Comparing.{refusal_of}
 use Rattle.idl_term.specs.Contexts.{Context, IsScheduleFor, environment}

@@ -2,7 +2,7 @@
 ghost use Rattle.std.specs.Prelude.{◌≡◌, ◌≤◌, length};
 ghost use Rattle.smt_sexpr.specs.Table.{Means, HasMeaning};
 ghost use Rattle.smt_sexpr.specs.Tree.{Sexpr};
-ghost use Rattle.idl_scope.specs.Guarded.{plain_linear};
+ghost use Rattle.idl_cases.specs.Guarded.{plain_linear};
 ghost use Rattle.idl_term.specs.Limits.{names_limit};
 ghost use Rattle.idl_term.specs.Lowered.{lowered};
 ghost use Rattle.smt_script.specs.Objectives.{objective_of_linear, minimized_by};

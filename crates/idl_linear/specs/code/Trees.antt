@@ -1,10 +1,10 @@
 -- Of the code and not of the meaning: lists of summands as trees hold them.
-use Rattle.std.specs.Prelude.{ℕ, ◌≤◌, ◌<◌, ◌==◌, nat_le, List, [], ◌∷◌, map, Bool, if◌then◌else◌, Option, Some, None, ℤ, pos, ◌+ℤ◌}
+use Rattle.std.specs.Prelude.{◌≡◌, true, ℕ, ◌≤◌, ◌<◌, ◌==◌, nat_le, List, [], ◌∷◌, map, Bool, if◌then◌else◌, Option, Some, None, ℤ, pos, ◌+ℤ◌}
 use Rattle.std.specs.Borrow.{Bor}
 use Rattle.std.specs.List.{AllByRecursion, filter}
 use Rattle.idl_linear.specs.declared.summand.Summand.{Summand}
 use Rattle.idl_linear.specs.Limits.{points_limit}
-use Rattle.idl_linear.specs.Linear.{negative_summand}
+use Rattle.idl_linear.specs.Linear.{negative_summand, is_within}
 use Rattle.idl_linear.specs.code.Steps.{IsRest}
 
 -- what a tree holds, and a number that is larger than those of its parts
@@ -25,6 +25,10 @@ AllFrom from summands = AllByRecursion (λ (s : Summand). from ≤ s.point) summ
 
 abbrev pub AllUpTo : ℕ → List Summand → Type 0
 AllUpTo end summands = AllByRecursion (λ (s : Summand). s.point < end) summands
+
+-- no coefficient is beyond this in its absolute value
+abbrev pub AllWithin : ℕ → List Summand → Type 0
+AllWithin greatest summands = AllByRecursion (λ (s : Summand). is_within greatest s.coefficient ≡ true) summands
 
 -- how much there is of a time point
 abbrev pub part_at : ℕ → Summand → ℤ

@@ -1,5 +1,5 @@
 -- What the code's own calls give on the way to an application. These are words of the code, and no part of the meaning.
-use Rattle.std.specs.Prelude.{◌≡◌, ℕ, List, [], ◌∷◌, true, false, Option, Result, Ok, Err}
+use Rattle.std.specs.Prelude.{◌≡◌, ℕ, List, [], ◌∷◌, true, false, zero, suc, Option, Result, Ok, Err}
 use Rattle.stn_core.specs.declared.literal.Literal.{Literal}
 use Rattle.idl_linear.specs.declared.error.DifferenceRefusal.{DifferenceRefusal}
 use Rattle.idl_linear.specs.declared.error.LinearError.{LinearError}
@@ -10,11 +10,11 @@ use Rattle.idl_node.specs.declared.error.NodeError.TheVariants as node
 use Rattle.idl_node.specs.declared.error.NodeRefusal.TheVariants as full
 use Rattle.idl_node.specs.Making.{then}
 use Rattle.idl_node.specs.Nodes.{NodeValue, atom, conjunction, disjunction, Placed, placed}
-use Rattle.idl_scope.specs.Guarded.{CaseValue}
-use Rattle.idl_term.specs.Applied.{a_number, are_limited, summed}
-use Rattle.idl_term.specs.Choices.{choices_from, count_from, only_choice}
+use Rattle.idl_cases.specs.Guarded.{CaseValue}
+use Rattle.idl_term.specs.Applied.{a_number, summed}
 use Rattle.idl_term.specs.Comparing.{refusal_of}
 use Rattle.idl_term.specs.declared.operator.Sign.{Sign}
+use Rattle.idl_term.specs.declared.operator.Sign.TheVariants as sign
 use Rattle.idl_term.specs.declared.error.TermError.{TermError}
 use Rattle.idl_term.specs.declared.error.TermError.TheVariants.{OutOfMemory, Refused}
 use Rattle.idl_term.specs.declared.error.TermRefusal.TheVariants.{TooLarge, BoundTooLarge}
@@ -44,18 +44,15 @@ both_atoms nodes l m = then (placed nodes (atom l)) (λ p. then (placed p.nodes 
 abbrev pub either_atom : List NodeValue → Literal → Literal → Option Placed
 either_atom nodes l m = then (placed nodes (atom l)) (λ p. then (placed p.nodes (atom m)) (λ q. placed q.nodes (disjunction (p.number ∷ q.number ∷ []))))
 
--- the sums in some choices, and of some terms, where they are within the limits; want of memory says nothing
-abbrev pub SumsCases : List CaseValue → Result (List CaseValue) TermError → Type 0
-SumsCases cases (Ok cs) = (cs ≡ cases) × (are_limited cases ≡ true)
-SumsCases cases (Err (Refused why)) = (why ≡ BoundTooLarge) × (are_limited cases ≡ false)
-SumsCases cases (Err OutOfMemory) = Unit {0}
+-- how many terms there are that the others are taken from: of one term there is none
+abbrev pub taken_from : Sign → ℕ → ℕ
+taken_from sign.Plus count = count
+taken_from sign.Minus zero = 0
+taken_from sign.Minus (suc zero) = 0
+taken_from sign.Minus (suc (suc count)) = 1
 
+-- the sum of some terms, where it is within the limits; want of memory says nothing
 abbrev pub SumsTerms : Sign → List (List CaseValue) → Result (List CaseValue) TermError → Type 0
 SumsTerms s terms (Ok cs) = (nodes : List NodeValue) → summed s nodes terms ≡ Ok (a_number nodes cs)
 SumsTerms s terms (Err (Refused why)) = (nodes : List NodeValue) → summed s nodes terms ≡ Err why
 SumsTerms s terms (Err OutOfMemory) = Unit {0}
-
--- the choices of some terms behind these linear terms are those of the rest behind more of them, and as many
-pub record GoesPast (old new : List LinearValue) (terms rest : List (List CaseValue)) : Type 0 where
-  pub choices : choices_from (only_choice old) terms ≡ choices_from (only_choice new) rest
-  pub count : (k : ℕ) → count_from k terms ≡ count_from k rest

@@ -2,8 +2,8 @@
 use Rattle.std.specs.Prelude.{◌≡◌, ℕ, ◌<◌, List, [], length, slice_index_or, Ok}
 use Rattle.idl_node.specs.Nodes.{NodeValue}
 use Rattle.idl_node.specs.code.Repeats.{IsFront}
-use Rattle.idl_scope.specs.Guarded.{CaseValue}
-use Rattle.idl_scope.specs.code.GuardBounds.{AreGuardsBelow}
+use Rattle.idl_cases.specs.Guarded.{CaseValue}
+use Rattle.idl_cases.specs.code.GuardBounds.{AreGuardsBelow}
 use Rattle.idl_term.specs.Comparing.{cases_compared}
 use Rattle.idl_term.specs.declared.comparing.Relation.{Relation}
 

@@ -25,7 +25,7 @@ pub with_more-requires : goal.with_more-requires
 with_more-requires t c =
     let seen : c.args.tree.now.summands ≡ c.in-Fork.left.value.summands ++ c.in-Fork.right.value.summands = sym (ap (λ (v : TreeValue). v.summands) c.tree.view_is) ∙ ap (λ (p : Part). (tree_in p).summands) c.in-Fork.is in
     let tall : c.args.tree.now.height ≡ 1 + (c.in-Fork.left.value.height + c.in-Fork.right.value.height) = sym (ap (λ (v : TreeValue). v.height) c.tree.view_is) ∙ ap (λ (p : Part). (tree_in p).height) c.in-Fork.is in
-    let parted = subst (λ (p : Part). IsParted p) c.in-Fork.is c.tree.invariant in
+    let parted = (subst (λ (p : Part). IsParted p) c.in-Fork.is c.tree.invariant).0 in
     let same = c.deref-then-point-middle.ensures in
     let list = ap (λ (v : TreeValue). v.summands) same in
     let tall_side = ap (λ (v : TreeValue). v.height) same in
@@ -39,7 +39,7 @@ with_more-requires t c =
 pub returns-in_err-left-in-Fork-clause-refused : goal.returns-in_err-left-in-Fork-clause-refused
 returns-in_err-left-in-Fork-clause-refused t c =
     let seen : c.args.tree.now.summands ≡ c.in-Fork.left.value.summands ++ c.in-Fork.right.value.summands = sym (ap (λ (v : TreeValue). v.summands) c.tree.view_is) ∙ ap (λ (p : Part). (tree_in p).summands) c.in-Fork.is in
-    let parted = subst (λ (p : Part). IsParted p) c.in-Fork.is c.tree.invariant in
+    let parted = (subst (λ (p : Part). IsParted p) c.in-Fork.is c.tree.invariant).0 in
     let list = ap (λ (v : TreeValue). v.summands) c.deref-then-point-middle.ensures in
     let number : to_z w128 (of_z w128 c.args.more) ≡ c.args.more = omega (arith, ints, c.requires.low, c.requires.high) in
     let total : is_within coefficient_limit (coefficient_at c.args.point c.deref-then-point-middle.result.now.summands +ℤ to_z w128 (of_z w128 c.args.more)) ≡ is_within coefficient_limit (coefficient_at c.args.point c.args.tree.now.summands +ℤ c.args.more) = ap (λ (z : ℤ). is_within coefficient_limit (z +ℤ to_z w128 (of_z w128 c.args.more))) (left_coefficient c.in-Fork.middle c.args.tree.now.summands c.in-Fork.left.value.summands c.in-Fork.right.value.summands seen parted c.args.point c.if-point-middle.true c.deref-then-point-middle.result.now.summands list) ∙ ap (λ (z : ℤ). is_within coefficient_limit (coefficient_at c.args.point c.args.tree.now.summands +ℤ z)) number in
@@ -50,7 +50,7 @@ returns-in_err-left-in-Fork-clause-refused t c =
 pub fork-requires-clause-left : goal.fork-requires-clause-left
 fork-requires-clause-left t c =
     let seen : c.args.tree.now.summands ≡ c.in-Fork.left.value.summands ++ c.in-Fork.right.value.summands = sym (ap (λ (v : TreeValue). v.summands) c.tree.view_is) ∙ ap (λ (p : Part). (tree_in p).summands) c.in-Fork.is in
-    let parted = subst (λ (p : Part). IsParted p) c.in-Fork.is c.tree.invariant in
+    let parted = (subst (λ (p : Part). IsParted p) c.in-Fork.is c.tree.invariant).0 in
     let list = ap (λ (v : TreeValue). v.summands) c.deref-then-point-middle.ensures in
     let s = summand c.args.point (to_z w128 (of_z w128 c.args.more)) in
     let shared : c.in_ok-left-in-Fork-2.left.value.summands ≡ with_summand s c.deref-then-point-middle.result.now.summands = ap (λ (v : TreeValue). v.summands) c.in_ok-left-in-Fork-2.ensures.ok ∙ c.in_ok-left-in-Fork.ensures.ok in
@@ -60,7 +60,7 @@ pub with_more-requires-else-point-middle : goal.with_more-requires-else-point-mi
 with_more-requires-else-point-middle t c =
     let seen : c.args.tree.now.summands ≡ c.in-Fork.left.value.summands ++ c.in-Fork.right.value.summands = sym (ap (λ (v : TreeValue). v.summands) c.tree.view_is) ∙ ap (λ (p : Part). (tree_in p).summands) c.in-Fork.is in
     let tall : c.args.tree.now.height ≡ 1 + (c.in-Fork.left.value.height + c.in-Fork.right.value.height) = sym (ap (λ (v : TreeValue). v.height) c.tree.view_is) ∙ ap (λ (p : Part). (tree_in p).height) c.in-Fork.is in
-    let parted = subst (λ (p : Part). IsParted p) c.in-Fork.is c.tree.invariant in
+    let parted = (subst (λ (p : Part). IsParted p) c.in-Fork.is c.tree.invariant).0 in
     let same = c.deref-else-point-middle.ensures in
     let list = ap (λ (v : TreeValue). v.summands) same in
     let tall_side = ap (λ (v : TreeValue). v.height) same in
@@ -75,7 +75,7 @@ pub returns-in_err-right-in-Fork-2-clause-refused :
     goal.returns-in_err-right-in-Fork-2-clause-refused
 returns-in_err-right-in-Fork-2-clause-refused t c =
     let seen : c.args.tree.now.summands ≡ c.in-Fork.left.value.summands ++ c.in-Fork.right.value.summands = sym (ap (λ (v : TreeValue). v.summands) c.tree.view_is) ∙ ap (λ (p : Part). (tree_in p).summands) c.in-Fork.is in
-    let parted = subst (λ (p : Part). IsParted p) c.in-Fork.is c.tree.invariant in
+    let parted = (subst (λ (p : Part). IsParted p) c.in-Fork.is c.tree.invariant).0 in
     let list = ap (λ (v : TreeValue). v.summands) c.deref-else-point-middle.ensures in
     let number : to_z w128 (of_z w128 c.args.more) ≡ c.args.more = omega (arith, ints, c.requires.low, c.requires.high) in
     let total : is_within coefficient_limit (coefficient_at c.args.point c.deref-else-point-middle.result.now.summands +ℤ to_z w128 (of_z w128 c.args.more)) ≡ is_within coefficient_limit (coefficient_at c.args.point c.args.tree.now.summands +ℤ c.args.more) = ap (λ (z : ℤ). is_within coefficient_limit (z +ℤ to_z w128 (of_z w128 c.args.more))) (right_coefficient c.in-Fork.middle c.args.tree.now.summands c.in-Fork.left.value.summands c.in-Fork.right.value.summands seen parted c.args.point c.if-point-middle.false c.deref-else-point-middle.result.now.summands list) ∙ ap (λ (z : ℤ). is_within coefficient_limit (coefficient_at c.args.point c.args.tree.now.summands +ℤ z)) number in
@@ -87,7 +87,7 @@ pub fork-requires-else-point-middle-clause-right :
     goal.fork-requires-else-point-middle-clause-right
 fork-requires-else-point-middle-clause-right t c =
     let seen : c.args.tree.now.summands ≡ c.in-Fork.left.value.summands ++ c.in-Fork.right.value.summands = sym (ap (λ (v : TreeValue). v.summands) c.tree.view_is) ∙ ap (λ (p : Part). (tree_in p).summands) c.in-Fork.is in
-    let parted = subst (λ (p : Part). IsParted p) c.in-Fork.is c.tree.invariant in
+    let parted = (subst (λ (p : Part). IsParted p) c.in-Fork.is c.tree.invariant).0 in
     let list = ap (λ (v : TreeValue). v.summands) c.deref-else-point-middle.ensures in
     let s = summand c.args.point (to_z w128 (of_z w128 c.args.more)) in
     let shared : c.in_ok-right-in-Fork-3.right.value.summands ≡ with_summand s c.deref-else-point-middle.result.now.summands = ap (λ (v : TreeValue). v.summands) c.in_ok-right-in-Fork-3.ensures.ok ∙ c.in_ok-right-in-Fork-2.ensures.ok in
@@ -96,7 +96,7 @@ fork-requires-else-point-middle-clause-right t c =
 pub returns-in_ok-right-in-Fork-clause-ok : goal.returns-in_ok-right-in-Fork-clause-ok
 returns-in_ok-right-in-Fork-clause-ok t c =
     let seen : c.args.tree.now.summands ≡ c.in-Fork.left.value.summands ++ c.in-Fork.right.value.summands = sym (ap (λ (v : TreeValue). v.summands) c.tree.view_is) ∙ ap (λ (p : Part). (tree_in p).summands) c.in-Fork.is in
-    let parted = subst (λ (p : Part). IsParted p) c.in-Fork.is c.tree.invariant in
+    let parted = (subst (λ (p : Part). IsParted p) c.in-Fork.is c.tree.invariant).0 in
     let list = ap (λ (v : TreeValue). v.summands) c.deref-then-point-middle.ensures in
     let number : to_z w128 (of_z w128 c.args.more) ≡ c.args.more = omega (arith, ints, c.requires.low, c.requires.high) in
     let s = summand c.args.point (to_z w128 (of_z w128 c.args.more)) in
@@ -109,7 +109,7 @@ pub returns-in_ok-right-in-Fork-clause-limited : goal.returns-in_ok-right-in-For
 returns-in_ok-right-in-Fork-clause-limited t c =
     let seen : c.args.tree.now.summands ≡ c.in-Fork.left.value.summands ++ c.in-Fork.right.value.summands = sym (ap (λ (v : TreeValue). v.summands) c.tree.view_is) ∙ ap (λ (p : Part). (tree_in p).summands) c.in-Fork.is in
     let tall : c.args.tree.now.height ≡ 1 + (c.in-Fork.left.value.height + c.in-Fork.right.value.height) = sym (ap (λ (v : TreeValue). v.height) c.tree.view_is) ∙ ap (λ (p : Part). (tree_in p).height) c.in-Fork.is in
-    let parted = subst (λ (p : Part). IsParted p) c.in-Fork.is c.tree.invariant in
+    let parted = (subst (λ (p : Part). IsParted p) c.in-Fork.is c.tree.invariant).0 in
     let same = c.deref-then-point-middle.ensures in
     let list = ap (λ (v : TreeValue). v.summands) same in
     let tall_side = ap (λ (v : TreeValue). v.height) same in
@@ -120,7 +120,7 @@ returns-in_ok-right-in-Fork-clause-limited t c =
 pub returns-in_ok-left-in-Fork-3-clause-ok : goal.returns-in_ok-left-in-Fork-3-clause-ok
 returns-in_ok-left-in-Fork-3-clause-ok t c =
     let seen : c.args.tree.now.summands ≡ c.in-Fork.left.value.summands ++ c.in-Fork.right.value.summands = sym (ap (λ (v : TreeValue). v.summands) c.tree.view_is) ∙ ap (λ (p : Part). (tree_in p).summands) c.in-Fork.is in
-    let parted = subst (λ (p : Part). IsParted p) c.in-Fork.is c.tree.invariant in
+    let parted = (subst (λ (p : Part). IsParted p) c.in-Fork.is c.tree.invariant).0 in
     let list = ap (λ (v : TreeValue). v.summands) c.deref-else-point-middle.ensures in
     let number : to_z w128 (of_z w128 c.args.more) ≡ c.args.more = omega (arith, ints, c.requires.low, c.requires.high) in
     let s = summand c.args.point (to_z w128 (of_z w128 c.args.more)) in
@@ -133,7 +133,7 @@ pub returns-in_ok-left-in-Fork-3-clause-limited : goal.returns-in_ok-left-in-For
 returns-in_ok-left-in-Fork-3-clause-limited t c =
     let seen : c.args.tree.now.summands ≡ c.in-Fork.left.value.summands ++ c.in-Fork.right.value.summands = sym (ap (λ (v : TreeValue). v.summands) c.tree.view_is) ∙ ap (λ (p : Part). (tree_in p).summands) c.in-Fork.is in
     let tall : c.args.tree.now.height ≡ 1 + (c.in-Fork.left.value.height + c.in-Fork.right.value.height) = sym (ap (λ (v : TreeValue). v.height) c.tree.view_is) ∙ ap (λ (p : Part). (tree_in p).height) c.in-Fork.is in
-    let parted = subst (λ (p : Part). IsParted p) c.in-Fork.is c.tree.invariant in
+    let parted = (subst (λ (p : Part). IsParted p) c.in-Fork.is c.tree.invariant).0 in
     let same = c.deref-else-point-middle.ensures in
     let list = ap (λ (v : TreeValue). v.summands) same in
     let tall_side = ap (λ (v : TreeValue). v.height) same in

@@ -1,5 +1,5 @@
 use Rattle.std.proofs.Common.{ap, sym, ◌∙◌, ◌*◌, ◌-◌, ◌+◌, ◌^◌, min, ℕ}
-use Rattle.idl_scope.specs.Limits.{cases_limit}
+use Rattle.idl_cases.specs.Limits.{cases_limit}
 use Rattle.idl_term.proofs.CaseSteps.{count_taken}
 use Rattle.idl_term.proofs.choices.are_few.Goals as goal
 

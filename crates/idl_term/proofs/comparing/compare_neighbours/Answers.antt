@@ -1,7 +1,7 @@
 use Rattle.std.proofs.Common.{arith, ap, sym, subst, ◌∙◌, ◌≤◌, ◌-◌, List, length, drop, length-drop, Bor}
 use Rattle.std.specs.Prelude.{Result}
 use Rattle.std.proofs.lemmas.List.{length-map}
-use Rattle.idl_scope.specs.Guarded.{CaseValue}
+use Rattle.idl_cases.specs.Guarded.{CaseValue}
 use Rattle.idl_node.specs.Nodes.{Placed}
 use Rattle.idl_term.specs.Comparing.{each_compared}
 use Rattle.idl_term.specs.declared.error.TermRefusal.{TermRefusal}

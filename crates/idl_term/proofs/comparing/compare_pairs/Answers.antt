@@ -3,7 +3,7 @@ use Rattle.std.proofs.lemmas.List.{length-map, length_push}
 use Rattle.std.proofs.lemmas.Result.{err_from_is_err_and}
 use Rattle.idl_node.specs.code.Repeats.{AreRows, HasRepeats}
 use Rattle.idl_node.proofs.Steps.{front_on, front_within}
-use Rattle.idl_scope.specs.Guarded.{CaseValue}
+use Rattle.idl_cases.specs.Guarded.{CaseValue}
 use Rattle.idl_term.specs.code.Repeats.{AreCompared}
 use Rattle.idl_term.proofs.Arguments.{seen}
 use Rattle.idl_term.proofs.PairsCompared.{pairs_refused, pairs_step, refused_behind}

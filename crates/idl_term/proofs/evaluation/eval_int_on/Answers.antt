@@ -1,9 +1,12 @@
-use Rattle.std.proofs.Common.{rules, FitsSigned}
+use Rattle.std.proofs.Common.{rules, ◌+◌, length, FitsSigned}
 use Rattle.std.proofs.lemmas.Int.{to_z-of_z}
 use Rattle.std.specs.Int.{w128}
 use Rattle.idl_node.specs.Truth.{point_values}
-use Rattle.idl_term.proofs.Evaluating.{value_found}
+use Rattle.idl_term.proofs.Evaluating.{guards_over, value_found}
 use Rattle.idl_term.proofs.evaluation.eval_int_on.Goals as goal
+
+pub first_true-requires-clause-guards : goal.first_true-requires-clause-guards
+first_true-requires-clause-guards c = guards_over (length c.args.values.now + 1) (length c.args.nodes.now) c.args.cases.now c.requires.cases
 
 pub returns-in-Ok-clause-value : goal.returns-in-Ok-clause-value
 returns-in-Ok-clause-value c =

@@ -10,7 +10,7 @@ use Rattle.idl_term.proofs.evaluation.eval_linear.Goals as goal
 pub loop-summand-init : goal.loop-summand-init
 loop-summand-init c =
     let number : to_z w128 (of_z w128 c.from-sum.result) ≡ c.args.linear.now.constant = omega (arith, ints) in
-    adding_starts _ _ c.args.linear.now _ _ c.cursor-cursor.ensures.linear c.requires.points c.cursor-cursor.ensures.items number
+    adding_starts _ c.args.linear.now _ _ c.cursor-cursor.ensures.linear c.cursor-cursor.ensures.items number
 
 pub loop-summand-preserved : goal.loop-summand-preserved
 loop-summand-preserved c =
@@ -19,9 +19,9 @@ loop-summand-preserved c =
     let sum = to_z w128 c.loop-summand.sum-bits in
     let values = point_values c.args.values.now in
     let is = c.product-sum.ensures.value ∙ ap (λ (vs : List NamedValue). s.coefficient *ℤ value_at (point_values vs) s.point) c.as_slice-values.ensures in
-    let low = adding_low values _ c.loop-summand.cursor sum _ c.loop-summand.invariant s c.next.new.self c.in-Some.ensures.next p c.product-sum.ensures.low c.product-sum.ensures.high in
-    let high = adding_high values _ c.loop-summand.cursor sum _ c.loop-summand.invariant s c.next.new.self c.in-Some.ensures.next p c.product-sum.ensures.low c.product-sum.ensures.high in
+    let low = adding_low values c.loop-summand.cursor sum _ c.loop-summand.invariant s c.next.new.self c.in-Some.ensures.next p c.product-sum.ensures.low c.product-sum.ensures.high in
+    let high = adding_high values c.loop-summand.cursor sum _ c.loop-summand.invariant s c.next.new.self c.in-Some.ensures.next p c.product-sum.ensures.low c.product-sum.ensures.high in
     let small = c.product-sum.ensures.low in
     let large = c.product-sum.ensures.high in
     let number : to_z w128 (of_z w128 (sum +ℤ to_z w128 (of_z w128 p))) ≡ sum +ℤ p = omega (arith, ints, low, high, small, large) in
-    rw number (adding_turn values _ c.loop-summand.cursor sum _ c.loop-summand.invariant s c.next.new.self c.in-Some.ensures.next p c.product-sum.ensures.low c.product-sum.ensures.high is)
+    rw number (adding_turn values c.loop-summand.cursor sum _ c.loop-summand.invariant s c.next.new.self c.in-Some.ensures.next p c.product-sum.ensures.low c.product-sum.ensures.high is)

@@ -6,7 +6,7 @@ use Rattle.idl_term.proofs.evaluation.product.Goals as goal
 use Rattle.idl_term.proofs.evaluation.product.Goals.{After-point_value}
 
 small : (c : After-point_value) → IsSmall c.point_value.result
-small c = rw c.point_value.ensures (small_point c.args.values.now c.args.summand.point c.requires.within c.requires.point)
+small c = rw c.point_value.ensures (small_point c.args.values.now c.args.summand.point c.requires.within)
 
 same : (c : After-point_value) → to_z w128 (of_z w128 c.from.result) *ℤ to_z w128 (of_z w128 c.point_value.result) ≡ c.args.summand.coefficient *ℤ c.point_value.result
 same c =

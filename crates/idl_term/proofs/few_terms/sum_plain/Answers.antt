@@ -1,7 +1,7 @@
 use Rattle.std.proofs.Common.{subst, List}
 use Rattle.std.specs.Prelude.{Ok, Err}
 use Rattle.std.proofs.lemmas.Result.{err_from_is_err_and}
-use Rattle.idl_scope.specs.Guarded.{CaseValue}
+use Rattle.idl_cases.specs.Guarded.{CaseValue}
 use Rattle.idl_term.specs.code.Applying.{SumsTerms}
 use Rattle.idl_term.proofs.Arguments.{seen}
 use Rattle.idl_term.proofs.FewTerms.{plain_made, plain_refused, plain_seen}

@@ -1,6 +1,6 @@
 use Rattle.std.proofs.Common.{subst, sym, map, List, Bor}
 use Rattle.idl_linear.specs.Linear.{LinearValue}
-use Rattle.idl_scope.specs.Guarded.{plain}
+use Rattle.idl_cases.specs.Guarded.{plain}
 use Rattle.idl_term.specs.code.Applying.{SumsTerms}
 use Rattle.idl_term.proofs.FewTerms.{two_plain}
 use Rattle.idl_term.proofs.few_terms.sum_two.Goals as goal

@@ -1,6 +1,6 @@
 use Rattle.std.proofs.Common.{arith, List, Bor}
 use Rattle.std.proofs.lemmas.List.{length-map}
-use Rattle.idl_scope.specs.Guarded.{CaseValue}
+use Rattle.idl_cases.specs.Guarded.{CaseValue}
 use Rattle.idl_term.proofs.RepeatedTerms.{guarded_more}
 use Rattle.idl_term.proofs.repeated.fingerprints.Goals as goal
 

@@ -1,5 +1,5 @@
 use Rattle.std.proofs.Common.{ℕ, ◌<◌}
-use Rattle.idl_scope.specs.code.GuardBounds.{AreGuardsBelow}
+use Rattle.idl_cases.specs.code.GuardBounds.{AreGuardsBelow}
 use Rattle.idl_term.specs.code.Repeats.{term_at}
 use Rattle.idl_term.proofs.Arguments.{seen}
 use Rattle.idl_term.proofs.repeated.fingerprints.Given as goal

@@ -1,6 +1,6 @@
 use Rattle.std.proofs.Common.{arith, List, Bor, length, ◌<◌}
 use Rattle.std.proofs.lemmas.List.{length-map}
-use Rattle.idl_scope.specs.Guarded.{CaseValue}
+use Rattle.idl_cases.specs.Guarded.{CaseValue}
 use Rattle.idl_term.specs.code.Repeats.{term_at}
 use Rattle.idl_term.proofs.Arguments.{seen}
 use Rattle.idl_term.proofs.PairsCompared.{found_again, compared_before, compared_once}

@@ -2,7 +2,7 @@ use Rattle.std.proofs.Common.{refl, ap, sym, subst, arith, ◌∙◌, ◌<◌, �
 use Rattle.std.proofs.lemmas.List.{length-map}
 use Rattle.std.proofs.lemmas.Result.{err_from_is_err_and}
 use Rattle.idl_node.specs.code.Repeats.{HasRepeats, IsRow}
-use Rattle.idl_scope.specs.Guarded.{CaseValue}
+use Rattle.idl_cases.specs.Guarded.{CaseValue}
 use Rattle.idl_term.specs.code.Repeats.{AreCompared}
 use Rattle.idl_term.proofs.Arguments.{seen}
 use Rattle.idl_term.proofs.PairsCompared.{copied_made, copied_rows, made_rows}

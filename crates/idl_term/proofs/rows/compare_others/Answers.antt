@@ -2,7 +2,7 @@ use Rattle.std.proofs.Common.{arith, ap, ◌∙◌, ◌<◌, ◌≤◌, List, Bo
 use Rattle.std.proofs.lemmas.List.{length-map, length_push}
 use Rattle.std.proofs.lemmas.Result.{err_from_is_err_and}
 use Rattle.idl_node.proofs.Steps.{front_on}
-use Rattle.idl_scope.specs.Guarded.{CaseValue}
+use Rattle.idl_cases.specs.Guarded.{CaseValue}
 use Rattle.idl_term.specs.code.Repeats.{term_at}
 use Rattle.idl_term.proofs.Arguments.{seen}
 use Rattle.idl_term.proofs.PairsCompared.{refused_behind, row_ends, row_grows, row_steps, row_stops}

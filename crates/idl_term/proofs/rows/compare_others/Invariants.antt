@@ -1,6 +1,6 @@
 use Rattle.std.proofs.Common.{◌≡◌, ◌+◌, ◌-◌, ◌++◌, ℕ, List, length, map, take, drop}
 use Rattle.idl_node.specs.code.Repeats.{HasRepeats, IsRow}
-use Rattle.idl_scope.specs.Guarded.{CaseValue}
+use Rattle.idl_cases.specs.Guarded.{CaseValue}
 use Rattle.idl_term.specs.Comparing.{each_compared}
 use Rattle.idl_term.specs.code.Repeats.{AreCompared, term_at}
 use Rattle.idl_term.proofs.Arguments.{seen}

@@ -10,7 +10,7 @@ pub piece-requires : goal.piece-requires
 piece-requires t c =
     let seen : c.args.self.now.summands ≡ c.in-Fork.left.value.summands ++ c.in-Fork.right.value.summands = sym (ap (λ (v : TreeValue). v.summands) c.self.view_is) ∙ ap (λ (p : Part). (tree_in p).summands) c.in-Fork.is in
     let tall : c.args.self.now.height ≡ 1 + (c.in-Fork.left.value.height + c.in-Fork.right.value.height) = sym (ap (λ (v : TreeValue). v.height) c.self.view_is) ∙ ap (λ (p : Part). (tree_in p).height) c.in-Fork.is in
-    let parted = subst (λ (p : Part). IsParted p) c.in-Fork.is c.self.invariant in
+    let parted = (subst (λ (p : Part). IsParted p) c.in-Fork.is c.self.invariant).0 in
     let same : c.deref-then-from-middle.result.now ≡ c.in-Fork.right.value = c.deref-then-from-middle.ensures in
     let list = ap (λ (v : TreeValue). v.summands) same in
     let tall_side = ap (λ (v : TreeValue). v.height) same in
@@ -23,7 +23,7 @@ pub returns-then-from-middle-clause-same : goal.returns-then-from-middle-clause-
 returns-then-from-middle-clause-same t c =
     let seen : c.args.self.now.summands ≡ c.in-Fork.left.value.summands ++ c.in-Fork.right.value.summands = sym (ap (λ (v : TreeValue). v.summands) c.self.view_is) ∙ ap (λ (p : Part). (tree_in p).summands) c.in-Fork.is in
     let tall : c.args.self.now.height ≡ 1 + (c.in-Fork.left.value.height + c.in-Fork.right.value.height) = sym (ap (λ (v : TreeValue). v.height) c.self.view_is) ∙ ap (λ (p : Part). (tree_in p).height) c.in-Fork.is in
-    let parted = subst (λ (p : Part). IsParted p) c.in-Fork.is c.self.invariant in
+    let parted = (subst (λ (p : Part). IsParted p) c.in-Fork.is c.self.invariant).0 in
     let same : c.deref-then-from-middle.result.now ≡ c.in-Fork.right.value = c.deref-then-from-middle.ensures in
     let list = ap (λ (v : TreeValue). v.summands) same in
     let tall_side = ap (λ (v : TreeValue). v.height) same in
@@ -33,7 +33,7 @@ pub returns-then-from-middle-clause-none : goal.returns-then-from-middle-clause-
 returns-then-from-middle-clause-none t c =
     let seen : c.args.self.now.summands ≡ c.in-Fork.left.value.summands ++ c.in-Fork.right.value.summands = sym (ap (λ (v : TreeValue). v.summands) c.self.view_is) ∙ ap (λ (p : Part). (tree_in p).summands) c.in-Fork.is in
     let tall : c.args.self.now.height ≡ 1 + (c.in-Fork.left.value.height + c.in-Fork.right.value.height) = sym (ap (λ (v : TreeValue). v.height) c.self.view_is) ∙ ap (λ (p : Part). (tree_in p).height) c.in-Fork.is in
-    let parted = subst (λ (p : Part). IsParted p) c.in-Fork.is c.self.invariant in
+    let parted = (subst (λ (p : Part). IsParted p) c.in-Fork.is c.self.invariant).0 in
     let same : c.deref-then-from-middle.result.now ≡ c.in-Fork.right.value = c.deref-then-from-middle.ensures in
     let list = ap (λ (v : TreeValue). v.summands) same in
     let tall_side = ap (λ (v : TreeValue). v.height) same in
@@ -43,7 +43,7 @@ pub piece-piece-requires : goal.piece-piece-requires
 piece-piece-requires t c =
     let seen : c.args.self.now.summands ≡ c.in-Fork.left.value.summands ++ c.in-Fork.right.value.summands = sym (ap (λ (v : TreeValue). v.summands) c.self.view_is) ∙ ap (λ (p : Part). (tree_in p).summands) c.in-Fork.is in
     let tall : c.args.self.now.height ≡ 1 + (c.in-Fork.left.value.height + c.in-Fork.right.value.height) = sym (ap (λ (v : TreeValue). v.height) c.self.view_is) ∙ ap (λ (p : Part). (tree_in p).height) c.in-Fork.is in
-    let parted = subst (λ (p : Part). IsParted p) c.in-Fork.is c.self.invariant in
+    let parted = (subst (λ (p : Part). IsParted p) c.in-Fork.is c.self.invariant).0 in
     let same : c.deref-in-Fork.result.now ≡ c.in-Fork.left.value = c.deref-in-Fork.ensures in
     let list = ap (λ (v : TreeValue). v.summands) same in
     let tall_side = ap (λ (v : TreeValue). v.height) same in
@@ -56,7 +56,7 @@ pub piece-requires-then-is_empty : goal.piece-requires-then-is_empty
 piece-requires-then-is_empty t c =
     let seen : c.args.self.now.summands ≡ c.in-Fork.left.value.summands ++ c.in-Fork.right.value.summands = sym (ap (λ (v : TreeValue). v.summands) c.self.view_is) ∙ ap (λ (p : Part). (tree_in p).summands) c.in-Fork.is in
     let tall : c.args.self.now.height ≡ 1 + (c.in-Fork.left.value.height + c.in-Fork.right.value.height) = sym (ap (λ (v : TreeValue). v.height) c.self.view_is) ∙ ap (λ (p : Part). (tree_in p).height) c.in-Fork.is in
-    let parted = subst (λ (p : Part). IsParted p) c.in-Fork.is c.self.invariant in
+    let parted = (subst (λ (p : Part). IsParted p) c.in-Fork.is c.self.invariant).0 in
     let same : c.deref-then-is_empty.result.now ≡ c.in-Fork.right.value = c.deref-then-is_empty.ensures in
     let list = ap (λ (v : TreeValue). v.summands) same in
     let tall_side = ap (λ (v : TreeValue). v.height) same in
@@ -78,7 +78,7 @@ returns-in-Leaf-clause-none t c =
 pub returns-then-is_empty-clause-same : goal.returns-then-is_empty-clause-same
 returns-then-is_empty-clause-same t c =
     let seen : c.args.self.now.summands ≡ c.in-Fork.left.value.summands ++ c.in-Fork.right.value.summands = sym (ap (λ (v : TreeValue). v.summands) c.self.view_is) ∙ ap (λ (p : Part). (tree_in p).summands) c.in-Fork.is in
-    let parted = subst (λ (p : Part). IsParted p) c.in-Fork.is c.self.invariant in
+    let parted = (subst (λ (p : Part). IsParted p) c.in-Fork.is c.self.invariant).0 in
     let left = ap (λ (v : TreeValue). v.summands) c.deref-in-Fork.ensures in
     let few = min_below c.in-Fork.middle c.args.end c.min-split.result c.min-split.ensures in
     let right = ap (λ (v : TreeValue). v.summands) c.deref-then-is_empty.ensures in
@@ -90,7 +90,7 @@ returns-then-is_empty-clause-same t c =
 pub returns-then-is_empty-clause-none : goal.returns-then-is_empty-clause-none
 returns-then-is_empty-clause-none t c =
     let seen : c.args.self.now.summands ≡ c.in-Fork.left.value.summands ++ c.in-Fork.right.value.summands = sym (ap (λ (v : TreeValue). v.summands) c.self.view_is) ∙ ap (λ (p : Part). (tree_in p).summands) c.in-Fork.is in
-    let parted = subst (λ (p : Part). IsParted p) c.in-Fork.is c.self.invariant in
+    let parted = (subst (λ (p : Part). IsParted p) c.in-Fork.is c.self.invariant).0 in
     let left = ap (λ (v : TreeValue). v.summands) c.deref-in-Fork.ensures in
     let few = min_below c.in-Fork.middle c.args.end c.min-split.result c.min-split.ensures in
     let right = ap (λ (v : TreeValue). v.summands) c.deref-then-is_empty.ensures in
@@ -101,7 +101,7 @@ returns-then-is_empty-clause-none t c =
 pub returns-else-is_empty-clause-same : goal.returns-else-is_empty-clause-same
 returns-else-is_empty-clause-same t c =
     let seen : c.args.self.now.summands ≡ c.in-Fork.left.value.summands ++ c.in-Fork.right.value.summands = sym (ap (λ (v : TreeValue). v.summands) c.self.view_is) ∙ ap (λ (p : Part). (tree_in p).summands) c.in-Fork.is in
-    let parted = subst (λ (p : Part). IsParted p) c.in-Fork.is c.self.invariant in
+    let parted = (subst (λ (p : Part). IsParted p) c.in-Fork.is c.self.invariant).0 in
     let left = ap (λ (v : TreeValue). v.summands) c.deref-in-Fork.ensures in
     let few = min_below c.in-Fork.middle c.args.end c.min-split.result c.min-split.ensures in
     left_same c.in-Fork.middle c.args.self.now.summands c.in-Fork.left.value.summands c.in-Fork.right.value.summands seen parted c.args.from c.piece-piece.result.next c.piece-piece.result.items.now c.deref-in-Fork.result.now.summands left (omega (arith, c.if-from-middle.false)) (omega (arith, few, c.piece-piece.ensures.high)) c.piece-piece.ensures.same

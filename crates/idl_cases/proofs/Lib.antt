@@ -1,0 +1,7 @@
+pub mod Gathering
+pub mod CaseLaws
+pub mod CaseBounds
+pub mod Opening
+pub mod GuardsBounded
+pub mod SumSteps
+pub mod Going
