@@ -35,12 +35,15 @@ LONGEST_TWICE = 100000      # longer ones are certified in one version alone
 IGNORED_KEYS = ("<", "<-", "status", "fails-anywhere", "cut-anywhere")
 JUDGED_WORDS = ("check", "convert")
 CERTIFIED_WORDS = ("solve", "certify")
+# Thousands of cases, each of which check.py lists again for each sum or condition: minutes.
+LEFT_OUT = (b"conditional terms 19", b"conditional terms 21")
 
 
 class Row:
     """A worked row: the words of its command line, its source, and the words with which it is certified."""
 
-    def __init__(self):
+    def __init__(self, name):
+        self.name = name
         self.words = []
         self.source = b""
         self.certified = None
@@ -78,10 +81,11 @@ def rows():
     with open(ROWS, "rb") as file:
         for line in file.read().split(b"\n"):
             if line.startswith(b"row "):
-                found.append(Row())
+                found.append(Row(line[4:]))
             elif line and not line.startswith(b"#"):
                 found[-1].read(line)
-    return [row for row in found if row.is_understood and row.words and row.words[0] in JUDGED_WORDS + CERTIFIED_WORDS]
+    understood = [row for row in found if row.is_understood and row.words and row.name not in LEFT_OUT]
+    return [row for row in understood if row.words[0] in JUDGED_WORDS + CERTIFIED_WORDS]
 
 
 def run(dtp, words, source):
