@@ -17,7 +17,7 @@ HERE = os.path.dirname(os.path.abspath(__file__))
 TOP = os.path.dirname(os.path.dirname(HERE))
 WORD = re.compile(r"[A-Za-z_][A-Za-z0-9_]*")
 CHARACTER = re.compile(r"'(\\.|[^\\'])'")
-MODEL = re.compile(r"impl(<[^>]*>)? Model for")
+MODEL = re.compile(r"impl(<[^>]*>)? (Model|Drop) for")
 PROFILE = 'opt-level = 3\ndebug = 1\nlto = "fat"\ncodegen-units = 1\npanic = "abort"\noverflow-checks = false\n'
 # what std has with an allocator, by the stand-in
 STAND_INS = [

@@ -49,14 +49,6 @@ marked_more points i xs marks lt q_in are =
 pub marked_all : (points i : ℕ) (xs : List ℕ) (marks : List Bool) → length xs ≤ i → AreMarks points (take i xs) marks → AreMarks points xs marks
 marked_all points i xs marks le are = subst (λ (ys : List ℕ). AreMarks points ys marks) (take_past i xs le) are
 
--- what the marks of the two points say of the cut
-pub not_cut_by : (set : List ℕ) (l : Literal) (points : ℕ) (marks : List Bool) (a b : Bool) → AreMarks points set marks → IsOver points l → get_or marks l.x false ≡ a → get_or marks l.y false ≡ b → (IsTrue (a || not b) ↔ (IsCut set l → ⊥))
-not_cut_by set l points marks true b are over x_is y_is = (λ t cut. cut.1 ((are.each l.x over.x_in).0 x_is), λ h. refl)
-not_cut_by set l points marks false false are over x_is y_is =
-    (λ t cut. let marked = (are.each l.y over.y_in).1 cut.0 in absurd (cc), λ h. refl)
-not_cut_by set l points marks false true are over x_is y_is =
-    (λ t. absurd (cc), λ h. absurd (h ((are.each l.y over.y_in).0 y_is, λ inside. let marked = (are.each l.x over.x_in).1 inside in absurd (cc))))
-
 -- a literal whose test is so made up
 pub kept_by : (values : List ℤ) (set : List ℕ) (l : Literal) (h n : Bool) → (IsTrue h ↔ Holds values l) → (IsTrue n ↔ (IsCut set l → ⊥)) → (IsTrue (h && n) ↔ IsKept values set l)
 kept_by values set l true n holds cut = (λ t. (holds.0 refl, cut.0 t), λ k. cut.1 k.1)

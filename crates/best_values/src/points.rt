@@ -3,9 +3,15 @@ ghost use Rattle.std.specs.Prelude.{◌≡◌};
 use std::marker::Model;
 
 /// A list of time points, by their numbers.
-#[derive(Drop)]
 pub struct Points {
     points: Vec<u32>,
+}
+
+impl Drop for Points {
+    fn drop(self) {
+        let Points { points } = self;
+        drop(points);
+    }
 }
 
 impl Model for Points {
@@ -33,6 +39,7 @@ impl Points {
     pub fn into_vec(self) -> Vec<u32>
         ensures { result.items ≡ self }
     {
-        self.points
+        let Points { points } = self;
+        points
     }
 }

@@ -16,25 +16,6 @@ use Rattle.better_schedules.specs.Near.{span}
 use Rattle.better_schedules.specs.code.Heights.{IsHeight, AreHeights, IsApart, IsSetUpTo}
 use Rattle.better_schedules.proofs.Widths.{bound-le-width}
 
--- heights that come before the gap, and those from it on
-pub all_apart : (heights : List ℕ) (t width i : ℕ) → IsNonDecreasing heights → i < length heights → ((j : ℕ) → j < i → slice_index heights j ≤ t) → t + width < slice_index heights i → All (IsApart t width) heights
-all_apart heights t width i up i_in past far k d h =
-    let same : get_or heights k d ≡ slice_index heights k = get_or_default heights k d 0 h in
-    elim (cases_lt k i) [
-      | inl lt ↦ inl (omega (arith, same, past k lt))
-      | inr ge ↦ inr (omega (arith, same, far, up i k 0 ge h))
-    ]
-
--- one step is no more than the width
-pub step_near : (i n t h width : ℕ) → t ≤ i * width → h ≤ t + width → h ≤ (i + 1) * width
-step_near i n t h width near step =
-    let e : suc i * width ≡ i * width + width = suc-mul i width in
-    let f : (i + 1) * width ≡ suc i * width = ap (λ (k : ℕ). k * width) (omega arith) in
-    omega (arith, e, f, near, step)
-
-pub end_near : (i n t width : ℕ) → i ≤ n → t ≤ i * width → t ≤ n * width
-end_near i n t width few near = omega (arith, near, mul-le-mul_right width few)
-
 module _ (problem : Problem) (vs : List ℤ) (heights : List ℕ) (set : List ℕ) (x y t w : ℕ)
     (count : length vs ≡ problem.points) (x_in : x < problem.points) (y_in : y < problem.points)
     (are : AreHeights (value_at vs x) vs heights) (apart : All (IsApart t w) heights)

@@ -28,10 +28,17 @@ pub struct Descent {
 }
 
 /// The problem with one more clause, the last: the objective is below the bound.
-#[derive(Drop)]
 pub struct Question {
     pub bound: Bound,
     pub problem: Problem,
+}
+
+impl Drop for Question {
+    fn drop(self) {
+        let Question { bound, problem } = self;
+        drop(bound);
+        drop(problem);
+    }
 }
 
 impl Descent {

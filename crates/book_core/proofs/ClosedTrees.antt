@@ -188,9 +188,6 @@ module _ (points : ℕ) (c : Cubes) (clauses : List (List Literal)) (cover : IsC
 pub pending_from : (points : ℕ) (c : Cubes) (clauses : List (List Literal)) (ks : List ℕ) (steps : List Step) → IsCover c → ks ≡ 0 ∷ [] → steps ≡ [] → IsPending points c clauses ks steps
 pending_from points c clauses ks steps h ek es = rw (ek, es) (pending_begun points c clauses h)
 
-pub popped_there : (points : ℕ) (c : Cubes) (clauses : List (List Literal)) (ks waiting : List ℕ) (k : ℕ) (steps : List Step) → ks ≡ waiting ++ k ∷ [] → IsPending points c clauses ks steps → k < length c.nodes
-popped_there points c clauses ks waiting k steps e h = (all_but_last (λ (j : ℕ). j < length c.nodes) waiting k (subst (All (λ (j : ℕ). j < length c.nodes)) e h.there)).1
-
 pub pending_done : (points : ℕ) (c : Cubes) (clauses : List (List Literal)) (ks : List ℕ) (steps res : List Step) → ks ≡ [] → res ≡ steps → IsPending points c clauses ks steps → (inputs : List (List Literal)) → Tree inputs clauses [] res []
 pending_done points c clauses ks steps res ek er h inputs =
     let at_end : IsPending points c clauses [] steps = subst (λ (js : List ℕ). IsPending points c clauses js steps) ek h in

@@ -111,20 +111,11 @@ count_divided c now k seat l e is =
     let n : held_count now.nodes ≡ held_count (set c.nodes k split ++ Free ∷ Free ∷ []) = ap (λ (d : Cubes). held_count d.nodes) is in
     omega (arith, count_set c.nodes k (Held seat) split e, count_two (set c.nodes k split))
 
--- nothing is left to come
-pub all_come : {A : Type 0} (done rest whole : List A) → length rest ≡ 0 → done ++ rest ≡ whole → done ≡ whole
-all_come done [] whole h e = sym (append-nil done) ∙ e
-all_come done (x ∷ rest) whole h e = absurd (omega arith)
-
 pub inside : (P : Problem → State → Type 0) (problem : Problem) (opening : List Lemma) (events : List Event) (s : State) (b : Ledger) → ledger problem opening events ≡ b → s ≡ replayed opening events → P b.problem (state_of b) → P problem s
 inside P problem opening events s b view same h = subst (λ (t : State). P problem t) (sym same) (subst (λ (k : Ledger). P k.problem (state_of k)) (sym view) h)
 
 pub outside : (P : Problem → State → Type 0) (problem : Problem) (opening : List Lemma) (events : List Event) (s : State) (b : Ledger) → ledger problem opening events ≡ b → s ≡ replayed opening events → P problem s → P b.problem (state_of b)
 outside P problem opening events s b view same h = subst (λ (k : Ledger). P k.problem (state_of k)) view (subst (λ (t : State). P problem t) same h)
-
-pub added_outside : (problem : Problem) (opening opening_new : List Lemma) (events events_new : List Event) (b : Ledger) (e : Event) → ledger problem opening events ≡ b → opening_new ≡ opening → events_new ≡ events ++ e ∷ [] → ledger problem opening_new events_new ≡ with_event b e
-added_outside problem opening opening_new events events_new b e view first is =
-    ap (λ (ls : List Lemma). ledger problem ls events_new) first ∙ ap (λ (es : List Event). ledger problem opening es) is ∙ ap (λ (k : Ledger). with_event k e) view
 
 pub not_found : (found : Option (List ℤ)) (b : Bool) → b ≡ false → b ≡ is_some found → found ≡ None
 not_found None b e is = refl
@@ -170,12 +161,6 @@ pub count_held : (s : State) (now : Cubes) (seat : ℕ) (taken : Taken) → MayA
 count_held s now seat Done h is = let n : held_count now.nodes ≡ held_count s.cover.nodes = ap (λ (d : Cubes). held_count d.nodes) is in omega (arith, n)
 count_held s now seat Idle h is = let n : held_count now.nodes ≡ held_count s.cover.nodes = ap (λ (d : Cubes). held_count d.nodes) is in omega (arith, n)
 count_held s now seat (Cube id) h is = let n = count_taken s.cover now id seat h.1 is in omega (arith, n)
-
--- the leaf that is taken is Free
-pub taken_free : (s : State) (taken : Taken) (id : ℕ) → MayAnswer s taken → taken ≡ Cube id → node_at s.cover id ≡ Some Free
-taken_free s Done id h e = absurd cc
-taken_free s Idle id h e = absurd cc
-taken_free s (Cube k) id h e = let same : k ≡ id = cc in subst (λ (n : ℕ). node_at s.cover n ≡ Some Free) same h.1
 
 -- each event of a run may come after those before it
 allowed_from : (problem : Problem) (s : State) (events : List Event) (i : ℕ) (e : Event) → IsRunFrom problem s events → slice_get events i ≡ Some e → IsAllowed problem (replayed_from s (take i events)) e

@@ -25,7 +25,6 @@ use std::sync::Arc;
 use stn_core::{Problem, Schedule};
 
 /// The book of a problem. A lemma is kept once: the event that brought it shares it with the list of all.
-#[derive(Drop)]
 pub struct Book {
     problem: Problem,
     cover: Cover,
@@ -35,6 +34,26 @@ pub struct Book {
     found: Option<Schedule>,
     halves: Option<(usize, usize)>,
     journal: Vec<Event>,
+}
+
+impl Drop for Book {
+    fn drop(self) {
+        let Book {
+            problem,
+            cover,
+            opened: _,
+            lemmas,
+            found,
+            halves,
+            journal,
+        } = self;
+        drop(problem);
+        drop(cover);
+        drop(lemmas);
+        drop(found);
+        drop(halves);
+        drop(journal);
+    }
 }
 
 impl Model for Book {

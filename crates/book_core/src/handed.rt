@@ -10,12 +10,22 @@ use std::marker::Model;
 use std::sync::Arc;
 
 /// A batch as it was handed in. Its lemmas are those that the book published, and are kept once.
-#[derive(Drop)]
 pub struct HandedBatch {
     seen: usize,
     /// How many lemmas the book had.
     base: usize,
     published: Vec<Arc<Lemma>>,
+}
+
+impl Drop for HandedBatch {
+    fn drop(self) {
+        let HandedBatch {
+            seen: _,
+            base: _,
+            published,
+        } = self;
+        drop(published);
+    }
 }
 
 impl Model for HandedBatch {

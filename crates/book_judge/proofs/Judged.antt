@@ -46,9 +46,6 @@ all_end P xs i ended h = subst (All P) (take_whole xs i ended) h
 pub names_next : (points : ℕ) (whole old new : List Step) (s : Step) → old ≡ s ∷ new → NamesOver points s → (All (NamesOver points) old → All (NamesOver points) whole) → All (NamesOver points) new → All (NamesOver points) whole
 names_next points whole old new s e h all rest = all (subst (All (NamesOver points)) (sym e) (All-cons (NamesOver points) s new h rest))
 
-pub names_end : (points : ℕ) (whole old : List Step) → old ≡ [] → (All (NamesOver points) old → All (NamesOver points) whole) → All (NamesOver points) whole
-names_end points whole old e all = all (subst (All (NamesOver points)) (sym e) (All-nil (NamesOver points)))
-
 -- what a test of a literal among literals says
 pub is_in : (literals : List Literal) (l : Literal) (b : Bool) → b ≡ is_assumed literals l → b ≡ true → Contains literals l
 is_in literals l b e t = (is_assumed_decides literals l).0 (sym e ∙ t)
@@ -70,9 +67,6 @@ refuted_more points clauses earlier now lemmas i lemma within is e r h =
     let all = joined points clauses earlier (take i lemmas) (lemma ∷ []) h one in
     let more : take i lemmas ++ lemma ∷ [] ≡ take (i + 1) lemmas = ap (λ (l : Lemma). take i lemmas ++ l ∷ []) is ∙ sym (take_more lemmas i lemma within) in
     subst (AreRefuted points clauses earlier) more all
-
-pub refuted_end : (points : ℕ) (clauses earlier : List (List Literal)) (lemmas : List Lemma) (i : ℕ) → length lemmas ≤ i → AreRefuted points clauses earlier (take i lemmas) → AreRefuted points clauses earlier lemmas
-refuted_end points clauses earlier lemmas i ended h = subst (AreRefuted points clauses earlier) (take_whole lemmas i ended) h
 
 -- the lemma at a place excludes the cube
 pub shut_by : {A : Type 0} (value : A → Lemma) (xs : List A) (j : ℕ) (x : A) (shown : Lemma) (clause cube : List Literal) → j < length xs → x ≡ get_or xs j x → shown ≡ value x → clause ≡ shown.clause → IsDenied cube clause → IsShutBy (map stated (map value xs)) cube j
@@ -113,13 +107,6 @@ judged problem lemmas cube batch outcome seen own known all es eo le ek ea over 
       fits = subst (λ (ls : List Lemma). Fits problem ls cube outcome) (ea ∙ (ap (λ (ls : List Lemma). ls ++ own) first ∙ ap (λ (ls : List Lemma). take batch.seen lemmas ++ ls) eo)) fits;
     }
 
--- the same of any property of steps
-pub steps_next : (P : Step → Type 0) (whole old new : List Step) (s : Step) → old ≡ s ∷ new → P s → (All P old → All P whole) → All P new → All P whole
-steps_next P whole old new s e h all rest = all (subst (All P) (sym e) (All-cons P s new h rest))
-
-pub steps_end : (P : Step → Type 0) (whole old : List Step) → old ≡ [] → (All P old → All P whole) → All P whole
-steps_end P whole old e all = all (subst (All P) (sym e) (All-nil P))
-
 -- a literal's negation is missing
 pub denied_at : (cube clause : List Literal) (i : ℕ) (d : Literal) → i < length clause → IsDenied cube clause → Contains cube (negation_of (get_or clause i d))
 denied_at cube clause i d within h =
@@ -142,10 +129,6 @@ pub lacks_end : (problem : Problem) (clauses : List (List Literal)) (i : ℕ) (l
 lacks_end problem clauses i l same ended h a =
     let few : length problem.clauses ≤ i = subst (λ (cs : List (List Literal)). length cs ≤ i) same ended in
     All-contains (Lacks l) problem.clauses a.0 (all_end (Lacks l) problem.clauses i few h) a.1 a.2
-
--- there is no lemma at a place, or another one
-pub shut_past : (clauses : List (List Literal)) (cube : List Literal) (j : ℕ) → length clauses ≤ j → IsShutBy clauses cube j → ⊥
-shut_past clauses cube j past s = let t : None ≡ Some s.0 = sym (slice_get_past clauses j past) ∙ s.1 in absurd (cc t)
 
 pub shut_at : {A : Type 0} (value : A → Lemma) (xs : List A) (j : ℕ) (x : A) (shown : Lemma) (clause cube : List Literal) → j < length xs → x ≡ get_or xs j x → shown ≡ value x → clause ≡ shown.clause → IsShutBy (map stated (map value xs)) cube j → IsDenied cube clause
 shut_at value xs j x shown clause cube within there of is s =

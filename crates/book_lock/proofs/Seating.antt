@@ -338,6 +338,3 @@ closes p id v first unspent rests joined s r at =
 -- a look-up of what is kept, with one seat more
 pub kept_more : (n : ℕ) (k : Kept) (ks : List Kept) → IsSome (kept_of n ks) → IsSome (kept_of n (k ∷ ks))
 kept_more n k ks h = elim (k.number == n) as (λ b. IsSome (cond b (Some k.events) (kept_of n ks))) [ true ↦ refl | false ↦ h ]
-
-pub kept_this : (n : ℕ) (k : Kept) (ks : List Kept) → k.number ≡ n → IsSome (kept_of n (k ∷ ks))
-kept_this n k ks e = let P : Bool → Type 0 = λ b. IsSome (cond b (Some k.events) (kept_of n ks)) in subst P (sym (eq-eqb k.number n e)) refl

@@ -263,9 +263,6 @@ enters_as p id slots m one empty unspent =
 pub entered_at : (st : Step (Option Ledger)) (m : Mine) (n : ℕ) (m' : Mine) → Enters st m n m' → n ≡ 0 → (log : List Event) × (m' ≡ (entered m.0 log, (0, Some (with_events m.0.begun log)) ∷ m.1)) × Entered m.0 log
 entered_at st m n m' h z = subst (λ (k : ℕ). Enters st m k m') z h
 
-pub kept_out : (st : Step (Option Ledger)) (m : Mine) (n : ℕ) (m' : Mine) → Enters st m n m' → n ≢ 0 → m' ≡ m
-kept_out st m n m' h z = subst (λ (b : Bool). MatchBool b ((log : List Event) × (m' ≡ (entered m.0 log, (0, Some (with_events m.0.begun log)) ∷ m.1)) × Entered m.0 log) (m' ≡ m)) (ne_eqb n 0 z) h
-
 pub tells_as : (p : Ledger) (id slots new : ℕ) (m : Mine) (e : Event) → slots ≡ 1 → m.0.turn ≡ true → m.0.spent ≡ false → seat_of e ≡ m.0.number → Runs m.0.begun (m.0.known ++ e ∷ []) → new ≡ length (m.0.known ++ e ∷ []) → journal_of m.1 ≡ m.0.known ++ e ∷ []
     → Allows (Holds p) slots id m 1 (λ _. new) (λ _. Tells (step slots 1 new 0 none) m new)
 tells_as p id slots new m e one turn unspent own run count is =
@@ -283,9 +280,6 @@ in_hand cs x is = is ∙ ap (λ (l : List (ℕ × Option Ledger)). (0, x) ∷ re
 abbrev in_front : List (ℕ × Option Ledger) → Option Ledger
 in_front [] = None
 in_front (x ∷ xs) = x.1
-
-pub found_in_hand : (cs : List (ℕ × Option Ledger)) (x y : Option Ledger) → cs ≡ (0, x) ∷ [] → cs ≡ (0, y) ∷ rest cs → y ≡ x
-found_in_hand cs x y is now = ap in_front (sym now ∙ is)
 
 pub put_in : (m old : Mine) (b : Ledger) → m ≡ (old.0, (0, Some b) ∷ rest old.1) → old.1 ≡ (0, None) ∷ [] → m ≡ (old.0, (0, Some b) ∷ [])
 put_in m old b now was = now ∙ ap (λ (l : List (ℕ × Option Ledger)). let x : Mine = (old.0, (0, Some b) ∷ rest l) in x) was

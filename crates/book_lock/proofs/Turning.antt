@@ -230,12 +230,6 @@ newcomer_kept number made m m' lemmas lemmas' holding place waits k is same =
     subst (λ (t : Mine × List Lemma). Kept made 0 t.0 t.1 None 0 false) (λ i. (sym is i, sym same i))
     (k.1, refl, refl, refl, refl, refl, record { opens = k.6.opens; run = k.6.run; seen = k.6.seen; holds = tt; orderly = tt; held = refl; within = omega arith; before = refl; idle = refl; kept = tt })
 
-pub counted_kept : (number made made' : ℕ) (m m' : Mine) (lemmas : List Lemma) (holding : Option Cube) (place : ℕ) (waits : Bool) → Kept number made m lemmas holding place waits → m' ≡ (counted m.0, []) → made' ≡ made + 1 → Kept number made' m' lemmas holding place waits
-counted_kept number made made' m m' lemmas holding place waits k is more =
-    let s = k.6 in
-    subst (λ (t : Mine). Kept number made' t lemmas holding place waits) (sym is)
-    (k.0, more ∙ ap (λ (n : ℕ). n + 1) k.1, refl, k.3, k.4, k.5, record { opens = s.opens; run = s.run; seen = s.seen; holds = s.holds; orderly = s.orderly; held = s.held; within = s.within; before = s.before; idle = s.idle; kept = s.kept })
-
 -- a beginning of a run is a run
 pub run_prefix : (p : Ledger) (xs ys : List Event) → IsPrefix xs ys → Runs p ys → Runs p xs
 run_prefix p xs ys pre run = run_first p.problem (opened p.opening) xs pre.0 (subst (Runs p) (sym pre.1) run)

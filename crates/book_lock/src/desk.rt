@@ -26,9 +26,15 @@ use std::sync::{Arc, Wait};
 use stn_core::Problem;
 
 /// A book that threads share. Each call on it is one event of its journal.
-#[derive(Drop)]
 pub struct Desk {
     table: Table<Option<Book>, View, Snapshot<Book>, Turns, Global>,
+}
+
+impl Drop for Desk {
+    fn drop(self) {
+        let Desk { table } = self;
+        drop(table);
+    }
 }
 
 impl Model for Desk {

@@ -9,9 +9,15 @@ use stn_core::Literal;
 
 /// The literals that are assumed where the walk stands, each once, in the order in which they came. They are found by
 /// hash, and given up from the end.
-#[derive(Drop)]
 pub struct Assumptions {
     set: IndexSet<Literal>,
+}
+
+impl Drop for Assumptions {
+    fn drop(self) {
+        let Assumptions { set } = self;
+        drop(set);
+    }
 }
 
 impl Model for Assumptions {

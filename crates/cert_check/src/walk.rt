@@ -52,10 +52,17 @@ impl From<FlawKind> for WalkError {
 
 /// The way through a tree: what is assumed in the case that is read now, and the clauses with cases that wait, the last
 /// opened last.
-#[derive(Drop)]
 pub struct Walk<'a> {
     pub assumed: Assumptions,
     pub frames: Vec<Frame<'a>>,
+}
+
+impl Drop for Walk<'_> {
+    fn drop(self) {
+        let Walk { assumed, frames } = self;
+        drop(assumed);
+        drop(frames);
+    }
 }
 
 impl<'a> Walk<'a> {

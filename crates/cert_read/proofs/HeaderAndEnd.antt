@@ -77,12 +77,6 @@ pub header_of : (x y z : Sexpr) (version : Option Version) → x ≡ list (more 
 header_of x y z version is name number =
     subst (λ (w : Sexpr). IsHeaderOf w version) (sym is) (subst (IsHeaderOf (list (more y (more z none)))) (sym number) (header_by y z name))
 
-pub header_found : (x : Sexpr) (o : Option Version) (version : Version) → o ≡ Some version → IsHeaderOf x o → x ≡ header_sexpr version
-header_found x None version e h = absurd cc
-header_found x (Some found) version e h =
-    let same : found ≡ version = cc in
-    h ∙ ap header_sexpr same
-
 pub header_missing : (x : Sexpr) (o : Option Version) → o ≡ None → IsHeaderOf x o → (version : Version) → x ≢ header_sexpr version
 header_missing x None e h = h
 header_missing x (Some found) e h = absurd cc

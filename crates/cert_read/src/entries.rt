@@ -23,13 +23,26 @@ use std::marker::Model;
 ///
 /// It is seen as the certificate's version, the text, the place up to which it was read, and how many entries stand before
 /// that. Each call takes time linear in what it reads, and memory for the entry, and for the greatest item's s-expression.
-#[derive(Drop)]
 pub struct EntryReader<'a> {
     version: Version,
     lexer: Lexer<'a>,
     /// Room for the item that is read.
     table: Sexprs<'a>,
     count: usize,
+}
+
+impl Drop for EntryReader<'_> {
+    fn drop(self) {
+        let EntryReader {
+            version,
+            lexer,
+            table,
+            count: _,
+        } = self;
+        drop(version);
+        drop(lexer);
+        drop(table);
+    }
 }
 
 impl<'a> Model for EntryReader<'a> {

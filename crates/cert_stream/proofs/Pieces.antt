@@ -119,16 +119,3 @@ line_part {waited} {waits} {before} {now} {after} {faults_before} {faults_now} {
       };
     } in
     subst (λ (t : Result (Unit {0}) SessionError). WritesOne (λ text. text ≡ line) before after faults_before faults_after t) (sym is) given
-
--- what waits at the end is written whole
-pub line_whole : {waited waits : List ℕ} {before now after : Option (List ℕ)} {faults_before faults_now faults_after : ℕ} (line : List ℕ)
-    → waited ≡ [] → Streams line waited waits before now faults_before faults_now (Ok tt) → Appends now after waits → faults_after ≡ faults_now
-    → WritesOne (λ text. text ≡ line) before after faults_before faults_after (Ok tt)
-line_whole {waited} {waits} {before} {now} {after} {faults_before} {faults_now} {faults_after} line none s w same =
-    let first = s.whole in
-    let quiet : faults_now ≡ faults_before = s.fault.quiet (λ f. absurd (cc)) in
-    record {
-      whole = (first.0 ++ waits, Appends-trans before now after first.0 waits first.1 w, first.2 ∙ ap (λ (l : List ℕ). l ++ line) none);
-      part = tt;
-      fault = record { rose = λ f. absurd (cc); quiet = λ ne. same ∙ quiet; later = omega (arith, quiet, same) };
-    }

@@ -82,13 +82,6 @@ right_inner values at b (denial m) h = refl
 right_inner values at b (conjunction ms) h = is_same b (list_all at ms) (h refl)
 right_inner values at b (disjunction ms) h = is_same b (list_any at ms) (h refl)
 
-compound_needs : (node : NodeValue) → is_compound node ≡ true → needs false false true node ≡ true
-compound_needs always c = absurd cc
-compound_needs (atom l) c = absurd cc
-compound_needs (denial m) c = absurd cc
-compound_needs (conjunction ms) c = refl
-compound_needs (disjunction ms) c = refl
-
 -- ---- an asserted and a denied node, by its clauses
 
 -- what is known of smaller nodes

@@ -55,12 +55,6 @@ get_any [] k d e lt = absurd (omega arith)
 get_any (x ∷ xs) zero d e lt = refl
 get_any (x ∷ xs) (suc k) d e lt = get_any xs k d e (omega arith)
 
-pub firsts_none : (nodes n : ℕ) (firsts : List ℕ) → firsts ≡ replicate nodes n → AreFirst nodes n firsts (λ r. [])
-firsts_none nodes n firsts e = record {
-  count_is = ap length e ∙ length-replicate nodes n;
-  each = λ k lt. subst (IsFirst (λ (r : ℕ). false) n) (sym (ap (λ (xs : List ℕ). get_or xs k n) e ∙ get_or-replicate nodes k n n lt)) (first_none n);
-}
-
 -- other sets, among which are as many
 pub firsts_same : (nodes n : ℕ) (firsts : List ℕ) (among other : ℕ → List ℕ) → AreFirst nodes n firsts among → ((k r : ℕ) → r < n → is_among k (other r) ≡ is_among k (among r)) → AreFirst nodes n firsts other
 firsts_same nodes n firsts among other h e = record {
@@ -81,9 +75,6 @@ firsts_lowered nodes n a old new test by among other h f same lowers e = record 
 
 -- ---- lowering numbers, one after the other
 
-pub lowers_same : (test : ℕ → Bool) (a : ℕ) (old : List ℕ) → ((k : ℕ) → k < length old → test k ≡ false) → Lowers test a old old
-lowers_same test a old h k d lt = sym (ap (λ (b : Bool). lowered b a (get_or old k d)) (h k lt))
-
 -- what is lowered twice to the same number
 twice : (a v : ℕ) (s t : Bool) → lowered t a (lowered s a v) ≡ lowered (s || t) a v
 twice a v true false = refl
@@ -93,12 +84,6 @@ twice a v true true = again (nat_lt a v) refl
     again : (b : Bool) → nat_lt a v ≡ b → lowered true a (if b then a else v) ≡ (if b then a else v)
     again true e = (let self : nat_lt a a ≡ false = grind (arith, nat_tests) in ap (λ (c : Bool). if c then a else a) self)
     again false e = ap (λ (c : Bool). if c then a else v) e
-
-pub lowers_more : (a m : ℕ) (ms : List ℕ) (first old new : List ℕ) (target : ℕ → ℕ → ℕ) → length old ≡ length first
-    → ((k d : ℕ) → k < length first → lowered (is_among k (m ∷ ms)) a (get_or old k d) ≡ target k d)
-    → Lowers (λ k. nat_eq k m) a old new → (k d : ℕ) → k < length first → lowered (is_among k ms) a (get_or new k d) ≡ target k d
-lowers_more a m ms first old new target count so_far turn k d lt =
-    ap (λ (v : ℕ). lowered (is_among k ms) a v) (turn k d (omega arith)) ∙ twice a (get_or old k d) (nat_eq k m) (is_among k ms) ∙ so_far k d lt
 
 -- one number is lowered
 less_is : (a v : ℕ) → a < v → lowered true a v ≡ a
@@ -127,10 +112,6 @@ lowers_one (x ∷ xs) zero a e lt less zero d in_ = sym (less_is a x less) ∙ f
 lowers_one (x ∷ xs) zero a e lt less (suc k) d in_ = later_other k a (get_or xs k d)
 lowers_one (x ∷ xs) (suc n) a e lt less zero d in_ = first_other n a x
 lowers_one (x ∷ xs) (suc n) a e lt less (suc k) d in_ = lowers_one xs n a e (omega arith) less k d (omega arith) ∙ ap (λ (b : Bool). lowered b a (get_or xs k d)) (one_more k n (nat_eq k n) refl)
-
--- or stays
-pub lowers_past : (xs : List ℕ) (n a : ℕ) → length xs ≤ n → Lowers (λ k. nat_eq k n) a xs xs
-lowers_past xs n a past = lowers_same (λ k. nat_eq k n) a xs (λ k lt. (let ne : k < n = omega arith in grind (arith, nat_tests)))
 
 pub lowers_less : (xs : List ℕ) (n a e : ℕ) → n < length xs → get_or xs n e ≤ a → Lowers (λ k. nat_eq k n) a xs xs
 lowers_less [] n a e lt le k d in_ = absurd (omega arith)
@@ -187,31 +168,6 @@ module _ (k m : ℕ) (ms : List ℕ) where
   not_denied false true p = and_false (nat_eq k m) (is_among k p.denied)
   not_denied false false p = and_false (nat_eq k m) (is_among k p.denied)
 
--- a node without members adds nothing
-always_same : (a d : Bool) (p : Polarity) → spread_denied d always (spread_asserted a always p) ≡ p
-always_same true true p = refl
-always_same true false p = refl
-always_same false true p = refl
-always_same false false p = refl
-
-atom_same : (l : Literal) (a d : Bool) (p : Polarity) → spread_denied d (atom l) (spread_asserted a (atom l) p) ≡ p
-atom_same l true true p = refl
-atom_same l true false p = refl
-atom_same l false true p = refl
-atom_same l false false p = refl
-
-polarities_same : (nodes n : ℕ) (asserted denied : List ℕ) (p q : ℕ → Polarity) → ((r : ℕ) → r < n → q r ≡ p r) → AreFirstPolarities nodes n asserted denied p → AreFirstPolarities nodes n asserted denied q
-polarities_same nodes n asserted denied p q e h = record {
-  asserted_are = firsts_same nodes n asserted (λ r. (p r).asserted) (λ r. (q r).asserted) h.asserted_are (λ k r lt. ap (λ (x : Polarity). is_among k x.asserted) (e r lt));
-  denied_are = firsts_same nodes n denied (λ r. (p r).denied) (λ r. (q r).denied) h.denied_are (λ k r lt. ap (λ (x : Polarity). is_among k x.denied) (e r lt));
-}
-
-pub spread_always : (nodes n number : ℕ) (asserted denied : List ℕ) (p : ℕ → Polarity) → AreFirstPolarities nodes n asserted denied p → AreFirstPolarities nodes n asserted denied (λ r. spread number always (p r))
-spread_always nodes n number asserted denied p h = polarities_same nodes n asserted denied p (λ r. spread number always (p r)) (λ r lt. always_same (is_among number (p r).asserted) (is_among number (p r).denied) (p r)) h
-
-pub spread_atom : (nodes n number : ℕ) (l : Literal) (asserted denied : List ℕ) (p : ℕ → Polarity) → AreFirstPolarities nodes n asserted denied p → AreFirstPolarities nodes n asserted denied (λ r. spread number (atom l) (p r))
-spread_atom nodes n number l asserted denied p h = polarities_same nodes n asserted denied p (λ r. spread number (atom l) (p r)) (λ r lt. atom_same l (is_among number (p r).asserted) (is_among number (p r).denied) (p r)) h
-
 module _ (nodes n number : ℕ) (asserted denied : List ℕ) (p : ℕ → Polarity) (in_ : number < nodes) (h : AreFirstPolarities nodes n asserted denied p) where
   pub by_asserted : (d : ℕ) → IsFirst (λ r. is_among number (p r).asserted) n (get_or asserted number d)
   by_asserted d = subst (IsFirst (λ r. is_among number (p r).asserted) n) (get_any asserted number n d (let c = h.asserted_are.count_is in omega arith)) (h.asserted_are.each number in_)
@@ -251,52 +207,8 @@ module _ (nodes n number : ℕ) (asserted denied : List ℕ) (p : ℕ → Polari
 abbrev pub upto : ℕ → List ℕ → ℕ → List ℕ
 upto idx roots r = if nat_lt r idx then slice_index roots r ∷ [] else []
 
-first_itself : (n idx : ℕ) → IsFirst (λ r. nat_eq r idx) n idx
-first_itself n idx = record { before = λ r lt in_. grind (arith, nat_tests); there = λ lt. grind (arith, nat_tests) }
-
 one_or_none : (k m : ℕ) (x : Bool) → is_among k (m ∷ []) ≡ ((nat_eq k m && true) || false)
 one_or_none k m x = ap (λ (b : Bool). b || false) (and_true (nat_eq k m))
-
-upto_step : (k idx r : ℕ) (roots : List ℕ) → is_among k (upto (suc idx) roots r) ≡ ((nat_eq k (slice_index roots idx) && nat_eq r idx) || is_among k (upto idx roots r))
-upto_step k idx r roots = elim (cases_lt r idx) [
-  | inl less ↦
-      let now : nat_lt r (suc idx) ≡ true = grind (arith, nat_tests) in
-      let before : nat_lt r idx ≡ true = grind (arith, nat_tests) in
-      let other : nat_eq r idx ≡ false = grind (arith, nat_tests) in
-      ap (λ (b : Bool). is_among k (if b then slice_index roots r ∷ [] else [])) (now ∙ sym before)
-      ∙ and_false (nat_eq k (slice_index roots idx)) (is_among k (upto idx roots r))
-      ∙ ap (λ (b : Bool). (nat_eq k (slice_index roots idx) && b) || is_among k (upto idx roots r)) (sym other)
-  | inr more ↦ here (nat_eq r idx) refl more
-]
-  where
-    here : (b : Bool) → nat_eq r idx ≡ b → idx ≤ r → is_among k (upto (suc idx) roots r) ≡ ((nat_eq k (slice_index roots idx) && nat_eq r idx) || is_among k (upto idx roots r))
-    here true e more =
-        let same : r ≡ idx = grind (arith, nat_tests) in
-        let now : nat_lt r (suc idx) ≡ true = grind (arith, nat_tests) in
-        let before : nat_lt r idx ≡ false = grind (arith, nat_tests) in
-        ap (λ (c : Bool). is_among k (if c then slice_index roots r ∷ [] else [])) now
-        ∙ ap (λ (i : ℕ). is_among k (slice_index roots i ∷ [])) same
-        ∙ one_or_none k (slice_index roots idx) true
-        ∙ ap (λ (c : Bool). (nat_eq k (slice_index roots idx) && c) || false) (sym e)
-        ∙ ap (λ (c : Bool). (nat_eq k (slice_index roots idx) && nat_eq r idx) || is_among k (if c then slice_index roots r ∷ [] else [])) (sym before)
-    here false e more =
-        let now : nat_lt r (suc idx) ≡ false = grind (arith, nat_tests) in
-        let before : nat_lt r idx ≡ false = grind (arith, nat_tests) in
-        ap (λ (c : Bool). is_among k (if c then slice_index roots r ∷ [] else [])) (now ∙ sym before)
-        ∙ and_false (nat_eq k (slice_index roots idx)) (is_among k (upto idx roots r))
-        ∙ ap (λ (b : Bool). (nat_eq k (slice_index roots idx) && b) || is_among k (upto idx roots r)) (sym e)
-
-pub roots_begin : (nodes : ℕ) (roots firsts : List ℕ) → AreFirst nodes (length roots) firsts (λ r. []) → AreFirst nodes (length roots) firsts (upto 0 roots)
-roots_begin nodes roots firsts h = firsts_same nodes (length roots) firsts (λ r. []) (upto 0 roots) h (λ k r lt. (let none : nat_lt r 0 ≡ false = grind (arith, nat_tests) in ap (λ (b : Bool). is_among k (if b then slice_index roots r ∷ [] else [])) none))
-
-pub roots_turn : (nodes : ℕ) (roots firsts new : List ℕ) (idx next root : ℕ) → root ≡ slice_index roots idx → next ≡ suc idx → AreFirst nodes (length roots) firsts (upto idx roots) → length new ≡ length firsts → Lowers (λ k. nat_eq k root) idx firsts new → AreFirst nodes (length roots) new (upto next roots)
-roots_turn nodes roots firsts new idx next root is_root is_next h same lowers =
-    subst (λ (i : ℕ). AreFirst nodes (length roots) new (upto i roots)) (sym is_next)
-    (firsts_lowered nodes (length roots) idx firsts new (λ k. nat_eq k (slice_index roots idx)) (λ r. nat_eq r idx) (upto idx roots) (upto (suc idx) roots) h (first_itself (length roots) idx) same
-    (subst (λ (x : ℕ). Lowers (λ k. nat_eq k x) idx firsts new) is_root lowers) (λ k r lt. upto_step k idx r roots))
-
-pub roots_end : (nodes : ℕ) (roots firsts : List ℕ) (idx : ℕ) → length roots ≤ idx → AreFirst nodes (length roots) firsts (upto idx roots) → AreFirst nodes (length roots) firsts (λ r. slice_index roots r ∷ [])
-roots_end nodes roots firsts idx all h = firsts_same nodes (length roots) firsts (upto idx roots) (λ r. slice_index roots r ∷ []) h (λ k r lt. (let in_ : nat_lt r idx ≡ true = (let less : r < idx = omega arith in grind (arith, nat_tests)) in ap (λ (b : Bool). is_among k (if b then slice_index roots r ∷ [] else [])) (sym in_)))
 
 -- ---- the pass
 
@@ -326,12 +238,6 @@ going_turn nodes roots left node asserted denied a d some within at turn g =
       are = subst (λ (n : ℕ). AreFirstPolarities n (length roots) a d (λ r. spread k node (g.polarity r))) count (turn g.polarity (subst (λ (n : ℕ). AreFirstPolarities n (length roots) asserted denied g.polarity) (sym count) g.are));
       goes_on = λ r lt. ap (λ (v : NodeValue). polarity_below k (shown nodes) (spread k v (g.polarity r))) at ∙ subst (λ (n : ℕ). polarity_below n (shown nodes) (g.polarity r) ≡ alone (shown nodes) roots r) is (g.goes_on r lt);
     }
-
-pub going_end : (nodes : List Node) (roots : List ℕ) (left : ℕ) (asserted denied : List ℕ) → left ≤ 0 → IsGoing nodes roots left asserted denied → AreFirstPolarities (length nodes) (length roots) asserted denied (alone (shown nodes) roots)
-going_end nodes roots left asserted denied none g =
-    let is : left ≡ 0 = omega arith in
-    polarities_same (length nodes) (length roots) asserted denied g.polarity (alone (shown nodes) roots)
-    (λ r lt. sym (subst (λ (n : ℕ). polarity_below n (shown nodes) (g.polarity r) ≡ alone (shown nodes) roots r) is (g.goes_on r lt))) g.are
 
 -- ---- the first root
 

@@ -122,11 +122,5 @@ marked_end nodes roots left a d i none m =
       inner_are = subst (λ (xs : List ℕ). AreMarks (length nodes) i xs) inner m.inner_are;
     }
 
-pub same_polarity_marks : (count : ℕ) (a d b e : List Bool) (p : Polarity) → b ≡ a → e ≡ d → ArePolarityMarks count a d p → ArePolarityMarks count b e p
-same_polarity_marks count a d b e p f g h = record {
-  asserted_are = subst (λ (xs : List Bool). AreMarks count xs p.asserted) (sym f) h.asserted_are;
-  denied_are = subst (λ (xs : List Bool). AreMarks count xs p.denied) (sym g) h.denied_are;
-}
-
 pub same_marks : (count : ℕ) (a b : List Bool) (xs : List ℕ) → b ≡ a → AreMarks count a xs → AreMarks count b xs
 same_marks count a b xs f h = subst (λ (ms : List Bool). AreMarks count ms xs) (sym f) h

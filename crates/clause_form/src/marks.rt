@@ -9,17 +9,31 @@ use idl_node::Node;
 use std::alloc::{AllocError, Global};
 
 /// The asserted and the denied nodes.
-#[derive(Drop)]
 pub struct PolarityMarks {
     pub asserted: Vec<bool>,
     pub denied: Vec<bool>,
 }
 
+impl Drop for PolarityMarks {
+    fn drop(self) {
+        let PolarityMarks { asserted, denied } = self;
+        drop(asserted);
+        drop(denied);
+    }
+}
+
 /// All of them.
-#[derive(Drop)]
 pub struct NodeMarks {
     pub polarity: PolarityMarks,
     pub inner: Vec<bool>,
+}
+
+impl Drop for NodeMarks {
+    fn drop(self) {
+        let NodeMarks { polarity, inner } = self;
+        drop(polarity);
+        drop(inner);
+    }
 }
 
 fn mark(marks: &mut [bool], number: u32)

@@ -7,12 +7,18 @@ ghost use Rattle.clause_form.specs.ClauseForm.{fresh_point};
 use std::alloc::{AllocError, Global};
 
 /// The points of a problem.
-#[derive(Drop)]
 pub struct Numbering {
     /// For each node the point that is next: an inner node's fresh point.
     pub fresh: Vec<u32>,
     /// How many there are, the fresh ones among them.
     pub points: u32,
+}
+
+impl Drop for Numbering {
+    fn drop(self) {
+        let Numbering { fresh, points: _ } = self;
+        drop(fresh);
+    }
 }
 
 /// Fresh points follow so many points, by ascending node numbers.

@@ -117,11 +117,6 @@ pushed order place n e inv =
       ordered = pushed_half place order n (omega arith) (omega arith) inv.ordered;
     }
 
-pub pushed_flags : (count n : ℕ) (place : List ℕ) → count ≤ n → flags count (place ++ n ∷ []) ≡ flags count place ++ false ∷ []
-pushed_flags count n place le =
-    let no : nat_lt n count ≡ false = grind (arith, nat_tests) in
-    map-append (λ (p : ℕ). nat_lt p count) place (n ∷ []) ∙ ap (λ (b : Bool). flags count place ++ b ∷ []) no
-
 -- the flag of a number
 pub flag_at : (count : ℕ) (place : List ℕ) (k : ℕ) (b : Bool) → slice_get (flags count place) k ≡ Some b → (k < length place) × (nat_lt (get_or place k 0) count ≡ b)
 flag_at count place k b e =
@@ -248,11 +243,6 @@ removed_set order place order_new place_new count k h e eo ep =
     let n = length-twice place (get_or order (get_or place k 0) 0) (count - 1) (get_or order (count - 1) 0) (get_or place k 0) in
     rw (eo, ep) (record { inverse = brought order place k (count - 1) h.inverse at.0 (omega (arith, at.1)); within = omega arith })
 
-pub pushed_set : (order place order_new place_new : List ℕ) (count : ℕ) → IsSet count order place → order_new ≡ order ++ length place ∷ [] → place_new ≡ place ++ length place ∷ [] → IsSet count order_new place_new
-pushed_set order place order_new place_new count h eo ep =
-    let within = h.within in
-    rw (eo, ep) (record { inverse = pushed order place (length place) refl h.inverse; within = omega (arith, length-append place (length place ∷ [])) })
-
 pub none_in : (count : ℕ) (place : List ℕ) → count ≡ 0 → NoMember (flags count place)
 none_in count place z k e = let at = flag_at count place k true e in let below : get_or place k 0 < count = let t = at.1 in grind (arith, nat_tests) in absurd (omega arith)
 
@@ -275,6 +265,3 @@ has_room order place count k h e =
     let low = (h.inverse.placed k at.0).0 in
     let same = h.inverse.same in
     omega arith
-
-pub flag_within : (order place : List ℕ) (count k : ℕ) (b : Bool) → slice_get (flags count place) k ≡ Some b → k < length place
-flag_within order place count k b e = (flag_at count place k b e).0

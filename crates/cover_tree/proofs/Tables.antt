@@ -86,10 +86,6 @@ held_most (Held seat ∷ nodes) = omega (arith, held_most nodes)
 held_most (Shut lemma ∷ nodes) = omega (arith, held_most nodes)
 held_most (Split l n ∷ nodes) = omega (arith, held_most nodes)
 
-pub weaker_none : {P Q : Type 0} (r : Option ℕ) → (P → Q) → IfNone r P → IfNone r Q
-weaker_none None f h = f h
-weaker_none (Some k) f h = tt
-
 -- the walk has come to the root
 pub cube_end : (links : List Link) (at id : ℕ) (cube turned res : List Literal) → at ≡ 0 → res ≡ turned → turned ≡ reverse cube → get_or (paths_of links) at [] ++ reverse cube ≡ get_or (paths_of links) id [] → res ≡ get_or (paths_of links) id []
 cube_end links at id cube turned res z er et h =

@@ -15,7 +15,6 @@ use stn_core::{Literal, Literals, negate};
 ///
 /// It takes some 60 bytes a number. Which leaves are free and which are held stands in two sets beside the
 /// table, so that one of either is found in constant time.
-#[derive(Drop)]
 pub struct Cover {
     /// Of each number but 0.
     links: Vec<Link>,
@@ -23,6 +22,22 @@ pub struct Cover {
     free: Members,
     held: Members,
     holds: usize,
+}
+
+impl Drop for Cover {
+    fn drop(self) {
+        let Cover {
+            links,
+            nodes,
+            free,
+            held,
+            holds: _,
+        } = self;
+        drop(links);
+        drop(nodes);
+        drop(free);
+        drop(held);
+    }
 }
 
 impl Model for Cover {

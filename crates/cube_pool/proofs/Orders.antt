@@ -64,10 +64,3 @@ sorted_hands pool hands sorted are permuted rise =
     let once : (n : ℕ) → 0 ≤ n → n < 0 + length sorted → times n sorted ≡ 1 = λ n low high. sum_by-IsPermutation (one_for n) hands sorted permuted ∙ are.2 n (omega (arith, high, count, are.0)) in
     let pools : All (λ (d : Doings). d.pool ≡ pool) sorted = All-permutation (λ (d : Doings). d.pool ≡ pool) hands sorted permuted are.1 in
     (count ∙ are.0, λ k d l. (pools k d l, omega (arith, numbers_from 0 sorted (rises sorted rise) once k d l)))
-
-pub settled_hands : (hands sorted : List Doings) (left : List ℕ) → IsPermutation hands sorted → AreSettled sorted left → AreSettled hands left
-settled_hands hands sorted left permuted h w =
-    let put : pushed_by w sorted ≡ pushed_by w hands = sum_by-IsPermutation (λ (d : Doings). weigh w d.pushed) hands sorted permuted in
-    let got : fetched_by w sorted ≡ fetched_by w hands = sum_by-IsPermutation (λ (d : Doings). weigh_all w d.fetched) hands sorted permuted in
-    let s = h w in
-    omega (arith, put, got, s)

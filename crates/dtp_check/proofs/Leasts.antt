@@ -58,11 +58,6 @@ in_range d le = let e : nat_le (unsigned_abs d) objective_limit ≡ true = grind
 pub out_of_range : (d : ℤ) → (unsigned_abs d ≤ objective_limit → ⊥) → range_flaw d ≡ Some OutOfRange
 out_of_range d none = let e : nat_le (unsigned_abs d) objective_limit ≡ false = grind (arith, nat_tests) in range_by d false e
 
--- what is no `Value` is beyond it
-pub too_far : (d : ℤ) → (FitsSigned w128 d → ⊥) → unsigned_abs d ≤ objective_limit → ⊥
-too_far (pos n) none le = none (omega (arith, ints))
-too_far (negsuc n) none le = none (omega (arith, ints))
-
 -- a value within it is the same read back from its bits
 fits_within : (d : ℤ) → IsWithinLimit d → FitsSigned w128 d
 fits_within (pos n) h = let high = h.high in omega (arith, ints)

@@ -36,9 +36,6 @@ part_goes_on bytes place mid x xs end behind spells apart e rest =
 pub record IsWalked (bytes : List ℕ) (place commands : ℕ) : Type 0 where
   pub whole : (rest : List Sexpr) (end : PartEnd) (behind : ℕ) → ScriptPart bytes place rest end behind → (xs : List Sexpr) × ScriptPart bytes 0 xs end behind × (length xs ≡ commands + length rest)
 
-pub walked_none : (bytes : List ℕ) → IsWalked bytes 0 0
-walked_none bytes = record { whole = λ rest end behind h. (rest, h, omega arith) }
-
 pub walked_more : (bytes : List ℕ) (place mid commands : ℕ) (x : Sexpr) → IsWalked bytes place commands → Spells bytes place x mid → IsApart x → is_exit x ≡ false → IsWalked bytes mid (commands + 1)
 walked_more bytes place mid commands x h spells apart e = record {
   whole = λ rest end behind p.

@@ -23,7 +23,7 @@ pub fn with_question(
 {
     let clause = Clause::from_slice(alloc, &[below(x, y, value)])?;
     let points = problem.points;
-    let mut clauses = problem.clauses.into_vec();
+    let mut clauses = problem.into_clauses().into_vec();
     clauses.push(clause)?;
     Ok(Problem {
         points,
@@ -38,7 +38,7 @@ pub fn without_question(problem: Problem) -> Problem
         → problem.clauses ≡ clauses ++ last ∷ [] → result.clauses ≡ clauses }
 {
     let points = problem.points;
-    let mut clauses = problem.clauses.into_vec();
+    let mut clauses = problem.into_clauses().into_vec();
     clauses.pop();
     Problem {
         points,

@@ -9,7 +9,6 @@ use std::marker::Model;
 pub const COUNT_LIMIT: u32 = 40;
 
 /// A plan with its draws.
-#[derive(Drop)]
 pub struct Shop {
     jobs: u32,
     machines: u32,
@@ -17,6 +16,19 @@ pub struct Shop {
     deadline: u32,
     /// for each job one for its first machine, and one for each duration
     draws: Vec<u32>,
+}
+
+impl Drop for Shop {
+    fn drop(self) {
+        let Shop {
+            jobs: _,
+            machines: _,
+            start: _,
+            deadline: _,
+            draws,
+        } = self;
+        drop(draws);
+    }
 }
 
 impl Model for Shop {

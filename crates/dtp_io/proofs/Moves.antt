@@ -32,7 +32,3 @@ took_more a b c all buf count limit p q le lt =
 pub took_within : (a b c : Option (List ℕ)) (all buf : List ℕ) (count limit : ℕ) → Consumes a b all → Consumes b c (take count buf) → count ≤ length buf → length all + count ≤ limit → TookWithin a c limit
 took_within a b c all buf count limit p q le within =
     (all ++ take count buf, Consumes-trans a b c all (take count buf) p q, omega (arith, length-append all (take count buf), length-take-le count buf le))
-
--- a failed read
-pub took_no_more : (a b c : Option (List ℕ)) (all : List ℕ) (limit : ℕ) → Consumes a b all → Keeps b c → length all ≤ limit → TookWithin a c limit
-took_no_more a b c all limit p k within = (all, Consumes-kept a b c all p k, within)

@@ -7,18 +7,6 @@ use Rattle.idl_linear.specs.Forms.{AscendAbove}
 use Rattle.idl_linear.specs.code.Trees.{part_at, coefficient_at}
 use Rattle.idl_linear.proofs.Coefficients.{summand, coefficient-put, coefficient-with, coefficient-collected, coefficient-append, ascend_weaker, same_by_coefficients, ascend-put, ascend-with, AllAbove, ascend-collected}
 
--- insertions commute
-pub with-with : (m : ℕ) (s t : Summand) (xs : List Summand) → m < s.point → m < t.point → AscendAbove m xs → with_summand s (with_summand t xs) ≡ with_summand t (with_summand s xs)
-with-with m s t xs above over a =
-    same_by_coefficients m (with_summand s (with_summand t xs)) (with_summand t (with_summand s xs))
-    (ascend-with m s (with_summand t xs) above (ascend-with m t xs over a)) (ascend-with m t (with_summand s xs) over (ascend-with m s xs above a))
-    (λ p.
-    let first = coefficient-with p s (with_summand t xs) in
-    let then = coefficient-with p t xs in
-    let other = coefficient-with p t (with_summand s xs) in
-    let last = coefficient-with p s xs in
-    omega (arith, ints, first, then, other, last))
-
 -- an insertion before everything
 pub with-before : (m : ℕ) (s : Summand) (xs : List Summand) → m < s.point → AscendAbove s.point xs → with_summand s xs ≡ put_before s xs
 with-before m s xs above a =

@@ -74,7 +74,3 @@ ending_ends summands ends from h all =
 pub number_found : (p : ℕ × ℕ) (number constant n : ℤ) → neg_ℤ constant ≡ number → Some n ≡ cond (is_within number_limit number) (Some number) None → Ok (record { x = p.0; y = p.1; n = n }) ≡ difference_by (Some p) constant
 number_found p number constant n e h =
     sym (ap (λ (z : ℤ). cond {A = Result Difference DifferenceRefusal} (is_within number_limit z) (Ok (record { x = p.0; y = p.1; n = z })) (Err BoundTooLarge)) e ∙ accepted_by p number n (is_within number_limit number) h)
-
-pub number_beyond : (p : ℕ × ℕ) (number constant : ℤ) → neg_ℤ constant ≡ number → None ≡ cond (is_within number_limit number) (Some number) None → Err BoundTooLarge ≡ difference_by (Some p) constant
-number_beyond p number constant e h =
-    sym (ap (λ (z : ℤ). cond {A = Result Difference DifferenceRefusal} (is_within number_limit z) (Ok (record { x = p.0; y = p.1; n = z })) (Err BoundTooLarge)) e ∙ refused_by p number (is_within number_limit number) h)

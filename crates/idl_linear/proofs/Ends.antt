@@ -116,13 +116,3 @@ ends_step e s rest whole o h f =
 abbrev pub IsBelow : ℕ → Option Met → Type 0
 IsBelow limit None = Unit {0}
 IsBelow limit (Some e) = (e.x < limit) × (e.y < limit)
-
-below_by : (limit : ℕ) (b : Bool) (o p : Option Met) → IsBelow limit o → IsBelow limit p → IsBelow limit (cond b o p)
-below_by limit true o p h k = h
-below_by limit false o p h k = k
-
-pub ends_below : (limit : ℕ) (e : Met) (s : Summand) (o : Option Met) → o ≡ ends_with e s → e.x < limit → e.y < limit → s.point < limit → IsBelow limit o
-ends_below limit e s o f x y p = subst (λ (q : Option Met). IsBelow limit q) (sym f)
-    (below_by limit (int_eq s.coefficient (pos 0)) _ _ (x, y)
-    (below_by limit (int_eq s.coefficient (pos 1) && (e.x == 0)) _ _ (p, y)
-    (below_by limit (int_eq s.coefficient (negsuc 0) && (e.y == 0)) _ _ (x, p) tt)))

@@ -39,9 +39,6 @@ all_within-more xs i m n d lt h e =
     let one : AllWithin (unsigned_abs s.coefficient) (s ∷ []) = (within-absolute s.coefficient, tt) in
     subst (λ (l : List Summand). AllWithin n l) (sym (take_more xs i d lt)) (all_within-both m (unsigned_abs s.coefficient) n (take i xs) (s ∷ []) e h one)
 
-pub all_within-one : (s : Summand) → AllWithin (unsigned_abs s.coefficient) (s ∷ [])
-all_within-one s = (within-absolute s.coefficient, tt)
-
 pub all_within-negatives : (n : ℕ) (xs : List Summand) → AllWithin n xs → AllWithin n (map negative_summand xs)
 all_within-negatives n [] h = tt
 all_within-negatives n (x ∷ xs) h =

@@ -135,9 +135,6 @@ pub record IsPutting (negated : Bool) (summands tree now : List Summand) (start 
   pub each : AllByRecursion IsSummand (drop start summands)
   pub same : collected (signed negated (drop start summands) ++ now) ≡ collected (signed negated summands ++ tree)
 
-pub putting_starts : (negated : Bool) (summands tree : List Summand) → RiseFrom 1 summands → AllByRecursion IsSummand summands → IsRest tree → IsPutting negated summands tree tree 0
-putting_starts negated summands tree r each rest = record { len = omega arith; rest = rest; rises = r; each = each; same = refl }
-
 all_above : (negated : Bool) (xs now : List Summand) → AllByRecursion IsSummand xs → IsRest now → AllAbove 0 (signed negated xs ++ now)
 all_above negated xs now each rest = all_above-append 0 (signed negated xs) now (each_above (signed negated xs) (each-signed negated xs each)) (all_above-ascending 0 now rest.ascends)
 

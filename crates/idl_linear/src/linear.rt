@@ -15,11 +15,20 @@ use std::alloc::{AllocError, Global};
 use std::marker::Model;
 
 /// A linear term: time points with coefficients, and a constant. Coefficients are within 2^20 and the constant within 2^62.
-#[derive(Drop)]
 pub struct Linear {
     /// By ascending time points, none with the coefficient 0.
     summands: Held,
     constant: i64,
+}
+
+impl Drop for Linear {
+    fn drop(self) {
+        let Linear {
+            summands,
+            constant: _,
+        } = self;
+        drop(summands);
+    }
 }
 
 impl Model for Linear {

@@ -74,9 +74,6 @@ module _ (Good : Literal → Type 0) (nodes : List NodeValue) (node : NodeValue)
 
 -- ---- other tables
 
-pub table_of-none : (Good : Literal → Type 0) → IsTableOf Good []
-table_of-none Good k h = absurd (omega arith)
-
 node_of-better : (Good Better : Literal → Type 0) → ((l : Literal) → Good l → Better l) → (nodes : List NodeValue) (k : ℕ) (node : NodeValue) → IsNodeOf Good nodes k node → IsNodeOf Better nodes k node
 node_of-better Good Better better nodes k always h = tt
 node_of-better Good Better better nodes k (atom l) h = better l h
@@ -87,21 +84,3 @@ node_of-better Good Better better nodes k (disjunction ms) h = h
 -- what is so of good literals is so of a table of them
 pub table_of-better : (Good Better : Literal → Type 0) → ((l : Literal) → Good l → Better l) → (nodes : List NodeValue) → IsTableOf Good nodes → IsTableOf Better nodes
 table_of-better Good Better better nodes table k h = node_of-better Good Better better nodes k (get_or nodes k always) (table k h)
-
-node_of-front : (Good : Literal → Type 0) (nodes added : List NodeValue) (k : ℕ) (node : NodeValue) → k ≤ length nodes → IsNodeOf Good (nodes ++ added) k node → IsNodeOf Good nodes k node
-node_of-front Good nodes added k always le h = tt
-node_of-front Good nodes added k (atom l) le h = h
-node_of-front Good nodes added k (denial m) le h =
-    let below : m < length nodes = omega (arith, h.0) in
-    (h.0, subst IsDeniable (get_or-append nodes added always m below) h.1)
-node_of-front Good nodes added k (conjunction ms) le h = h
-node_of-front Good nodes added k (disjunction ms) le h = h
-
--- a table that is cut is one
-pub table_of-front : (Good : Literal → Type 0) (nodes added : List NodeValue) → IsTableOf Good (nodes ++ added) → IsTableOf Good nodes
-table_of-front Good nodes added table k h =
-    subst (λ (n : NodeValue). IsNodeOf Good nodes k n) (get_or-append nodes added always k h)
-    (node_of-front Good nodes added k (get_or (nodes ++ added) k always) (omega arith) (table k (omega (arith, h, length-append nodes added))))
-
-pub table_of-take : (Good : Literal → Type 0) (nodes : List NodeValue) (count : ℕ) → IsTableOf Good nodes → IsTableOf Good (take count nodes)
-table_of-take Good nodes count table = table_of-front Good (take count nodes) (drop count nodes) (subst (λ (ns : List NodeValue). IsTableOf Good ns) (sym (take-append-drop count nodes)) table)

@@ -68,12 +68,6 @@ disjoined-grows nodes [] p e = placed-grows nodes (disjunction []) p e
 disjoined-grows nodes (k ∷ []) p e = there-grows nodes k p e
 disjoined-grows nodes (k ∷ j ∷ ms) p e = placed-grows nodes (disjunction (k ∷ j ∷ ms)) p e
 
-pub constant-grows : (nodes : List NodeValue) (p : Placed) → constant nodes ≡ Some p → IsGrown nodes p
-constant-grows nodes p e = placed-grows nodes always p e
-
-pub falsehood-grows : (nodes : List NodeValue) (q : Placed) → falsehood nodes ≡ Some q → IsGrown nodes q
-falsehood-grows nodes q e = then-grows nodes (constant nodes) (λ p. denied p.nodes p.number) q (constant-grows nodes) (λ p r f. denied-grows p.nodes p.number r f) e
-
 -- ---- a few nodes
 
 module _ (nodes : List NodeValue) (a b : ℕ) (q : Placed) where
@@ -97,15 +91,8 @@ two-grows nodes first second join q one two e =
     then-grows nodes first (λ p. then (second p) (λ r. placed r.nodes (join p.number r.number))) q one
     (λ p s f. then-grows p.nodes (second p) (λ r. placed r.nodes (join p.number r.number)) s (two p) (λ r t g. placed-grows r.nodes (join p.number r.number) t g) f) e
 
-pub equal-grows : (nodes : List NodeValue) (a b : ℕ) (q : Placed) → equal nodes a b ≡ Some q → IsGrown nodes q
-equal-grows nodes a b q e = two-grows nodes (not_or nodes a b) (λ p. or_not p.nodes a b) (λ j k. conjunction (j ∷ k ∷ [])) q (λ p. not_or-grows nodes a b p) (λ p r. or_not-grows p.nodes a b r) e
-
 pub different-grows : (nodes : List NodeValue) (a b : ℕ) (q : Placed) → different nodes a b ≡ Some q → IsGrown nodes q
 different-grows nodes a b q e = two-grows nodes (and_not nodes a b) (λ p. not_and p.nodes a b) (λ j k. disjunction (j ∷ k ∷ [])) q (λ p. and_not-grows nodes a b p) (λ p r. not_and-grows p.nodes a b r) e
-
-pub chosen-grows : (nodes : List NodeValue) (c a b : ℕ) (q : Placed) → chosen nodes c a b ≡ Some q → IsGrown nodes q
-chosen-grows nodes c a b q e =
-    two-grows nodes (not_or nodes c a) (λ p. placed p.nodes (disjunction (c ∷ b ∷ []))) (λ j k. conjunction (j ∷ k ∷ [])) q (λ p. not_or-grows nodes c a p) (λ p r. placed-grows p.nodes (disjunction (c ∷ b ∷ [])) r) e
 
 -- ---- lists
 
@@ -124,9 +111,3 @@ pub each_pair-grows : (make : List NodeValue → ℕ → ℕ → Option Placed) 
 each_pair-grows make grows nodes members [] q e = conjoined-grows nodes members q e
 each_pair-grows make grows nodes members (pair ∷ rest) q e =
     then-grows nodes (make nodes pair.0 pair.1) (λ p. each_pair make p.nodes (members ++ p.number ∷ []) rest) q (grows nodes pair.0 pair.1) (λ p r f. each_pair-grows make grows p.nodes (members ++ p.number ∷ []) rest r f) e
-
-pub all_equal-grows : (nodes : List NodeValue) (members : List ℕ) (q : Placed) → all_equal nodes members ≡ Some q → IsGrown nodes q
-all_equal-grows nodes members q e = each_pair-grows equal equal-grows nodes [] (neighbours members) q e
-
-pub all_different-grows : (nodes : List NodeValue) (members : List ℕ) (q : Placed) → all_different nodes members ≡ Some q → IsGrown nodes q
-all_different-grows nodes members q e = each_pair-grows different different-grows nodes [] (pairs members) q e

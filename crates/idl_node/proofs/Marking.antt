@@ -45,9 +45,3 @@ pub front_pushed : (front marks now : List Bool) (holds : Bool) → BeginsWith m
 front_pushed front marks now holds h e =
     let few : length front ≤ length marks = omega (arith, ap length h, length-take (length front) marks) in
     ap (take (length front)) e ∙ take-append-le (length front) marks (holds ∷ []) few ∙ h
-
--- what begins with a list that begins with another
-pub front_of_front : (front marks now : List Bool) → BeginsWith marks front → BeginsWith now marks → BeginsWith now front
-front_of_front front marks now h k =
-    let few : length front ≤ length marks = omega (arith, ap length h, length-take (length front) marks) in
-    ap (take (length front)) (sym (take-append-drop (length marks) now)) ∙ ap (λ (xs : List Bool). take (length front) (xs ++ drop (length marks) now)) k ∙ take-append-le (length front) marks (drop (length marks) now) few ∙ h

@@ -9,18 +9,6 @@ use Rattle.idl_node.specs.code.Made.{Makes}
 use Rattle.idl_node.specs.Making.{then}
 use Rattle.idl_node.specs.Nodes.{NodeValue, Placed}
 
--- what is made after a node that is there
-pub makes_next : (middle now : List NodeValue) (first : Option Placed) (next : Placed → Option Placed) (k : ℕ) (result : Result ℕ NodeError) → Makes middle first (Ok k) → Makes now (next (record { nodes = middle; number = k })) result → Makes now (then first next) result
-makes_next middle now first next k result e h = subst (λ (o : Option Placed). Makes now (then o next) result) (sym e) h
-
--- nothing is made after an error
-pub makes_fails : (middle now : List NodeValue) (first : Option Placed) (next : Placed → Option Placed) (error : NodeError) → Makes middle first (Err error) → Makes now (then first next) (Err error)
-makes_fails middle now first next (Refused TooLarge) h = ap (λ (o : Option Placed). then o next) h
-makes_fails middle now first next OutOfMemory h = tt
-
-pub makes_memory : (now : List NodeValue) (made : Option Placed) (error : NodeError) → error ≡ OutOfMemory → Makes now made (Err error)
-makes_memory now made error e = subst (λ (q : NodeError). Makes now made (Err q)) (sym e) tt
-
 pub take_whole : {A : Type 0} (xs : List A) → take (length xs) xs ≡ xs
 take_whole xs = take_all (length xs) xs (omega arith)
 

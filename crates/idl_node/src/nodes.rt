@@ -12,9 +12,15 @@ use std::alloc::Global;
 use std::marker::Model;
 
 /// Different nodes, found by hash. A node's number is its place, from 0. There are `NODES_LIMIT` at most.
-#[derive(Drop)]
 pub struct Nodes {
     set: IndexSet<Node>,
+}
+
+impl Drop for Nodes {
+    fn drop(self) {
+        let Nodes { set } = self;
+        drop(set);
+    }
 }
 
 impl Model for Nodes {

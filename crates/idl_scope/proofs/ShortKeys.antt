@@ -4,18 +4,6 @@ use Rattle.std.specs.Cmp.Lexicographic.{bytes_decides}
 use Rattle.std.specs.Str.{bytes_eq}
 use Rattle.idl_scope.specs.code.Keys.{padded}
 
--- eight bytes one by one
-pub front_bytes : (xs : List ℕ) → slice_index_or xs 0 0 ∷ slice_index_or xs 1 0 ∷ slice_index_or xs 2 0 ∷ slice_index_or xs 3 0 ∷ slice_index_or xs 4 0 ∷ slice_index_or xs 5 0 ∷ slice_index_or xs 6 0 ∷ slice_index_or xs 7 0 ∷ [] ≡ padded 8 xs
-front_bytes [] = refl
-front_bytes (a ∷ []) = refl
-front_bytes (a ∷ b ∷ []) = refl
-front_bytes (a ∷ b ∷ c ∷ []) = refl
-front_bytes (a ∷ b ∷ c ∷ d ∷ []) = refl
-front_bytes (a ∷ b ∷ c ∷ d ∷ e ∷ []) = refl
-front_bytes (a ∷ b ∷ c ∷ d ∷ e ∷ f ∷ []) = refl
-front_bytes (a ∷ b ∷ c ∷ d ∷ e ∷ f ∷ g ∷ []) = refl
-front_bytes (a ∷ b ∷ c ∷ d ∷ e ∷ f ∷ g ∷ h ∷ rest) = refl
-
 -- the lists' first elements and the others are equal
 first_equal : (x y : ℕ) (xs ys : List ℕ) → (x ∷ xs) ≡ (y ∷ ys) → x ≡ y
 first_equal x y xs ys e = grind arith

@@ -20,13 +20,24 @@ struct Variable<'a> {
 }
 
 /// A scope, and the variables of the `let`s inside which a term is read; all found by hash.
-#[derive(Drop)]
 pub struct Locals<'s, 'a> {
     scope: &'s Scope<'a>,
     /// The innermost last.
     variables: Vec<Variable<'a>>,
     /// Of each name the place of its innermost variable.
     latest: IndexMap<&'a [u8], usize>,
+}
+
+impl Drop for Locals<'_, '_> {
+    fn drop(self) {
+        let Locals {
+            scope: _,
+            variables,
+            latest,
+        } = self;
+        drop(variables);
+        drop(latest);
+    }
 }
 
 impl<'s, 'a> Model for Locals<'s, 'a> {

@@ -13,11 +13,18 @@ use std::alloc::{AllocError, Global};
 use std::marker::Model;
 
 /// The declared names in order of declaration, with their sorts, found by hash. They are borrowed from the script.
-#[derive(Drop)]
 pub struct Names<'a> {
     set: IndexSet<Key<'a>>,
     /// Of each name, in the same order.
     sorts: Vec<Sort>,
+}
+
+impl Drop for Names<'_> {
+    fn drop(self) {
+        let Names { set, sorts } = self;
+        drop(set);
+        drop(sorts);
+    }
 }
 
 impl<'a> Model for Names<'a> {

@@ -24,12 +24,24 @@ pub enum FoundName<'s> {
 }
 
 /// The declared names, and the defined ones with what they stand for; all found by hash.
-#[derive(Drop)]
 pub struct Scope<'a> {
     names: Names<'a>,
     defined: IndexSet<&'a [u8]>,
     /// Of each defined name, in the same order.
     terms: Vec<Lowered>,
+}
+
+impl Drop for Scope<'_> {
+    fn drop(self) {
+        let Scope {
+            names,
+            defined,
+            terms,
+        } = self;
+        drop(names);
+        drop(defined);
+        drop(terms);
+    }
 }
 
 impl<'a> Model for Scope<'a> {

@@ -128,20 +128,6 @@ copied_first values trail before start is p = elim (undone_at (drop start trail)
       inr (start + later.0, omega arith, omega (arith, length-drop start trail), sym (ap (λ (d : Lowering). d.literal.x) (get_or-drop start trail later.0 no_lowering)) ∙ later.2)
 ]
 
-pub copied_next : (values : List ℤ) (trail : List Lowering) (before : List ℤ) (place : ℕ) → (entry_at trail place).literal.x < length before → ((p : ℕ) → IsCopied values trail before place p) → (p : ℕ) → IsCopied values trail (set before (entry_at trail place).literal.x (value_at values (entry_at trail place).literal.x)) (place + 1) p
-copied_next values trail before place x_in h p =
-    let x : ℕ = (entry_at trail place).literal.x in
-    elim (cases_eq p x) [
-      | inl here ↦ inl (ap (value_at (set before x (value_at values x))) here ∙ get_or-set_same before x (value_at values x) (pos 0) x_in ∙ sym (ap (value_at values) here))
-      | inr away ↦ elim (h p) [
-        | inl same ↦ inl (get_or-set_other before x p (value_at values x) (pos 0) away ∙ same)
-        | inr later ↦ elim (cases_eq later.0 place) [
-          | inl now ↦ absurd (away (sym later.3 ∙ ap (λ (k : ℕ). (entry_at trail k).literal.x) now))
-          | inr other ↦ (let from = later.1 in inr (later.0, omega arith, later.2, later.3))
-        ]
-      ]
-    ]
-
 pub copied_all : (values : List ℤ) (trail : List Lowering) (before : List ℤ) (place : ℕ) → length trail ≤ place → length before ≡ length values → ((p : ℕ) → IsCopied values trail before place p) → before ≡ values
 copied_all values trail before place past count h = ext_get_or (pos 0) before values count (λ p lt. elim (h p) [
   | inl same ↦ same

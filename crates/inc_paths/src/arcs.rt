@@ -7,13 +7,25 @@ use std::marker::Model;
 use stn_core::Literal;
 
 /// Literals, found by their second points: those of a point are a list that goes from the newest to the oldest.
-#[derive(Drop)]
 pub struct Arcs {
     literals: Vec<Literal>,
     /// for each point 1 more than the place of its newest literal, or 0
     heads: Vec<usize>,
     /// for each literal 1 more than the place of the next older one of its second point, or 0
     nexts: Vec<usize>,
+}
+
+impl Drop for Arcs {
+    fn drop(self) {
+        let Arcs {
+            literals,
+            heads,
+            nexts,
+        } = self;
+        drop(literals);
+        drop(heads);
+        drop(nexts);
+    }
 }
 
 impl Model for Arcs {

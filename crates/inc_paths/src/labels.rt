@@ -28,7 +28,6 @@ pub struct Lowering {
 }
 
 /// The points' values, and how they came to be.
-#[derive(Drop)]
 pub struct Labels {
     values: Vec<Value>,
     /// all lowerings since the beginning that have not been taken back
@@ -39,6 +38,22 @@ pub struct Labels {
     queue: BinaryHeap<(Fall, usize)>,
     /// the values as they were before the start: the order in the queue goes by them, and nothing else
     before: Vec<Value>,
+}
+
+impl Drop for Labels {
+    fn drop(self) {
+        let Labels {
+            values,
+            trail,
+            start: _,
+            queue,
+            before,
+        } = self;
+        drop(values);
+        drop(trail);
+        drop(queue);
+        drop(before);
+    }
 }
 
 impl Model for Labels {

@@ -19,7 +19,6 @@ use stn_core::{Added, Literal, Mark, Net, Value};
 /// and the lowerings that they made.
 ///
 /// Source: Ramalingam and Reps 1996; Cotton and Maler 2006.
-#[derive(Drop)]
 pub struct Network {
     points: u32,
     arcs: Arcs,
@@ -27,6 +26,21 @@ pub struct Network {
     /// for each literal the length of the trail before it
     ends: Vec<usize>,
     adds: u64,
+}
+
+impl Drop for Network {
+    fn drop(self) {
+        let Network {
+            points: _,
+            arcs,
+            labels,
+            ends,
+            adds: _,
+        } = self;
+        drop(arcs);
+        drop(labels);
+        drop(ends);
+    }
 }
 
 impl Model for Network {

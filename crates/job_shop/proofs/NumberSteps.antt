@@ -88,9 +88,6 @@ pub job_begins : (machines : ℕ) (rest : Rest) → next_job machines rest ≡ o
 unfolding next_job
 job_begins machines rest = let same : machines ≡ machines - 0 = omega arith in ap (λ (n : ℕ). operations n machines [] rest) same
 
-pub operations_end : (machines i : ℕ) (before : List Operation) (rest : Rest) → i ≡ machines → operations (machines - i) machines before rest ≡ Ok (before, rest)
-operations_end machines i before rest e = let none : machines - i ≡ 0 = omega (arith, e) in ap (λ (n : ℕ). operations n machines before rest) none
-
 abbrev job_then : ℕ → ℕ → List (List Operation) → List Operation × Rest → Result (List (List Operation) × Rest) JobRefusal
 job_then more machines before found = jobs more machines (before ++ found.0 ∷ []) found.1
 
@@ -111,11 +108,6 @@ module _ (count machines i : ℕ) (below : i < count) (before : List (List Opera
 
   pub jobs_stop : (why : JobRefusal) → next_job machines rest ≡ Err why → whole machines (jobs (count - i) machines before rest) ≡ Err why
   jobs_stop why e = ap (whole machines) (next_jobs ∙ ap (λ (r : Result (List Operation × Rest) JobRefusal). follows r (job_then (count - (i + 1)) machines before)) e)
-
-pub jobs_end : (count machines i : ℕ) (before : List (List Operation)) (rest : Rest) → i ≡ count → whole machines (jobs (count - i) machines before rest) ≡ shop_behind machines before rest
-jobs_end count machines i before rest e =
-    let none : count - i ≡ 0 = omega (arith, e) in
-    ap (λ (n : ℕ). whole machines (jobs n machines before rest)) none
 
 abbrev count_then : ℕ × Rest → Result Shop JobRefusal
 count_then count = follows (next_number 1 40 count.1) (λ machines. whole machines.0 (jobs count.0 machines.0 [] machines.1))

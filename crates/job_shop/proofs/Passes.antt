@@ -8,9 +8,6 @@ use Rattle.job_shop.specs.Plans.{start_in, IsPlan, IsLeastPlan}
 use Rattle.job_shop.specs.Tight.{IsReached, IsTight, StartsNoLater}
 use Rattle.job_shop.specs.code.Moving.{Timely, IsTimely, start_of, total, IsMoved, MovesOr}
 
-pub none_moved : (p : Timely) → IsMoved p p
-none_moved p = record { shop = refl; latest = refl; sooner = λ j k h. omega (arith, ints) }
-
 pub moved_more : (first now later : Timely) → IsMoved first now → IsMoved now later → IsMoved first later
 moved_more first now later one two = record {
   shop = two.shop ∙ one.shop;

@@ -19,9 +19,15 @@ pub struct Operation {
 }
 
 /// A job's operations, in the order in which they are done.
-#[derive(Drop)]
 pub struct Job {
     operations: Vec<Operation>,
+}
+
+impl Drop for Job {
+    fn drop(self) {
+        let Job { operations } = self;
+        drop(operations);
+    }
 }
 
 impl Model for Job {
@@ -66,10 +72,16 @@ impl Job {
 }
 
 /// A job shop.
-#[derive(Drop)]
 pub struct Jobs {
     machines: u32,
     jobs: Vec<Job>,
+}
+
+impl Drop for Jobs {
+    fn drop(self) {
+        let Jobs { machines: _, jobs } = self;
+        drop(jobs);
+    }
 }
 
 impl Model for Jobs {

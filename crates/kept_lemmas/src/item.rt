@@ -22,9 +22,15 @@ pub enum Item {
 }
 
 /// The items of an entry, in order. What they refute, if anything, the contracts say that make or check them.
-#[derive(Drop)]
 pub struct Items {
     items: Vec<Item>,
+}
+
+impl Drop for Items {
+    fn drop(self) {
+        let Items { items } = self;
+        drop(items);
+    }
 }
 
 impl Model for Items {
@@ -53,6 +59,7 @@ impl Items {
     pub fn into_vec(self) -> Vec<Item>
         ensures { result.items ≡ self }
     {
-        self.items
+        let Items { items } = self;
+        items
     }
 }

@@ -21,12 +21,26 @@ use stn_core::{Literal, Problem, Value, holds};
 
 /// A search of one problem that is kept from question to question: its searcher and net, and its lemmas, of which none rests on
 /// what a question assumes. Contracts see the net's points and the lemmas.
-#[derive(Drop)]
 pub struct KeptSearch {
     searcher: Searcher,
     net: Network,
     lemmas: Vec<Lemma>,
     pacing: Pacing,
+}
+
+impl Drop for KeptSearch {
+    fn drop(self) {
+        let KeptSearch {
+            searcher,
+            net,
+            lemmas,
+            pacing,
+        } = self;
+        drop(searcher);
+        drop(net);
+        drop(lemmas);
+        drop(pacing);
+    }
 }
 
 impl Model for KeptSearch {

@@ -72,33 +72,9 @@ module _ (first before now : Table) (shelf : Shelf) (clauses : List (List Litera
         ∙ sym (ap (facts_of shelf clauses) (take_more items i item at));
   }
 
--- a lemma of the entry's own
-pub own_added : (before now : Table) (shelf : Shelf) (clauses : List (List Literal)) (numbers : List ℕ) (lemma : Lemma) (number : ℕ) → number ≡ length before.lemmas.items → HasLemma before clauses numbers lemma now → AddsItem before shelf clauses numbers (Own lemma) now number
-own_added before now shelf clauses numbers lemma number e h =
-    let one = h.one_more in
-    record {
-      goes_on = record { whole = h.whole; longer = omega (arith, one); kept = h.kept };
-      within = omega (arith, one, e);
-      counted = inr (e, sym one);
-      fact = ap (fact_at (facts_in now)) e ∙ h.fact;
-    }
-
--- a kept one
-pub kept_added : (table : Table) (entries : List (List ℕ)) (clauses : List (List Literal)) (numbers : List ℕ) (kept : Kept) (number : ℕ) → IsWhole table → AreWithin table entries → number_of entries kept ≡ Some number → AddsItem table (shelf_in table entries) clauses numbers (Keep kept) table number
-kept_added table entries clauses numbers kept number whole all is = record {
-  goes_on = goes_nowhere table whole;
-  within = number_holds (facts_in table) entries (λ (n : ℕ). n < length table.lemmas.items) kept.entry kept.item number all is;
-  counted = inl (number_holds (facts_in table) entries (λ (n : ℕ). n < length table.lemmas.items) kept.entry kept.item number all is, refl);
-  fact = sym (ap fact_or_none (kept_is (facts_in table) entries kept number is));
-}
-
 number_found : (table : Facts) (found : Option ℕ) (fact : Fact) → option_map (fact_at table) found ≡ Some fact → (n : ℕ) × (found ≡ Some n)
 number_found table None fact e = absurd (cc)
 number_found table (Some n) fact e = (n, refl)
-
-pub kept_number : (table : Table) (entries : List (List ℕ)) (points : ℕ) (clauses : List (List Literal)) (facts : Facts) (kept : Kept) → IsItemRight (shelf_in table entries) points clauses facts (Keep kept) → (n : ℕ) × (number_of entries kept ≡ Some n)
-kept_number table entries points clauses facts kept right =
-    number_found (facts_in table) (number_of entries kept) right.fact (sym (by_entry (facts_in table) entries kept.entry kept.item) ∙ right.there)
 
 -- ---- over the entry
 
@@ -132,8 +108,3 @@ shelf_longer before now shelf clauses items entries all numbers within has e is 
 pub shelf_counted : (before now : Table) (shelf : Shelf) (clauses : List (List Literal)) (items : List Item) (entries all : List (List ℕ)) (numbers : List ℕ) → AreCounted before entries → HasItems before shelf clauses items now numbers → all ≡ entries ++ numbers ∷ [] → AreCounted now all
 shelf_counted before now shelf clauses items entries all numbers counted has e =
     subst (AreCounted now) (sym e) (counted_longer entries numbers (length before.lemmas.items) (length now.lemmas.items) counted has.counted)
-
--- an entry without items
-pub empty_counted : (table : Table) (entries all : List (List ℕ)) → AreCounted table entries → all ≡ entries ++ [] ∷ [] → AreCounted table all
-empty_counted table entries all counted e =
-    subst (AreCounted table) (sym e) (counted_longer entries [] (length table.lemmas.items) (length table.lemmas.items) counted refl)

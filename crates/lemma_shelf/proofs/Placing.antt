@@ -26,14 +26,6 @@ use Rattle.lemma_shelf.proofs.Walking.{steps_are}
 pub rises_sorted : (xs : List ℕ) → IsSorted nat_cmp xs → Rises xs
 rises_sorted xs sorted i j le lt = IsNonDecreasingBy-from_sort (λ (x : ℕ). x) xs sorted i j 0 le lt
 
-pub rises_take : (k : ℕ) (xs : List ℕ) → k ≤ length xs → Rises xs → Rises (take k xs)
-rises_take k xs within up i j le lt =
-    let long = length-take-le k xs within in
-    let a = get_or-take k xs i 0 (omega (arith, le, lt, long)) in
-    let b = get_or-take k xs j 0 (omega (arith, lt, long)) in
-    let c = up i j le (omega (arith, lt, long, within)) in
-    omega (arith, a, b, c)
-
 -- a number below the one at a place stands before it
 pub stands_before : (xs : List ℕ) (i n : ℕ) → Rises xs → i < length xs → Contains xs n → n < get_or xs i 0 → Contains (take i xs) n
 stands_before xs i n up lt (k, in_, e) below = elim (cases_lt k i) [

@@ -8,9 +8,15 @@ use std::marker::Model;
 use stn_core::Literal;
 
 /// Clauses, each once, found by hash.
-#[derive(Drop)]
 pub struct Book {
     set: IndexSet<Vec<Literal>>,
+}
+
+impl Drop for Book {
+    fn drop(self) {
+        let Book { set } = self;
+        drop(set);
+    }
 }
 
 impl Model for Book {

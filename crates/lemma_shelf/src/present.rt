@@ -9,10 +9,16 @@ use std::alloc::{AllocError, Global};
 use stn_core::Clause;
 
 /// For each clause of the book that is one of these clauses of a problem its number there.
-#[derive(Drop)]
 pub struct Present<'a> {
     pub clauses: &'a [Clause],
     pub map: IndexMap<usize, usize>,
+}
+
+impl Drop for Present<'_> {
+    fn drop(self) {
+        let Present { clauses: _, map } = self;
+        drop(map);
+    }
 }
 
 /// Notes the number of a clause that the book has.

@@ -8,9 +8,15 @@ use std::alloc::{AllocError, Global};
 use std::marker::Model;
 
 /// Numbers of lemmas, each once, in the order in which they came.
-#[derive(Drop)]
 pub struct Reached {
     set: IndexSet<usize>,
+}
+
+impl Drop for Reached {
+    fn drop(self) {
+        let Reached { set } = self;
+        drop(set);
+    }
 }
 
 impl Model for Reached {

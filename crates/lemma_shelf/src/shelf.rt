@@ -37,11 +37,18 @@ fn last_number(entries: &[Vec<usize>], entry: usize) -> Option<usize>
 ///
 /// It has copies of their own lemmas, each once, and of the clauses that these rest on, each once, so that items and
 /// problems may be let go.
-#[derive(Drop)]
 pub struct Shelf {
     table: Table,
     /// Of each entry the numbers of its items' lemmas in the table.
     entries: Vec<Vec<usize>>,
+}
+
+impl Drop for Shelf {
+    fn drop(self) {
+        let Shelf { table, entries } = self;
+        drop(table);
+        drop(entries);
+    }
 }
 
 impl Model for Shelf {

@@ -8,9 +8,15 @@ use std::marker::Model;
 use stn_core::Literal;
 
 /// The clauses of the items before the one that is looked at, borrowed from the items and from the shelf.
-#[derive(Drop)]
 pub struct Stated<'a> {
     clauses: Vec<&'a [Literal]>,
+}
+
+impl Drop for Stated<'_> {
+    fn drop(self) {
+        let Stated { clauses } = self;
+        drop(clauses);
+    }
 }
 
 impl<'a> Model for Stated<'a> {

@@ -83,10 +83,17 @@ fn reach(
 }
 
 /// The lemmas that are known to be active in a problem.
-#[derive(Drop)]
 pub struct Walk<'a> {
     pub present: Present<'a>,
     pub reached: Reached,
+}
+
+impl Drop for Walk<'_> {
+    fn drop(self) {
+        let Walk { present, reached } = self;
+        drop(present);
+        drop(reached);
+    }
 }
 
 impl<'a> Walk<'a> {

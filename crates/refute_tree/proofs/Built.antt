@@ -24,8 +24,3 @@ built_clash inputs lemmas assumed clause i steps e is h = subst (λ (s : List St
 
 pub built_cases : (inputs lemmas : List (List Literal)) (assumed clause : List Literal) (step : Step) (children : List (List Step)) (steps : List Step) → steps ≡ step ∷ joined children → clause_of inputs lemmas step ≡ Some clause → AreTrees inputs lemmas assumed clause children → Tree inputs lemmas assumed steps []
 built_cases inputs lemmas assumed clause step children steps e is h = subst (λ (s : List Step). Tree inputs lemmas assumed s []) (sym e) (cases is (forest_of_trees inputs lemmas assumed clause children h))
-
--- where no child is left, the steps are all
-pub joined_end : (steps whole : List Step) (children : List (List Step)) → length children ≡ 0 → steps ++ joined children ≡ whole → steps ≡ whole
-joined_end steps whole [] h e = sym (append-nil steps) ∙ e
-joined_end steps whole (child ∷ children) h e = absurd (omega arith)

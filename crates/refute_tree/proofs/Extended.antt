@@ -86,12 +86,6 @@ same_whole before after h e =
     subst (λ (kinds : List Kind). IsWhole kinds (parts_of_lists after)) (sym e.kinds)
     (subst (λ (p : Parts). IsWhole before.kinds.items p) (sym (parts_same _ _ _ _ _ _ _ _ _ _ e.small e.large e.points e.bounds e.literals)) h)
 
-pub same_steps : (before after : Lists) (steps : List Step) → steps_of_lists before ≡ steps → AreSame before after → steps_of_lists after ≡ steps
-same_steps before after steps v e =
-    ap (λ (kinds : List Kind). steps_by kinds (parts_of_lists after)) e.kinds
-    ∙ ap (steps_by before.kinds.items) (parts_same _ _ _ _ _ _ _ _ _ _ e.small e.large e.points e.bounds e.literals)
-    ∙ v
-
 pub lists_length : (l : Lists) (steps : List Step) → steps_of_lists l ≡ steps → length steps ≡ length l.kinds.items
 lists_length l steps v = sym (ap length v) ∙ length-steps_by l.kinds.items (parts_of_lists l)
 
@@ -103,9 +97,6 @@ module _ (l : Lists) (s : Slices) (h : ListsAreWhole l) (e : AreSlices l s) wher
   slices_whole =
       subst (λ (kinds : List Kind). IsWhole kinds (parts_of_slices s)) (sym e.kinds)
       (subst (λ (p : Parts). IsWhole l.kinds.items p) (sym (slices_parts l s e)) h)
-
-pub slices_steps : (l : Lists) (s : Slices) → AreSlices l s → steps_of_slices s ≡ steps_of_lists l
-slices_steps l s e = ap (λ (kinds : List Kind). steps_by kinds (parts_of_slices s)) e.kinds ∙ ap (steps_by l.kinds.items) (slices_parts l s e)
 
 -- the places in the lists of a step
 pub record IsPlaceIn (l : Lists) (step : ℕ) (p : Place) : Type 0 where

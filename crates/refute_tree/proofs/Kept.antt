@@ -48,18 +48,8 @@ slice_get-longer [] ys j x e = absurd (cc)
 slice_get-longer (y ∷ xs) ys zero x e = e
 slice_get-longer (y ∷ xs) ys (suc j) x e = slice_get-longer xs ys j x e
 
-clause_of-later : (inputs lemmas later : List (List Literal)) (s : Step) (clause : List Literal) → clause_of inputs lemmas s ≡ Some clause → clause_of inputs (lemmas ++ later) s ≡ Some clause
-clause_of-later inputs lemmas later (Cycle cycle) clause e = e
-clause_of-later inputs lemmas later (Input i) clause e = e
-clause_of-later inputs lemmas later (Earlier j) clause e = slice_get-longer lemmas later j clause e
-clause_of-later inputs lemmas later (Clash i) clause e = e
-clause_of-later inputs lemmas later (Either l) clause e = e
-
 pub tree_assuming_more : (inputs lemmas : List (List Literal)) (fewer many : List Literal) (steps rest : List Step) → Tree inputs lemmas fewer steps rest → AreIn fewer many → Tree inputs lemmas many steps rest
 tree_assuming_more inputs lemmas fewer many steps rest t in_ = tree_kept inputs lemmas inputs lemmas (λ i clause e. e) (λ s clause e. e) many in_ t
-
-pub tree_with_later : (inputs lemmas later : List (List Literal)) (assumed : List Literal) (steps rest : List Step) → Tree inputs lemmas assumed steps rest → Tree inputs (lemmas ++ later) assumed steps rest
-tree_with_later inputs lemmas later assumed steps rest t = tree_kept inputs lemmas inputs (lemmas ++ later) (λ i clause e. e) (clause_of-later inputs lemmas later) assumed (λ l h. h) t
 
 -- other steps may follow
 module _ (inputs lemmas : List (List Literal)) (after : List Step) where

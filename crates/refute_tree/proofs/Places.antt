@@ -9,19 +9,6 @@ use Rattle.refute_tree.specs.code.Store.{small_by, large_by, points_by, bounds_b
 use Rattle.refute_tree.specs.code.Lists.{SlicesAreWhole, IsPlaceOf, EndsStep, IsBeforeStep}
 use Rattle.refute_tree.proofs.Cuts.{numbers_within, used-before, items-before}
 
--- the end of all is the place of the count
-pub end_place : (s : Slices) (p : Place) → SlicesAreWhole s → p.kinds ≡ length s.kinds.now → p.small ≡ length s.small.now → p.large ≡ length s.large.now → p.points ≡ length s.points.now → p.bounds ≡ length s.bounds.now → p.literals ≡ length s.literals.now → IsPlaceOf s p.kinds p
-end_place s p h a b c d e f =
-    let all : take p.kinds s.kinds.now ≡ s.kinds.now = take_all p.kinds s.kinds.now (omega (arith, a)) in
-    record {
-      kinds = refl;
-      small = b ∙ sym h.small_all ∙ sym (ap (used small_by) all);
-      large = c ∙ sym h.large_all ∙ sym (ap (used large_by) all);
-      points = d ∙ sym h.points_all ∙ sym (ap (λ (ks : List Kind). used_items small_by points_by ks s.small.now) all);
-      bounds = e ∙ sym h.bounds_all ∙ sym (ap (λ (ks : List Kind). used_items small_by bounds_by ks s.small.now) all);
-      literals = f ∙ sym h.literals_all ∙ sym (ap (λ (ks : List Kind). used_items large_by literals_by ks s.large.now) all);
-    }
-
 module _ (s : Slices) (p : Place) (whole : SlicesAreWhole s) (some : 0 < p.kinds) (most : p.kinds ≤ length s.kinds.now) (here : IsPlaceOf s p.kinds p) where
   abbrev kind : Kind
   kind = slice_index_or s.kinds.now (p.kinds - 1) Path

@@ -10,10 +10,16 @@ use std::marker::Model;
 
 /// Lemmas that were made over the first `seen` lemmas of a list: a reference below `seen` is to that list, and
 /// `seen + i` is to the batch's own lemma with the number i, from 0.
-#[derive(Drop)]
 pub struct Batch {
     seen: usize,
     lemmas: Vec<Lemma>,
+}
+
+impl Drop for Batch {
+    fn drop(self) {
+        let Batch { seen: _, lemmas } = self;
+        drop(lemmas);
+    }
 }
 
 impl Model for Batch {
@@ -48,7 +54,8 @@ impl Batch {
     pub fn into_lemmas(self) -> Vec<Lemma>
         ensures { result.items ≡ self.lemmas }
     {
-        self.lemmas
+        let Batch { lemmas, seen: _ } = self;
+        lemmas
     }
 
     /// The batch as it stands behind the first `base` lemmas of a longer list. It takes no memory, and time in the

@@ -6,10 +6,17 @@ use std::marker::Model;
 use stn_core::Clause;
 
 /// A clause that follows from a problem and the lemmas before it, with the tree that refutes its denial, in preorder.
-#[derive(Drop)]
 pub struct Lemma {
     pub clause: Clause,
     pub steps: Steps,
+}
+
+impl Drop for Lemma {
+    fn drop(self) {
+        let Lemma { clause, steps } = self;
+        drop(clause);
+        drop(steps);
+    }
 }
 
 impl Lemma {
@@ -26,9 +33,15 @@ impl Lemma {
 
 /// A list of lemmas that is to end with one without literals, and so to show that a problem has no solution. What it
 /// refutes, if anything, the contracts say that make it.
-#[derive(Drop)]
 pub struct Refutation {
     lemmas: Vec<Lemma>,
+}
+
+impl Drop for Refutation {
+    fn drop(self) {
+        let Refutation { lemmas } = self;
+        drop(lemmas);
+    }
 }
 
 impl Model for Refutation {
@@ -57,6 +70,7 @@ impl Refutation {
     pub fn into_vec(self) -> Vec<Lemma>
         ensures { result.items ≡ self }
     {
-        self.lemmas
+        let Refutation { lemmas } = self;
+        lemmas
     }
 }

@@ -10,7 +10,6 @@ use std::alloc::{AllocError, Global};
 use stn_core::Literal;
 
 /// The lists that steps are kept in.
-#[derive(Drop)]
 pub struct Lists {
     pub kinds: Vec<Kind>,
     pub small: Vec<u32>,
@@ -18,6 +17,25 @@ pub struct Lists {
     pub points: Vec<u16>,
     pub bounds: Vec<i32>,
     pub literals: Vec<Literal>,
+}
+
+impl Drop for Lists {
+    fn drop(self) {
+        let Lists {
+            kinds,
+            small,
+            large,
+            points,
+            bounds,
+            literals,
+        } = self;
+        drop(kinds);
+        drop(small);
+        drop(large);
+        drop(points);
+        drop(bounds);
+        drop(literals);
+    }
 }
 
 /// A part of the lists, borrowed.

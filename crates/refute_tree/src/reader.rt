@@ -93,9 +93,15 @@ fn behind<'a>(kind: Kind, slices: Slices<'a>) -> Slices<'a>
 }
 
 /// What is still to be read of a list of steps.
-#[derive(Drop)]
 pub struct Reader<'a> {
     left: Slices<'a>,
+}
+
+impl Drop for Reader<'_> {
+    fn drop(self) {
+        let Reader { left } = self;
+        drop(left);
+    }
 }
 
 impl<'a> Model for Reader<'a> {

@@ -23,9 +23,15 @@ use stn_core::{Literal, negate};
 /// Where the points are below 2^16 and the bounds are of 32 bits, `Either`, or a literal and its negation, takes 8, and
 /// a cycle of which each literal begins at the point where the one before it ends takes 6, and 6 for each literal. Else
 /// they take 16, and 8 and 16 for each literal.
-#[derive(Drop)]
 pub struct Steps {
     lists: Lists,
+}
+
+impl Drop for Steps {
+    fn drop(self) {
+        let Steps { lists } = self;
+        drop(lists);
+    }
 }
 
 impl Model for Steps {

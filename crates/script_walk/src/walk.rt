@@ -29,7 +29,6 @@ pub enum Event {
 }
 
 /// A script that is walked through: what is read of it, and what it has led to.
-#[derive(Drop)]
 pub struct Walk<'a> {
     /// Reads the script.
     pub lexer: Lexer<'a>,
@@ -39,6 +38,20 @@ pub struct Walk<'a> {
     pub state: State<'a>,
     /// The number of the next command, from 1; of a command that is refused, and of a question without an answer, its own.
     pub number: u64,
+}
+
+impl Drop for Walk<'_> {
+    fn drop(self) {
+        let Walk {
+            lexer,
+            sexprs,
+            state,
+            number: _,
+        } = self;
+        drop(lexer);
+        drop(sexprs);
+        drop(state);
+    }
 }
 
 impl<'a> Walk<'a> {

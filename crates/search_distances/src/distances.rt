@@ -27,11 +27,21 @@ enum Way {
 }
 
 /// Distances between points, of which those that only pure literals name are left out.
-#[derive(Drop)]
 pub struct Distances {
     alloc: Global,
     points: u32,
     way: Way,
+}
+
+impl Drop for Distances {
+    fn drop(self) {
+        let Distances {
+            alloc: _,
+            points: _,
+            way,
+        } = self;
+        drop(way);
+    }
 }
 
 impl Distances {

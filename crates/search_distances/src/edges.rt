@@ -27,7 +27,6 @@ struct Step {
     to: usize,
 }
 
-#[derive(Drop)]
 pub struct Edges {
     leaving: Vec<Vec<Edge>>,
     arriving: Vec<Vec<Edge>>,
@@ -37,6 +36,26 @@ pub struct Edges {
     /// the number of the change in which a row's potential fell last
     fallen: Vec<u64>,
     change: u64,
+}
+
+impl Drop for Edges {
+    fn drop(self) {
+        let Edges {
+            leaving,
+            arriving,
+            steps,
+            potentials,
+            falls,
+            fallen,
+            change: _,
+        } = self;
+        drop(leaving);
+        drop(arriving);
+        drop(steps);
+        drop(potentials);
+        drop(falls);
+        drop(fallen);
+    }
 }
 
 fn empty(alloc: Global, rows: usize) -> Result<Vec<Vec<Edge>>, AllocError> {
@@ -204,10 +223,17 @@ impl Edges {
 }
 
 /// The numbers of the literals that lead from each row, or to each, with the weaker of two on the same rows behind.
-#[derive(Drop)]
 pub struct Bounds {
     numbers: Vec<LiteralNumber>,
     starts: Vec<usize>,
+}
+
+impl Drop for Bounds {
+    fn drop(self) {
+        let Bounds { numbers, starts } = self;
+        drop(numbers);
+        drop(starts);
+    }
 }
 
 /// A literal among those of its row.

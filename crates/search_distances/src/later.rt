@@ -17,13 +17,23 @@ pub struct Added {
     pub place: usize,
 }
 
-#[derive(Drop)]
 pub struct Later {
     /// the literals that are in the net
     added: Vec<Added>,
     /// how many more are to be added to it, and how often the search is to go back, before the table is made
     adds: u64,
     returns: u64,
+}
+
+impl Drop for Later {
+    fn drop(self) {
+        let Later {
+            added,
+            adds: _,
+            returns: _,
+        } = self;
+        drop(added);
+    }
 }
 
 impl Later {

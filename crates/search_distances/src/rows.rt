@@ -4,13 +4,23 @@ use std::alloc::{AllocError, Global};
 use stn_core::Literal;
 
 /// The rows of time points, and how far a path over them may lead.
-#[derive(Drop)]
 pub struct Rows {
     /// for each time point its row, if it has one
     row_of: Vec<Option<usize>>,
     count: usize,
     /// the greatest absolute bound of a literal
     greatest: u64,
+}
+
+impl Drop for Rows {
+    fn drop(self) {
+        let Rows {
+            row_of,
+            count: _,
+            greatest: _,
+        } = self;
+        drop(row_of);
+    }
 }
 
 /// The literals of which distances are kept.

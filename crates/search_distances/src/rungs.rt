@@ -10,12 +10,19 @@ pub struct Rung {
     pub number: LiteralNumber,
 }
 
-#[derive(Drop)]
 pub struct Rungs {
     /// by pairs and bounds
     rungs: Vec<Rung>,
     /// for each pair where its rungs begin
     starts: Vec<usize>,
+}
+
+impl Drop for Rungs {
+    fn drop(self) {
+        let Rungs { rungs, starts } = self;
+        drop(rungs);
+        drop(starts);
+    }
 }
 
 impl Rungs {

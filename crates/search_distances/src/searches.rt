@@ -22,7 +22,6 @@ struct Added {
     number: LiteralNumber,
 }
 
-#[derive(Drop)]
 pub struct Searches {
     rows: Rows,
     edges: Edges,
@@ -36,6 +35,35 @@ pub struct Searches {
     walk: Vec<usize>,
     back: Vec<usize>,
     work: u64,
+}
+
+impl Drop for Searches {
+    fn drop(self) {
+        let Searches {
+            rows,
+            edges,
+            leaving,
+            arriving,
+            forward,
+            backward,
+            added,
+            hits,
+            next_hit: _,
+            walk,
+            back,
+            work: _,
+        } = self;
+        drop(rows);
+        drop(edges);
+        drop(leaving);
+        drop(arriving);
+        drop(forward);
+        drop(backward);
+        drop(added);
+        drop(hits);
+        drop(walk);
+        drop(back);
+    }
 }
 
 impl Searches {

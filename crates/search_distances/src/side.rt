@@ -35,7 +35,6 @@ const UNMARKED: Mark = Mark {
 };
 
 /// A search forward along edges, or backward.
-#[derive(Drop)]
 pub struct Side {
     heap: BinaryHeap<Open>,
     marks: Vec<Mark>,
@@ -44,6 +43,21 @@ pub struct Side {
     waiting: usize,
     /// the rows that are reached sooner by the edge
     reached: Vec<usize>,
+}
+
+impl Drop for Side {
+    fn drop(self) {
+        let Side {
+            heap,
+            marks,
+            search: _,
+            waiting: _,
+            reached,
+        } = self;
+        drop(heap);
+        drop(marks);
+        drop(reached);
+    }
 }
 
 impl Side {

@@ -51,7 +51,6 @@ struct Origin {
 }
 
 /// Distances between points, of which those that only pure literals name are left out.
-#[derive(Drop)]
 pub struct Table {
     rows: Rows,
     /// for the pair of a row and another, in this order, the least bound on the second less the first
@@ -70,6 +69,35 @@ pub struct Table {
     forward: Tree,
     backward: Vec<Origin>,
     walk: Vec<usize>,
+}
+
+impl Drop for Table {
+    fn drop(self) {
+        let Table {
+            rows,
+            entries,
+            greatest,
+            rungs,
+            changes,
+            steps,
+            has_root: _,
+            hits,
+            next_hit: _,
+            forward,
+            backward,
+            walk,
+        } = self;
+        drop(rows);
+        drop(entries);
+        drop(greatest);
+        drop(rungs);
+        drop(changes);
+        drop(steps);
+        drop(hits);
+        drop(forward);
+        drop(backward);
+        drop(walk);
+    }
 }
 
 /// The pairs' literals, and for each pair the greatest bound.

@@ -45,7 +45,6 @@ enum Open {
     End(usize),
 }
 
-#[derive(Drop)]
 pub struct Tree {
     /// each row before those behind it
     order: Vec<Reach>,
@@ -53,6 +52,21 @@ pub struct Tree {
     /// the rows in the order in which they were found
     found: Vec<usize>,
     open: Vec<Open>,
+}
+
+impl Drop for Tree {
+    fn drop(self) {
+        let Tree {
+            order,
+            links,
+            found,
+            open,
+        } = self;
+        drop(order);
+        drop(links);
+        drop(found);
+        drop(open);
+    }
 }
 
 impl Tree {

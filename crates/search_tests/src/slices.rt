@@ -30,7 +30,7 @@ fn clause_of(alloc: Global, points: u32, literals: &[Literal]) -> Result<Clause,
 
 fn with_clause(problem: Problem, literals: &[Literal]) -> Result<Problem, AllocError> {
     let points = problem.points;
-    let mut clauses = problem.clauses.into_vec();
+    let mut clauses = problem.into_clauses().into_vec();
     clauses.push(clause_of(*clauses.allocator(), points, literals)?)?;
     Ok(Problem {
         points,

@@ -92,14 +92,6 @@ module _ (marks : List Bool) (ls : List AssumedLiteral) (whole : List ℕ) where
   written_all out first i all before =
       ap (λ (items : Items). out ++ items_to_come first items) (sym (items_none (is_marked marks) i (from i ls) (λ k le. marked_within marks k (omega arith)))) ∙ before
 
-opened_is : (xs : Items) → text_of (list xs) ≡ codes "(" ++ items_text xs
-opened_is none = refl
-opened_is (more x xs) = refl
-
-pub list_opened : (out now : List ℕ) (xs : Items) → now ≡ out ++ codes "(" → now ++ items_to_come true xs ≡ out ++ text_of (list xs)
-list_opened out now xs is =
-    ap (λ (t : List ℕ). t ++ items_text xs) is ∙ append_assoc out (codes "(") (items_text xs) ∙ ap (λ (t : List ℕ). out ++ t) (sym (opened_is xs))
-
 ends_list : (first : Bool) → items_to_come first none ≡ codes ")"
 ends_list true = refl
 ends_list false = refl

@@ -12,11 +12,21 @@ use std::marker::Model;
 
 /// Reads the tokens of some bytes one after the other. It is seen as its bytes, the place up to which
 /// they were read, and the error that it gave.
-#[derive(Drop)]
 pub struct Lexer<'a> {
     bytes: &'a [u8],
     place: usize,
     failed: Option<LexError>,
+}
+
+impl Drop for Lexer<'_> {
+    fn drop(self) {
+        let Lexer {
+            bytes: _,
+            place: _,
+            failed,
+        } = self;
+        drop(failed);
+    }
 }
 
 impl<'a> Model for Lexer<'a> {

@@ -42,13 +42,6 @@ module _ (found : Option LinearValue) (l zero : LinearValue) (is : Some l ≡ fo
 
 -- ---- the term of a command
 
-pub term_missing : (now : List NodeValue) (found : Result Made TermRefusal) (why : TermError) (error : ScriptError) → Lowers now found (Err why) → error ≡ error_of_term why → ObjectiveIs (minimized_by found) (Err error)
-term_missing now found term.OutOfMemory error h from = subst (λ (w : ScriptError). ObjectiveIs (minimized_by found) (Err w)) (sym from) tt
-term_missing now found (term.Refused why) error h from = subst (λ (w : ScriptError). ObjectiveIs (minimized_by found) (Err w)) (sym from) (ap minimized_by h)
-
-pub objective_as : (found : Result Made TermRefusal) (made : Result Objective Refusal) (result : Result Objective ScriptError) → minimized_by found ≡ made → ObjectiveIs made result → ObjectiveIs (minimized_by found) result
-objective_as found made result e h = subst (λ (m : Result Objective Refusal). ObjectiveIs m result) (sym e) h
-
 -- ---- `check-sat`
 
 pub checking_asked : (s : State) (new : Kept) (effect : Effect) → effect ≡ Ask CheckSat → StandsFor new (unassumed s) → Agrees (after_command s checking) new (Ok effect)

@@ -133,7 +133,6 @@ pub struct Level {
 
 /// What is declared, defined and asserted, with the node table of the terms, and where each level begins. The names are
 /// borrowed from the script; terms aren't kept.
-#[derive(Drop)]
 pub struct State<'a> {
     alloc: Global,
     scope: Scope<'a>,
@@ -147,6 +146,29 @@ pub struct State<'a> {
     // the assumptions of the last question, where it had any
     literals: Vec<AssumedLiteral<'a>>,
     print_success: bool,
+}
+
+impl Drop for State<'_> {
+    fn drop(self) {
+        let State {
+            alloc: _,
+            scope,
+            nodes,
+            roots,
+            labels,
+            levels,
+            last,
+            literals,
+            print_success: _,
+        } = self;
+        drop(scope);
+        drop(nodes);
+        drop(roots);
+        drop(labels);
+        drop(levels);
+        drop(last);
+        drop(literals);
+    }
 }
 
 impl<'a> Model for State<'a> {

@@ -154,8 +154,3 @@ headed_by head rest xs (Some n) text e h =
       is = ap (λ (p : List ℕ × Items). list (more head p.1)) same;
       symbol = e ∙ ap (λ (p : List ℕ × Items). Some p.0) same;
     }
-
-pub headed_parts : (x : Sexpr) (text : List ℕ) (xs : Items) → headed_of x ≡ Some (text, xs) → IsHeaded x text xs
-headed_parts (leaf kind t) text xs h = absurd cc
-headed_parts (list none) text xs h = absurd cc
-headed_parts (list (more head rest)) text xs h = headed_by head rest xs (symbol_of head) text refl h

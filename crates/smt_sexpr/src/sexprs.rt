@@ -20,7 +20,6 @@ use std::marker::Model;
 /// S-expressions in a flat table, over the bytes that they were read from.
 ///
 /// An id stays good until `clear`. Nothing is copied from the bytes.
-#[derive(Drop)]
 pub struct Sexprs<'a> {
     alloc: Global,
     bytes: &'a [u8],
@@ -29,6 +28,23 @@ pub struct Sexprs<'a> {
     /// Room for the lists that are open while one is read, and for their items.
     stack: Vec<Frame>,
     pending: Vec<SexprId>,
+}
+
+impl Drop for Sexprs<'_> {
+    fn drop(self) {
+        let Sexprs {
+            alloc: _,
+            bytes: _,
+            nodes,
+            items,
+            stack,
+            pending,
+        } = self;
+        drop(nodes);
+        drop(items);
+        drop(stack);
+        drop(pending);
+    }
 }
 
 impl<'a> Model for Sexprs<'a> {

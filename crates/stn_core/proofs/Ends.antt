@@ -126,11 +126,6 @@ in_range points literals labels round few r none_lowered k d h =
     let f = none_lowered k p_in in
     record { low = omega (arith, ints); high = omega (arith, ints) }
 
--- what the walk needs
-pub are_fallen : (points : ℕ) (literals : List Literal) (labels : List Label) (round : ℕ) → IsRound points literals labels round (length literals) → AreFallen labels
-are_fallen points literals labels round r p h moved =
-    subst (λ (n : ℕ). IsFallen n labels p (by_of labels p)) (sym r.count) ((r.traced p (omega (arith, r.count))).fallen moved)
-
 pub given_latest : (points : ℕ) (literals : List Literal) (labels : List Label) (round : ℕ) (l : Literal) → IsRound points literals labels round (length literals) → IsLatest labels l → Contains literals l
 given_latest points literals labels round l r latest =
     subst (λ (m : Literal). Contains literals m) latest.by_is ((r.traced l.x (omega (arith, r.count, latest.x_in))).given latest.moved)

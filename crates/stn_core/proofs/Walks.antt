@@ -85,9 +85,6 @@ marks places = sum_by (λ k. min k 1) places
 pub marks-le-length : (places : List ℕ) → marks places ≤ length places
 marks-le-length places = omega (arith, sum_by-le (λ (k : ℕ). min k 1) 1 places (λ k d h. omega arith))
 
-pub marks-replicate : (n : ℕ) → marks (replicate n 0) ≡ 0
-marks-replicate n = omega (arith, sum_by-le (λ (k : ℕ). min k 1) 0 (replicate n 0) (All-replicate (λ (k : ℕ). min k 1 ≤ 0) n 0 (omega arith)))
-
 pub marks-set : (places : List ℕ) (p v : ℕ) → p < length places → get_or places p 0 ≡ 0 → 0 < v → marks (set places p v) ≡ marks places + 1
 marks-set places p v p_in free some = omega (arith, sum_by-set (λ (k : ℕ). min k 1) places p v 0 p_in)
 

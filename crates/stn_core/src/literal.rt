@@ -37,9 +37,15 @@ pub fn holds(literal: Literal, values: &[Value]) -> bool
 }
 
 /// A list of literals.
-#[derive(Drop)]
 pub struct Literals {
     literals: Vec<Literal>,
+}
+
+impl Drop for Literals {
+    fn drop(self) {
+        let Literals { literals } = self;
+        drop(literals);
+    }
 }
 
 impl Model for Literals {
@@ -68,6 +74,7 @@ impl Literals {
     pub fn into_vec(self) -> Vec<Literal>
         ensures { result.items ≡ self }
     {
-        self.literals
+        let Literals { literals } = self;
+        literals
     }
 }

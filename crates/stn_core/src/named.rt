@@ -12,9 +12,15 @@ pub enum NamedValue {
 }
 
 /// One value for each active declared name, in the order of declaration.
-#[derive(Drop)]
 pub struct NamedValues {
     values: Vec<NamedValue>,
+}
+
+impl Drop for NamedValues {
+    fn drop(self) {
+        let NamedValues { values } = self;
+        drop(values);
+    }
 }
 
 impl Model for NamedValues {
@@ -43,6 +49,7 @@ impl NamedValues {
     pub fn into_vec(self) -> Vec<NamedValue>
         ensures { result.items ≡ self }
     {
-        self.values
+        let NamedValues { values } = self;
+        values
     }
 }

@@ -9,9 +9,15 @@ use std::marker::Model;
 
 /// Literals of which one is to hold. Without literals it never holds. Up to two lie in the clause itself, and more in memory
 /// of their own.
-#[derive(Drop)]
 pub struct Clause {
     literals: SmallVec<Literal, 2>,
+}
+
+impl Drop for Clause {
+    fn drop(self) {
+        let Clause { literals } = self;
+        drop(literals);
+    }
 }
 
 impl Model for Clause {
@@ -56,9 +62,15 @@ impl Clause {
 }
 
 /// A list of clauses.
-#[derive(Drop)]
 pub struct Clauses {
     clauses: Vec<Clause>,
+}
+
+impl Drop for Clauses {
+    fn drop(self) {
+        let Clauses { clauses } = self;
+        drop(clauses);
+    }
 }
 
 impl Model for Clauses {
@@ -87,7 +99,8 @@ impl Clauses {
     pub fn into_vec(self) -> Vec<Clause>
         ensures { result.items ≡ self }
     {
-        self.clauses
+        let Clauses { clauses } = self;
+        clauses
     }
 
     /// Equal clauses in memory of their own.
@@ -104,7 +117,6 @@ impl Clauses {
 
 /// A Disjunctive Temporal Problem: so many time points, numbered from 0, and clauses over them that are to hold
 /// together.
-#[derive(Drop)]
 pub struct Problem {
     pub points: u32,
     pub clauses: Clauses,
@@ -113,7 +125,22 @@ pub struct Problem {
     pub ghost over: { All (λ clause. All (IsOver points) clause) clauses },
 }
 
+impl Drop for Problem {
+    fn drop(self) {
+        let Problem { points: _, clauses } = self;
+        drop(clauses);
+    }
+}
+
 impl Problem {
+    /// Its clauses, without taking memory.
+    pub fn into_clauses(self) -> Clauses
+        ensures { result ≡ self.clauses }
+    {
+        let Problem { points: _, clauses } = self;
+        clauses
+    }
+
     /// An equal problem in memory of its own.
     pub fn copy(&self) -> Result<Self, AllocError>
         ensures { IfOk result (λ problem. problem ≡ self.now) }

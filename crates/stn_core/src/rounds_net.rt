@@ -12,13 +12,25 @@ use std::marker::Model;
 
 /// A net that works out its schedule anew for each literal, by plain rounds over all of them, and keeps one schedule for
 /// each of its literals. So it takes memory in proportion to points times literals. It is plain, and not fast.
-#[derive(Drop)]
 pub struct RoundsNet {
     points: u32,
     literals: Vec<Literal>,
     /// of no literal, of the first one, of the first two, and so on
     schedules: Vec<Schedule>,
     adds: u64,
+}
+
+impl Drop for RoundsNet {
+    fn drop(self) {
+        let RoundsNet {
+            points: _,
+            literals,
+            schedules,
+            adds: _,
+        } = self;
+        drop(literals);
+        drop(schedules);
+    }
 }
 
 impl Model for RoundsNet {

@@ -6,9 +6,15 @@ use std::alloc::AllocError;
 use std::marker::Model;
 
 /// One value for each time point, in the order of the points.
-#[derive(Drop)]
 pub struct Schedule {
     values: Vec<Value>,
+}
+
+impl Drop for Schedule {
+    fn drop(self) {
+        let Schedule { values } = self;
+        drop(values);
+    }
 }
 
 impl Model for Schedule {
@@ -34,7 +40,8 @@ impl Schedule {
     pub fn into_vec(self) -> Vec<Value>
         ensures { result.items ≡ self }
     {
-        self.values
+        let Schedule { values } = self;
+        values
     }
 
     /// An equal schedule in memory of its own.

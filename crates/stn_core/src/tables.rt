@@ -2,7 +2,6 @@ use crate::literal::Literal;
 use std::alloc::{AllocError, Global};
 
 /// What the order of the lowerings goes by. None of it is trusted: a number is looked at before it is used.
-#[derive(Drop)]
 pub struct Tables {
     /// for each point 1 more than the place of its newest literal, by second points, or 0
     pub heads: Vec<usize>,
@@ -21,6 +20,33 @@ pub struct Tables {
     pub active: Vec<u32>,
     pub path: Vec<u32>,
     pub order: Vec<u32>,
+}
+
+impl Drop for Tables {
+    fn drop(self) {
+        let Tables {
+            heads,
+            nexts,
+            at,
+            marks,
+            tree,
+            by,
+            waiting,
+            active,
+            path,
+            order,
+        } = self;
+        drop(heads);
+        drop(nexts);
+        drop(at);
+        drop(marks);
+        drop(tree);
+        drop(by);
+        drop(waiting);
+        drop(active);
+        drop(path);
+        drop(order);
+    }
 }
 
 pub fn read(numbers: &[usize], place: usize) -> usize {

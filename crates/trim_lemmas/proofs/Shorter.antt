@@ -280,11 +280,6 @@ module _ (wanted : List Bool) (batch : LemmaBatch) (needed : List Bool) (left : 
 
 -- ---- what the code makes
 
-pub as_shortened : (seen : ℕ) (needed : List Bool) (lemmas : List Lemma) (places : Places) (kept moved final : List Lemma) → ArePlaces seen needed places
-    → kept ≡ items_where_true needed lemmas → moved ≡ map (lemma_by places) kept → final ≡ moved → final ≡ shortened seen needed lemmas
-as_shortened seen needed lemmas places kept moved final table keep renumber last_ =
-    last_ ∙ renumber ∙ ap (map (lemma_by places)) keep ∙ lemmas_same seen needed places table (items_where_true needed lemmas)
-
 pub as_trimmed : (lemmas given final made : List Lemma) (needed lent : List Bool) → given ≡ lemmas → AreNeeded (IsLast given) 0 given needed → lent ≡ needed → final ≡ shortened 0 lent given → made ≡ final → IsTrimmed lemmas made
 as_trimmed lemmas given final made needed lent is are same short e = record {
   needed = needed;

@@ -7,13 +7,23 @@ use refute_tree::Steps;
 use std::alloc::{AllocError, Global};
 
 /// For each lemma of a list its number when only the needed ones are kept.
-#[derive(Drop)]
 pub struct Places {
     /// References below it are to lemmas before the list, and stay.
     pub seen: usize,
     pub numbers: Vec<usize>,
     /// The number behind the last needed one.
     pub end: usize,
+}
+
+impl Drop for Places {
+    fn drop(self) {
+        let Places {
+            seen: _,
+            numbers,
+            end: _,
+        } = self;
+        drop(numbers);
+    }
 }
 
 impl Places {

@@ -58,19 +58,9 @@ set_or (x ∷ xs) (suc n) (suc i) lt = set_or xs n i (omega arith) ∙ ap (λ (b
     one_more i n true e = (let same : nat_eq (suc i) (suc n) ≡ true = grind (arith, nat_tests) in e ∙ sym same)
     one_more i n false e = (let other : nat_eq (suc i) (suc n) ≡ false = grind (arith, nat_tests) in e ∙ sym other)
 
-pub marks_one : (old filled : List Bool) (m n : ℕ) → filled ≡ old ++ replicate m false → n < length filled → MarksMore (λ i. nat_eq i n) old (set filled n true)
-marks_one old filled m n e lt i =
-    set_or filled n i lt ∙ ap (λ (b : Bool). nat_eq i n || b) (ap (λ (bs : List Bool). get_or bs i false) e ∙ padded old m i)
-
-pub marks_there : (old : List Bool) (n : ℕ) → n < length old → MarksMore (λ i. nat_eq i n) old (set old n true)
-marks_there old n lt i = set_or old n i lt
-
 -- marks whose count stays
 pub within_one : (old : List Bool) (n : ℕ) → n < length old → MarksWithin (λ i. nat_eq i n) old (set old n true)
 within_one old n lt = (length-set old n true, λ i in_. set_or old n i lt)
-
-pub within_past : (old : List Bool) (n : ℕ) → length old ≤ n → MarksWithin (λ i. nat_eq i n) old old
-within_past old n le = (refl, λ i in_. ap (λ (b : Bool). b || get_or old i false) (sym (is_other i n (omega arith))))
 
 next_number : (i n m : ℕ) → m ≡ n + 1 → nat_eq i n ≡ nat_eq (suc i) m
 next_number i n m e = turn (nat_eq i n) refl
@@ -83,14 +73,6 @@ pub last_one : (old : List Bool) (n : ℕ) → length old ≡ n + 1 → MarksWit
 last_one old n e = (length-set old n true, λ i in_. set_or old n i (omega arith) ∙ ap (λ (b : Bool). b || get_or old i false) (next_number i n (length old) e))
 
 -- ---- the places that are true
-
-pub places_more : (numbers : List ℕ) (n k : ℕ) (b : Bool) (marks : List Bool) → b ≡ true → k ≡ suc n → (numbers ++ n ∷ []) ++ true_places k marks ≡ numbers ++ true_places n (b ∷ marks)
-places_more numbers n k true marks e f = append_assoc numbers (n ∷ []) (true_places k marks) ∙ ap (λ (j : ℕ). numbers ++ n ∷ true_places j marks) f
-places_more numbers n k false marks e f = absurd cc
-
-pub places_same : (numbers : List ℕ) (n k : ℕ) (b : Bool) (marks : List Bool) → b ≡ false → k ≡ suc n → numbers ++ true_places k marks ≡ numbers ++ true_places n (b ∷ marks)
-places_same numbers n k true marks e f = absurd cc
-places_same numbers n k false marks e f = ap (λ (j : ℕ). numbers ++ true_places j marks) f
 
 above : (n : ℕ) (marks : List Bool) (a : ℕ) → a < length (true_places n marks) → n ≤ get_or (true_places n marks) a 0
 above n [] a lt = absurd (omega arith)

@@ -20,25 +20,6 @@ source_drop [] i source lt e = absurd (omega arith)
 source_drop (s ∷ sources) zero source lt e = ap (λ (x : Option ℕ). x ∷ sources) (sym e)
 source_drop (s ∷ sources) (suc i) source lt e = source_drop sources i source (omega arith) e
 
-first_source : (cited : ℕ → Bool) (r i : ℕ) (source : Option ℕ) (rest : List (Option ℕ)) → some_source cited r i (source ∷ rest) ≡ (comes_from source (cited i) r || some_source cited r (suc i) rest)
-first_source cited r i None rest = refl
-first_source cited r i (Some k) rest = refl
-
--- one turn of the loop, of one root
-pub root_turn : (cited : ℕ → Bool) (sources : List (Option ℕ)) (i : ℕ) (source : Option ℕ) (is_cited : Bool) → i < length sources → source ≡ get_or sources i source → is_cited ≡ cited i
-    → (r : ℕ) (old new total : Bool) → new ≡ (comes_from source is_cited r || old) → (some_source cited r i (drop i sources) || old) ≡ total
-    → (some_source cited r (i + 1) (drop (i + 1) sources) || new) ≡ total
-root_turn cited sources i source is_cited lt at is r old new total marked before =
-    let next : i + 1 ≡ suc i = omega arith in
-    let rest : Bool = some_source cited r (suc i) (drop (suc i) sources) in
-    let here : Bool = comes_from source (cited i) r in
-    ap (λ (n : ℕ). some_source cited r n (drop n sources) || new) next
-    ∙ ap (λ (b : Bool). some_source cited r (suc i) (drop (suc i) sources) || b) (marked ∙ ap (λ (c : Bool). comes_from source c r || old) is)
-    ∙ sym (or_nested (comes_from source (cited i) r) (some_source cited r (suc i) (drop (suc i) sources)) old)
-    ∙ ap (λ (b : Bool). b || old) (sym (first_source cited r i source (drop (suc i) sources)))
-    ∙ ap (λ (ss : List (Option ℕ)). some_source cited r i ss || old) (sym (source_drop sources i source lt at))
-    ∙ before
-
 same_sources : (f g : ℕ → Bool) → ((i : ℕ) → f i ≡ g i) → (r i : ℕ) (sources : List (Option ℕ)) → some_source f r i sources ≡ some_source g r i sources
 same_sources f g e r i [] = refl
 same_sources f g e r i (None ∷ sources) = same_sources f g e r (suc i) sources

@@ -33,21 +33,6 @@ drop_count lemmas zero = omega arith
 drop_count [] (suc m) = omega arith
 drop_count (l ∷ lemmas) (suc m) = drop_count lemmas m ∙ omega arith
 
-none_from : (test : Step → Bool) (lemmas : List Lemma) → false ≡ some_from test (length lemmas) lemmas
-none_from test lemmas = ap (λ (ls : List Lemma). some_marked test (needed_from (length lemmas) ls) ls) (sym (drop_whole lemmas))
-
--- at first only the last lemma is marked
-pub swept_none : (lemmas : List Lemma) (none needed cited : List Bool) → none ≡ replicate (length lemmas) false → length none ≡ length lemmas → MarksWithin (λ j. nat_eq (suc j) (length none)) none needed → cited ≡ []
-    → AreSwept lemmas (length lemmas) needed cited
-swept_none lemmas none needed cited is count marked empty = record {
-  count = marked.0 ∙ count;
-  within = omega arith;
-  before = λ j lt. marked.1 j (omega arith)
-      ∙ ap (λ (n : ℕ). nat_eq (suc j) n || get_or none j false) count
-      ∙ ap (λ (b : Bool). nat_eq (suc j) (length lemmas) || b) (ap (λ (bs : List Bool). get_or bs j false) is ∙ no_marks (length lemmas) j ∙ none_from (cites_lemma j) lemmas);
-  clauses = λ i. ap (λ (bs : List Bool). get_or bs i false) empty ∙ none_from (names_clause i) lemmas;
-}
-
 -- a lemma's mark says whether it is needed
 needed_by_rest : (m n : ℕ) (rest : List Lemma) (marks : List Bool) → n ≡ suc m + length rest → (nat_eq (suc m) n || some_marked (cites_lemma m) marks rest) ≡ is_needed m rest marks
 needed_by_rest m n [] marks e = (let last : nat_eq (suc m) n ≡ true = grind (arith, nat_tests) in ap (λ (b : Bool). b || some_marked (cites_lemma m) marks []) last)
@@ -128,9 +113,6 @@ module _ (lemmas : List Lemma) (number : ℕ) (some : 0 < number) (needed cited 
       let more_named : MarksMore (λ i. list_any (names_clause i) lemma.steps) cited more = subst (λ (ss : List Step). MarksMore (λ i. list_any (names_clause i) ss) cited more) these named in
       subst (λ (bs : List Bool). AreSwept lemmas (number - 1) bs more) (sym back)
       (swept_needed lemmas (number - 1) lemma in_range at needed cited before_is newly more (sym read_there ∙ e) newly_marked more_named)
-
-pub swept_all : (lemmas : List Lemma) (number : ℕ) (needed cited : List Bool) → number ≡ 0 → AreSwept lemmas number needed cited → (i : ℕ) → get_or cited i false ≡ cites_clause lemmas i
-swept_all lemmas number needed cited e h i = h.clauses i ∙ ap (λ (n : ℕ). some_from (names_clause i) n lemmas) e
 
 -- the numbers of the marks are those of the cited clauses
 pub are_cited : (lemmas : List Lemma) (marks : List Bool) (numbers : List ℕ) → ((i : ℕ) → get_or marks i false ≡ cites_clause lemmas i) → numbers ≡ true_places 0 marks → AreCited lemmas numbers

@@ -7,7 +7,6 @@ use worker_gates::Meeting;
 /// Calls between the workers of one problem, which a search can hear in the middle of a slice: how many of them wait for
 /// a part of its work, and whether nothing is left to do. They are advice: who hears one ends its slice sooner, and
 /// answers by the same contract.
-#[derive(Drop)]
 pub struct Calls {
     waiting: AtomicU64,
     over: AtomicU64,
@@ -15,6 +14,21 @@ pub struct Calls {
     divided: AtomicU64,
     // where one that searches is held
     meeting: Option<Meeting>,
+}
+
+impl Drop for Calls {
+    fn drop(self) {
+        let Calls {
+            waiting,
+            over,
+            divided,
+            meeting,
+        } = self;
+        drop(waiting);
+        drop(over);
+        drop(divided);
+        drop(meeting);
+    }
 }
 
 impl Calls {
@@ -33,8 +47,10 @@ impl Calls {
     /// or so many looks are over. Workers that search one after the other never meet there.
     pub fn meeting(looks: u64) -> Self {
         Calls {
+            waiting: AtomicU64::new(0),
+            over: AtomicU64::new(0),
+            divided: AtomicU64::new(0),
             meeting: Some(Meeting::new(looks)),
-            ..Calls::new()
         }
     }
 

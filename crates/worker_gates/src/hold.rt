@@ -5,11 +5,23 @@ use std::sync::atomic::{AtomicU64, Ordering};
 
 /// Holds the one of workers 0 and 1 that comes first to its second pass, until the other makes a pass that
 /// begins after that, or so many looks are over. Workers that run one after the other never meet there.
-#[derive(Drop)]
 pub struct HoldSecond {
     meeting: Meeting,
     first_passes: AtomicU64,
     second_passes: AtomicU64,
+}
+
+impl Drop for HoldSecond {
+    fn drop(self) {
+        let HoldSecond {
+            meeting,
+            first_passes,
+            second_passes,
+        } = self;
+        drop(meeting);
+        drop(first_passes);
+        drop(second_passes);
+    }
 }
 
 impl HoldSecond {

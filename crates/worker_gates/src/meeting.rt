@@ -12,10 +12,16 @@ const MET: u64 = 2;
 const OVER: u64 = 3;
 
 /// Holds one thread, the first that is to be held, until another one joins it, or so many looks are over.
-#[derive(Drop)]
 pub struct Meeting {
     looks: u64,
     state: AtomicU64,
+}
+
+impl Drop for Meeting {
+    fn drop(self) {
+        let Meeting { looks: _, state } = self;
+        drop(state);
+    }
 }
 
 impl Meeting {
