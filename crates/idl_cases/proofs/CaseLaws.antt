@@ -187,9 +187,6 @@ added_guarded a b g = ap (λ (gs : List ℕ). case gs (pair_sum a.linear b.linea
 pub added_moved : (a b : CaseValue) (by : LinearValue) → IsOver a.linear → IsOver by → IsOver b.linear → added (record { guards = a.guards; linear = pair_sum a.linear by }) b ≡ added a (moved by b)
 added_moved a b by f g h = ap (λ (l : LinearValue). case (a.guards ++ b.guards) l) (pair_assoc a.linear by b.linear f g h)
 
-pub added_plain : (a : CaseValue) (l : LinearValue) → record { guards = a.guards; linear = pair_sum a.linear l } ≡ added a (record { guards = []; linear = l })
-added_plain a l = ap (λ (gs : List ℕ). case gs (pair_sum a.linear l)) (sym (append-nil a.guards))
-
 abbrev later : LinearValue → CaseValue → CaseValue
 later l x = record { guards = x.guards; linear = pair_sum x.linear l }
 
@@ -277,9 +274,6 @@ start_moved by first choices f g h = ap (λ (cs : List CaseValue). added_all cs 
 from_nothing : (xs : List CaseValue) → AreOver xs → map (added (record { guards = []; linear = sum_of [] })) xs ≡ xs
 from_nothing [] h = refl
 from_nothing (x ∷ xs) h = ap (λ (l : LinearValue). case x.guards l ∷ map (added (case [] (sum_of []))) xs) (pair_zero x.linear h.0) ∙ ap (λ (cs : List CaseValue). x ∷ cs) (from_nothing xs h.1)
-
-pub added_to_nothing : (xs : List CaseValue) → AreOver xs → added_each (record { guards = []; linear = sum_of [] } ∷ []) xs ≡ xs
-added_to_nothing xs h = append-nil (map (added (case [] (sum_of []))) xs) ∙ from_nothing xs h
 
 -- ---- what is opened
 

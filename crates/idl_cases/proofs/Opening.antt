@@ -23,9 +23,6 @@ ok_better (Err e) P Q f h = tt
 pub over_pushed : (a new : CaseValue) (s : Bool) (l : LinearValue) → new ≡ record { guards = a.guards; linear = pair_sum a.linear (signed_linear s l) } → IsOver a.linear → IsLinear l → IsOver new.linear
 over_pushed a new s l e h k = subst (λ (v : CaseValue). IsOver v.linear) (sym e) (over_pair a.linear (signed_linear s l) h (over_signed_linear s l (over_linear l k)))
 
-pub over_guards : (a new : CaseValue) (gs : List ℕ) → new ≡ record { guards = gs; linear = a.linear } → IsOver a.linear → IsOver new.linear
-over_guards a new gs e h = subst (λ (v : CaseValue). IsOver v.linear) (sym e) h
-
 pub enter_moved : (a new : CaseValue) (s : Bool) (by : LinearValue) (cases choices : List CaseValue) (k : ℕ) → cases ≡ map (moved by) choices
     → new ≡ record { guards = a.guards; linear = pair_sum a.linear (signed_linear s by) } → IsOver a.linear → IsOver by → AreOver choices → k < length choices
     → added new (case_at (signed_cases s choices) k) ≡ added a (case_at (signed_cases s cases) k)

@@ -12,11 +12,23 @@ use std::alloc::{AllocError, Global};
 use std::marker::Model;
 
 /// A case as its guards and linear terms, whose sum needn't be within the limits.
-#[derive(Drop)]
 pub struct CaseParts<'t> {
     guards: Vec<u32>,
     plus: Vec<&'t Linear>,
     minus: Vec<&'t Linear>,
+}
+
+impl Drop for CaseParts<'_> {
+    fn drop(self) {
+        let CaseParts {
+            guards,
+            plus,
+            minus,
+        } = self;
+        drop(guards);
+        drop(plus);
+        drop(minus);
+    }
 }
 
 impl<'t> Model for CaseParts<'t> {

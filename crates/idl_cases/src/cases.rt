@@ -1,5 +1,5 @@
 //! The cases of Int terms.
-ghost use Rattle.std.specs.Prelude.{◌≡◌, ◌<◌, ◌+◌, ◌^◌, IfOk, length, option_map};
+ghost use Rattle.std.specs.Prelude.{◌≡◌, ◌<◌, ◌+◌, ◌^◌, IfOk, IfSome, length, option_map};
 ghost use Rattle.idl_cases.specs.Guarded.{branched, plain, plain_linear};
 ghost use Rattle.idl_cases.specs.code.Bounded.{AreBounded, AreLimits};
 
@@ -15,10 +15,17 @@ pub const CASES_LIMIT: usize = 4_096;
 
 /// The cases of an Int term, of which there is at least one: a linear term where there are no conditions, and else choices, which terms
 /// share, beside what is added to each of them. So a copy, a sum or one more condition takes the same time whatever the number of cases.
-#[derive(Drop)]
 #[cycle(cases)]
 pub struct Cases {
     pub(crate) kind: Kind,
+}
+
+impl Drop for Cases {
+    #[cycle(drops)]
+    fn drop(self) {
+        let Cases { kind } = self;
+        drop(kind);
+    }
 }
 
 #[derive(Drop)]
@@ -79,6 +86,17 @@ impl Cases {
         match &self.kind {
             Kind::Plain(linear) => Some(linear),
             Kind::Chosen { .. } => None,
+        }
+    }
+
+    /// The choices, where there are some.
+    pub(crate) fn into_choices(self) -> Option<Choices>
+        ensures { IfSome result (λ choices. length choices ≡ length self) }
+    {
+        let Cases { kind } = self;
+        match kind {
+            Kind::Plain(_) => None,
+            Kind::Chosen { by: _, choices } => Some(choices),
         }
     }
 

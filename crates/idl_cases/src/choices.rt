@@ -11,11 +11,57 @@ use std::marker::Model;
 use std::sync::Arc;
 
 /// At least two cases, or their negatives.
-#[derive(Drop)]
 #[cycle(cases)]
 pub struct Choices {
     pub(crate) is_negated: bool,
     pub(crate) tree: Arc<Tree>,
+}
+
+/// Of two parts the one with fewer cases goes first, by a call, and the other one in the loop: so the calls in one another are no more
+/// than the logarithm of the number of cases.
+impl Drop for Choices {
+    #[cycle(drops)]
+    fn drop(mut self) {
+        loop {
+            let Choices {
+                is_negated: _,
+                tree,
+            } = self;
+            let Some(tree) = Arc::into_inner(tree) else {
+                return;
+            };
+            match tree.part {
+                Part::Branched {
+                    condition: _,
+                    denial: _,
+                    yes,
+                    no,
+                } => {
+                    let larger = if yes.len() < no.len() {
+                        drop(yes);
+                        no
+                    } else {
+                        drop(no);
+                        yes
+                    };
+                    let Some(choices) = larger.into_choices() else {
+                        return;
+                    };
+                    self = choices;
+                }
+                Part::Sum { first, second } => {
+                    if first.len() < second.len() {
+                        drop(first);
+                        self = second;
+                    } else {
+                        drop(second);
+                        self = first;
+                    }
+                }
+                Part::Listed(_) => return,
+            }
+        }
+    }
 }
 
 /// Cases as they are made, with how many they are.

@@ -26,13 +26,24 @@ pub(crate) struct Signed<'t> {
 }
 
 /// A sum of Int terms that is being made. It needn't be within the limits.
-#[derive(Drop)]
 pub struct Summing<'t> {
     /// Of the terms without conditions, and of what is added to others' choices.
     start: CaseParts<'t>,
     choices: Vec<Signed<'t>>,
     /// How many cases there are, or 2^64 - 1 where there are more.
     count: usize,
+}
+
+impl Drop for Summing<'_> {
+    fn drop(self) {
+        let Summing {
+            start,
+            choices,
+            count: _,
+        } = self;
+        drop(start);
+        drop(choices);
+    }
 }
 
 impl<'t> Model for Summing<'t> {

@@ -145,9 +145,6 @@ not_different t ids i keys name lt so is there =
     ap (λ (is : List ℕ). are_different (variables t is)) (split_at ids i lt) ∙ ap are_different (variables_append t (take i ids) (x ∷ drop (i + 1) ids)) ∙ different_no_more (variables t (take i ids)) (variable_in (tree_of t x)) (variables t (drop (i + 1) ids)) present in
     rw all (and_false (all_bind t ids))
 
-pub all_so_far : (t : Table) (ids some : List ℕ) (keys : List (List ℕ)) → some ≡ ids → SoFar t some keys → shaped t ids ≡ true
-all_so_far t ids some keys e so = let here : SoFar t ids keys = subst (λ (is : List ℕ). SoFar t is keys) e so in rw (here.binds, here.differ) refl
-
 pub among_texts : (name : List ℕ) (keys : List (Bor (List ℕ))) → list_any (bytes_eq name) (texts keys) ≡ is_among name keys
 among_texts name [] = refl
 among_texts name (k ∷ keys) = ap (λ (b : Bool). bytes_eq name k.now || b) (among_texts name keys)

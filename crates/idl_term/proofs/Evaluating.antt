@@ -4,7 +4,7 @@ use Rattle.std.proofs.lemmas.Int.{ints, unsigned_abs-mul, fits_signed_from_abs, 
 use Rattle.std.specs.Int.{w128}
 use Rattle.idl_linear.proofs.Merging.{both_true, within_low, within_high}
 use Rattle.std.proofs.lemmas.Nat.{mul-le}
-use Rattle.std.proofs.lemmas.List.{at_drop_more, at_drop_all, length-append, length-map}
+use Rattle.std.proofs.lemmas.List.{at_drop_more, length-append, length-map}
 use Rattle.std.proofs.lemmas.List.Folds.{list_all-append}
 use Rattle.std.specs.List.{AllByRecursion, list_all}
 use Rattle.stn_core.specs.Literal.{IsOver, value_at}
@@ -13,7 +13,7 @@ use Rattle.stn_core.specs.declared.named.NamedValue.TheVariants.{Int, Truth}
 use Rattle.stn_core.specs.Limits.{named_value_limit}
 use Rattle.stn_core.specs.Named.{IsWithinLimit, AreWithinLimit}
 use Rattle.idl_node.specs.Truth.{point_value, point_values, truth, AreTruths}
-use Rattle.std.specs.Prelude.{is_some, unwrap_or, IfSome}
+use Rattle.std.specs.Prelude.{unwrap_or, IfSome}
 use Rattle.idl_term.specs.code.Evaluating.{product_limit, term_limit, both_values, first_value, signed_value, IsCaseOver, IsTermValue}
 use Rattle.std.proofs.lemmas.Option.{slice_get_within}
 use Rattle.idl_node.specs.declared.sort.Sort.{Sort}
@@ -24,6 +24,7 @@ use Rattle.idl_node.specs.Tables.{IsTableOf, IsTableOver}
 use Rattle.idl_node.proofs.Keeping.{table_of-better}
 use Rattle.idl_node.proofs.Truths.{list_all-agree}
 use Rattle.idl_term.specs.Meanings.{cases_value, IsCaseIn, IsTermIn}
+use Rattle.idl_term.specs.code.Looking.{either_value, where_true}
 use Rattle.idl_cases.specs.Guarded.{CaseValue, plain, guarded, branched}
 use Rattle.idl_cases.specs.code.Bounded.{AreLinear, AreOver as AreOverPoints}
 use Rattle.idl_cases.specs.code.CaseShapes.{IsForm}
@@ -261,43 +262,37 @@ module _ (test : ℕ → Bool) (values : List ℤ) where
   abbrev first : List CaseValue → Option ℤ
   first cases = first_value test values cases
 
-  -- the first one's, where there is one, else the second one's
-  abbrev either_one : Option ℤ → Option ℤ → Option ℤ
-  either_one (Some z) other = Some z
-  either_one None other = other
-
-  either_by : (b : Bool) (z : ℤ) (o p : Option ℤ) → cond b (Some z) (either_one o p) ≡ either_one (cond b (Some z) o) p
+  either_by : (b : Bool) (z : ℤ) (o p : Option ℤ) → cond b (Some z) (either_value o p) ≡ either_value (cond b (Some z) o) p
   either_by true z o p = refl
   either_by false z o p = refl
 
-  first-append : (xs ys : List CaseValue) → first (xs ++ ys) ≡ either_one (first xs) (first ys)
+  first-append : (xs ys : List CaseValue) → first (xs ++ ys) ≡ either_value (first xs) (first ys)
   first-append [] ys = refl
   first-append (x ∷ xs) ys =
       ap (λ (o : Option ℤ). cond (list_all test x.guards) (Some (linear_value values x.linear)) o) (first-append xs ys)
       ∙ either_by (list_all test x.guards) (linear_value values x.linear) (first xs) (first ys)
 
-  pub first_here : (g : ℕ) (xs : List CaseValue) → test g ≡ true → first (map (guarded g) xs) ≡ first xs
+  first_here : (g : ℕ) (xs : List CaseValue) → test g ≡ true → first (map (guarded g) xs) ≡ first xs
   first_here g [] e = refl
   first_here g (x ∷ xs) e =
       ap (λ (b : Bool). cond (b && list_all test x.guards) (Some (linear_value values x.linear)) (first (map (guarded g) xs))) e
       ∙ ap (λ (o : Option ℤ). cond (list_all test x.guards) (Some (linear_value values x.linear)) o) (first_here g xs e)
 
-  pub first_not_here : (g : ℕ) (xs : List CaseValue) → test g ≡ false → first (map (guarded g) xs) ≡ None
+  first_not_here : (g : ℕ) (xs : List CaseValue) → test g ≡ false → first (map (guarded g) xs) ≡ None
   first_not_here g [] e = refl
   first_not_here g (x ∷ xs) e =
       ap (λ (b : Bool). cond (b && list_all test x.guards) (Some (linear_value values x.linear)) (first (map (guarded g) xs))) e ∙ first_not_here g xs e
 
-  module _ (cases a b : List CaseValue) (c d : ℕ) (e : cases ≡ branched c d a b) where
-    of_both : first cases ≡ either_one (first (map (guarded c) a)) (first (map (guarded d) b))
-    of_both = ap first e ∙ first-append (map (guarded c) a) (map (guarded d) b)
+  behind_guard : (g : ℕ) (xs : List CaseValue) (b : Bool) → test g ≡ b → first (map (guarded g) xs) ≡ where_true b (first xs)
+  behind_guard g xs true e = first_here g xs e
+  behind_guard g xs false e = first_not_here g xs e
 
-    first_branch : (found : Option ℤ) → is_some found ≡ true → found ≡ first (map (guarded c) a) → found ≡ first cases
-    first_branch (Some z) t f = sym (of_both ∙ ap (λ (o : Option ℤ). either_one o (first (map (guarded d) b))) (sym f))
-    first_branch None t f = absurd cc
-
-    second_branch : (found other : Option ℤ) → is_some found ≡ false → found ≡ first (map (guarded c) a) → other ≡ first (map (guarded d) b) → other ≡ first cases
-    second_branch (Some z) other t f h = absurd cc
-    second_branch None other t f h = h ∙ sym (of_both ∙ ap (λ (o : Option ℤ). either_one o (first (map (guarded d) b))) (sym f))
+  pub first_branched : (a b : List CaseValue) (c d : ℕ) (is_yes is_no : Bool) → test c ≡ is_yes → test d ≡ is_no
+      → first (branched c d a b) ≡ either_value (where_true is_yes (first a)) (where_true is_no (first b))
+  first_branched a b c d is_yes is_no e f =
+      first-append (map (guarded c) a) (map (guarded d) b)
+      ∙ ap (λ (o : Option ℤ). either_value o (first (map (guarded d) b))) (behind_guard c a is_yes e)
+      ∙ ap (either_value (where_true is_yes (first a))) (behind_guard d b is_no f)
 
   -- ---- negatives, and sums
 
@@ -352,37 +347,21 @@ module _ (test : ℕ → Bool) (values : List ℤ) where
       ap (λ (b : Bool). cond b (Some (linear_value values (pair_sum x.linear y.linear))) (first (map (added x) ys))) (list_all-append test x.guards y.guards)
       ∙ row_by (list_all test x.guards) (list_all test y.guards) (linear_value values x.linear) (linear_value values y.linear) (linear_value values (pair_sum x.linear y.linear)) (first (map (added x) ys)) (first ys) (pair_value x.linear y.linear) (row_first x ys)
 
-  rows_by : (b : Bool) (m : ℤ) (o p q : Option ℤ) → p ≡ both_values q o → either_one (cond b (both_values (Some m) o) None) p ≡ both_values (cond b (Some m) q) o
+  rows_by : (b : Bool) (m : ℤ) (o p q : Option ℤ) → p ≡ both_values q o → either_value (cond b (both_values (Some m) o) None) p ≡ both_values (cond b (Some m) q) o
   rows_by true m (Some z) p q e = refl
   rows_by true m None p q e = e ∙ none_both q
   rows_by false m o p q e = e
 
-  added_first : (xs ys : List CaseValue) → first (added_each xs ys) ≡ both_values (first xs) (first ys)
+  pub added_first : (xs ys : List CaseValue) → first (added_each xs ys) ≡ both_values (first xs) (first ys)
   added_first [] ys = refl
   added_first (x ∷ xs) ys =
       first-append (map (added x) ys) (added_each xs ys)
-      ∙ ap (λ (o : Option ℤ). either_one o (first (added_each xs ys))) (row_first x ys)
+      ∙ ap (λ (o : Option ℤ). either_value o (first (added_each xs ys))) (row_first x ys)
       ∙ rows_by (list_all test x.guards) (linear_value values x.linear) (first ys) (first (added_each xs ys)) (first xs) (added_first xs ys)
-
-  pub sum_first : (negated : Bool) (cases xs ys : List CaseValue) (outside inside found made : Option ℤ) → cases ≡ signed_cases negated (added_each xs ys) → outside ≡ first xs → inside ≡ first ys → found ≡ both_values outside inside
-      → made ≡ signed_value negated found → made ≡ first cases
-  sum_first negated cases xs ys outside inside found made e f g h k =
-      k ∙ ap (signed_value negated) (h ∙ ap (λ (o : Option ℤ). both_values o inside) f ∙ ap (both_values (first xs)) g ∙ sym (added_first xs ys))
-      ∙ sym (ap first e ∙ signed_first negated (added_each xs ys))
-
-  module _ (negated : Bool) (cases a b : List CaseValue) (c d : ℕ) (e : cases ≡ signed_cases negated (branched c d a b)) where
-    pub in_first : (found made : Option ℤ) → is_some found ≡ true → found ≡ first (map (guarded c) a) → made ≡ signed_value negated found → made ≡ first cases
-    in_first found made t f k = k ∙ ap (signed_value negated) (first_branch (branched c d a b) a b c d refl found t f) ∙ sym (ap first e ∙ signed_first negated (branched c d a b))
-
-    pub in_second : (found other made : Option ℤ) → is_some found ≡ false → found ≡ first (map (guarded c) a) → other ≡ first (map (guarded d) b) → made ≡ signed_value negated other → made ≡ first cases
-    in_second found other made t f h k = k ∙ ap (signed_value negated) (second_branch (branched c d a b) a b c d refl found other t f h) ∙ sym (ap first e ∙ signed_first negated (branched c d a b))
 
   pub moved_is : (cases xs : List CaseValue) (by : LinearValue) (m : ℤ) (found made : Option ℤ) → cases ≡ map (moved by) xs → m ≡ linear_value values by → found ≡ first xs → made ≡ both_values (Some m) found → made ≡ first cases
   moved_is cases xs by m found made e f g k =
       k ∙ ap (λ (n : ℤ). both_values (Some n) found) f ∙ ap (both_values (Some (linear_value values by))) g ∙ sym (ap first e ∙ moved_first by xs)
-
-  pub listed_first : (negated : Bool) (cases listed : List CaseValue) (found made : Option ℤ) → cases ≡ signed_cases negated listed → found ≡ first listed → made ≡ signed_value negated found → made ≡ first cases
-  listed_first negated cases listed found made e f k = k ∙ ap (signed_value negated) f ∙ sym (ap first e ∙ signed_first negated listed)
 
   -- a linear term alone
   pub plain_first : (cases : List CaseValue) (l : LinearValue) (z : ℤ) → cases ≡ plain l → z ≡ linear_value values l → Some z ≡ first cases
@@ -523,14 +502,8 @@ guard_at count (x ∷ xs) (suc k) g h lt e = guard_at count xs k g h.1 (omega ar
 pub guards_step : (test : ℕ → Bool) (guards : List ℕ) (k g : ℕ) → k < length guards → g ≡ get_or guards k g → list_all test (drop k guards) ≡ (test g && list_all test (drop (k + 1) guards))
 guards_step test guards k g lt e = at_drop_more (list_all test) guards k g lt ∙ ap (λ (j : ℕ). test j && list_all test (drop (k + 1) guards)) (sym e)
 
-pub guards_pass : (test : ℕ → Bool) (guards : List ℕ) (k g : ℕ) (whole : Bool) → k < length guards → g ≡ get_or guards k g → whole ≡ list_all test (drop k guards) → test g ≡ true → whole ≡ list_all test (drop (k + 1) guards)
-guards_pass test guards k g whole lt e f h = f ∙ guards_step test guards k g lt e ∙ ap (λ (b : Bool). b && list_all test (drop (k + 1) guards)) h
-
 pub guards_fail : (test : ℕ → Bool) (guards : List ℕ) (k g : ℕ) (whole : Bool) → k < length guards → g ≡ get_or guards k g → whole ≡ list_all test (drop k guards) → test g ≡ false → false ≡ whole
 guards_fail test guards k g whole lt e f h = sym (f ∙ guards_step test guards k g lt e ∙ ap (λ (b : Bool). b && list_all test (drop (k + 1) guards)) h)
-
-pub guards_end : (test : ℕ → Bool) (guards : List ℕ) (k : ℕ) (whole : Bool) → length guards ≤ k → whole ≡ list_all test (drop k guards) → true ≡ whole
-guards_end test guards k whole lt f = sym (f ∙ at_drop_all (list_all test) guards k lt)
 
 -- ---- cases one after another
 
@@ -555,9 +528,6 @@ case_guards count [] k x h lt e = absurd (omega arith)
 case_guards count (y ∷ ys) zero x h lt e = subst (λ (c : CaseValue). AllByRecursion (λ g. g < count) c.guards) (sym e) h.0
 case_guards count (y ∷ ys) (suc k) x h lt e = case_guards count ys k x h.1 (omega arith) e
 
-pub cases_end : (test : ℕ → Bool) (values : List ℤ) (cases : List CaseValue) (k : ℕ) (whole : Option ℤ) → length cases ≤ k → whole ≡ first_value test values (drop k cases) → None ≡ whole
-cases_end test values cases k whole lt f = sym (f ∙ at_drop_all (first_value test values) cases k lt)
-
 -- and those of the whole
 pub guards_over : (count nodes : ℕ) (cases : List CaseValue) → AllByRecursion (IsCaseOver count nodes) cases → AreGuardsBelow nodes cases
 guards_over count nodes [] h = tt
@@ -575,7 +545,7 @@ value_read z h =
     let high = h.1 in
     omega (arith, ints, low, high)
 
-value_fits : (z : ℤ) → IsTermValue z → FitsSigned w128 z
+pub value_fits : (z : ℤ) → IsTermValue z → FitsSigned w128 z
 value_fits z h =
     let near = abs_within z term_limit h.0 h.1 in
     fits_signed_from_abs w128 z (omega (arith, near))
@@ -607,14 +577,6 @@ module _ (first second : Option ℤ) (a b : ℤ) (e : first ≡ Some a) (f : sec
 -- a value that is found is not too large
 pub small_same : (found made : Option ℤ) → made ≡ found → IfSome found IsTermValue → IfSome made IsTermValue
 small_same found made e h = subst (λ (o : Option ℤ). IfSome o IsTermValue) (sym e) h
-
-pub small_unsigned : (negated : Bool) (found : Option ℤ) → IfSome (signed_value negated found) IsTermValue → IfSome found IsTermValue
-small_unsigned true (Some z) h =
-    let low = h.0 in
-    let high = h.1 in
-    (omega (arith, ints, low, high), omega (arith, ints, low, high))
-small_unsigned false (Some z) h = h
-small_unsigned negated None h = tt
 
 module _ (nodes : List NodeValue) (values : List ℤ) where
   -- the value of the first case, or 0

@@ -79,15 +79,3 @@ two_plain s first second a b result e f h =
     (subst (λ (cases : List CaseValue). SumsTerms s (plain a ∷ cases ∷ []) result) (sym (plain_is second b f)) h)
 
 -- ---- two terms
-
-unchanged : (p : Result Placed TermRefusal) → follows p (λ q. or_too_large (conjoined q.nodes (q.number ∷ []))) ≡ p
-unchanged (Ok q) = refl
-unchanged (Err why) = refl
-
-pub two_compared : (relation : Relation) (nodes : List NodeValue) (a b : List CaseValue) → all_compared relation nodes (a ∷ b ∷ []) ≡ cases_compared relation nodes a b
-two_compared AtMost nodes a b = unchanged (cases_compared AtMost nodes a b)
-two_compared Less nodes a b = unchanged (cases_compared Less nodes a b)
-two_compared AtLeast nodes a b = unchanged (cases_compared AtLeast nodes a b)
-two_compared Greater nodes a b = unchanged (cases_compared Greater nodes a b)
-two_compared Equal nodes a b = unchanged (cases_compared Equal nodes a b)
-two_compared Distinct nodes a b = unchanged (cases_compared Distinct nodes a b)

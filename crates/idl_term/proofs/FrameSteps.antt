@@ -137,12 +137,6 @@ binding_more t rest others b base now new target is e step =
       same = ap (bound_to (trees_of t others) base) here ∙ bound_once_more t now others b base (ap (λ (is : List ℕ). base + length is) (sym e) ∙ is.values) ∙ ap (λ (is : List ℕ). bound_to (trees_of t is) base now) (sym e) ∙ is.same;
     }
 
-pub binding_done : (t : Table) (rest : List ℕ) (base : ℕ) (now target : Walk) → IsBinding t rest base now target → rest ≡ [] → now ≡ target
-binding_done t rest base now target is e =
-    let long : base ≡ length now.values = omega (arith, is.values, ap length e) in
-    let nothing : bound_to none base now ≡ now = rw (long, take_all now.values) refl in
-    sym nothing ∙ ap (λ (is : List ℕ). bound_to (trees_of t is) base now) (sym e) ∙ is.same
-
 -- ---- variables go out of scope
 
 pub unbind_steps : (w : Walk) (t : Table) (inner less : Inner) (frames : List Frame) (values : List Lowered) (nodes : List NodeValue) (frame : Frame) (count : ℕ) → frame ≡ Unbind count → IsReady (with_frame frame w) → seen t inner frames values ≡ w → less ≡ without count inner
@@ -161,11 +155,6 @@ pub record IsRunning (now : Walk) (nodes start : List NodeValue) (target : Resul
   pub same : outcome now nodes ≡ target
   pub front : take (length start) nodes ≡ start
 
-pub starts_ready : (w : Walk) → w.frames ≡ [] → w.values ≡ [] → length w.inner.outer.declared ≤ names_limit → IsWaiting w
-starts_ready w none_open none_made few =
-    let one : length w.values + 1 ≡ 1 = omega (arith, ap length none_made) in
-    (subst (λ (fs : List Frame). AreFrames w.table (length w.inner.variables) (length w.values + 1) fs) (sym none_open) one, few)
-
 made_alone : (w : Walk) (first : Result Made TermRefusal) → follows first (λ made. ended made.nodes ([] ++ made.is ∷ [])) ≡ first
 made_alone w (Ok made) = refl
 made_alone w (Err why) = refl
@@ -176,10 +165,6 @@ starts_outcome w nodes id none_open none_made =
     ap (λ (fs : List Frame). follows (lowered (scope_at w) nodes (tree_of w.table id)) (λ made. finished w.table w.inner fs made.nodes (w.values ++ made.is ∷ []))) none_open
     ∙ ap (λ (ts : List LoweredTerm). follows (lowered (scope_at w) nodes (tree_of w.table id)) (λ made. ended made.nodes (ts ++ made.is ∷ []))) none_made
     ∙ made_alone w (lowered (scope_at w) nodes (tree_of w.table id))
-
--- a frame is taken off
-pub taken_off : (w : Walk) (t : Table) (inner : Inner) (frames rest : List Frame) (values : List Lowered) (f : Frame) → seen t inner frames values ≡ w → frames ≡ rest ++ f ∷ [] → w ≡ with_frame f (seen t inner rest values)
-taken_off w t inner frames rest values f e p = sym e ∙ ap (λ (fs : List Frame). seen t inner fs values) p ∙ ap (λ (fs : List Frame). record (seen t inner [] values) { frames = fs }) (reverse-append rest (f ∷ []))
 
 last_value : (nodes : List NodeValue) (values : List LoweredTerm) (others : List LoweredTerm) (v : LoweredTerm) → length values ≡ 1 → values ≡ others ++ v ∷ [] → ended nodes values ≡ Ok (record { nodes = nodes; is = v })
 last_value nodes values [] v one e = rw e refl

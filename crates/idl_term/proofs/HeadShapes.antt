@@ -40,24 +40,3 @@ by_test name false = refl
 by_symbol : (o : Option (List ℕ)) → (if may_be_bound o then Some (name_in o) else None) ≡ allowed o
 by_symbol None = refl
 by_symbol (Some name) = by_test name (is_reserved name)
-
-pub variable_of_two : (x v y : Sexpr) → x ≡ list (more v (more y none)) → variable_by x ≡ allowed (symbol_of v)
-variable_of_two x v y e = rw e (by_symbol (symbol_of v))
-
-not_two : (x : Sexpr) (items : Items) → x ≡ list items → ((v y : Sexpr) → items ≡ more v (more y none) → ⊥) → variable_by x ≡ None
-not_two x none e h = rw e refl
-not_two x (more v none) e h = rw e refl
-not_two x (more v (more y none)) e h = absurd (h v y refl)
-not_two x (more v (more y (more z zs))) e h = rw e refl
-
-more_than : (t : Table) (ids : List ℕ) (v y : Sexpr) → trees_of t ids ≡ more v (more y none) → length ids ≡ 2
-more_than t [] v y e = absurd cc
-more_than t (a ∷ []) v y e = absurd cc
-more_than t (a ∷ b ∷ []) v y e = refl
-more_than t (a ∷ b ∷ c ∷ ids) v y e = absurd cc
-
-pub variable_of_others : (t : Table) (id : ℕ) (ids : List ℕ) → tree_of t id ≡ list (trees_of t ids) → (length ids ≡ 2 → ⊥) → variable_by (tree_of t id) ≡ None
-variable_of_others t id ids e h = not_two (tree_of t id) (trees_of t ids) e (λ v y f. h (more_than t ids v y f))
-
-pub variable_of_leaf : (x : Sexpr) (kind : TokenKind) (text : List ℕ) → x ≡ leaf kind text → variable_by x ≡ None
-variable_of_leaf x kind text e = rw e refl

@@ -62,9 +62,6 @@ opens_let w new nodes items ids body base ready parts e is =
     }
     )
 
-pub refuses_let : (w : Walk) (nodes : List NodeValue) (items : List ℕ) → is_let (trees_of w.table items) ≡ false → outcome_behind w (let_made (scope_at w) nodes (trees_of w.table items)) ≡ Err IllFormedTerm
-refuses_let w nodes items e = rw e refl
-
 -- ---- bindings
 
 -- a binding's variable and its term

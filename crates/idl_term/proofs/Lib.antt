@@ -18,6 +18,7 @@ pub mod CasesRelated
 pub mod ChoiceSums
 pub mod SumsOfTerms
 pub mod Leaves
+pub mod Looking
 pub mod TreesOfIds
 pub mod FirstRefusals
 pub mod MachineSteps

@@ -44,20 +44,6 @@ steps_from before later limit bound old start new nodes (Ok x) e le same_table s
 steps_from before later limit bound old start new nodes (Err (Refused why)) e le same_table same_outer g = sym e ∙ g
 steps_from before later limit bound old start new nodes (Err OutOfMemory) e le same_table same_outer g = tt
 
--- a term is made
-pub goes_by_value : (w new : Walk) (first : Result Made TermRefusal) (nodes : List NodeValue) (v : LoweredTerm) → IsWaiting w → new ≡ with_value v w → first ≡ Ok (record { nodes = nodes; is = v }) → Goes (outcome_behind w first) (weight w.table w.frames + 1) w new nodes
-goes_by_value w new first nodes v ready e made =
-    let count : length (w.values ++ v ∷ []) ≡ length w.values + 1 = omega (arith, length-append w.values (v ∷ [])) in
-    subst (λ (n : Walk). Goes (outcome_behind w first) (weight w.table w.frames + 1) w n nodes) (sym e) (
-    record {
-      same = sym (follows_ok first (λ m. finished w.table w.inner w.frames m.nodes (w.values ++ m.is ∷ [])) (record { nodes = nodes; is = v }) made);
-      ready = (subst (λ (n : ℕ). AreFrames w.table (length w.inner.variables) n w.frames) (sym count) ready.0, ready.1);
-      less = omega arith;
-      table = refl;
-      outer = refl;
-    }
-    )
-
 -- ---- an application
 
 application_starts : (w : Walk) (nodes : List NodeValue) (o : Operator) (arguments : Bor (List ℕ)) (base : ℕ) → takes_count o (length arguments.now) ≡ true → base ≡ length w.values
@@ -101,13 +87,6 @@ subst_first t (id ∷ ids) x rest e h =
     let others : ids ≡ rest = cc in
     (subst (λ (i : ℕ). IsTree t i) first h.0, subst (λ (is : List ℕ). AreTrees t is) others h.1)
 
-pub argument_waits : (w : Walk) (o : Operator) (all rest : Bor (List ℕ)) (x base : ℕ) → all.now ≡ x ∷ rest.now → IsReady (with_frame (Apply o all base) w) → IsTree w.table x × IsWaiting (with_frame (Apply o rest base) w)
-argument_waits w o all rest x base e ready =
-    let trees = subst_first w.table all.now x rest.now e ready.0.0 in
-    let le : base ≤ length w.values = ready.0.1 in
-    let same : ((length w.values + 1) - base) + length rest.now ≡ (length w.values - base) + length all.now = omega (arith, ap length e) in
-    (trees.0, ((trees.1, omega (arith, le), ap (takes_count o) same ∙ ready.0.2, ready.0.3), ready.1))
-
 -- the last argument is made
 pub application_ends : (w new : Walk) (before nodes : List NodeValue) (o : Operator) (base : ℕ) (v : LoweredTerm) → IsReadyWith (base + 1) w → base ≤ length w.values → applied o before (drop base w.values) ≡ Ok (record { nodes = nodes; is = v }) → new ≡ record w { values = gathered base w.values v }
     → Goes (outcome_of o base w before) (weight w.table w.frames + 1) w new nodes
@@ -126,14 +105,6 @@ application_ends w new before nodes o base v ready le made is =
 pub last_argument : (w : Walk) (nodes : List NodeValue) (o : Operator) (all : Bor (List ℕ)) (base : ℕ) → all.now ≡ [] → outcome_of o base w nodes ≡ outcome (with_frame (Apply o all base) w) nodes
 unfolding finished lowered_each
 last_argument w nodes o all base e = rw (e, append-nil (drop base w.values)) refl
-
-pub application_counts : (w : Walk) (o : Operator) (all : Bor (List ℕ)) (base : ℕ) → all.now ≡ [] → IsReady (with_frame (Apply o all base) w) → takes_count o (length w.values - base) ≡ true
-application_counts w o all base e ready =
-    let same : length w.values - base ≡ (length w.values - base) + length all.now = omega (arith, ap length e) in
-    ap (takes_count o) same ∙ ready.0.2
-
-pub application_ready : (w : Walk) (o : Operator) (all : Bor (List ℕ)) (base : ℕ) → IsReady (with_frame (Apply o all base) w) → IsReadyWith (base + 1) w × (base ≤ length w.values)
-application_ready w o all base ready = ((ready.0.3, ready.1), ready.0.1)
 
 -- ---- refusals
 

@@ -53,10 +53,6 @@ int_point_in : (sorts : List Sort) (p : ℕ) → IsIntPoint sorts p → p < leng
 int_point_in sorts zero h = omega arith
 int_point_in sorts (suc p) h = let rest = points_below sorts p sort.Int h in omega (arith, rest)
 
-pub bool_point_in : (sorts : List Sort) (p : ℕ) → IsBoolPoint sorts p → p < length sorts + 1
-bool_point_in sorts zero h = absurd h
-bool_point_in sorts (suc p) h = let rest = points_below sorts p sort.Bool h in omega (arith, rest)
-
 pub atom_negates : (sorts : List Sort) (l : Literal) → IsAtomFor sorts l → IsAtomFor sorts (negation_of l)
 atom_negates sorts l h =
     let over = h.over in

@@ -46,7 +46,3 @@ where_few count made = if are_few count then made else Err TooManyCases
 -- a choice of linear terms alone
 abbrev pub only_choice : List LinearValue → List Choice
 only_choice ls = record { guards = []; linears = ls } ∷ []
-
--- with each case of one more term
-abbrev pub with_each : List LinearValue → List CaseValue → List Choice
-with_each ls cases = map (with_case (record { guards = []; linears = ls })) cases

@@ -1,5 +1,5 @@
 //! The value of an Int term.
-ghost use Rattle.std.specs.Prelude.{◌≡◌, ◌<◌, ◌+◌, ◌*ℤ◌, ◌≤ℤ◌, neg_ℤ, pos, IfOk, IfSome, OnErr, List, length, map, slice_index_or, true, false};
+ghost use Rattle.std.specs.Prelude.{◌≡◌, ◌<◌, ◌+◌, ◌*ℤ◌, ◌≤ℤ◌, ℕ, Bool, neg_ℤ, pos, IfOk, IfSome, OnErr, List, length, max, slice_index_or, true, false};
 ghost use Rattle.std.specs.List.{AllByRecursion, list_all};
 ghost use Rattle.stn_core.specs.Literal.{value_at};
 ghost use Rattle.stn_core.specs.Named.{AreWithinLimit};
@@ -9,11 +9,13 @@ ghost use Rattle.idl_linear.specs.Values.{linear_value};
 ghost use Rattle.idl_node.specs.Nodes.{NodeValue};
 ghost use Rattle.idl_node.specs.Tables.{IsTableOver};
 ghost use Rattle.idl_node.specs.Truth.{point_values, truth, AreTruths, BeginsWith};
-ghost use Rattle.idl_cases.specs.Guarded.{guarded};
+ghost use Rattle.idl_cases.specs.code.CaseSums.{added_each};
 ghost use Rattle.idl_cases.specs.code.GuardBounds.{AreGuardsBelow};
-ghost use Rattle.idl_term.specs.code.Evaluating.{product_limit, both_values, first_value, signed_value, IsCaseOver, IsTermValue};
+ghost use Rattle.idl_term.specs.code.Evaluating.{product_limit, both_values, first_value, IsCaseOver, IsTermValue};
+ghost use Rattle.idl_term.specs.code.Looking.{branches_cases, step_value, where_true, whole_value, AreBoth, IsStepWithin};
 ghost use Rattle.idl_term.specs.Meanings.{cases_value};
 
+use crate::pending::{Branches, Pending, Step};
 use idl_cases::{Case, Cases, Choices, Chosen, Form};
 use idl_linear::{Linear, Summand};
 use idl_node::{Nodes, eval, eval_on, point_value};
@@ -67,19 +69,21 @@ fn both_values(first: Option<Value>, second: Option<Value>) -> Option<Value>
     Some(a + b)
 }
 
-/// The value, or its negative.
-fn signed_value(is_negated: bool, found: Option<Value>) -> Option<Value>
-    requires { IfSome found IsTermValue }
-    ensures is { result ≡ signed_value is_negated found }
-    ensures small { IfSome result IsTermValue }
+/// The step into cases, where their guard is true.
+fn enter<'c>(part: Pending<'c>, is_true: bool, cases: &'c Cases, values: &NamedValues) -> Step<'c>
+    requires within { AreWithinLimit values.now }
+    ensures value { (test : ℕ → Bool) → step_value test (point_values values.now) result
+        ≡ whole_value part.entry (where_true is_true (first_value test (point_values values.now) cases.now)) }
+    ensures less { (count : ℕ) → AreGuardsBelow count cases.now → IsStepWithin count (length cases.now + 1) result }
 {
-    let Some(value) = found else {
-        return None;
-    };
-    if is_negated {
-        Some(-value)
+    if is_true {
+        match cases.chosen() {
+            Chosen::Plain(linear) => Step::Found(part.whole(Some(eval_linear(linear, values)))),
+            Chosen::Choices(choices) => Step::On(part.within(choices)),
+            Chosen::Moved(by, choices) => part.summed(Some(eval_linear(by, values)), choices),
+        }
     } else {
-        Some(value)
+        Step::Found(part.otherwise)
     }
 }
 
@@ -101,7 +105,8 @@ fn first_marked(cases: &Cases, values: &NamedValues, marks: &[bool]) -> Option<V
     }
 }
 
-/// The same of choices.
+/// The same of choices. Of two parts the one with fewer cases is gone into by a call, and the other one by a step of the loop: so the
+/// calls in one another are no more than the logarithm of the number of cases.
 #[cycle(marked)]
 fn first_chosen(choices: &Choices, values: &NamedValues, marks: &[bool]) -> Option<Value>
     requires guards { AreGuardsBelow (length marks.now) choices.now }
@@ -109,7 +114,26 @@ fn first_chosen(choices: &Choices, values: &NamedValues, marks: &[bool]) -> Opti
     ensures is { result ≡ first_value (λ g. slice_index_or marks.now g false) (point_values values.now) choices.now }
     ensures small { IfSome result IsTermValue }
 {
-    let (form, is_negated) = choices.form();
+    let mut pending = Pending::new(choices);
+    loop {
+        match step_marked(pending, values, marks) {
+            Step::Found(found) => return found,
+            Step::On(next) => pending = next,
+        }
+    }
+}
+
+/// A step towards the value.
+#[cycle(marked)]
+fn step_marked<'c>(pending: Pending<'c>, values: &NamedValues, marks: &[bool]) -> Step<'c>
+    requires guards { AreGuardsBelow (length marks.now) pending.choices.now }
+    requires within { AreWithinLimit values.now }
+    ensures value { step_value (λ g. slice_index_or marks.now g false) (point_values values.now) result
+        ≡ whole_value pending.entry (first_value (λ g. slice_index_or marks.now g false) (point_values values.now) pending.entry.choices.now) }
+    ensures less { IsStepWithin (length marks.now) (length pending.entry.choices.now) result }
+{
+    let (form, is_negative) = pending.choices.form();
+    let part = pending.signed(is_negative);
     match form {
         Form::Branched {
             condition,
@@ -117,38 +141,82 @@ fn first_chosen(choices: &Choices, values: &NamedValues, marks: &[bool]) -> Opti
             yes,
             no,
         } => {
-            let first = first_behind(condition, yes, values, marks);
-            if first.is_some() {
-                return signed_value(is_negated, first);
-            }
-            let second = first_behind(denial, no, values, marks);
-            signed_value(is_negated, second)
+            let branches = Branches {
+                condition,
+                denial,
+                yes,
+                no,
+            };
+            branch_marked(part, branches, values, marks)
         }
-        Form::Sum { first, second } => {
-            let outside = first_chosen(first, values, marks);
-            let inside = first_chosen(second, values, marks);
-            signed_value(is_negated, both_values(outside, inside))
-        }
+        Form::Sum { first, second } => sum_marked(part, first, second, values, marks),
         Form::Listed(listed) => {
             let found = first_listed(listed, values, marks);
-            signed_value(is_negated, found)
+            Step::Found(part.whole(found))
         }
     }
 }
 
-/// The same of cases behind one more guard.
+/// The step into a branch whose guard is true.
 #[cycle(marked)]
-fn first_behind(guard: u32, cases: &Cases, values: &NamedValues, marks: &[bool]) -> Option<Value>
-    requires guard { guard < length marks.now }
-    requires guards { AreGuardsBelow (length marks.now) cases.now }
+fn branch_marked<'c>(
+    part: Pending<'c>,
+    branches: Branches<'c>,
+    values: &NamedValues,
+    marks: &[bool],
+) -> Step<'c>
+    requires condition { branches.condition < length marks.now }
+    requires denial { branches.denial < length marks.now }
+    requires yes { AreGuardsBelow (length marks.now) branches.yes.now }
+    requires no { AreGuardsBelow (length marks.now) branches.no.now }
+    requires some { AreBoth branches }
     requires within { AreWithinLimit values.now }
-    ensures is { result ≡ first_value (λ g. slice_index_or marks.now g false) (point_values values.now) (map (guarded guard) cases.now) }
-    ensures small { IfSome result IsTermValue }
+    ensures value { step_value (λ g. slice_index_or marks.now g false) (point_values values.now) result
+        ≡ whole_value part.entry (first_value (λ g. slice_index_or marks.now g false) (point_values values.now) (branches_cases branches.entry)) }
+    ensures less { IsStepWithin (length marks.now) (length branches.entry.yes.now + length branches.entry.no.now) result }
 {
-    if marks[guard as usize] {
-        first_marked(cases, values, marks)
+    let Branches { yes, no, .. } = branches;
+    let is_yes = marks[branches.condition as usize];
+    let is_no = marks[branches.denial as usize];
+    if !is_yes {
+        return enter(part, is_no, no, values);
+    }
+    if !is_no {
+        return enter(part, is_yes, yes, values);
+    }
+    if yes.len() < no.len() {
+        let found = first_marked(yes, values, marks);
+        if found.is_some() {
+            return Step::Found(part.whole(found));
+        }
+        return enter(part, is_no, no, values);
+    }
+    let found = first_marked(no, values, marks);
+    enter(part.before(found), is_yes, yes, values)
+}
+
+/// The step into a sum.
+#[cycle(marked)]
+fn sum_marked<'c>(
+    part: Pending<'c>,
+    first: &'c Choices,
+    second: &'c Choices,
+    values: &NamedValues,
+    marks: &[bool],
+) -> Step<'c>
+    requires first { AreGuardsBelow (length marks.now) first.now }
+    requires second { AreGuardsBelow (length marks.now) second.now }
+    requires within { AreWithinLimit values.now }
+    ensures value { step_value (λ g. slice_index_or marks.now g false) (point_values values.now) result
+        ≡ whole_value part.entry (first_value (λ g. slice_index_or marks.now g false) (point_values values.now) (added_each first.now second.now)) }
+    ensures less { IsStepWithin (length marks.now) (1 + max (length first.now) (length second.now)) result }
+{
+    if first.len() < second.len() {
+        let outside = first_chosen(first, values, marks);
+        part.summed(outside, second)
     } else {
-        None
+        let inside = first_chosen(second, values, marks);
+        part.summed(inside, first)
     }
 }
 
@@ -237,7 +305,7 @@ fn first_true(
     }
 }
 
-/// The same of choices.
+/// The same of choices. Of two parts the one with fewer cases is gone into by a call, and the other one by a step of the loop.
 #[cycle(asked)]
 fn first_true_chosen(
     choices: &Choices,
@@ -255,7 +323,36 @@ fn first_true_chosen(
     ensures marks { AreTruths nodes.now (point_values values.now) marks.new.items }
     ensures front { BeginsWith marks.new.items marks.old.items }
 {
-    let (form, is_negated) = choices.form();
+    let mut pending = Pending::new(choices);
+    loop {
+        let step = step_true(pending, nodes, values, marks)?;
+        match step {
+            Step::Found(found) => return Ok(found),
+            Step::On(next) => pending = next,
+        }
+    }
+}
+
+/// A step towards the value.
+#[cycle(asked)]
+fn step_true<'c>(
+    pending: Pending<'c>,
+    nodes: &Nodes,
+    values: &NamedValues,
+    marks: &mut Vec<bool>,
+) -> Result<Step<'c>, AllocError>
+    requires table { IsTableOver (length values.now + 1) nodes.now }
+    requires guards { AreGuardsBelow (length nodes.now) pending.choices.now }
+    requires within { AreWithinLimit values.now }
+    requires marks { AreTruths nodes.now (point_values values.now) marks.old.items }
+    ensures value { IfOk result (λ step. step_value (truth nodes.now (point_values values.now)) (point_values values.now) step
+        ≡ whole_value pending.entry (first_value (truth nodes.now (point_values values.now)) (point_values values.now) pending.entry.choices.now)) }
+    ensures less { IfOk result (IsStepWithin (length nodes.now) (length pending.entry.choices.now)) }
+    ensures marks { AreTruths nodes.now (point_values values.now) marks.new.items }
+    ensures front { BeginsWith marks.new.items marks.old.items }
+{
+    let (form, is_negative) = pending.choices.form();
+    let part = pending.signed(is_negative);
     match form {
         Form::Branched {
             condition,
@@ -263,49 +360,96 @@ fn first_true_chosen(
             yes,
             no,
         } => {
-            let first = first_true_behind(condition, yes, nodes, values, marks)?;
-            if first.is_some() {
-                return Ok(signed_value(is_negated, first));
-            }
-            let second = first_true_behind(denial, no, nodes, values, marks)?;
-            Ok(signed_value(is_negated, second))
+            let branches = Branches {
+                condition,
+                denial,
+                yes,
+                no,
+            };
+            let step = branch_true(part, branches, nodes, values, marks)?;
+            Ok(step)
         }
         Form::Sum { first, second } => {
-            let outside = first_true_chosen(first, nodes, values, marks)?;
-            let inside = first_true_chosen(second, nodes, values, marks)?;
-            Ok(signed_value(is_negated, both_values(outside, inside)))
+            let step = sum_true(part, first, second, nodes, values, marks)?;
+            Ok(step)
         }
         Form::Listed(listed) => {
             let found = first_true_listed(listed, nodes, values, marks)?;
-            Ok(signed_value(is_negated, found))
+            Ok(Step::Found(part.whole(found)))
         }
     }
 }
 
-/// The same of cases behind one more guard.
+/// The step into a branch whose guard is true.
 #[cycle(asked)]
-fn first_true_behind(
-    guard: u32,
-    cases: &Cases,
+fn branch_true<'c>(
+    part: Pending<'c>,
+    branches: Branches<'c>,
     nodes: &Nodes,
     values: &NamedValues,
     marks: &mut Vec<bool>,
-) -> Result<Option<Value>, AllocError>
+) -> Result<Step<'c>, AllocError>
     requires table { IsTableOver (length values.now + 1) nodes.now }
-    requires guard { guard < length nodes.now }
-    requires guards { AreGuardsBelow (length nodes.now) cases.now }
+    requires condition { branches.condition < length nodes.now }
+    requires denial { branches.denial < length nodes.now }
+    requires yes { AreGuardsBelow (length nodes.now) branches.yes.now }
+    requires no { AreGuardsBelow (length nodes.now) branches.no.now }
+    requires some { AreBoth branches }
     requires within { AreWithinLimit values.now }
     requires marks { AreTruths nodes.now (point_values values.now) marks.old.items }
-    ensures value { IfOk result (λ o. o ≡ first_value (truth nodes.now (point_values values.now))
-        (point_values values.now) (map (guarded guard) cases.now)) }
-    ensures small { IfOk result (λ o. IfSome o IsTermValue) }
+    ensures value { IfOk result (λ step. step_value (truth nodes.now (point_values values.now)) (point_values values.now) step
+        ≡ whole_value part.entry (first_value (truth nodes.now (point_values values.now)) (point_values values.now) (branches_cases branches.entry))) }
+    ensures less { IfOk result (IsStepWithin (length nodes.now) (length branches.entry.yes.now + length branches.entry.no.now)) }
     ensures marks { AreTruths nodes.now (point_values values.now) marks.new.items }
     ensures front { BeginsWith marks.new.items marks.old.items }
 {
-    if eval_on(nodes, guard, values, marks)? {
-        first_true(cases, nodes, values, marks)
+    let Branches { yes, no, .. } = branches;
+    let is_yes = eval_on(nodes, branches.condition, values, marks)?;
+    let is_no = eval_on(nodes, branches.denial, values, marks)?;
+    if !is_yes {
+        return Ok(enter(part, is_no, no, values));
+    }
+    if !is_no {
+        return Ok(enter(part, is_yes, yes, values));
+    }
+    if yes.len() < no.len() {
+        let found = first_true(yes, nodes, values, marks)?;
+        if found.is_some() {
+            return Ok(Step::Found(part.whole(found)));
+        }
+        return Ok(enter(part, is_no, no, values));
+    }
+    let found = first_true(no, nodes, values, marks)?;
+    Ok(enter(part.before(found), is_yes, yes, values))
+}
+
+/// The step into a sum.
+#[cycle(asked)]
+fn sum_true<'c>(
+    part: Pending<'c>,
+    first: &'c Choices,
+    second: &'c Choices,
+    nodes: &Nodes,
+    values: &NamedValues,
+    marks: &mut Vec<bool>,
+) -> Result<Step<'c>, AllocError>
+    requires table { IsTableOver (length values.now + 1) nodes.now }
+    requires first { AreGuardsBelow (length nodes.now) first.now }
+    requires second { AreGuardsBelow (length nodes.now) second.now }
+    requires within { AreWithinLimit values.now }
+    requires marks { AreTruths nodes.now (point_values values.now) marks.old.items }
+    ensures value { IfOk result (λ step. step_value (truth nodes.now (point_values values.now)) (point_values values.now) step
+        ≡ whole_value part.entry (first_value (truth nodes.now (point_values values.now)) (point_values values.now) (added_each first.now second.now))) }
+    ensures less { IfOk result (IsStepWithin (length nodes.now) (1 + max (length first.now) (length second.now))) }
+    ensures marks { AreTruths nodes.now (point_values values.now) marks.new.items }
+    ensures front { BeginsWith marks.new.items marks.old.items }
+{
+    if first.len() < second.len() {
+        let outside = first_true_chosen(first, nodes, values, marks)?;
+        Ok(part.summed(outside, second))
     } else {
-        Ok(None)
+        let inside = first_true_chosen(second, nodes, values, marks)?;
+        Ok(part.summed(inside, first))
     }
 }
 

@@ -17,6 +17,7 @@ mod lowering;
 mod machine;
 mod operator;
 mod pairing;
+mod pending;
 mod repeated;
 mod reserved;
 mod rows;
