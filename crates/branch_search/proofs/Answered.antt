@@ -18,12 +18,6 @@ use Rattle.branch_search.specs.code.Turns.{AreFound}
 use Rattle.branch_search.specs.code.Divisions.{IsDivision, excluding}
 use Rattle.branch_search.specs.code.Deliveries.{IsLeft, IsOfKind}
 
-pub found_model : (q : Question) (own : List Lemma) (found : Found) (schedule : List ℤ) → found ≡ FoundModel schedule → AreFound q own found → IsDivision q own (Model schedule)
-found_model q own found schedule e h = subst (AreFound q own) e h
-
-pub found_excluded : (q : Question) (own : List Lemma) (found : Found) (j : ℕ) → found ≡ FoundExcluded j → AreFound q own found → IsDivision q own (Excluded j)
-found_excluded q own found j e h = subst (AreFound q own) e h
-
 -- ---- what is left of the lemmas
 
 pub left_by : (seen : ℕ) (given own : List Lemma) (found : Option ℕ) (batch : LemmaBatch) (wanted : List Bool) (left : TrimmedBatch) → given ≡ own → batch.seen ≡ seen → batch.lemmas ≡ given
@@ -69,21 +63,6 @@ module _ (q : Question) (own : List Lemma) (seen : ℕ) (found : Option ℕ) (le
   answered_split division m e h =
       let there : IsDivision q own (Split m) = subst (IsDivision q own) e h in
       (there.0, left_batch there.1)
-
--- the lemma that excludes the cube has a place
-pub excluded_within : (q : Question) (own : List Lemma) (division : Division) (j count : ℕ) → division ≡ Excluded j → IsDivision q own division → count ≡ length own → j ≤ count
-excluded_within q own division j count e h same =
-    let there : IsDivision q own (Excluded j) = subst (IsDivision q own) e h in
-    omega (arith, there.0, same)
-
-pub found_spent : (q : Question) (own : List Lemma) (found : Found) → found ≡ Spent → AreFound q own found → AreProved q own
-found_spent q own found e h = subst (AreFound q own) e h
-
--- a count of adds that has reached the target
-pub has_spent : (before budget target after : ℕ) (slice : Slice) → target ≡ min (before + budget) adds_limit → target ≤ after → HasSpent before budget after slice
-has_spent before budget target after (AsModel schedule batch) e le = tt
-has_spent before budget target after (AsRefuted batch j) e le = tt
-has_spent before budget target after (AsSplit l batch) e le = omega arith
 
 -- of a model and of an excluded cube nothing is owed
 pub model_spent : (before budget after : ℕ) (schedule : List ℤ) (slice : Slice) → IsOfKind (Model schedule) slice → HasSpent before budget after slice

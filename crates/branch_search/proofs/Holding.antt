@@ -35,14 +35,6 @@ is_empty (l ∷ clause) items same e =
     let some : length items ≡ suc (length clause) = ap length same in
     absurd (omega arith)
 
-pub empty_at : (clauses : List (List Literal)) (i : ℕ) (clause items : List Literal) → i < length clauses → clause ≡ get_or clauses i clause → items ≡ clause → true ≡ (length items == 0) → slice_get clauses i ≡ Some []
-empty_at clauses i clause items within at same e =
-    slice_get-get_or clauses i clause within ∙ ap (λ (c : List Literal). Some c) (sym at ∙ is_empty clause items same e)
-
-pub not_empty_at : (clauses : List (List Literal)) (i : ℕ) (clause items : List Literal) → i < length clauses → clause ≡ get_or clauses i clause → items ≡ clause → false ≡ (length items == 0) → All IsNotEmpty (take i clauses) → All IsNotEmpty (take (i + 1) clauses)
-not_empty_at clauses i clause items within at same e before =
-    All-more IsNotEmpty clauses i clause within before (subst IsNotEmpty at (not_empty clause items same e))
-
 is_at : (clauses : List (List Literal)) (i : ℕ) (clause : List Literal) → i < length clauses → clause ≡ get_or clauses i clause → clause ≡ clause_at clauses i
 is_at [] i clause within at = absurd (omega arith)
 is_at (c ∷ clauses) zero clause within at = at

@@ -28,9 +28,6 @@ pub trail_seen : (q : Question) (own lent : List Lemma) (es seen : List Entry) �
 trail_seen q own lent es seen a b h =
     subst (λ (ls : List Lemma). IsTrail q.problem.clauses (all_lemmas q.handed ls) q.cube seen) (sym a) (subst (IsTrail q.problem.clauses (all_lemmas q.handed own) q.cube) (sym b) h)
 
-pub lemmas_seen : (q : Question) (own lent : List Lemma) → lent ≡ own → All (IsClauseOver q.problem.points) (all_lemmas q.handed own) → All (IsClauseOver q.problem.points) (all_lemmas q.handed lent)
-lemmas_seen q own lent a h = subst (λ (ls : List Lemma). All (IsClauseOver q.problem.points) (all_lemmas q.handed ls)) (sym a) h
-
 pub learned_search : (q : Question) (own new lent : List Lemma) (lemma : Lemma) (es seen : List Entry) (levels : List Level) (literals : List Literal) (whole : Bool) → IsSearch q own es levels literals → lent ≡ own → IsProved q.problem.points q.problem.clauses (all_lemmas q.handed lent) lemma → seen ≡ es → All (IsDenial seen whole) lemma.clause → (length levels ≡ 0 → whole ≡ true) → new ≡ own ++ lemma ∷ [] → IsSearchLearned q new es levels (length own) literals
 learned_search q own new lent lemma es seen levels literals whole s is r same denials root grown =
     let proved = subst (λ (ls : List Lemma). IsProved q.problem.points q.problem.clauses (all_lemmas q.handed ls) lemma) is r in
@@ -74,16 +71,6 @@ pub taken_search : (q : Question) (own : List Lemma) (es : List Entry) (levels :
 taken_search q own es levels literals Pushed h = h
 taken_search q own es levels literals Nothing h = h
 taken_search q own es levels literals (Stuck conflict) h = h.state
-
-pub taken_stuck : (q : Question) (own : List Lemma) (es : List Entry) (levels : List Level) (literals : List Literal) (taken : Tried) (conflict : Conflict) → taken ≡ Stuck conflict → IsSearchTried q own es levels literals taken → IsStuckSearch q own es levels literals conflict
-taken_stuck q own es levels literals taken conflict e h = subst (IsSearchTried q own es levels literals) e h
-
-pub after_search : (q : Question) (own : List Lemma) (es : List Entry) (levels : List Level) (literals : List Literal) (found : Option Conflict) → IsSearchAfter q own es levels literals found → IsSearch q own es levels literals
-after_search q own es levels literals None h = h
-after_search q own es levels literals (Some conflict) h = h.state
-
-pub after_stuck : (q : Question) (own : List Lemma) (es : List Entry) (levels : List Level) (literals : List Literal) (found : Option Conflict) (conflict : Conflict) → found ≡ Some conflict → IsSearchAfter q own es levels literals found → IsStuckSearch q own es levels literals conflict
-after_stuck q own es levels literals found conflict e h = subst (IsSearchAfter q own es levels literals) e h
 
 -- after the jump there are fewer levels
 pub settled : (q : Question) (own : List Lemma) (es : List Entry) (levels these fewer last : List Level) (literals : List Literal) (level : ℕ) (taken : Tried) → level < length these → these ≡ levels → fewer ≡ take level these → last ≡ fewer → IsSearchTried q own es last literals taken → (length last < length levels) × IsSearch q own es last literals

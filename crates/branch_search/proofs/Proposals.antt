@@ -72,17 +72,6 @@ decision_pushed q own these es there now levels more last literals l number s a 
     let longer : length last ≡ length (levels ++ record { start = length es; in_net = length literals } ∷ []) = ap (length {A = Level}) (again ∙ is) in
     (omega arith, subst (λ (ls : List Lemma). IsSearch q ls now last literals) (sym a) (subst (λ (vs : List Level). IsSearch q own now vs literals) (sym again) search))
 
--- the last literal of the trail
-pub last_literal : (es now : List Entry) (e : Entry) → now ≡ es ++ e ∷ [] → on_trail now (length es) ≡ e.literal
-last_literal es now e grown = ap (λ (fs : List Entry). on_trail fs (length es)) grown ∙ ap (λ (f : Entry). f.literal) (entry_last es e (length es) refl)
-
-pub one_taken : (cube old new : List Literal) (i : ℕ) (l m d : Literal) → i < length cube → old ≡ take i cube → new ≡ old ++ m ∷ [] → m ≡ l → l ≡ get_or cube i d → new ≡ take (i + 1) cube
-one_taken cube old new i l m d within before grown same is =
-    grown ∙ ap (λ (ls : List Literal). ls ++ m ∷ []) before ∙ ap (λ (n : Literal). take i cube ++ n ∷ []) (same ∙ is) ∙ sym (take_more cube i d within)
-
 -- the same search, seen by other names
 pub same_parts : (q : Question) (own these : List Lemma) (es : List Entry) (levels more : List Level) (literals : List Literal) → these ≡ own → more ≡ levels → IsSearch q own es levels literals → IsSearch q these es more literals
 same_parts q own these es levels more literals a b s = subst (λ (ls : List Lemma). IsSearch q ls es more literals) (sym a) (subst (λ (vs : List Level). IsSearch q own es vs literals) (sym b) s)
-
-pub same_net : (q : Question) (own : List Lemma) (es : List Entry) (levels : List Level) (old new : List Literal) → new ≡ old → IsSearch q own es levels old → IsSearch q own es levels new
-same_net q own es levels old new e s = subst (IsSearch q own es levels) (sym e) s

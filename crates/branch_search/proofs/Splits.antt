@@ -157,9 +157,6 @@ empty_search q own es levels literals a b c lemmas proved =
     } in
     subst (λ (fs : List Entry). IsSearch q own fs levels literals) (sym a) (subst (λ (vs : List Level). IsSearch q own [] vs literals) (sym b) (subst (IsSearch q own [] []) (sym c) search))
 
-pub none_proved : (q : Question) (own : List Lemma) → own ≡ [] → AreProved q own
-none_proved q own e = subst (AreProved q) (sym e) (tt, λ k d lt. absurd (omega arith))
-
 -- all clauses of lemmas are within the limits
 pub lemmas_over : (points : ℕ) (handed : List (List Literal)) (own these : List Lemma) → these ≡ own → All (IsClauseOver points) handed → All (LemmaIsOver points) own → All (IsClauseOver points) (all_lemmas handed these)
 lemmas_over points handed own these e over all = subst (λ (ls : List Lemma). All (IsClauseOver points) (all_lemmas handed ls)) (sym e) (All-append (IsClauseOver points) handed (map stated own) over (All-map (IsClauseOver points) stated own (λ k d lt. (all k d lt).clause)))

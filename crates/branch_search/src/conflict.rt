@@ -6,7 +6,7 @@ ghost use Rattle.branch_search.specs.code.Search.{IsStuck, IsLearned, IsSettled,
 use crate::both::Both;
 use crate::state::State;
 use crate::task::Task;
-use conflict_analysis::{Conflict, Level, Source, analyze, numbers_of, open_place};
+use conflict_analysis::{Conflict, Level, Source, analyze, number_of, numbers_of, open_place};
 use refute_tree::{Earlier, Lemma};
 use std::alloc::{AllocError, Global};
 use stn_core::{Literal, Net};
@@ -111,7 +111,9 @@ impl State {
         self.cut(net, level);
         let clause = clause_at(&self.own, j);
         let place = open_place(&self.guide, &self.entries, source, clause);
-        self.take_unit(task, net, source, place)?;
+        let number = number_of(&self.guide, source, place);
+        let near = self.entries.len();
+        self.take_unit(task, net, source, place, number, near)?;
         Ok(None)
     }
 

@@ -7,7 +7,7 @@ ghost use Rattle.stn_core.specs.Limits.{adds_limit};
 use crate::propagate::Tried;
 use crate::state::State;
 use crate::task::Task;
-use conflict_analysis::{Conflict, Reason, Source};
+use conflict_analysis::{Conflict, Reason, Source, number_of};
 use refute_tree::Earlier;
 use std::alloc::{AllocError, Global};
 use stn_core::Net;
@@ -58,9 +58,13 @@ impl State {
         if count > 1 {
             return Ok(Tried::Nothing);
         }
-        match self.take_conflict(task, net, source) {
+        let near = self.entries.len();
+        match self.take_conflict(task, net, source, near) {
             Tried::Stuck(conflict) => Ok(Tried::Stuck(conflict)),
-            _ => self.take_unit(task, net, source, 0),
+            _ => {
+                let number = number_of(&self.guide, source, 0);
+                self.take_unit(task, net, source, 0, number, near)
+            }
         }
     }
 

@@ -7,13 +7,23 @@ use worker_calls::Calls;
 const FEWEST: u64 = 100;
 
 /// What a searcher hears of other workers, where there are some. Whatever it hears, it answers by the same contract.
-#[derive(Drop)]
 pub struct Hearing {
     calls: Option<Arc<Calls>>,
     /// how many conflicts there were before this slice
     before: u64,
     /// whether this slice answered one that waits
     has_answered: bool,
+}
+
+impl Drop for Hearing {
+    fn drop(self) {
+        let Hearing {
+            calls,
+            before: _,
+            has_answered: _,
+        } = self;
+        drop(calls);
+    }
 }
 
 impl Hearing {

@@ -7,7 +7,7 @@ use crate::both::Both;
 use crate::state::State;
 use crate::task::Task;
 use conflict_analysis::{
-    Conflict, Reason, Source, is_conflict, is_over, literal_on, number_of, source_of, unit_of,
+    Conflict, Reason, Source, is_conflict, is_over, literal_on, source_of, unit_of,
 };
 use refute_tree::Earlier;
 use search_guide::{Guide, LiteralNumber, Proposal};
@@ -33,13 +33,16 @@ fn is_weaker(tighter: Literal, weaker: Literal) -> bool
 }
 
 impl State {
-    // The literal at a place of a clause, whose others are denied.
+    // The literal at a place of a clause, with its number, whose others are denied, one of them perhaps at the place
+    // `near` of the trail.
     pub fn take_unit<E: Earlier, N: Net>(
         &mut self,
         task: &Task<'_, E>,
         net: &N,
         source: Source,
         place: usize,
+        number: LiteralNumber,
+        near: usize,
     ) -> Result<Tried, AllocError>
         requires state { IsState task.now self.old (N.literals_of net.now) }
         ensures levels { self.new.levels.items ≡ self.old.levels.items }
@@ -57,20 +60,21 @@ impl State {
             &self.entries,
             source,
             place,
+            near,
         ) else {
             return Ok(Tried::Nothing);
         };
-        let number = number_of(&self.guide, source, place);
         self.push(literal, number, Reason::Clause(source, place))?;
         Ok(Tried::Pushed)
     }
 
-    // A clause whose literals are all denied.
+    // A clause whose literals are all denied, one of them perhaps at the place `near` of the trail.
     pub fn take_conflict<E: Earlier, N: Net>(
         &mut self,
         task: &Task<'_, E>,
         net: &N,
         source: Source,
+        near: usize,
     ) -> Tried
         requires state { IsState task.now self.old (N.literals_of net.now) }
         ensures levels { self.new.levels.items ≡ self.old.levels.items }
@@ -81,7 +85,14 @@ impl State {
             task,
             own: self.own.as_slice(),
         };
-        if is_conflict(task.problem(), &both, &self.guide, &self.entries, source) {
+        if is_conflict(
+            task.problem(),
+            &both,
+            &self.guide,
+            &self.entries,
+            source,
+            near,
+        ) {
             return Tried::Stuck(Conflict::Clause(source));
         }
         Tried::Nothing
@@ -134,8 +145,10 @@ impl State {
         match self.guide.next()? {
             Proposal::Nothing => Ok(Tried::Nothing),
             Proposal::Weaker(number) => self.take_weaker(alloc, task, net, k, number),
-            Proposal::Unit(source, place) => self.take_unit(task, net, source_of(source), place),
-            Proposal::Conflict(source) => Ok(self.take_conflict(task, net, source_of(source))),
+            Proposal::Unit(source, place, unit) => {
+                self.take_unit(task, net, source_of(source), place, unit, k)
+            }
+            Proposal::Conflict(source) => Ok(self.take_conflict(task, net, source_of(source), k)),
         }
     }
 

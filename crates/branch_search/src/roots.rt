@@ -114,6 +114,7 @@ impl State {
             &self.entries[..k],
             source,
             place,
+            k,
         ) else {
             return;
         };

@@ -19,7 +19,7 @@ use search_distances::Distances;
 use search_guide::{Guide, Policy};
 use std::alloc::{AllocError, Global};
 use std::sync::Arc;
-use stn_core::{Literal, Mark, Net, Problem};
+use stn_core::{Literal, Mark, Net, Problem, Value};
 use worker_calls::Calls;
 
 impl State {
@@ -172,9 +172,15 @@ fn run<E: Earlier, N: Net>(
 
 /// What one worker keeps from slice to slice of one problem: what it has seen of clauses, activities and
 /// phases. Kept or not, and whatever a searcher was used for before, a slice answers by the same contract.
-#[derive(Drop)]
 pub struct Searcher {
     state: Box<State>,
+}
+
+impl Drop for Searcher {
+    fn drop(self) {
+        let Searcher { state } = self;
+        drop(state);
+    }
 }
 
 impl Searcher {
@@ -219,6 +225,12 @@ impl Searcher {
         Ok(Searcher {
             state: Box::new(alloc, state)?,
         })
+    }
+
+    /// Literals that were never decided are decided as they hold on these values of the first time points: a hint, from a
+    /// schedule of a problem that is much the same.
+    pub fn follow(&mut self, values: &[Value]) {
+        self.state.guide.follow(values);
     }
 
     /// How many conflicts the slices met, up to 2^64 - 1.

@@ -16,7 +16,6 @@ use std::alloc::{AllocError, Global};
 use std::mem;
 use stn_core::{Added, Literal, Mark, Net};
 
-#[derive(Drop)]
 pub struct State {
     pub guide: Guide,
     /// distances between points, where there are few of them
@@ -41,6 +40,34 @@ pub struct State {
     pub decisions: u64,
     /// what other workers tell
     pub hearing: Hearing,
+}
+
+impl Drop for State {
+    fn drop(self) {
+        let State {
+            guide,
+            distances,
+            entries,
+            levels,
+            own,
+            tables,
+            followed: _,
+            netted: _,
+            measured: _,
+            met_conflict: _,
+            seen: _,
+            conflicts: _,
+            decisions: _,
+            hearing,
+        } = self;
+        drop(guide);
+        drop(distances);
+        drop(entries);
+        drop(levels);
+        drop(own);
+        drop(tables);
+        drop(hearing);
+    }
 }
 
 // Whether the guide has as many literals and the same first one for the clause of the lemma with this number, or

@@ -37,17 +37,6 @@ still_false old new j f o = elim (false_or_true (at_leaves new j)) [
   | inr t ↦ absurd (not_both (at_leaves old j) o (f.only j t))
 ]
 
--- one doesn't any more
-pub fewer_one : (old new : List Bool) (k : ℕ) → k < length old → new ≡ set old k false → IsFewer old new
-fewer_one old new k within e = subst (IsFewer old) (sym e) (record {
-  count = length-set old k false;
-  only = λ j t. elim (cases_eq j k) [
-    | inl same ↦ (let here : at_leaves (set old k false) j ≡ false = ap (λ (i : ℕ). at_leaves (set old k false) i) same ∙ get_or-set_same old k false false within in
-        absurd (not_both (at_leaves (set old k false) j) here t))
-    | inr other ↦ sym (get_or-set_other old k j false false other) ∙ t
-  ];
-})
-
 module _ (trail : List Entry) (roles : List Role) where
   pub assumed_one : (old new : List Bool) (k below : ℕ) (l : Literal) → k < length old → k < below → new ≡ set old k false → IsUsed (role_at roles k) → on_trail trail k ≡ l → StandsAssumed trail roles new below l
   assumed_one old new k below l within lt e used is = (k, lt, used, ap (λ (bs : List Bool). at_leaves bs k) e ∙ get_or-set_same old k false false within, is)

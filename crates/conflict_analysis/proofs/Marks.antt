@@ -18,34 +18,6 @@ use Rattle.conflict_analysis.specs.code.Places.{ArePassed}
 use Rattle.conflict_analysis.proofs.Passing.{kept_used}
 use Rattle.std.specs.Prelude.{slice_index}
 
--- one literal is kept
-pub marked_one : (old new : List Role) (k below : ℕ) → k < length old → k < below → new ≡ set old k Kept → IsMarkedMore below old new
-marked_one old new k below within lt e = subst (IsMarkedMore below old) (sym e) (record {
-  count = length-set old k Kept;
-  used = λ j u. elim (cases_eq j k) [
-    | inl same ↦ (let here : role_at (set old k Kept) j ≡ Kept = ap (λ (i : ℕ). role_at (set old k Kept) i) same ∙ get_or-set_same old k Kept Unused within in
-        subst IsUsed (sym here) tt)
-    | inr other ↦ subst IsUsed (sym (get_or-set_other old k j Kept Unused other)) u
-  ];
-  resolved = λ j is. elim (cases_eq j k) [
-    | inl same ↦ (let here : role_at (set old k Kept) j ≡ Kept = ap (λ (i : ℕ). role_at (set old k Kept) i) same ∙ get_or-set_same old k Kept Unused within in
-        let no : Kept ≡ Resolved = sym here ∙ is in absurd cc)
-    | inr other ↦ sym (get_or-set_other old k j Kept Unused other) ∙ is
-  ];
-  above = λ j le. get_or-set_other old k j Kept Unused (λ same. absurd (omega arith));
-})
-
--- it was used before
-pub used_already : (trail : List Entry) (roles : List Role) (k below : ℕ) (l : Literal) (r : Role) → role_at roles k ≡ r → (r ≡ Unused → ⊥) → k < below → on_trail trail k ≡ l → StandsUsed trail roles below l
-used_already trail roles k below l Unused at not lt is = absurd (not refl)
-used_already trail roles k below l Kept at not lt is = (k, lt, subst IsUsed (sym at) tt, is)
-used_already trail roles k below l Resolved at not lt is = (k, lt, subst IsUsed (sym at) tt, is)
-
-pub used_one : (trail : List Entry) (old new : List Role) (k below : ℕ) (l : Literal) → k < length old → k < below → new ≡ set old k Kept → on_trail trail k ≡ l → StandsUsed trail new below l
-used_one trail old new k below l within lt e is =
-    let here : role_at new k ≡ Kept = ap (λ (rs : List Role). role_at rs k) e ∙ get_or-set_same old k Kept Unused within in
-    (k, lt, subst IsUsed (sym here) tt, is)
-
 pub marked_none : (below : ℕ) (roles : List Role) → IsMarkedMore below roles roles
 marked_none below roles = record { count = refl; used = λ j u. u; resolved = λ j is. is; above = λ j le. refl }
 
@@ -141,15 +113,8 @@ turned_by_pair inputs lemmas cube trail whole old mid new k tighter given l with
     let follows : IsByCycle (StandsUsed trail mid k) (on_trail trail k) (pair_cycle tighter (on_trail trail k)) = record { negative = r.negative; others = subst Q a (subst P g used) } in
     turned_resolved inputs lemmas trail whole old mid new k (omega arith) closed more (subst (Follows inputs lemmas (StandsUsed trail mid k) (on_trail trail k)) (sym e) follows) is
 
-pub turned_not : (inputs lemmas : List (List Literal)) (trail : List Entry) (whole : Bool) (roles : List Role) (k : ℕ) → IsClosed inputs lemmas trail roles → (whole ≡ true → role_at roles k ≡ Kept → IsFirst (entry_at trail k).reason) → IsTurned inputs lemmas trail whole k roles roles
-turned_not inputs lemmas trail whole roles k closed first = record { count = refl; closed = closed; used = λ j u. u; above = λ j lt. refl; first = first }
-
 pub marked_start : (inputs lemmas : List (List Literal)) (trail : List Entry) (whole : Bool) (roles : List Role) (k : ℕ) → length trail ≤ k → length trail ≤ length roles → IsClosed inputs lemmas trail roles → IsMarked inputs lemmas trail whole k roles roles
 marked_start inputs lemmas trail whole roles k past count closed = record { count = count; closed = closed; used = λ j u. u; first = λ w j le lt is. absurd (omega arith) }
-
--- at first no literal is used
-pub closed_start : (inputs lemmas : List (List Literal)) (trail : List Entry) (roles : List Role) → ((j : ℕ) → role_at roles j ≡ Unused) → IsClosed inputs lemmas trail roles
-closed_start inputs lemmas trail roles none k is = (let no : Unused ≡ Resolved = sym (none k) ∙ is in absurd cc)
 
 pub closed_more : (inputs lemmas : List (List Literal)) (trail : List Entry) (old new : List Role) (below : ℕ) → IsMarkedMore below old new → IsClosed inputs lemmas trail old → IsClosed inputs lemmas trail new
 closed_more inputs lemmas trail old new below more closed k is =
@@ -233,13 +198,6 @@ clause_stands inputs lemmas cube trail k source place clause h within e is =
     let P : List Literal → Type 0 = λ ls. (q : ℕ) → q < length ls → q ≢ place → Stands trail k (negation_of (literal_at ls q)) in
     subst P (sym is) r.others
 
-pub cycle_others : (inputs lemmas : List (List Literal)) (cube : List Literal) (trail : List Entry) (k : ℕ) (cycle given : List Literal) (l : Literal) → IsTrail inputs lemmas cube trail → k < length trail → (entry_at trail k).reason ≡ ByCycle cycle → given ≡ cycle → l ≡ on_trail trail k → (q : ℕ) → q < length given → (literal_at given q ≡ negation_of l) ⊎ Stands trail k (literal_at given q)
-cycle_others inputs lemmas cube trail k cycle given l h within e is a =
-    let r = cycle_reason inputs lemmas cube trail k cycle h within e in
-    let P : List Literal → Type 0 = λ ls. (q : ℕ) → q < length ls → (literal_at ls q ≡ negation_of l) ⊎ Stands trail k (literal_at ls q) in
-    let Q : Literal → Type 0 = λ m. (q : ℕ) → q < length cycle → (literal_at cycle q ≡ negation_of m) ⊎ Stands trail k (literal_at cycle q) in
-    subst P (sym is) (subst Q (sym a) r.others)
-
 pub pair_others : (inputs lemmas : List (List Literal)) (cube : List Literal) (trail : List Entry) (k : ℕ) (tighter : Literal) (given : List Literal) (l : Literal) → IsTrail inputs lemmas cube trail → k < length trail → (entry_at trail k).reason ≡ ByPair tighter → given ≡ pair_cycle tighter l → l ≡ on_trail trail k → (q : ℕ) → q < length given → (literal_at given q ≡ negation_of l) ⊎ Stands trail k (literal_at given q)
 pair_others inputs lemmas cube trail k tighter given l h within e is a =
     let r = pair_reason inputs lemmas cube trail k tighter h within e in
@@ -269,14 +227,5 @@ kept_past trail roles passed i clause keeps not a lt kept = elim (cases_eq a i) 
   | inr other ↦ keeps a (omega arith) kept
 ]
 
-pub kept_all : (trail : List Entry) (roles : List Role) (passed : List ℕ) (low count : ℕ) (clause : List Literal) → ArePassed 0 count roles passed → KeepsPassed trail roles passed (length passed) clause → KeepsAll trail roles low clause
-kept_all trail roles passed low count clause p keeps j lt kept =
-    let at = p.all j (omega arith) (kept_used roles j kept) in
-    subst (λ (k : ℕ). Contains clause (negation_of (on_trail trail k))) at.2 (keeps at.0 at.1 (subst (λ (k : ℕ). role_at roles k ≡ Kept) (sym at.2) kept))
-
 pub denies_push : (trail : List Entry) (roles : List Role) (k : ℕ) (clause new : List Literal) (l : Literal) → All (DeniesKept trail roles) clause → new ≡ clause ++ l ∷ [] → l ≡ negation_of (on_trail trail k) → k < length trail → role_at roles k ≡ Kept → All (DeniesKept trail roles) new
 denies_push trail roles k clause new l denies e is within kept = subst (All (DeniesKept trail roles)) (sym e) (All-push (DeniesKept trail roles) clause l denies (k, within, kept, is))
-
-pub on_from_test : (b : Bool) → not b ≡ false → b ≡ true
-on_from_test true e = refl
-on_from_test false e = absurd cc

@@ -14,11 +14,6 @@ use Rattle.stn_core.specs.declared.literal.Literal.{Literal}
 use Rattle.conflict_analysis.specs.code.Trails.{role_at, IsUsed, IsMarkedMore, IsTurned, IsMarked, IsFirst, entry_at}
 use Rattle.conflict_analysis.specs.code.Places.{HasMore, IsGreatestBelow, AreWaiting, KeepsWaiting, ArePassed}
 
-pub unused_by : (r : Role) → (IsUsed r → ⊥) → r ≡ Unused
-unused_by Unused not = refl
-unused_by Kept not = absurd (not tt)
-unused_by Resolved not = absurd (not tt)
-
 pub not_used : (r : Role) → r ≡ Unused → IsUsed r → ⊥
 not_used r e u = let P : Role → Type 0 = IsUsed in subst P e u
 
@@ -28,9 +23,6 @@ waiting_more old new before after k e more low w j lt u = elim (cases_eq j k) [
   | inl same ↦ subst (Contains after) (sym same) more.here
   | inr other ↦ more.others j (w j lt (subst IsUsed (ap (λ (rs : List Role). role_at rs j) e ∙ get_or-set_other old k j Kept Unused other) u))
 ]
-
-pub waiting_none : (roles : List Role) (waiting : List ℕ) → KeepsWaiting roles waiting roles waiting
-waiting_none roles waiting low w = w
 
 pub waiting_twice : (old mid new : List Role) (first between last : List ℕ) → KeepsWaiting old first mid between → KeepsWaiting mid between new last → KeepsWaiting old first new last
 waiting_twice old mid new first between last a b low w = b low (a low w)
@@ -48,14 +40,6 @@ kept_used roles k e = subst IsUsed (sym e) tt
 -- at first no place is used
 pub waiting_start : (n : ℕ) (first roles : List Role) (before waiting : List ℕ) → ((j : ℕ) → role_at first j ≡ Unused) → KeepsWaiting first before roles waiting → AreWaiting n roles waiting
 waiting_start n first roles before waiting clean keeps = keeps n (λ j lt u. absurd (not_used (role_at first j) (clean j) u))
-
-pub passed_start : (count : ℕ) (first roles : List Role) (passed : List ℕ) → ((j : ℕ) → role_at first j ≡ Unused) → IsMarkedMore count first roles → passed ≡ [] → ArePassed count count roles passed
-passed_start count first roles passed clean more e = subst (ArePassed count count roles) (sym e) (record {
-  from = λ i lt. absurd (omega arith);
-  within = λ i lt. absurd (omega arith);
-  falling = λ i j lt less. absurd (omega arith);
-  all = λ j le u. absurd (not_used (role_at roles j) (more.above j le ∙ clean j) u);
-})
 
 -- the next place, where no used one stands between
 pub gap : (n k : ℕ) (roles : List Role) (before after : List ℕ) → AreWaiting n roles before → IsGreatestBelow before after n k → (j : ℕ) → k < j → j < n → IsUsed (role_at roles j) → ⊥

@@ -31,10 +31,6 @@ two_negative l = record { some = omega arith; closed = (l.x, (refl, (refl, refl)
 pub negation_twice : (l : Literal) → negation_of (negation_of l) ≡ l
 negation_twice l = let same : (neg_ℤ (neg_ℤ l.c -ℤ pos 1) -ℤ pos 1) ≡ l.c = omega (arith, ints) in ap (λ (c : ℤ). record { x = l.x; y = l.y; c = c }) same
 
--- one more step
-pub names_push : (steps : List Step) (step : Step) → All NamesNone steps → NamesNone step → All NamesNone (steps ++ step ∷ [])
-names_push steps step all one = All-append NamesNone steps (step ∷ []) all (All-cons NamesNone step [] one (All-nil NamesNone))
-
 names_one : (step : Step) → NamesNone step → All NamesNone (step ∷ [])
 names_one step one = All-cons NamesNone step [] one (All-nil NamesNone)
 

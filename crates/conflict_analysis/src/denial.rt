@@ -2,7 +2,7 @@
 ghost use Rattle.std.specs.Prelude.{◌≡◌, ◌≢◌, ◌<◌, ℕ, All, IfSome, length, true};
 ghost use Rattle.stn_core.specs.Literal.{IsOver, negation_of};
 ghost use Rattle.conflict_analysis.specs.declared.entry.Conflict.TheVariants.{Clause as OfClause};
-ghost use Rattle.conflict_analysis.specs.code.Trails.{Stands, IsByClause, IsConflict};
+ghost use Rattle.conflict_analysis.specs.code.Trails.{on_trail, Stands, IsByClause, IsConflict};
 ghost use Rattle.conflict_analysis.specs.code.Denials.{AreDenied};
 ghost use Rattle.conflict_analysis.specs.Proved.{IsClauseOver};
 
@@ -29,26 +29,72 @@ fn is_denied(
     }
 }
 
-// Whether the clause's literals but the one at the place are denied.
+// Whether the negation of the literal stands at this place of the trail.
+fn is_denied_at(entries: &[Entry], k: usize, literal: Literal) -> bool
+    ensures within { result ≡ true → k < length entries.now }
+    ensures is { result ≡ true → on_trail entries.now k ≡ negation_of literal }
+{
+    k < entries.len() && is_same(entries[k].literal, negate(literal))
+}
+
+// Whether the negation of the literal, which stands at a place of a clause, whose literals have these numbers, is on
+// the trail: at the place `near`, or where the guide has it.
+fn is_denied_near(
+    guide: &Guide,
+    entries: &[Entry],
+    numbers: &[LiteralNumber],
+    near: usize,
+    place: usize,
+    literal: Literal,
+) -> bool
+    ensures { result ≡ true → Stands entries.now (length entries.now) (negation_of literal) }
+{
+    if is_denied_at(entries, near, literal) {
+        return true;
+    }
+    is_denied(guide, entries, numbers, place, literal)
+}
+
+// The numbers of the clause's literals, where they are wanted: of a pair, of which one literal is open, the other
+// one is denied at the place that is looked at first.
+fn wanted_numbers<'a>(
+    guide: &'a Guide,
+    entries: &[Entry],
+    source: Source,
+    clause: &[Literal],
+    place: usize,
+    near: usize,
+) -> &'a [LiteralNumber] {
+    if clause.len() == 2 && place < 2 && near < entries.len() {
+        &[]
+    } else {
+        numbers_of(guide, source)
+    }
+}
+
+// Whether the clause's literals but the one at the place are denied: one of them perhaps at the place `near` of the
+// trail.
 fn are_denied(
     guide: &Guide,
     entries: &[Entry],
     source: Source,
     clause: &[Literal],
     place: usize,
+    near: usize,
 ) -> bool
     ensures { result ≡ true → AreDenied entries.now clause.now place }
 {
-    let numbers = numbers_of(guide, source);
+    let numbers = wanted_numbers(guide, entries, source, clause, place, near);
     for q in 0..clause.len() {
-        if q != place && !is_denied(guide, entries, numbers, q, clause[q]) {
+        if q != place && !is_denied_near(guide, entries, numbers, near, q, clause[q]) {
             return false;
         }
     }
     true
 }
 
-/// The literal at the place of the clause, where it follows from the trail.
+/// The literal at the place of the clause, where it follows from the trail, in which the place `near` is looked at
+/// first.
 pub fn unit_of<E: Earlier>(
     problem: &Problem,
     earlier: &E,
@@ -56,6 +102,7 @@ pub fn unit_of<E: Earlier>(
     entries: &[Entry],
     source: Source,
     place: usize,
+    near: usize,
 ) -> Option<Literal>
     requires lemmas { All (IsClauseOver problem.now.points) (E.clauses earlier.now) }
     ensures follows { IfSome result (λ l. IsByClause problem.now.clauses (E.clauses earlier.now)
@@ -66,19 +113,20 @@ pub fn unit_of<E: Earlier>(
         return None;
     }
     let clause = clause_of(problem, earlier, source);
-    if place < clause.len() && are_denied(guide, entries, source, clause, place) {
+    if place < clause.len() && are_denied(guide, entries, source, clause, place, near) {
         return Some(clause[place]);
     }
     None
 }
 
-/// Whether all literals of the clause are denied.
+/// Whether all literals of the clause are denied, one of them perhaps at the place `near` of the trail.
 pub fn is_conflict<E: Earlier>(
     problem: &Problem,
     earlier: &E,
     guide: &Guide,
     entries: &[Entry],
     source: Source,
+    near: usize,
 ) -> bool
     ensures { result ≡ true → IsConflict problem.now.clauses (E.clauses earlier.now)
         (Stands entries.now (length entries.now)) (OfClause source) }
@@ -87,7 +135,7 @@ pub fn is_conflict<E: Earlier>(
         return false;
     }
     let clause = clause_of(problem, earlier, source);
-    are_denied(guide, entries, source, clause, clause.len())
+    are_denied(guide, entries, source, clause, clause.len(), near)
 }
 
 /// The first place of the clause whose literal isn't denied.

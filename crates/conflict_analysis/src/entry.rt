@@ -25,12 +25,24 @@ pub enum Reason {
 }
 
 /// A literal of the trail.
-#[derive(Drop)]
 pub struct Entry {
     pub literal: Literal,
     /// the guide's number of it
     pub number: LiteralNumber,
     pub reason: Reason,
+}
+
+impl Drop for Entry {
+    fn drop(self) {
+        let Entry {
+            literal,
+            number,
+            reason,
+        } = self;
+        drop(literal);
+        drop(number);
+        drop(reason);
+    }
 }
 
 /// What a decision found: how many literals stood on the trail, and how many the net had.

@@ -6,9 +6,15 @@ use std::alloc::{AllocError, Global};
 use std::collections::BinaryHeap;
 use std::marker::Model;
 
-#[derive(Drop)]
 pub struct Places {
     heap: BinaryHeap<usize>,
+}
+
+impl Drop for Places {
+    fn drop(self) {
+        let Places { heap } = self;
+        drop(heap);
+    }
 }
 
 impl Model for Places {

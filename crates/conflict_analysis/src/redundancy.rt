@@ -47,7 +47,6 @@ struct View<'a> {
     guide: &'a Guide,
 }
 
-#[derive(Drop)]
 pub struct Redundancy {
     memos: Vec<Memo>,
     /// the places that have a memo
@@ -58,6 +57,21 @@ pub struct Redundancy {
     levels: u64,
     /// how many reasons were looked at
     work: u32,
+}
+
+impl Drop for Redundancy {
+    fn drop(self) {
+        let Redundancy {
+            memos,
+            noted,
+            stack,
+            levels: _,
+            work: _,
+        } = self;
+        drop(memos);
+        drop(noted);
+        drop(stack);
+    }
 }
 
 fn is_used(roles: &[Role], place: usize) -> bool {

@@ -11,10 +11,16 @@ use refute_tree::Steps;
 use std::alloc::{AllocError, Global};
 
 /// A table of roles in which no place is used.
-#[derive(Drop)]
 pub struct Unmarked {
     roles: Vec<Role>,
     ghost clean: { (j : ℕ) → role_at roles.items j ≡ Unused },
+}
+
+impl Drop for Unmarked {
+    fn drop(self) {
+        let Unmarked { roles } = self;
+        drop(roles);
+    }
 }
 
 impl Unmarked {
@@ -29,7 +35,7 @@ impl Unmarked {
         ensures count { IfOk result (λ roles. count ≤ length roles.items) }
         ensures clean { IfOk result (λ roles. (j : ℕ) → role_at roles.items j ≡ Unused) }
     {
-        let mut roles = self.roles;
+        let Unmarked { mut roles } = self;
         'roles: while roles.len() < count {
             roles.push(Role::Unused)?;
         }
@@ -51,10 +57,16 @@ pub fn unmark(mut roles: Vec<Role>, passed: &[usize]) -> Unmarked
 }
 
 /// A table in which no place stands at leaves.
-#[derive(Drop)]
 pub struct NoLeaves {
     leaves: Vec<bool>,
     ghost clean: { (k : ℕ) → at_leaves leaves.items k ≡ false },
+}
+
+impl Drop for NoLeaves {
+    fn drop(self) {
+        let NoLeaves { leaves } = self;
+        drop(leaves);
+    }
 }
 
 impl NoLeaves {
@@ -69,7 +81,7 @@ impl NoLeaves {
         ensures count { IfOk result (λ leaves. count ≤ length leaves.items) }
         ensures clean { IfOk result (λ leaves. (k : ℕ) → at_leaves leaves.items k ≡ false) }
     {
-        let mut leaves = self.leaves;
+        let NoLeaves { mut leaves } = self;
         'leaves: while leaves.len() < count {
             leaves.push(false)?;
         }
@@ -89,7 +101,6 @@ pub fn clear(mut leaves: Vec<bool>, passed: &[usize]) -> NoLeaves
     NoLeaves { leaves }
 }
 
-#[derive(Drop)]
 pub struct Tables {
     pub(crate) unmarked: Unmarked,
     pub(crate) no_leaves: NoLeaves,
@@ -98,6 +109,23 @@ pub struct Tables {
     pub(crate) passed: Vec<usize>,
     /// the steps of the last lemma, in whose memory the next one's are made
     pub(crate) steps: Steps,
+}
+
+impl Drop for Tables {
+    fn drop(self) {
+        let Tables {
+            unmarked,
+            no_leaves,
+            redundancy,
+            passed,
+            steps,
+        } = self;
+        drop(unmarked);
+        drop(no_leaves);
+        drop(redundancy);
+        drop(passed);
+        drop(steps);
+    }
 }
 
 impl Tables {

@@ -22,7 +22,6 @@ const SCALE: f64 = 1e-100;
 /// What a clause of one literal gives its atom at first, where a conflict gives 1.
 const FIRST: f64 = 1e-6;
 
-#[derive(Drop)]
 pub struct Activities {
     activities: Vec<f64>,
     increment: f64,
@@ -30,6 +29,21 @@ pub struct Activities {
     heap: Vec<u32>,
     /// for each atom where it stands in the heap, if it stands there
     places: Vec<u32>,
+}
+
+impl Drop for Activities {
+    fn drop(self) {
+        let Activities {
+            activities,
+            increment,
+            heap,
+            places,
+        } = self;
+        drop(activities);
+        drop(increment);
+        drop(heap);
+        drop(places);
+    }
 }
 
 impl Activities {

@@ -17,12 +17,19 @@ struct Spot {
     level: u32,
 }
 
-#[derive(Drop)]
 pub struct Assignment {
     /// for each literal
     truths: Vec<Truth>,
     /// for each atom
     spots: Vec<Spot>,
+}
+
+impl Drop for Assignment {
+    fn drop(self) {
+        let Assignment { truths, spots } = self;
+        drop(truths);
+        drop(spots);
+    }
 }
 
 impl Assignment {

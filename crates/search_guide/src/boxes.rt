@@ -27,12 +27,12 @@ struct Boxed {
 
 /// Two points that are apart, by their places among those with bounds, the smaller one first.
 #[derive(Clone, Copy, PartialEq, Eq, PartialOrd, Ord, Hash)]
-struct Pair {
-    one: u32,
-    other: u32,
+pub struct Pair {
+    pub one: u32,
+    pub other: u32,
 }
 
-fn pair_of(one: u32, other: u32) -> Pair {
+pub fn pair_of(one: u32, other: u32) -> Pair {
     if one < other {
         Pair { one, other }
     } else {
@@ -75,7 +75,7 @@ fn range_of(boxed: Boxed) -> u32 {
 }
 
 /// The literals of clauses that have one alone.
-fn units_of(alloc: Global, clauses: &[Clause]) -> Result<Vec<Literal>, AllocError> {
+pub fn units_of(alloc: Global, clauses: &[Clause]) -> Result<Vec<Literal>, AllocError> {
     let mut units = Vec::new(alloc);
     for clause in clauses {
         if let [unit] = clause.as_slice() {
@@ -86,7 +86,7 @@ fn units_of(alloc: Global, clauses: &[Clause]) -> Result<Vec<Literal>, AllocErro
 }
 
 /// The point that most unit clauses name.
-fn origin_of(alloc: Global, points: u32, units: &[Literal]) -> Result<u32, AllocError> {
+pub fn origin_of(alloc: Global, points: u32, units: &[Literal]) -> Result<u32, AllocError> {
     let mut counts = vec![in alloc; 0u32; points as usize]?;
     for unit in units {
         for point in [unit.x, unit.y] {

@@ -1,6 +1,7 @@
 //! The clauses as numbers of literals, one after the other in one table: first the problem's, then the
 //! lemmas. Their order within a clause stays as it was given, so that a place tells a search which literal is
-//! meant; the two places that are watched stand beside it.
+//! meant. In front of them stands the clause's head: the count of its literals, the two places that are
+//! watched, and its index. So a look at a clause mostly misses the caches once.
 //!
 //! Lemmas are numbered by their owner, and stand in the table in the order in which they came, so that lemmas
 //! of others can come in between the own ones later on. Not all of them stand there.
@@ -15,13 +16,25 @@ pub enum Source {
     Lemma(usize),
 }
 
-/// Where a clause's literals stand in the table, and which two places of it are watched.
+/// What stands in front of a clause's literals: how many there are, which two places of it are watched, and the
+/// clause's index.
+const HEAD: usize = 4;
+
+const FIRST: usize = 1;
+
+const SECOND: usize = 2;
+
+const INDEX: usize = 3;
+
+/// Where a clause begins that was forgotten.
+const NOWHERE: u32 = u32::MAX;
+
+/// A clause as its watches see it.
 #[derive(Clone, Copy)]
-pub struct Span {
-    pub start: u32,
-    pub length: u32,
+pub struct Watched<'a> {
     pub first: u32,
     pub second: u32,
+    pub literals: &'a [LiteralNumber],
 }
 
 /// What is known of the lemma with a number.
@@ -35,10 +48,14 @@ enum Slot {
     Clause(u32),
 }
 
-#[derive(Drop)]
 pub struct Clauses {
-    numbers: Vec<LiteralNumber>,
-    spans: Vec<Span>,
+    /// heads and literals
+    table: Vec<u32>,
+    /// where the last clause ends in it, and the last one of the problem
+    end: usize,
+    inputs_end: usize,
+    /// for each clause where its head stands
+    starts: Vec<u32>,
     /// how many of them are the problem's
     inputs: usize,
     /// for each lemma's number
@@ -47,11 +64,31 @@ pub struct Clauses {
     lemmas: Vec<u32>,
 }
 
+impl Drop for Clauses {
+    fn drop(self) {
+        let Clauses {
+            table,
+            end: _,
+            inputs_end: _,
+            starts,
+            inputs: _,
+            slots,
+            lemmas,
+        } = self;
+        drop(table);
+        drop(starts);
+        drop(slots);
+        drop(lemmas);
+    }
+}
+
 impl Clauses {
     pub fn new(alloc: Global) -> Self {
         Clauses {
-            numbers: Vec::new(alloc),
-            spans: Vec::new(alloc),
+            table: Vec::new(alloc),
+            end: 0,
+            inputs_end: 0,
+            starts: Vec::new(alloc),
             inputs: 0,
             slots: Vec::new(alloc),
             lemmas: Vec::new(alloc),
@@ -60,7 +97,8 @@ impl Clauses {
 
     /// What was pushed so far is the problem's.
     pub fn end_inputs(&mut self) {
-        self.inputs = self.spans.len();
+        self.inputs = self.starts.len();
+        self.inputs_end = self.end;
     }
 
     pub fn inputs(&self) -> usize {
@@ -89,7 +127,7 @@ impl Clauses {
 
     /// One more number, of the clause that comes next. A lemma that was told already keeps its number.
     pub fn number_next(&mut self, lemma: usize) -> Result<(), AllocError> {
-        let clause = narrow(self.spans.len());
+        let clause = narrow(self.starts.len());
         if lemma == self.slots.len() {
             self.slots.push(Slot::Clause(clause))?;
         } else if let Some(slot) = self.slots.get_mut(lemma) {
@@ -179,17 +217,18 @@ impl Clauses {
     /// close up; the clauses that don't stay are gone from the table.
     pub fn close_up(&mut self, first: usize, kept: &[bool], closing: &Closing) {
         let mut next = 0usize;
-        for clause in 0..self.spans.len() {
+        for clause in 0..self.starts.len() {
             if closing.place(narrow(clause)).is_none() {
                 continue;
             }
-            let span = self.spans.get(clause).copied();
-            if let (Some(span), Some(slot)) = (span, self.spans.get_mut(next)) {
-                *slot = span;
+            let start = self.start(narrow(clause));
+            if let Some(slot) = self.starts.get_mut(next) {
+                *slot = start;
             }
+            self.put(start, INDEX, narrow(next));
             next = next.saturating_add(1);
         }
-        self.spans.truncate(next);
+        self.starts.truncate(next);
         self.lemmas.truncate(next.saturating_sub(self.inputs));
         self.close_numbers(first, kept, closing);
         self.read_slots();
@@ -217,21 +256,71 @@ impl Clauses {
         }
     }
 
-    pub fn span(&self, clause: u32) -> Option<Span> {
-        self.spans.get(clause as usize).copied()
+    /// Where the clause's head stands.
+    pub fn start(&self, clause: u32) -> u32 {
+        match self.starts.get(clause as usize) {
+            Some(start) => *start,
+            None => NOWHERE,
+        }
     }
 
-    /// The literals that stand there.
-    pub fn literals_at(&self, span: Span) -> &[LiteralNumber] {
-        part(&self.numbers, span.start as usize, span.length as usize)
+    /// An entry of the head that stands there.
+    fn entry_of(&self, start: u32, entry: usize) -> Option<u32> {
+        self.table
+            .get((start as usize).saturating_add(entry))
+            .copied()
+    }
+
+    fn put(&mut self, start: u32, entry: usize, value: u32) {
+        if let Some(slot) = self.table.get_mut((start as usize).saturating_add(entry)) {
+            *slot = value;
+        }
+    }
+
+    /// The index of the clause whose head stands there.
+    pub fn index_at(&self, start: u32) -> Option<u32> {
+        self.entry_of(start, INDEX)
+    }
+
+    /// Where that clause comes from.
+    pub fn source_at(&self, start: u32) -> Source {
+        self.source(self.index_at(start).unwrap_or(u32::MAX))
+    }
+
+    /// How many literals it has.
+    pub fn length_at(&self, start: u32) -> usize {
+        self.entry_of(start, 0).unwrap_or(0) as usize
+    }
+
+    /// The clause whose head stands there.
+    pub fn watched(&self, start: u32) -> Option<Watched<'_>> {
+        let start = start as usize;
+        let head = part(&self.table, start, HEAD);
+        let length = *head.first()?;
+        let first = *head.get(FIRST)?;
+        let second = *head.get(SECOND)?;
+        Some(Watched {
+            first,
+            second,
+            literals: part(&self.table, start.saturating_add(HEAD), length as usize),
+        })
+    }
+
+    /// The literals of the clause whose head stands there, none where there is no such clause.
+    fn literals_at(&self, start: u32) -> &[LiteralNumber] {
+        match self.entry_of(start, 0) {
+            Some(length) => part(
+                &self.table,
+                (start as usize).saturating_add(HEAD),
+                length as usize,
+            ),
+            None => &[],
+        }
     }
 
     /// The clause's literals, none where there is no such clause.
     pub fn literals(&self, clause: u32) -> &[LiteralNumber] {
-        match self.span(clause) {
-            Some(span) => self.literals_at(span),
-            None => &[],
-        }
+        self.literals_at(self.start(clause))
     }
 
     /// The literals of the clause from this source, none where there is no such clause.
@@ -242,85 +331,72 @@ impl Clauses {
         }
     }
 
-    /// Where the last clause ends.
-    fn end(&self) -> usize {
-        match self.spans.last() {
-            Some(span) => (span.start as usize).saturating_add(span.length as usize),
-            None => 0,
-        }
-    }
-
     /// A clause begins. What is left of one that wasn't ended is dropped.
-    pub fn begin_clause(&mut self) {
-        let end = self.end();
-        self.numbers.truncate(end);
+    pub fn begin_clause(&mut self) -> Result<(), AllocError> {
+        self.table.truncate(self.end);
+        for _entry in 0..HEAD {
+            self.table.push(0)?;
+        }
+        Ok(())
     }
 
     /// The next literal of the clause that is being made.
     pub fn push(&mut self, number: LiteralNumber) -> Result<(), AllocError> {
-        self.numbers.push(number)?;
+        self.table.push(number)?;
         Ok(())
     }
 
-    /// The literals pushed since the last clause are the next one. The table holds less than 2^32 literals
-    /// and clauses.
+    /// The literals pushed since a clause began are the next one. The table holds less than 2^32 heads and
+    /// literals, and 2^31 clauses.
     pub fn end_clause(&mut self) -> Result<u32, AllocError> {
-        let count = self.spans.len();
-        if self.numbers.len() >= u32::MAX as usize || count >= u32::MAX as usize {
+        let count = self.starts.len();
+        if self.table.len() >= u32::MAX as usize || count >= (u32::MAX / 2) as usize {
             return Err(AllocError);
         }
-        let start = self.end();
-        self.spans.push(Span {
-            start: narrow(start),
-            length: narrow(self.numbers.len().saturating_sub(start)),
-            first: 0,
-            second: 1,
-        })?;
+        let start = narrow(self.end);
+        let length = self.table.len().saturating_sub(self.end);
+        self.starts.push(start)?;
+        self.put(start, 0, narrow(length.saturating_sub(HEAD)));
+        self.put(start, INDEX, narrow(count));
+        self.watch(start, 0, 1);
+        self.end = self.table.len();
         Ok(narrow(count))
     }
 
-    /// The clause watches these places.
-    pub fn watch(&mut self, clause: u32, first: u32, second: u32) {
-        if let Some(span) = self.spans.get_mut(clause as usize) {
-            span.first = first;
-            span.second = second;
-        }
+    /// The clause whose head stands there watches these places.
+    pub fn watch(&mut self, start: u32, first: u32, second: u32) {
+        self.put(start, FIRST, first);
+        self.put(start, SECOND, second);
     }
 
-    /// The clause watches one place in place of another.
-    pub fn move_watch(&mut self, clause: u32, from: u32, to: u32) {
-        if let Some(span) = self.spans.get_mut(clause as usize) {
-            if span.first == from {
-                span.first = to;
-            } else {
-                span.second = to;
-            }
-        }
+    /// The clause whose head stands there watches one place in place of another.
+    pub fn move_watch(&mut self, start: u32, from: u32, to: u32) {
+        let is_first = self.entry_of(start, FIRST) == Some(from);
+        self.put(start, if is_first { FIRST } else { SECOND }, to);
     }
 
     /// The lemmas that aren't kept lose their literals, and the table closes up.
     pub fn keep_lemmas(&mut self, kept: &[bool]) {
-        let Some(first) = self.spans.get(self.inputs) else {
-            return;
-        };
-        let mut end = first.start;
+        let mut end = self.inputs_end;
         for (lemma, is_kept) in kept.iter().enumerate() {
-            let Some(span) = self.spans.get_mut(self.inputs.saturating_add(lemma)) else {
+            let clause = self.inputs.saturating_add(lemma);
+            let start = self.start(narrow(clause));
+            let length = self.entry_of(start, 0);
+            let Some(slot) = self.starts.get_mut(clause) else {
                 return;
             };
-            let start = span.start;
-            let length = if *is_kept { span.length } else { 0 };
-            span.start = end;
-            span.length = length;
-            move_down(
-                &mut self.numbers,
-                start as usize,
-                end as usize,
-                length as usize,
-            );
-            end = end.saturating_add(length);
+            match length {
+                Some(length) if *is_kept => {
+                    *slot = narrow(end);
+                    let count = HEAD.saturating_add(length as usize);
+                    move_down(&mut self.table, start as usize, end, count);
+                    end = end.saturating_add(count);
+                }
+                _ => *slot = NOWHERE,
+            }
         }
-        self.numbers.truncate(end as usize);
+        self.end = end;
+        self.table.truncate(end);
     }
 }
 

@@ -2,11 +2,17 @@
 use crate::numbers::narrow;
 use std::alloc::{AllocError, Global};
 
-#[derive(Drop)]
 pub struct Closing {
     first: usize,
     /// for each clause from the first on its index then, if it stays
     places: Vec<Option<u32>>,
+}
+
+impl Drop for Closing {
+    fn drop(self) {
+        let Closing { first: _, places } = self;
+        drop(places);
+    }
 }
 
 impl Closing {

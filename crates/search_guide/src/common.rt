@@ -11,7 +11,6 @@ const FAR: Value = Value::MAX;
 const MOST_POINTS: usize = 4;
 
 /// The literals that each alternative of a clause brings about, and what is common to them.
-#[derive(Drop)]
 pub struct Common {
     /// the alternatives' literals, one alternative after the other
     literals: Vec<Literal>,
@@ -22,6 +21,23 @@ pub struct Common {
     distances: Vec<Value>,
     /// the points of the first alternative, and then those that are in all
     points: Vec<u32>,
+}
+
+impl Drop for Common {
+    fn drop(self) {
+        let Common {
+            literals,
+            ends,
+            met,
+            distances,
+            points,
+        } = self;
+        drop(literals);
+        drop(ends);
+        drop(met);
+        drop(distances);
+        drop(points);
+    }
 }
 
 /// The literals of the alternative with the number.

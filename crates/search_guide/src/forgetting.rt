@@ -40,7 +40,6 @@ struct Candidate {
     lemma: usize,
 }
 
-#[derive(Drop)]
 pub struct Forgetting {
     merits: Vec<Merit>,
     increment: u64,
@@ -50,6 +49,22 @@ pub struct Forgetting {
     /// for each level the last count of levels in which it came up
     stamps: Vec<u64>,
     stamp: u64,
+}
+
+impl Drop for Forgetting {
+    fn drop(self) {
+        let Forgetting {
+            merits,
+            increment: _,
+            conflicts: _,
+            due: _,
+            wait: _,
+            stamps,
+            stamp: _,
+        } = self;
+        drop(merits);
+        drop(stamps);
+    }
 }
 
 impl Forgetting {

@@ -5,6 +5,7 @@ use crate::closing::Closing;
 use crate::forgetting::Forgetting;
 use crate::hall_set::HallSet;
 use crate::ladders::Ladders;
+use crate::load_set::LoadSet;
 use crate::numbers::{LiteralNumber, Numbers, VAST, narrow, negated};
 use crate::patience::Patience;
 use crate::phases::{Phases, holds_on};
@@ -24,7 +25,6 @@ const TARGET_CONFLICTS: u64 = 1_000;
 /// The hints of a search. It is told what happens on the trail (`set`, `unset`), what is learned
 /// (`add_lemma`) and what took part in conflicts (`bump`, `bump_clause`, `decay`, `after_conflict`), and
 /// answers what to look at. What it was told wrongly makes its hints worse, and nothing else.
-#[derive(Drop)]
 pub struct Guide {
     alloc: Global,
     policy: Policy,
@@ -45,6 +45,46 @@ pub struct Guide {
     pub(crate) above_root: usize,
     pub(crate) probing: Probing,
     pub(crate) hall_set: HallSet,
+    pub(crate) load_set: LoadSet,
+}
+
+impl Drop for Guide {
+    fn drop(self) {
+        let Guide {
+            alloc: _,
+            policy,
+            numbers,
+            clauses,
+            assignment,
+            ladders,
+            watches,
+            activities,
+            phases,
+            restarts,
+            forgetting,
+            pointer: _,
+            patience,
+            set: _,
+            above_root: _,
+            probing,
+            hall_set,
+            load_set,
+        } = self;
+        drop(policy);
+        drop(numbers);
+        drop(clauses);
+        drop(assignment);
+        drop(ladders);
+        drop(watches);
+        drop(activities);
+        drop(phases);
+        drop(restarts);
+        drop(forgetting);
+        drop(patience);
+        drop(probing);
+        drop(hall_set);
+        drop(load_set);
+    }
 }
 
 /// Numbers the literals, and puts the problem's clauses into the table.
@@ -52,6 +92,7 @@ fn read(alloc: Global, problem: &Problem) -> Result<(Numbers, Clauses), AllocErr
     let mut numbers = Numbers::new(alloc);
     let mut clauses = Clauses::new(alloc);
     for clause in problem.clauses.as_slice() {
+        clauses.begin_clause()?;
         for literal in clause.as_slice() {
             clauses.push(numbers.insert(*literal)?)?;
         }
@@ -79,6 +120,11 @@ impl Guide {
         } else {
             HallSet::none(alloc)
         };
+        let load_set = if policy.new_literals && !hall_set.is_under_way() {
+            LoadSet::find(alloc, problem, &mut numbers)?
+        } else {
+            LoadSet::none(alloc)
+        };
         let ladders = Ladders::start(alloc, numbers.atoms())?;
         let phases = Phases::start(alloc, problem.points, numbers.atoms(), policy.pure_apart)?;
         let restarts = Restarts::new(numbers.len());
@@ -100,12 +146,19 @@ impl Guide {
             above_root: 0,
             probing: Probing::new(alloc, problem.points, policy.new_literals)?,
             hall_set,
+            load_set,
         };
         for _atom in 0..guide.numbers.len() {
             guide.push_atom()?;
         }
         guide.start_clauses()?;
         Ok(guide)
+    }
+
+    /// An atom that was never on the trail takes the side that holds on these values of the first time points, as those
+    /// of an earlier schedule. Atoms of other points decide as before.
+    pub fn follow(&mut self, values: &[Value]) {
+        self.phases.follow(self.numbers.atoms(), values);
     }
 
     /// What the search leaves out.
@@ -170,7 +223,7 @@ impl Guide {
     /// The clause of the lemma with this number, into the table and the watches.
     fn enter_lemma(&mut self, lemma: usize, clause: &[Literal]) -> Result<(), AllocError> {
         self.watches.end();
-        self.clauses.begin_clause();
+        self.clauses.begin_clause()?;
         for literal in clause {
             let number = self.add_literal(*literal)?;
             self.clauses.push(number)?;
@@ -225,6 +278,7 @@ impl Guide {
     /// The literal stands on the trail now.
     pub fn set(&mut self, number: LiteralNumber, place: usize, level: usize) {
         self.assignment.set(number, place, level);
+        self.watches.touch(number);
         self.set = self.set.saturating_add(1);
         if level > 0 {
             self.above_root = self.above_root.saturating_add(1);
@@ -288,17 +342,20 @@ impl Guide {
 
     /// Whether the literals that are decided now are those of a plan.
     fn is_planned(&self) -> bool {
-        self.probing.is_under_way() || self.hall_set.is_under_way()
+        self.probing.is_under_way() || self.has_plan()
     }
 
     /// Whether a plan is under way that a slice is to carry through, since a division of its cube would spoil it.
     pub fn has_plan(&self) -> bool {
-        self.hall_set.is_under_way()
+        self.hall_set.is_under_way() || self.load_set.is_under_way()
     }
 
     /// The open literal to decide, or nothing where all are on the trail. The values are the net's schedule.
     pub fn choose(&mut self, values: &[Value]) -> Option<LiteralNumber> {
         if let Some(number) = self.next_of_hall_set() {
+            return Some(number);
+        }
+        if let Some(number) = self.next_of_load_set() {
             return Some(number);
         }
         if let Some(number) = self.probe() {
@@ -321,7 +378,7 @@ impl Guide {
 
     /// Whether the literal's atom is more active than each open one, so that it would be decided first.
     pub fn outranks(&mut self, number: LiteralNumber) -> bool {
-        if self.hall_set.is_under_way() {
+        if self.has_plan() {
             return false;
         }
         for _turn in 0..self.literals() {
@@ -437,6 +494,9 @@ impl Guide {
         if self.hall_set.is_under_way() {
             return self.hall_set.wants_root(&self.assignment);
         }
+        if self.load_set.is_under_way() {
+            return self.load_set.wants_root(&self.numbers, &self.assignment);
+        }
         self.policy.restarts && self.restarts.is_due()
     }
 
@@ -449,9 +509,9 @@ impl Guide {
         let (kept, dropped) = self
             .forgetting
             .select(self.alloc, &self.clauses, &self.assignment)?;
-        self.watches.end();
+        self.watches.begin_closing(&self.clauses);
         self.clauses.keep_lemmas(&kept);
-        self.watches.drop_forgotten(&self.clauses);
+        self.watches.end_closing(&self.clauses);
         Ok(dropped)
     }
 
@@ -490,8 +550,8 @@ impl Guide {
         let staying = self.staying(first, kept)?;
         let inputs = self.clauses.inputs();
         let closing = Closing::new(self.alloc, inputs, &staying)?;
+        self.watches.close_up(&self.clauses, &closing);
         self.clauses.close_up(first, kept, &closing);
-        self.watches.close_up(&closing);
         self.forgetting.close_up(inputs, &closing);
         Ok(())
     }

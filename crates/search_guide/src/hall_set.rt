@@ -30,7 +30,6 @@ enum Turn {
 }
 
 /// The plan for one such set.
-#[derive(Drop)]
 pub struct HallSet {
     /// how many points it has; none where there is no set, or its plan is over
     points: u32,
@@ -41,6 +40,18 @@ pub struct HallSet {
     subset: u32,
     /// whether literals are decided for another subset
     is_stale: bool,
+}
+
+impl Drop for HallSet {
+    fn drop(self) {
+        let HallSet {
+            points: _,
+            bounds,
+            subset: _,
+            is_stale: _,
+        } = self;
+        drop(bounds);
+    }
 }
 
 impl HallSet {

@@ -24,12 +24,19 @@ struct Rung {
     number: LiteralNumber,
 }
 
-#[derive(Drop)]
 pub struct Ladders {
     /// for each literal the next weaker bound on its pair
     weaker: Vec<Option<LiteralNumber>>,
     /// for each pair the atom with the least bound
     strongest: HashMap<Pair, LiteralNumber>,
+}
+
+impl Drop for Ladders {
+    fn drop(self) {
+        let Ladders { weaker, strongest } = self;
+        drop(weaker);
+        drop(strongest);
+    }
 }
 
 fn pair_of(atom: Literal) -> Pair {

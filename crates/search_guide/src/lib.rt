@@ -7,6 +7,7 @@
 mod activities;
 mod assignment;
 mod boxes;
+mod claims;
 mod clauses;
 mod closing;
 mod common;
@@ -15,6 +16,8 @@ mod forgetting;
 mod guide;
 mod hall_set;
 mod ladders;
+mod load_set;
+mod loads;
 mod numbers;
 mod patience;
 mod phases;

@@ -41,10 +41,17 @@ pub fn narrow(count: usize) -> u32 {
     }
 }
 
-#[derive(Drop)]
 pub struct Numbers {
     numbers: HashMap<Literal, LiteralNumber>,
     atoms: Vec<Literal>,
+}
+
+impl Drop for Numbers {
+    fn drop(self) {
+        let Numbers { numbers, atoms } = self;
+        drop(numbers);
+        drop(atoms);
+    }
 }
 
 impl Numbers {

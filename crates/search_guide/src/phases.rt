@@ -15,11 +15,23 @@ use crate::targets::Targets;
 use std::alloc::{AllocError, Global};
 use stn_core::{Literal, Value};
 
-#[derive(Drop)]
 pub struct Phases {
     saved: Vec<Option<bool>>,
     pure: Vec<bool>,
     targets: Targets,
+}
+
+impl Drop for Phases {
+    fn drop(self) {
+        let Phases {
+            saved,
+            pure,
+            targets,
+        } = self;
+        drop(saved);
+        drop(pure);
+        drop(targets);
+    }
 }
 
 /// Whether the bound holds on the values. A difference beyond the range of values counts as the greatest or
@@ -72,6 +84,17 @@ impl Phases {
             pure,
             targets,
         })
+    }
+
+    /// Each of these atoms that was never on the trail has from now on the side that holds on the values, if they
+    /// have its points: it comes from an earlier schedule.
+    pub fn follow(&mut self, atoms: &[Literal], values: &[Value]) {
+        for (slot, atom) in self.saved.iter_mut().zip(atoms.iter()) {
+            let is_within = (atom.x as usize) < values.len() && (atom.y as usize) < values.len();
+            if slot.is_none() && is_within {
+                *slot = Some(holds_on(*atom, values));
+            }
+        }
     }
 
     /// One more atom, which is not pure.

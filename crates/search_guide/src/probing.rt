@@ -30,7 +30,6 @@ const READ: usize = 64;
 const ATTEMPTS: usize = 8;
 
 /// Which new literals are made, one after the other.
-#[derive(Drop)]
 pub struct Probing {
     /// the clause of the problem that is looked at next
     next: usize,
@@ -52,6 +51,33 @@ pub struct Probing {
     attempts: usize,
     /// the literals that an alternative brings about
     reached: Vec<LiteralNumber>,
+}
+
+impl Drop for Probing {
+    fn drop(self) {
+        let Probing {
+            next: _,
+            work,
+            is_over: _,
+            common,
+            alternatives,
+            met,
+            shared,
+            bounds,
+            plan,
+            place: _,
+            attempts: _,
+            reached,
+        } = self;
+        drop(work);
+        drop(common);
+        drop(alternatives);
+        drop(met);
+        drop(shared);
+        drop(bounds);
+        drop(plan);
+        drop(reached);
+    }
 }
 
 impl Probing {
@@ -265,7 +291,7 @@ impl Guide {
                 Proposal::Nothing => return Ok(true),
                 Proposal::Conflict(_) => return Ok(false),
                 Proposal::Weaker(weaker) => Some(weaker),
-                Proposal::Unit(source, place) => self.number_at(source, place),
+                Proposal::Unit(_, _, number) => Some(number),
             };
             let Some(next) = next else {
                 return Ok(false);

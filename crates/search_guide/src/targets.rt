@@ -8,7 +8,6 @@ use crate::assignment::{Assignment, Truth};
 use crate::numbers::{LiteralNumber, atom_of, narrow};
 use std::alloc::{AllocError, Global};
 
-#[derive(Drop)]
 pub struct Targets {
     /// for each atom whether it held on the longest trail without a conflict on which it stood
     sides: Vec<Option<bool>>,
@@ -16,6 +15,17 @@ pub struct Targets {
     longest: usize,
     /// how long the trail was when all had followed from it without a conflict last, 0 after a conflict
     sound: usize,
+}
+
+impl Drop for Targets {
+    fn drop(self) {
+        let Targets {
+            sides,
+            longest: _,
+            sound: _,
+        } = self;
+        drop(sides);
+    }
 }
 
 impl Targets {

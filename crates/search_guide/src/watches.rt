@@ -7,7 +7,7 @@
 //!
 //! Coming back from a branch costs nothing: the watches stay where they are.
 use crate::assignment::{Assignment, Truth};
-use crate::clauses::{Clauses, Source};
+use crate::clauses::{Clauses, Source, Watched};
 use crate::closing::Closing;
 use crate::ladders::Ladders;
 use crate::numbers::{LiteralNumber, narrow, negated};
@@ -21,14 +21,16 @@ pub enum Proposal {
     Nothing,
     /// This weaker bound on the same two points, which isn't on the trail; its negation may be.
     Weaker(LiteralNumber),
-    /// The literal at this place of the clause, which is open: all others are denied.
-    Unit(Source, usize),
+    /// The literal at this place of the clause, with its number, which is open: all others are denied.
+    Unit(Source, usize, LiteralNumber),
     /// All literals of the clause are denied.
     Conflict(Source),
 }
 
 #[derive(Clone, Copy)]
 struct Watch {
+    /// of a longer clause where its head stands; of a pair twice its index, and one more where the blocker
+    /// stands at place 1
     clause: u32,
     /// another literal of the clause
     blocker: LiteralNumber,
@@ -77,7 +79,6 @@ struct Lists {
     longer: Vec<Watch>,
 }
 
-#[derive(Drop)]
 pub struct Watches {
     alloc: Global,
     /// for each literal
@@ -94,6 +95,29 @@ pub struct Watches {
     kept: usize,
     /// how many literals the longer clauses have that were read to their ends, each time that they were
     read: usize,
+    /// something of the lists that were read ahead last
+    touched: u32,
+}
+
+impl Drop for Watches {
+    fn drop(self) {
+        let Watches {
+            alloc: _,
+            lists,
+            literal,
+            weaker,
+            pair: _,
+            list,
+            seen: _,
+            kept: _,
+            read: _,
+            touched: _,
+        } = self;
+        drop(lists);
+        drop(literal);
+        drop(weaker);
+        drop(list);
+    }
 }
 
 impl Watches {
@@ -108,6 +132,7 @@ impl Watches {
             seen: 0,
             kept: 0,
             read: 0,
+            touched: 0,
         }
     }
 
@@ -146,17 +171,34 @@ impl Watches {
         let (Some(one), Some(two)) = (one, two) else {
             return Ok(());
         };
-        clauses.watch(clause, first, second);
-        let watch_one = Watch {
-            clause,
-            blocker: two,
-        };
-        let watch_two = Watch {
-            clause,
-            blocker: one,
+        let start = clauses.start(clause);
+        clauses.watch(start, first, second);
+        let (watch_one, watch_two) = if is_pair {
+            (
+                pair_watch(clause, second, two),
+                pair_watch(clause, first, one),
+            )
+        } else {
+            (longer_watch(start, two), longer_watch(start, one))
         };
         append(&mut self.lists, negated(one), watch_one, is_pair)?;
         append(&mut self.lists, negated(two), watch_two, is_pair)
+    }
+
+    /// The literal's lists are read ahead, so that they are in the caches when it is followed.
+    pub fn touch(&mut self, literal: LiteralNumber) {
+        let Some(lists) = self.lists.get(literal as usize) else {
+            return;
+        };
+        let pair = match lists.pairs.first() {
+            Some(watch) => watch.clause,
+            None => 0,
+        };
+        let longer = match lists.longer.first() {
+            Some(watch) => watch.clause,
+            None => 0,
+        };
+        self.touched = pair ^ longer;
     }
 
     /// The list that was taken out goes back.
@@ -228,13 +270,12 @@ impl Watches {
             let truth = assignment.truth(watch.blocker);
             if truth != Truth::True {
                 self.pair = place + 1;
-                let source = clauses.source(watch.clause);
+                let source = clauses.source(watch.clause / 2);
                 if truth == Truth::False {
                     return Some(Proposal::Conflict(source));
                 }
-                let is_first = clauses.literals(watch.clause).first().copied()
-                    == Some(watch.blocker);
-                return Some(Proposal::Unit(source, if is_first { 0 } else { 1 }));
+                let place = (watch.clause % 2) as usize;
+                return Some(Proposal::Unit(source, place, watch.blocker));
             }
         }
         self.pair = list.len();
@@ -258,29 +299,30 @@ impl Watches {
                 kept = keep(list, kept, watch);
                 continue;
             }
-            let clause = watch.clause;
-            let visit = look_at(clauses, clause, denied, assignment);
+            let start = watch.clause;
+            let visit = look_at(clauses, start, denied, assignment);
             if visit.is_whole() {
-                self.read = self.read.wrapping_add(clauses.literals(clause).len());
+                self.read = self.read.wrapping_add(clauses.length_at(start));
             }
             match visit {
-                Visit::Holds(blocker) => kept = keep(list, kept, Watch { clause, blocker }),
+                Visit::Holds(blocker) => kept = keep(list, kept, longer_watch(start, blocker)),
                 Visit::Moves(step) => {
-                    if let Err(error) = follow(&mut self.lists, clauses, clause, step) {
+                    if let Err(error) = follow(&mut self.lists, clauses, start, step) {
                         self.seen = place;
                         self.kept = kept;
                         return Err(error);
                     }
                 }
                 Visit::Unit(unit, blocker) => {
-                    self.kept = keep(list, kept, Watch { clause, blocker });
+                    self.kept = keep(list, kept, longer_watch(start, blocker));
                     self.seen = place + 1;
-                    return Ok(Proposal::Unit(clauses.source(clause), unit as usize));
+                    let source = clauses.source_at(start);
+                    return Ok(Proposal::Unit(source, unit as usize, blocker));
                 }
                 Visit::Conflict(blocker) => {
-                    self.kept = keep(list, kept, Watch { clause, blocker });
+                    self.kept = keep(list, kept, longer_watch(start, blocker));
                     self.seen = place + 1;
-                    return Ok(Proposal::Conflict(clauses.source(clause)));
+                    return Ok(Proposal::Conflict(clauses.source_at(start)));
                 }
                 Visit::Gone => {}
             }
@@ -291,36 +333,74 @@ impl Watches {
         Ok(Proposal::Nothing)
     }
 
-    /// The lists lose the clauses that have no literals any more.
-    pub fn drop_forgotten(&mut self, clauses: &Clauses) {
+    /// Before the table of clauses closes up: the longer clauses are told by their indices.
+    pub fn begin_closing(&mut self, clauses: &Clauses) {
         self.end();
         for lists in self.lists.iter_mut() {
-            lists
-                .longer
-                .retain(|watch| !clauses.literals(watch.clause).is_empty());
+            for watch in lists.longer.iter_mut() {
+                watch.clause = clauses.index_at(watch.clause).unwrap_or(u32::MAX);
+            }
         }
     }
 
-    /// The clauses have other indices, and those that don't stay are out of the lists.
-    pub fn close_up(&mut self, closing: &Closing) {
+    /// Behind it: by where their heads stand. The lists lose those that have no literals any more.
+    pub fn end_closing(&mut self, clauses: &Clauses) {
+        for lists in self.lists.iter_mut() {
+            for watch in lists.longer.iter_mut() {
+                watch.clause = clauses.start(watch.clause);
+            }
+            lists
+                .longer
+                .retain(|watch| clauses.index_at(watch.clause).is_some());
+        }
+    }
+
+    /// Before the clauses get other indices: those that don't stay leave the lists.
+    pub fn close_up(&mut self, clauses: &Clauses, closing: &Closing) {
         self.end();
         for lists in self.lists.iter_mut() {
-            close_list(&mut lists.pairs, closing);
-            close_list(&mut lists.longer, closing);
+            close_pairs(&mut lists.pairs, closing);
+            lists
+                .longer
+                .retain(|watch| stays(clauses, closing, watch.clause));
         }
     }
 }
 
-fn close_list(list: &mut Vec<Watch>, closing: &Closing) {
+/// Whether the clause stays whose head stands there.
+fn stays(clauses: &Clauses, closing: &Closing, start: u32) -> bool {
+    match clauses.index_at(start) {
+        Some(clause) => closing.place(clause).is_some(),
+        None => false,
+    }
+}
+
+/// The watch of a pair, whose other literal stands at the place.
+fn pair_watch(clause: u32, place: u32, blocker: LiteralNumber) -> Watch {
+    Watch {
+        clause: clause.wrapping_mul(2).wrapping_add(place % 2),
+        blocker,
+    }
+}
+
+/// The watch of a longer clause, whose head stands there.
+fn longer_watch(start: u32, blocker: LiteralNumber) -> Watch {
+    Watch {
+        clause: start,
+        blocker,
+    }
+}
+
+fn close_pairs(list: &mut Vec<Watch>, closing: &Closing) {
     let mut kept = 0usize;
     let watches = list.as_mut_slice();
     for place in 0..watches.len() {
         let Some(watch) = watches.get(place).copied() else {
             break;
         };
-        if let Some(clause) = closing.place(watch.clause) {
-            let blocker = watch.blocker;
-            kept = keep(watches, kept, Watch { clause, blocker });
+        if let Some(clause) = closing.place(watch.clause / 2) {
+            let pair = pair_watch(clause, watch.clause % 2, watch.blocker);
+            kept = keep(watches, kept, pair);
         }
     }
     list.truncate(kept);
@@ -356,34 +436,31 @@ fn append(
 fn follow(
     lists: &mut [Lists],
     clauses: &mut Clauses,
-    clause: u32,
+    start: u32,
     step: Move,
 ) -> Result<(), AllocError> {
-    let watch = Watch {
-        clause,
-        blocker: step.other,
-    };
+    let watch = longer_watch(start, step.other);
     append(lists, negated(step.literal), watch, false)?;
-    clauses.move_watch(clause, step.from, step.to);
+    clauses.move_watch(start, step.from, step.to);
     Ok(())
 }
 
-/// Reads the clause, one of whose watched literals is `denied`.
-fn look_at(
-    clauses: &Clauses,
-    clause: u32,
-    denied: LiteralNumber,
-    assignment: &Assignment,
-) -> Visit {
-    let Some(span) = clauses.span(clause) else {
+/// Reads the clause whose head stands there, one of whose watched literals is `denied`.
+fn look_at(clauses: &Clauses, start: u32, denied: LiteralNumber, assignment: &Assignment) -> Visit {
+    let Some(
+        Watched {
+            first,
+            second,
+            literals,
+        },
+    ) = clauses.watched(start)
+    else {
         return Visit::Gone;
     };
-    let literals = clauses.literals_at(span);
-    let first = literals.get(span.first as usize).copied();
-    let (from, place) = if first == Some(denied) {
-        (span.first, span.second)
+    let (from, place) = if literals.get(first as usize).copied() == Some(denied) {
+        (first, second)
     } else {
-        (span.second, span.first)
+        (second, first)
     };
     let Some(other) = literals.get(place as usize).copied() else {
         return Visit::Gone;
@@ -404,14 +481,15 @@ fn look_at(
     }
 }
 
-/// The first literal that isn't denied, behind the place `from` and then before it, but at the place `other`.
+/// The first literal that isn't denied, behind the place `from`, whose literal is denied, and then before it, but at the
+/// place `other`.
 fn find(
     literals: &[LiteralNumber],
     from: usize,
     other: usize,
     assignment: &Assignment,
 ) -> Option<(usize, LiteralNumber)> {
-    for place in from..literals.len() {
+    for place in from.saturating_add(1)..literals.len() {
         let literal = *literals.get(place)?;
         if place != other && assignment.truth(literal) != Truth::False {
             return Some((place, literal));
