@@ -3,3 +3,4 @@ pub mod Holding
 pub mod Deciding
 pub mod Delivered
 pub mod Waiting
+pub mod Learned

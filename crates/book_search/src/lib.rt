@@ -6,11 +6,13 @@ mod clauses;
 mod finding;
 mod pacing;
 mod solve;
+mod solved;
 mod tools;
 mod units;
 
 pub use base::{decide_units, refute_along};
 pub use finding::Finding;
 pub use pacing::Pacing;
-pub use solve::{finish, solve_one};
+pub use solve::{finish, solve_one, solve_one_with};
+pub use solved::{Solved, conclude};
 pub use tools::Tools;

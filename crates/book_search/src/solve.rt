@@ -1,7 +1,8 @@
 //! The turns of one worker.
 ghost use Rattle.std.specs.Prelude.{◌≡◌, ◌<◌, IfOk, OnOk, None};
 ghost use Rattle.cover_tree.specs.Covers.{cube_at};
-ghost use Rattle.book_core.specs.Books.{IsHeldBy};
+ghost use Rattle.book_core.specs.Books.{IsHeldBy, IsOpening};
+ghost use Rattle.book_core.specs.Shared.{lemmas_of};
 ghost use Rattle.book_core.specs.Runs.{state_of};
 ghost use Rattle.book_core.specs.Ends.{left_in};
 ghost use Rattle.book_core.specs.Verdicts.{IsRight};
@@ -9,10 +10,12 @@ ghost use Rattle.book_search.specs.code.Deliveries.{IsDelivered, IsWaiting, Adva
 
 use crate::base::decide_units;
 use crate::pacing::Pacing;
+use crate::solved::{Solved, conclude};
 use crate::tools::Tools;
 use book_core::{Answer, Book, Verdict};
+use refute_tree::Batch;
 use std::alloc::{AllocError, Global};
-use stn_core::{Literal, Problem};
+use stn_core::{Literal, Problem, Value};
 
 /// One slice of search under the cube, and the delivery of what it found: whether the cube is divided now.
 fn work(
@@ -68,19 +71,21 @@ fn turn(
     }
 }
 
-/// What is left to do of a book of the problem in which no leaf is held. It takes every leaf that is free, so
-/// that the answer rests on nothing that was done before.
-pub fn finish(
+// What is left to do of the book, by these tools.
+fn finish_by(
     alloc: Global,
     problem: &Problem,
+    tools: Tools,
     book: Book,
     budget: u64,
-) -> Result<Verdict, AllocError>
-    requires { IsWaiting problem.now book }
-    ensures { IfOk result (IsRight problem.now) }
+) -> Result<Solved, AllocError>
+    requires waiting { IsWaiting problem.now book }
+    requires points { tools ≡ problem.now.points }
+    ensures right { IfOk result (λ solved. IsRight problem.now solved.verdict) }
+    ensures lemmas { IfOk result (λ solved. IsOpening problem.now (lemmas_of solved.lemmas.items)) }
 {
     let mut book = book;
-    let mut tools = Tools::alone(alloc, problem)?;
+    let mut tools = tools;
     let mut pacing = Pacing::alone(budget);
     'turns: while let Some(divided) = turn(
         alloc,
@@ -93,10 +98,26 @@ pub fn finish(
             pacing.grow(tools.met_conflict());
         }
     }
-    match book.into_verdict()? {
-        Ok(verdict) => Ok(verdict),
+    match conclude(alloc, book)? {
+        Ok(solved) => Ok(solved),
         Err(_) => unreachable!(),
     }
+}
+
+/// What is left to do of a book of the problem in which no leaf is held. It takes every leaf that is free, so
+/// that the answer rests on nothing that was done before.
+pub fn finish(
+    alloc: Global,
+    problem: &Problem,
+    book: Book,
+    budget: u64,
+) -> Result<Solved, AllocError>
+    requires { IsWaiting problem.now book }
+    ensures right { IfOk result (λ solved. IsRight problem.now solved.verdict) }
+    ensures lemmas { IfOk result (λ solved. IsOpening problem.now (lemmas_of solved.lemmas.items)) }
+{
+    let tools = Tools::alone(alloc, problem)?;
+    finish_by(alloc, problem, tools, book, budget)
 }
 
 /// Decides the problem by slices of search, one after the other: a cube that isn't decided within the slice's
@@ -109,8 +130,32 @@ pub fn solve_one(alloc: Global, problem: &Problem, budget: u64) -> Result<Verdic
     match decide_units(alloc, problem)? {
         Some(verdict) => Ok(verdict),
         None => {
-            let book = Book::new(alloc, problem.copy()?)?;
-            finish(alloc, problem, book, budget)
+            let nothing = Batch::new(0, Vec::new(alloc));
+            let solved = solve_one_with(alloc, problem, nothing, &[], budget)?;
+            Ok(solved.into_verdict())
         }
     }
+}
+
+/// As `solve_one`, by a book that opens with these lemmas. What the clauses of one literal decide by themselves isn't looked
+/// at first: `decide_units` is for who makes the lemmas, before it does.
+///
+/// Values of the first time points, as those of an earlier schedule, say how literals are decided that never were: a hint,
+/// and there may be none.
+pub fn solve_one_with(
+    alloc: Global,
+    problem: &Problem,
+    opening: Batch,
+    phases: &[Value],
+    budget: u64,
+) -> Result<Solved, AllocError>
+    requires seen { opening.seen ≡ 0 }
+    requires opening { IsOpening problem.now opening.lemmas }
+    ensures right { IfOk result (λ solved. IsRight problem.now solved.verdict) }
+    ensures lemmas { IfOk result (λ solved. IsOpening problem.now (lemmas_of solved.lemmas.items)) }
+{
+    let book = Book::new_with(alloc, problem.copy()?, opening)?;
+    let mut tools = Tools::alone(alloc, problem)?;
+    tools.follow(phases);
+    finish_by(alloc, problem, tools, book, budget)
 }

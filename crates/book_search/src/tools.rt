@@ -13,14 +13,21 @@ use refute_tree::Lemma;
 use std::alloc::{AllocError, Global};
 use std::marker::Model;
 use std::sync::Arc;
-use stn_core::{Literal, Problem};
+use stn_core::{Literal, Problem, Value};
 use worker_calls::Calls;
 
 /// A worker's searcher and its net, which are kept from slice to slice. Contracts see the net's points.
-#[derive(Drop)]
 pub struct Tools {
     searcher: Searcher,
     net: Network,
+}
+
+impl Drop for Tools {
+    fn drop(self) {
+        let Tools { searcher, net } = self;
+        drop(searcher);
+        drop(net);
+    }
 }
 
 impl Model for Tools {
@@ -53,6 +60,13 @@ impl Tools {
             searcher: Searcher::alone(alloc, problem)?,
             net: Network::new(alloc, problem.points)?,
         })
+    }
+
+    /// Literals that were never decided are decided as they hold on these values of the first time points: a hint.
+    pub fn follow(&mut self, values: &[Value])
+        ensures { self.new ≡ self.old }
+    {
+        self.searcher.follow(values);
     }
 
     /// Whether a slice met a conflict yet.

@@ -9,10 +9,17 @@ use stn_core::{Clause, Literal};
 
 /// The different literals of the clauses with one literal, in order, each with the number of the first such
 /// clause.
-#[derive(Drop)]
 pub struct Units {
     literals: IndexSet<Literal>,
     numbers: Vec<usize>,
+}
+
+impl Drop for Units {
+    fn drop(self) {
+        let Units { literals, numbers } = self;
+        drop(literals);
+        drop(numbers);
+    }
 }
 
 impl Model for Units {

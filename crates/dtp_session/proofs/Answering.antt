@@ -292,13 +292,6 @@ answered_aside p mid q s question x piece.Proof same h = h
 answered_aside p mid q s question x piece.Told same h = h
 answered_aside p mid q s question x piece.Closing same h = h
 
-pub placed_aside : (p mid q : Session) → mid ≡ record p { kept = mid.kept } → KeepsPlace mid q → KeepsPlace p q
-placed_aside p mid q same h = record {
-  lexer = h.lexer ∙ ap (λ (m : Session). m.walk.lexer) same;
-  sexprs = h.sexprs ∙ ap (λ (m : Session). m.walk.sexprs) same;
-  report = h.report ∙ ap (λ (m : Session). m.report) same;
-}
-
 -- and one that the refutation answers that is held
 pub refuted_again : (p q : Session) (s : State) (question : Question) (x : Sexpr) → Holds p s → IsAskedIn question x s → p.walk.state.mode ≡ mode.Unsat → Stands q.walk.state (settled verdict.Unsat s) → q.held ≡ p.held → q.report ≡ p.report
     → q.walk.number ≡ p.walk.number + 1 → IsChecked question x p q s

@@ -85,31 +85,10 @@ values_shown p s found values holds sat held e =
     let both : w.schedule ≡ values = is_schedule p.given found w.schedule values (ap (schedule_shown p.given) (sym same) ∙ w.shown) e in
     subst (λ (vs : List NamedValue). IsShown s.context vs p.marks.items) both (record { fits = w.fits; within = w.within; truths = w.truths })
 
--- an entry is held, and it has a schedule
-pub entry_held : (p : Session) (s : State) → Holds p s → s.mode ≡ mode.Sat → p.held ≡ None → ⊥
-entry_held p s holds sat gone =
-    let w = held_schedule p s holds sat in
-    let both : ◌≡◌ {A = Held} None (Some w.entry) = sym gone ∙ w.held in
-    cc
-
-pub schedule_there : (p : Session) (s : State) (found : Entry) → Holds p s → s.mode ≡ mode.Sat → p.held ≡ Some found → schedule_shown p.given found ≡ None → ⊥
-schedule_there p s found holds sat held gone =
-    let w = held_schedule p s holds sat in
-    let same : w.entry ≡ found = same_entry w.entry found (sym w.held ∙ held) in
-    let both : ◌≡◌ {A = Option (List NamedValue)} None (Some w.schedule) = sym gone ∙ ap (schedule_shown p.given) (sym same) ∙ w.shown in
-    cc
-
 -- as many values as names
 pub values_counted : (kept : Kept) (s : State) (values : List NamedValue) → Stands kept s → IsScheduleFor s.context values → length values ≡ length kept.scope.declared
 values_counted kept s values stands fits =
     values_count _ values fits ∙ sorts_count s.context.declared ∙ ap (λ (scope : Scope). length scope.declared) (sym stands.stands.scope)
-
-pub model_is : (kept : Kept) (held : Held) (s : State) (values : List NamedValue) (names : List Declaration) (old now : List ℕ) → Stands kept s → schedule_held s.context held ≡ Some values → names ≡ kept.scope.declared → old ≡ []
-    → now ≡ old ++ model_lines names values → now ≡ told_model held s
-model_is kept held s values names old now stands e same empty is =
-    let declared : names ≡ s.context.declared = same ∙ ap (λ (scope : Scope). scope.declared) stands.stands.scope in
-    is ∙ ap (λ (t : List ℕ). t ++ model_lines names values) empty ∙ ap (λ (ds : List Declaration). model_lines ds values) declared
-    ∙ sym (ap (λ (found : Option (List NamedValue)). told_of found (λ schedule. model_lines s.context.declared schedule)) e)
 
 pub values_are : (held : Held) (s : State) (values : List NamedValue) (terms : Items) (old now : List ℕ) → schedule_held s.context held ≡ Some values → old ≡ []
     → now ≡ old ++ values_line (value (environment s.context values)) terms → now ≡ told_values held s terms
@@ -126,17 +105,6 @@ items_from f g n h number (more x xs) =
     ∙ ap (λ (ys : Items). with_item (g (n + number)) x ys) (items_from f g n h (suc number) xs ∙ ap (λ (k : ℕ). cited_items g k xs) next)
 
 -- ---- a refutation that is held
-
-pub refutation_held : (p : Session) (s : State) → Holds p s → s.mode ≡ mode.Unsat → p.held ≡ None → ⊥
-refutation_held p s holds unsat gone =
-    let w = held_refutation p s holds unsat in
-    let both : ◌≡◌ {A = Held} None (Some (Unsat w.lemmas)) = sym gone ∙ w.held in
-    cc
-
-pub refutation_there : (p : Session) (s : State) (found : Entry) → Holds p s → s.mode ≡ mode.Unsat → p.held ≡ Some found → ((lemmas : List Lemma) → found ≡ Unsat lemmas → ⊥) → ⊥
-refutation_there p s found holds unsat held none_ =
-    let w = held_refutation p s holds unsat in
-    none_ w.lemmas (same_entry found (Unsat w.lemmas) (sym held ∙ w.held))
 
 -- the code has no assumptions where the state has none
 none_assumed : (kept : Kept) (s : State) (n : Option Active) (a : Option Assumed) → AssumedStands kept n a → n ≡ None → a ≡ None
@@ -171,14 +139,6 @@ module _ (kept : Kept) (s : State) (lemmas others : List Lemma) (same : CiteSame
   cited_as r =
       each r ∙ ap (λ (ns : List NodeValue). is_cited_root ns roots others r) (same_nodes ∙ stands.stands.nodes)
       ∙ ap (λ (ks : List ℕ). is_cited_root s.context.nodes ks others r) (same_roots ∙ stands.stands.roots) ∙ sym (same s.context.nodes s.context.roots r)
-
--- of the table's roots
-pub cited_in : (kept : Kept) (s : State) (lemmas others : List Lemma) → CiteSame lemmas others → Stands kept s → (nodes : List NodeValue) (roots : List ℕ) (cited : List Bool) → nodes ≡ kept.nodes → roots ≡ kept.roots
-    → ((r : ℕ) → is_marked cited r ≡ is_cited_root nodes roots others r) → length cited ≡ length roots → AreCitedIn s.context lemmas cited
-cited_in kept s lemmas others same stands nodes roots cited same_nodes same_roots each count = record {
-  each = cited_as kept s lemmas others same stands nodes roots cited same_nodes same_roots each;
-  count = count ∙ ap (λ (ks : List ℕ). length ks) (same_roots ∙ stands.stands.roots);
-}
 
 module _ (held : Held) (s : State) (x : Sexpr) (lemmas : List Lemma) (cited : List Bool) (is_held : held ≡ Some (Unsat lemmas)) (old now : List ℕ) (empty : old ≡ []) where
   pub core_is : (kept : Kept) → Stands kept s → ((r : ℕ) → is_marked cited r ≡ cites_assertion (asked_of s) lemmas r) → now ≡ old ++ core_line (cited_names (is_marked cited) 0 kept.labels)

@@ -14,15 +14,17 @@ use crate::options::SearchOptions;
 use crate::shown::refuted;
 use crate::wanted::Wanted;
 use book_core::Verdict;
-use book_search::refute_along;
+use book_search::{decide_units, refute_along};
 use cert_text::Entry;
 use clause_form::restrict;
+use kept_schedule::KeptSchedule;
+use refute_tree::Batch;
 use smt_script::{Question, State};
 use std::alloc::{AllocError, Global};
 use std::sync::Wait;
 use std::thread::Threads;
-use steal_search::{Gate, solve_one, solve_shared};
-use stn_core::{NamedValues, Problem};
+use steal_search::{Gate, solve_one_with, solve_shared_with};
+use stn_core::{NamedValues, Problem, Value};
 
 /// What decides a question.
 #[derive(Drop)]
@@ -32,27 +34,44 @@ pub struct Decision {
     pub given: Option<NamedValues>,
 }
 
-/// Decides the problem: by clauses of one literal along what is noted, where these refute it, and else by as many workers as are asked for; one is
-/// the caller itself.
+/// The values that are kept, as those of time points: the names' points come first.
+fn phases_of(alloc: Global, kept: &KeptSchedule) -> Result<Vec<Value>, AllocError> {
+    let values = kept.values();
+    let mut phases = Vec::with_capacity(alloc, values.len())?;
+    for value in values {
+        phases.push(Value::from(*value))?;
+    }
+    Ok(phases)
+}
+
+/// Decides the problem: by clauses of one literal along what was noted, where these refute it, by all of these, and else by as many workers as are
+/// asked for; one is the caller itself. They decide literals as these hold on the values that are kept.
 fn search<R: Threads + Wait + Sync, G: Gate>(
     rt: &R,
     alloc: Global,
     problem: &Problem,
-    noted: &[u32],
+    kept: &KeptSchedule,
     options: SearchOptions,
     gate: &G,
 ) -> Result<Verdict, AllocError>
     ensures { IfOk result (IsRight problem.now) }
 {
-    if let Some(verdict) = refute_along(alloc, problem, noted)? {
+    if let Some(verdict) = refute_along(alloc, problem, kept.noted())? {
+        return Ok(verdict);
+    }
+    if let Some(verdict) = decide_units(alloc, problem)? {
         return Ok(verdict);
     }
     let slice = u64::from(options.slice);
+    let phases = phases_of(alloc, kept)?;
+    let nothing = Batch::new(0, Vec::new(alloc));
     if options.workers == 1 {
-        solve_one(alloc, problem, slice)
-    } else {
-        solve_shared(rt, alloc, problem, options.workers, slice, gate)
+        let solved = solve_one_with(alloc, problem, nothing, &phases, slice)?;
+        return Ok(solved.into_verdict());
     }
+    let workers = options.workers;
+    let solved = solve_shared_with(rt, alloc, problem, nothing, &phases, workers, slice, gate)?;
+    Ok(solved.into_verdict())
 }
 
 /// Decides a check-sat: a schedule that satisfies the assertions, or a refutation of their problem.
@@ -61,7 +80,7 @@ fn satisfy<R: Threads + Wait + Sync, G: Gate>(
     alloc: Global,
     state: &State,
     problem: Problem,
-    noted: &[u32],
+    kept: &KeptSchedule,
     wanted: Wanted,
     options: SearchOptions,
     gate: &G,
@@ -77,7 +96,7 @@ fn satisfy<R: Threads + Wait + Sync, G: Gate>(
     stn_core::negation_kept();
     best_values::unbounded_law();
     unsat_cores::core_law();
-    match search(rt, alloc, &problem, noted, options, gate)? {
+    match search(rt, alloc, &problem, kept, options, gate)? {
         Verdict::Sat(schedule) => {
             let values = restrict(alloc, schedule.as_slice(), state.names().sorts())?;
             let found = Found::shown(Entry::Sat(values));
@@ -92,7 +111,7 @@ fn satisfy<R: Threads + Wait + Sync, G: Gate>(
 
 /// Decides a question over the problem of the assertions. Where no entry is wanted, a refutation stays as the search left it,
 /// and is put in its form when it is written.
-/// `noted` has for some points another one, along which unit clauses may refute a check-sat: a hint.
+/// What is kept of an earlier question is a hint for a check-sat: for some points another one, along which unit clauses may refute it, and values.
 /// The time of the search may grow with the number of ways to choose a literal of each clause.
 pub fn decide<R: Threads + Wait + Sync, G: Gate>(
     rt: &R,
@@ -100,7 +119,7 @@ pub fn decide<R: Threads + Wait + Sync, G: Gate>(
     state: &State,
     question: Question,
     problem: Problem,
-    noted: &[u32],
+    kept: &KeptSchedule,
     wanted: Wanted,
     options: SearchOptions,
     gate: &G,
@@ -110,7 +129,7 @@ pub fn decide<R: Threads + Wait + Sync, G: Gate>(
         → IsDecision (version_wanted wanted) question x s.context decision) }
 {
     match question {
-        Question::CheckSat => satisfy(rt, alloc, state, problem, noted, wanted, options, gate),
+        Question::CheckSat => satisfy(rt, alloc, state, problem, kept, wanted, options, gate),
         Question::Minimize(objective) => {
             minimize(rt, alloc, state, objective, problem, wanted, options, gate)
         }

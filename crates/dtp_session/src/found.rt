@@ -26,12 +26,19 @@ use std::marker::Model;
 use stn_core::{NamedValues, Problem};
 
 /// The entry of a question. Contracts see the entry as it would be written.
-#[derive(Drop)]
 pub struct Found {
     entry: Entry,
     // The problem that a refutation is of, where its lemmas are as the search left them: their form is made when they
     // are written.
     unformed: Option<Problem>,
+}
+
+impl Drop for Found {
+    fn drop(self) {
+        let Found { entry, unformed } = self;
+        drop(entry);
+        drop(unformed);
+    }
 }
 
 impl Model for Found {

@@ -316,7 +316,7 @@ impl<'a> Session<'a> {
             &self.walk.state,
             question,
             problem,
-            self.kept.noted(),
+            &self.kept,
             wanted,
             self.options,
             gate,

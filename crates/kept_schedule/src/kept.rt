@@ -18,7 +18,6 @@ use stn_core::{NamedValue, NamedValues};
 const ROUNDS: u32 = 4;
 
 /// Values of the time points that an earlier question left, and room for what is tried of them.
-#[derive(Drop)]
 pub struct KeptSchedule {
     alloc: Global,
     // the zero point's first, which is 0; none where nothing is kept
@@ -29,6 +28,26 @@ pub struct KeptSchedule {
     wanted: Wanted,
     sweeper: Sweeper,
     known: Known,
+}
+
+impl Drop for KeptSchedule {
+    fn drop(self) {
+        let KeptSchedule {
+            alloc: _,
+            values,
+            tried,
+            marks,
+            wanted,
+            sweeper,
+            known,
+        } = self;
+        drop(values);
+        drop(tried);
+        drop(marks);
+        drop(wanted);
+        drop(sweeper);
+        drop(known);
+    }
 }
 
 impl KeptSchedule {
@@ -58,6 +77,11 @@ impl KeptSchedule {
             self.values.push(guess_of(*named))?;
         }
         Ok(())
+    }
+
+    /// The values that are kept, the zero point's first; none where nothing is kept.
+    pub fn values(&self) -> &[i64] {
+        &self.values
     }
 
     /// Where the last look for a schedule ended with points that lowered one another in a ring: for each of them by which one it was. The literals

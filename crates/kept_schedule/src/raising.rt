@@ -6,11 +6,17 @@ use std::alloc::{AllocError, Global};
 use stn_core::Literal;
 
 /// Which points the literals had that were looked at last.
-#[derive(Drop)]
 pub struct Known {
     is_known: Vec<bool>,
     // how many literals these were
     count: usize,
+}
+
+impl Drop for Known {
+    fn drop(self) {
+        let Known { is_known, count: _ } = self;
+        drop(is_known);
+    }
 }
 
 fn mark(marks: &mut [bool], point: u32) {

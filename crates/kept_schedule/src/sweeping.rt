@@ -13,13 +13,25 @@ const PLAIN_SWEEPS: u32 = 2;
 const NONE: u32 = u32::MAX;
 
 /// What is gone over until all of it holds, and by which point each one was lowered last.
-#[derive(Drop)]
 pub struct Sweeper {
     lowered_by: Vec<u32>,
     // on which way from point to point each one was met, from 1
     met: Vec<usize>,
     // the ring of these, where one was found, else all of them
     noted: Vec<u32>,
+}
+
+impl Drop for Sweeper {
+    fn drop(self) {
+        let Sweeper {
+            lowered_by,
+            met,
+            noted,
+        } = self;
+        drop(lowered_by);
+        drop(met);
+        drop(noted);
+    }
 }
 
 /// Lowers the literal's first point to where the literal holds, where it fails, and says whether it did.

@@ -4,11 +4,23 @@ use std::alloc::{AllocError, Global};
 use stn_core::{Literal, negate};
 
 /// Which nodes are to be true, which are to be false, and the literals that are to hold then.
-#[derive(Drop)]
 pub struct Wanted {
     is_true: Vec<bool>,
     is_false: Vec<bool>,
     pub literals: Vec<Literal>,
+}
+
+impl Drop for Wanted {
+    fn drop(self) {
+        let Wanted {
+            is_true,
+            is_false,
+            literals,
+        } = self;
+        drop(is_true);
+        drop(is_false);
+        drop(literals);
+    }
 }
 
 fn mark(marks: &mut [bool], number: u32) {

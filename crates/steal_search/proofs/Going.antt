@@ -83,13 +83,6 @@ if_some P (Some x) s h = (x, refl, h)
 pub cube_ended : (old new : Sight) (event : Cube → Event) → IsSome old.cube → IfSome old.cube (λ cube. Ends old new (event cube)) → GoesOn old new × (new.cube ≡ None)
 cube_ended old new event s h = let c = if_some (λ cube. Ends old new (event cube)) old.cube s h in ends_on old new (event c.0) c.2
 
-pub holds_some : (seat : Sight) → IsSome seat.cube → (cube : Cube) × (seat.cube ≡ Some cube)
-holds_some seat s = let c = if_some (λ (cube : Cube). Unit {0}) seat.cube s (tt_for seat.cube) in (c.0, c.1)
-  where
-    tt_for : (o : Option Cube) → IfSome o (λ cube. Unit {0})
-    tt_for None = tt
-    tt_for (Some x) = tt
-
 pub hand_self : (h : Doings) → HandGoesOn h h
 hand_self h = record {
   pool = refl;
@@ -99,9 +92,6 @@ hand_self h = record {
   known_by_pushes = prefix_self h.known_by_pushes;
   known_by_fetches = λ k. prefix_self (known_there k h);
 }
-
-pub hand_same : (g h : Doings) → h ≡ g → HandGoesOn g h
-hand_same g h e = subst (HandGoesOn g) (sym e) (hand_self g)
 
 pub hand_on : (f g h : Doings) → HandGoesOn f g → HandGoesOn g h → HandGoesOn f h
 hand_on f g h a b = record {
@@ -177,10 +167,6 @@ near_on old new near (Err e) h same = goes_same old new same
 pub near_answered : {E : Type 0} (old new : Sight) (near : Option ℕ) (r : Result Dealt E) → IfOk r (λ answer. TakesNear old new near answer) → IfOk r (IsAnswered new)
 near_answered old new near (Ok answer) h = takes_answered old new answer h.0
 near_answered old new near (Err e) h = tt
-
-pub take_on : {E : Type 0} (old new : Sight) (r : Result Dealt E) → IfOk r (λ answer. Takes old new answer) → OnErr r (new ≡ old) → GoesOn old new
-take_on old new (Ok answer) h same = takes_on old new answer h
-take_on old new (Err e) h same = goes_same old new same
 
 pub take_answered : {E : Type 0} (old new : Sight) (r : Result Dealt E) → IfOk r (λ answer. Takes old new answer) → IfOk r (IsAnswered new)
 take_answered old new (Ok answer) h = takes_answered old new answer h

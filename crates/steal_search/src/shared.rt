@@ -1,5 +1,7 @@
 //! Workers on threads of their own.
 ghost use Rattle.std.specs.Prelude.{◌≡◌, ◌≤◌, ◌<◌, ◌+◌, ◌^◌, [], length, vec_len, None, IfOk, OnOk, IfSome};
+ghost use Rattle.book_core.specs.Books.{IsOpening};
+ghost use Rattle.book_core.specs.Shared.{lemmas_of};
 ghost use Rattle.book_core.specs.Verdicts.{IsRight};
 ghost use Rattle.book_search.specs.code.Deliveries.{IsWaiting};
 ghost use Rattle.book_lock.specs.Seats.{AllJoined};
@@ -10,13 +12,14 @@ use crate::dealing::{Pace, deal};
 use crate::worker::go_on;
 use book_core::{Book, Verdict};
 use book_lock::{Dealt, Desk, Seat};
-use book_search::{Pacing, decide_units, finish};
+use book_search::{Pacing, Solved, conclude, decide_units, finish};
 use cube_pool::{Hand, Pool};
+use refute_tree::Batch;
 use std::alloc::{AllocError, Global};
 use std::sync::{Arc, Wait};
 use std::thread;
 use std::thread::Threads;
-use stn_core::Problem;
+use stn_core::{Problem, Value};
 use worker_calls::Calls;
 use worker_gates::Gate;
 
@@ -274,21 +277,27 @@ fn begin<R: Wait, G: Gate>(
     Ok(true)
 }
 
-// The book after the workers' calls.
+// The book after the workers' calls. The values are a hint to the caller's first slices, and to the worker that goes on
+// from there.
 fn closed<R: Threads + Wait + Sync, G: Gate>(
     rt: &R,
     alloc: Global,
     problem: &Problem,
+    opening: Batch,
+    phases: &[Value],
     workers: u32,
     budget: u64,
     calls: &Arc<Calls>,
     gate: &G,
 ) -> Result<Book, AllocError>
     requires workers { (1 ≤ workers) × (workers ≤ 64) }
+    requires seen { opening.seen ≡ 0 }
+    requires opening { IsOpening problem.now opening.lemmas }
     ensures { IfOk result (IsWaiting problem.now) }
 {
-    let (desk, mut seat) = Desk::start(alloc, problem.copy()?)?;
+    let (desk, mut seat) = Desk::start_with(alloc, problem.copy()?, opening)?;
     let mut pace = Pace::new(alloc, problem, budget, calls)?;
+    pace.tools.follow(phases);
     if begin(
         rt, alloc, problem, &desk, &mut seat, &mut pace, budget, gate,
     )? {
@@ -336,9 +345,69 @@ pub fn solve_shared_over<R: Threads + Wait + Sync, G: Gate>(
     if let Some(verdict) = decide_units(alloc, problem)? {
         return Ok(verdict);
     }
-    let book = closed(rt, alloc, problem, workers, budget, calls, gate)?;
-    match book.into_verdict()? {
-        Ok(verdict) => Ok(verdict),
+    let nothing = Batch::new(0, Vec::new(alloc));
+    let solved = solved_by(
+        rt,
+        alloc,
+        problem,
+        nothing,
+        &[],
+        workers,
+        budget,
+        calls,
+        gate,
+    )?;
+    Ok(solved.into_verdict())
+}
+
+/// As `solve_shared`, by a book that opens with these lemmas, and with values of the first time points that say how the caller's
+/// first slices decide literals: as `book_search::solve_one_with`, which says also what isn't done first.
+pub fn solve_shared_with<R: Threads + Wait + Sync, G: Gate>(
+    rt: &R,
+    alloc: Global,
+    problem: &Problem,
+    opening: Batch,
+    phases: &[Value],
+    workers: u32,
+    budget: u64,
+    gate: &G,
+) -> Result<Solved, AllocError>
+    requires workers { (1 ≤ workers) × (workers ≤ 64) }
+    requires seen { opening.seen ≡ 0 }
+    requires opening { IsOpening problem.now opening.lemmas }
+    ensures right { IfOk result (λ solved. IsRight problem.now solved.verdict) }
+    ensures lemmas { IfOk result (λ solved. IsOpening problem.now (lemmas_of solved.lemmas.items)) }
+{
+    let calls = Arc::new(alloc, Calls::new())?;
+    let solved = solved_by(
+        rt, alloc, problem, opening, phases, workers, budget, &calls, gate,
+    )?;
+    Ok(solved)
+}
+
+// The same, where the workers share these calls.
+fn solved_by<R: Threads + Wait + Sync, G: Gate>(
+    rt: &R,
+    alloc: Global,
+    problem: &Problem,
+    opening: Batch,
+    phases: &[Value],
+    workers: u32,
+    budget: u64,
+    calls: &Arc<Calls>,
+    gate: &G,
+) -> Result<Solved, AllocError>
+    requires workers { (1 ≤ workers) × (workers ≤ 64) }
+    requires seen { opening.seen ≡ 0 }
+    requires opening { IsOpening problem.now opening.lemmas }
+    ensures right { IfOk result (λ solved. IsRight problem.now solved.verdict) }
+    ensures lemmas { IfOk result (λ solved. IsOpening problem.now (lemmas_of solved.lemmas.items)) }
+{
+    let book = closed(
+        rt, alloc, problem, opening, phases, workers, budget, calls, gate,
+    )?;
+    match conclude(alloc, book)? {
+        Ok(solved) => Ok(solved),
         Err(book) => finish(alloc, problem, book, budget),
     }
 }

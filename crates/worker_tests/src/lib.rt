@@ -6,6 +6,8 @@ mod hands;
 #[cfg(test)]
 mod journal;
 #[cfg(test)]
+mod openings;
+#[cfg(test)]
 mod shared;
 #[cfg(test)]
 mod stops;

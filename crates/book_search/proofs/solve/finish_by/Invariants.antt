@@ -1,7 +1,7 @@
 use Rattle.std.proofs.Common.{◌≡◌}
 use Rattle.book_core.specs.Ends.{left_in}
 use Rattle.book_search.specs.code.Deliveries.{IsWaiting}
-use Rattle.book_search.proofs.solve.finish.Given as goal
+use Rattle.book_search.proofs.solve.finish_by.Given as goal
 
 abbrev pub invariant-turns : goal.invariant-turns
 invariant-turns l = record {
