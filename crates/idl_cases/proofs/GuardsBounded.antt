@@ -2,7 +2,7 @@
 use Rattle.std.proofs.Common.{subst, sym, ◌≡◌, ◌<◌, ℕ, List, [], ◌∷◌, ◌++◌, map, Bool, true, false}
 use Rattle.std.specs.List.{AllByRecursion}
 use Rattle.idl_linear.specs.Linear.{LinearValue}
-use Rattle.idl_cases.specs.Guarded.{CaseValue, guarded, branched}
+use Rattle.idl_cases.specs.Guarded.{CaseValue, guarded, branched, plain}
 use Rattle.idl_cases.specs.code.CaseSums.{added, added_each, moved, negated_case, signed_cases}
 use Rattle.idl_cases.specs.code.GuardBounds.{AreGuardsBelow, IsCaseBelow}
 
@@ -42,8 +42,11 @@ more_below : (count : ℕ) (by : LinearValue) (xs : List CaseValue) → AreGuard
 more_below count by [] h = tt
 more_below count by (x ∷ xs) h = (h.0, more_below count by xs h.1)
 
-same_below : (count : ℕ) (xs cases : List CaseValue) → cases ≡ xs → AreGuardsBelow count xs → AreGuardsBelow count cases
+pub same_below : (count : ℕ) (xs cases : List CaseValue) → cases ≡ xs → AreGuardsBelow count xs → AreGuardsBelow count cases
 same_below count xs cases e h = subst (λ (cs : List CaseValue). AreGuardsBelow count cs) (sym e) h
+
+pub plain_below : (count : ℕ) (l : LinearValue) (cases : List CaseValue) → cases ≡ plain l → AreGuardsBelow count cases
+plain_below count l cases e = same_below count (plain l) cases e (tt, tt)
 
 pub moved_below : (count : ℕ) (by : LinearValue) (xs cases : List CaseValue) → cases ≡ map (moved by) xs → AreGuardsBelow count xs → AreGuardsBelow count cases
 moved_below count by xs cases e h = same_below count (map (moved by) xs) cases e (more_below count by xs h)

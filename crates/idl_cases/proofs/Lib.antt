@@ -3,5 +3,6 @@ pub mod CaseLaws
 pub mod CaseBounds
 pub mod Opening
 pub mod GuardsBounded
+pub mod CasesLeft
 pub mod SumSteps
 pub mod Going

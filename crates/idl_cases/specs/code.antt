@@ -4,4 +4,5 @@ pub mod CaseShapes
 pub mod CasePlaces
 pub mod CaseSums
 pub mod CaseTrees
+pub mod CasesLeft
 pub mod GuardBounds

@@ -54,7 +54,7 @@ parted_negatives f xs i x lt e =
 
 -- ---- terms that go into another term's tree
 
-each_limited : (xs : List Summand) → AllByRecursion IsSummand xs → list_all (λ (s : Summand). is_within coefficient_limit s.coefficient) xs ≡ true
+pub each_limited : (xs : List Summand) → AllByRecursion IsSummand xs → list_all (λ (s : Summand). is_within coefficient_limit s.coefficient) xs ≡ true
 each_limited [] h = refl
 each_limited (x ∷ xs) h = ap (λ (b : Bool). b && list_all (λ (s : Summand). is_within coefficient_limit s.coefficient) xs) h.0.limited ∙ each_limited xs h.1
 

@@ -16,6 +16,7 @@ pub mod Putting
 pub mod Walking
 pub mod Totals
 pub mod Finishing
+pub mod FewSummands
 pub mod Greatest
 pub mod EndingRuns
 pub mod SumLaws

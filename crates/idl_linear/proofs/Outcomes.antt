@@ -12,7 +12,7 @@ use Rattle.idl_linear.specs.Linear.{LinearValue, put_before, collected, sum_of, 
 use Rattle.idl_linear.specs.Forms.{IsLinear}
 use Rattle.idl_linear.specs.Differences.{ends_of, difference_by, difference_of}
 use Rattle.idl_linear.specs.code.Steps.{less, ends_with, ends_through}
-use Rattle.idl_linear.proofs.Collecting.{all_above-ascending}
+use Rattle.idl_linear.proofs.Collecting.{all_above-ascending, collected-ascending}
 use Rattle.idl_linear.proofs.Merging.{less-above, within_low, within_high}
 use Rattle.idl_linear.proofs.Ends.{ends_from_start, ends_step}
 
@@ -58,9 +58,13 @@ pub starts : (a b : LinearValue) → IsLinear a → IsLinear b → ends_through 
 starts a b h k =
     ends_from_start (less a.summands b.summands) (less-above 0 a.summands b.summands (all_above-ascending 0 a.summands h.ascends) (all_above-ascending 0 b.summands k.ascends))
 
-pub stops : (a b : LinearValue) (e : Met) (s : Summand) (rest whole : List Summand) → whole ≡ put_before s rest → None ≡ ends_with e s
-    → ends_through (Some e) whole ≡ ends_of (less a.summands b.summands) → difference_of a b ≡ Err NotADifference
-stops a b e s rest whole h f same = not_a_difference a b (sym same ∙ ends_step e s rest whole None h f)
+pub no_ends : (l : List Summand) (e : Met) (s : Summand) (rest whole : List Summand) → whole ≡ put_before s rest → None ≡ ends_with e s → ends_through (Some e) whole ≡ ends_of l → None ≡ ends_of l
+no_ends l e s rest whole h f same = sym (ends_step e s rest whole None h f) ∙ same
+
+-- less nothing
+pub less_nothing : (a b : LinearValue) → IsLinear a → b.summands ≡ [] → less a.summands b.summands ≡ a.summands
+less_nothing a b h e =
+    ap (λ (l : List Summand). collected (a.summands ++ map negative_summand l)) e ∙ ap collected (append-nil a.summands) ∙ collected-ascending 0 a.summands h.ascends
 
 pub ends_at : (l : List Summand) (e : Met) (whole : List Summand) → whole ≡ [] → ends_through (Some e) whole ≡ ends_of l → ends_of l ≡ Some (e.x, e.y)
 ends_at l e whole h same = sym same ∙ ap (ends_through (Some e)) h

@@ -1,9 +1,10 @@
 //! Two linear terms that are compared.
-ghost use Rattle.std.specs.Prelude.{◌≡◌, ◌<◌, ◌+◌, ◌^◌, ◌++◌, length, map, ℤ, neg_ℤ, IfOk, IfErr, Ok, Err, Some};
+ghost use Rattle.std.specs.Prelude.{◌≡◌, ◌<◌, ◌+◌, ◌^◌, ◌++◌, length, map, option_map, ℤ, neg_ℤ, IfOk, IfErr, IfSome, Ok, Err, Some};
 ghost use Rattle.idl_linear.specs.Limits.{points_limit};
-ghost use Rattle.idl_linear.specs.Differences.{difference_by, difference_in, difference_of};
+ghost use Rattle.idl_linear.specs.Differences.{difference_by, difference_in, difference_of, ends_of};
 ghost use Rattle.idl_linear.specs.Linear.{negative_of, sum_of};
-ghost use Rattle.idl_linear.specs.code.Steps.{ends_with};
+ghost use Rattle.idl_linear.specs.Forms.{IsLinear};
+ghost use Rattle.idl_linear.specs.code.Steps.{ends_with, less};
 
 use crate::error::DifferenceRefusal;
 use crate::limits::NUMBER_LIMIT;
@@ -30,17 +31,9 @@ pub fn compare(a: &Linear, b: &Linear) -> Result<Difference, DifferenceRefusal>
     ensures y { IfOk result (λ d. d.y < points_limit) }
     ensures refused { IfErr result (λ why. difference_of a.now b.now ≡ Err why) }
 {
-    let mut ends = Ends { x: 0, y: 0 };
-    let mut merge = Merge {
-        left: a.cursor(),
-        right: b.cursor(),
+    let Some(ends) = ends_apart(a, b) else {
+        return Err(DifferenceRefusal::NotADifference);
     };
-    while let Some(summand) = merge.next() {
-        match ends.with(summand) {
-            Some(more) => ends = more,
-            None => return Err(DifferenceRefusal::NotADifference),
-        }
-    }
     let number = i128::from(b.constant()) - i128::from(a.constant());
     match within(NUMBER_LIMIT, number) {
         Some(n) => Ok(Difference {
@@ -50,6 +43,50 @@ pub fn compare(a: &Linear, b: &Linear) -> Result<Difference, DifferenceRefusal>
         }),
         None => Err(DifferenceRefusal::BoundTooLarge),
     }
+}
+
+/// The ends of a term, where it is a difference.
+fn ends_of_one(term: &Linear) -> Option<Ends>
+    ensures linear { IsLinear term.now }
+    ensures ends { option_map (λ e. (e.x, e.y)) result ≡ ends_of term.now.summands }
+    ensures x { IfSome result (λ e. e.x < points_limit) }
+    ensures y { IfSome result (λ e. e.y < points_limit) }
+{
+    let mut ends = Ends { x: 0, y: 0 };
+    let mut cursor = term.cursor();
+    while let Some(summand) = cursor.next() {
+        ends = ends.with(summand)?;
+    }
+    Some(ends)
+}
+
+/// The ends of the first term less the second, where they are a difference.
+fn ends_of_two(a: &Linear, b: &Linear) -> Option<Ends>
+    ensures ends { option_map (λ e. (e.x, e.y)) result ≡ ends_of (less a.now.summands b.now.summands) }
+    ensures x { IfSome result (λ e. e.x < points_limit) }
+    ensures y { IfSome result (λ e. e.y < points_limit) }
+{
+    let mut ends = Ends { x: 0, y: 0 };
+    let mut merge = Merge {
+        left: a.cursor(),
+        right: b.cursor(),
+    };
+    while let Some(summand) = merge.next() {
+        ends = ends.with(summand)?;
+    }
+    Some(ends)
+}
+
+/// The same. Where the second is a number, nothing is merged.
+fn ends_apart(a: &Linear, b: &Linear) -> Option<Ends>
+    ensures ends { option_map (λ e. (e.x, e.y)) result ≡ ends_of (less a.now.summands b.now.summands) }
+    ensures x { IfSome result (λ e. e.x < points_limit) }
+    ensures y { IfSome result (λ e. e.y < points_limit) }
+{
+    if b.is_number() {
+        return ends_of_one(a);
+    }
+    ends_of_two(a, b)
 }
 
 /// The sum of the first terms less the others, compared with 0: their difference, where it is one of two time points and a number within

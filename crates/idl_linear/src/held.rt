@@ -15,10 +15,11 @@ use std::sync::Arc;
 /// How many summands a list has at most that no tree is made for.
 const FEW: usize = 32;
 
-/// A list of summands that takes no memory for one of them, and that many share where it is long.
+/// A list of summands that takes no memory for one or two of them, and that many share where it is long.
 #[derive(Drop)]
 pub(crate) enum Held {
     One(Summand),
+    Two([Summand; 2]),
     Many(Vec<Summand>),
     Shared { is_negated: bool, tree: Arc<Tree> },
 }
@@ -54,6 +55,7 @@ impl Held {
     {
         let items = match self {
             Held::One(summand) => slice::from_ref(summand),
+            Held::Two(pair) => pair.as_slice(),
             Held::Many(summands) => summands.as_slice(),
             Held::Shared {
                 is_negated: is_tree_negated,
@@ -75,6 +77,7 @@ impl Held {
     pub(crate) fn count(&self) -> usize {
         match self {
             Held::One(_) => 1,
+            Held::Two(_) => 2,
             Held::Many(summands) => summands.len(),
             Held::Shared { tree, .. } => tree.count(),
         }
@@ -86,6 +89,7 @@ impl Held {
     {
         match self {
             Held::One(summand) => summand.coefficient.unsigned_abs(),
+            Held::Two(pair) => greatest_of(pair.as_slice()),
             Held::Many(summands) => greatest_of(summands),
             Held::Shared { tree, .. } => tree.greatest(),
         }
@@ -98,6 +102,7 @@ impl Held {
     {
         match self {
             Held::One(summand) => Cursor::of_list(slice::from_ref(summand), is_negated),
+            Held::Two(pair) => Cursor::of_list(pair.as_slice(), is_negated),
             Held::Many(summands) => Cursor::of_list(summands.as_slice(), is_negated),
             Held::Shared {
                 is_negated: is_tree_negated,
@@ -112,6 +117,7 @@ impl Held {
     {
         match self {
             Held::One(summand) => Ok(Held::One(*summand)),
+            Held::Two(pair) => Ok(Held::Two(*pair)),
             Held::Many(summands) => {
                 let copied = summands.clone()?;
                 Ok(Held::Many(copied))

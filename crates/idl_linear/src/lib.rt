@@ -5,6 +5,7 @@ mod cursor;
 mod difference;
 mod error;
 mod examples;
+mod few;
 mod held;
 mod laws;
 mod leaf;

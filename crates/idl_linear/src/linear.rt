@@ -1,5 +1,5 @@
 //! Linear terms.
-ghost use Rattle.std.specs.Prelude.{◌≡◌, ◌<◌, ◌≤◌, true, map, IfOk};
+ghost use Rattle.std.specs.Prelude.{◌≡◌, ◌<◌, ◌≤◌, ◌∷◌, [], true, map, IfOk, IfSome, IsTrue};
 ghost use Rattle.idl_linear.specs.Limits.{points_limit, coefficient_limit, constant_limit};
 ghost use Rattle.idl_linear.specs.Linear.{number_alone, point_alone, negative_summand, is_within};
 ghost use Rattle.idl_linear.specs.code.Held.{held_summands};
@@ -114,6 +114,28 @@ impl Linear {
     {
         let branches = self.summands.branches(alloc, is_negated)?;
         Ok(branches)
+    }
+
+    /// Its summand, where it is held as the only one.
+    pub(crate) fn only_summand(&self) -> Option<Summand>
+        ensures only { IfSome result (λ s. self.now.summands ≡ s ∷ []) }
+        ensures linear { IsLinear self.now }
+    {
+        match &self.summands {
+            Held::One(summand) => Some(*summand),
+            _ => None,
+        }
+    }
+
+    /// Whether it is held as a number without summands.
+    pub(crate) fn is_number(&self) -> bool
+        ensures none { IsTrue result → self.now.summands ≡ [] }
+        ensures linear { IsLinear self.now }
+    {
+        match &self.summands {
+            Held::Many(summands) => summands.is_empty(),
+            _ => false,
+        }
     }
 
     /// How many summands there are, as far as is known.

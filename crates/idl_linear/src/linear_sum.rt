@@ -191,7 +191,7 @@ impl LinearSum {
 }
 
 /// The number, or its negative.
-fn signed_constant(number: i64, is_negated: bool) -> i128
+pub(crate) fn signed_constant(number: i64, is_negated: bool) -> i128
     ensures { result ≡ (if is_negated then neg_ℤ number else number) }
 {
     let number = i128::from(number);

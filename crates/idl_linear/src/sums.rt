@@ -4,6 +4,7 @@ ghost use Rattle.idl_linear.specs.Linear.{sum_of, negative_of, is_limited};
 ghost use Rattle.idl_linear.specs.code.Steps.{Refuses};
 
 use crate::error::LinearError;
+use crate::few::sum_of_few;
 use crate::linear::Linear;
 use crate::linear_sum::LinearSum;
 use std::alloc::Global;
@@ -38,6 +39,9 @@ pub fn sum_less(alloc: Global, terms: &[&Linear], taken: &[&Linear]) -> Result<L
     ensures limited { IfOk result (λ _. is_limited (sum_of (map (λ l. l.now) terms.now ++ map negative_of (map (λ l. l.now) taken.now))) ≡ true) }
     ensures refused { IfErr result (λ why. Refuses why (is_limited (sum_of (map (λ l. l.now) terms.now ++ map negative_of (map (λ l. l.now) taken.now))))) }
 {
+    if let Some(sum) = sum_of_few(alloc, terms, taken) {
+        return Ok(sum);
+    }
     let first = largest(terms);
     let second = largest(taken);
     if first.count >= second.count && !terms.is_empty() {

@@ -191,12 +191,13 @@ value_lowers now nodes start target frames values rest v is opened made none_ope
     sym is.same ∙ ap (λ (fs : List Frame). finished now.table now.inner fs nodes now.values) open_none ∙ last_value nodes now.values (shown_terms rest) (shown_term v) one shown
 
 -- a refusal says nothing of the table that is left
-refused_anyway : (made : Result Made TermRefusal) (now later : List NodeValue) (e : TermError) → Lowers now made (Err e) → Lowers later made (Err e)
+pub refused_anyway : (made : Result Made TermRefusal) (now later : List NodeValue) (e : TermError) → Lowers now made (Err e) → Lowers later made (Err e)
 refused_anyway made now later (Refused why) h = h
 refused_anyway made now later OutOfMemory h = tt
 
-pub lowers_as : (table : Table) (id : ℕ) (x : Sexpr) (start : Walk) (scope : Scope) (nodes now later : List NodeValue) (e : TermError) → Means table id x → start ≡ record { table = table; inner = record { outer = scope; variables = [] }; frames = []; values = [] }
-    → Lowers now (lowered (scope_at start) nodes (tree_of start.table id)) (Err e) → Lowers later (lowered scope nodes x) (Err e)
-lowers_as table id x start scope nodes now later e m is h =
-    let here : Lowers now (lowered scope nodes (tree_of table id)) (Err e) = subst (λ (w : Walk). Lowers now (lowered (scope_at w) nodes (tree_of w.table id)) (Err e)) is h in
-    refused_anyway (lowered scope nodes x) now later e (subst (λ (y : Sexpr). Lowers now (lowered scope nodes y) (Err e)) (tree_is table id x m) here)
+-- the whole run from the start
+pub lowers_started : (table : Table) (id : ℕ) (start : Walk) (scope : Scope) (before nodes now : List NodeValue) (r : Result Lowered TermError) → start ≡ record { table = table; inner = record { outer = scope; variables = [] }; frames = []; values = [] } → nodes ≡ before
+    → Lowers now (lowered (scope_at start) nodes (tree_of start.table id)) r → Lowers now (lowered scope before (tree_of table id)) r
+lowers_started table id start scope before nodes now r is same h =
+    let here : Lowers now (lowered scope nodes (tree_of table id)) r = subst (λ (w : Walk). Lowers now (lowered (scope_at w) nodes (tree_of w.table id)) r) is h in
+    subst (λ (ns : List NodeValue). Lowers now (lowered scope ns (tree_of table id)) r) same here

@@ -21,6 +21,7 @@ pub mod Leaves
 pub mod Looking
 pub mod TreesOfIds
 pub mod FirstRefusals
+pub mod FlatTerms
 pub mod MachineSteps
 pub mod LetSteps
 pub mod FrameSteps

@@ -22,12 +22,12 @@ unfolding lowered_list
 nothing_refused w nodes items e = rw e refl
 
 -- what is made where the head is known
-abbrev headed : Scope → List NodeValue → Items → Head → Result Made TermRefusal
+abbrev pub headed : Scope → List NodeValue → Items → Head → Result Made TermRefusal
 headed scope nodes arguments (operator o) = application_made o scope nodes arguments
 headed scope nodes arguments binder = let_made scope nodes arguments
 headed scope nodes arguments (refused why) = Err why
 
-by_head : (scope : Scope) (nodes : List NodeValue) (x : Sexpr) (arguments : Items) → lowered_list scope nodes (more x arguments) ≡ headed scope nodes arguments (head_of scope x)
+pub by_head : (scope : Scope) (nodes : List NodeValue) (x : Sexpr) (arguments : Items) → lowered_list scope nodes (more x arguments) ≡ headed scope nodes arguments (head_of scope x)
 unfolding lowered_list
 by_head scope nodes x arguments = refl
 
@@ -53,11 +53,11 @@ opened_by_let w new nodes items head others r e h s =
 
 -- ---- a term of an id
 
-lowered_of_leaf : (scope : Scope) (nodes : List NodeValue) (x : Sexpr) (kind : TokenKind) (text : List ℕ) → x ≡ leaf kind text → lowered scope nodes x ≡ lowered_leaf scope nodes kind text
+pub lowered_of_leaf : (scope : Scope) (nodes : List NodeValue) (x : Sexpr) (kind : TokenKind) (text : List ℕ) → x ≡ leaf kind text → lowered scope nodes x ≡ lowered_leaf scope nodes kind text
 unfolding lowered
 lowered_of_leaf scope nodes x kind text e = rw e refl
 
-lowered_of_list : (scope : Scope) (nodes : List NodeValue) (x : Sexpr) (items : Items) → x ≡ list items → lowered scope nodes x ≡ lowered_list scope nodes items
+pub lowered_of_list : (scope : Scope) (nodes : List NodeValue) (x : Sexpr) (items : Items) → x ≡ list items → lowered scope nodes x ≡ lowered_list scope nodes items
 unfolding lowered
 lowered_of_list scope nodes x items e = rw e refl
 

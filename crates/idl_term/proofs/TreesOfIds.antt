@@ -109,3 +109,10 @@ two_trees t [] e = absurd (omega (arith, e))
 two_trees t (a ∷ []) e = absurd (omega (arith, e))
 two_trees t (a ∷ b ∷ []) e = refl
 two_trees t (a ∷ b ∷ c ∷ ids) e = absurd (omega (arith, e))
+
+pub three_trees : (t : Table) (ids : List ℕ) → length ids ≡ 3 → trees_of t ids ≡ more (tree_of t (get_or ids 0 0)) (more (tree_of t (get_or ids 1 0)) (more (tree_of t (get_or ids 2 0)) none))
+three_trees t [] e = absurd (omega (arith, e))
+three_trees t (a ∷ []) e = absurd (omega (arith, e))
+three_trees t (a ∷ b ∷ []) e = absurd (omega (arith, e))
+three_trees t (a ∷ b ∷ c ∷ []) e = refl
+three_trees t (a ∷ b ∷ c ∷ d ∷ ids) e = absurd (omega (arith, e))

@@ -133,3 +133,22 @@ pub fn lower_token(alloc: Global, kind: TokenKind, text: &[u8]) -> Result<Lowere
         _ => Err(TermError::Refused(TermRefusal::IllFormedTerm)),
     }
 }
+
+/// A term of one token. After an error the table may be longer.
+pub(crate) fn lower_leaf(
+    alloc: Global,
+    kind: TokenKind,
+    text: &[u8],
+    locals: &Locals,
+    nodes: &mut Nodes,
+) -> Result<Lowered, TermError>
+    requires leaf { IsLeaf kind text.now }
+    requires few { length locals.now.outer.declared ≤ names_limit }
+    ensures makes { Lowers nodes.new (lowered_leaf (scope_in locals.now) nodes.old kind text.now) result }
+    ensures front { take (length nodes.old) nodes.new ≡ nodes.old }
+{
+    match kind {
+        TokenKind::Symbol => lower_symbol(text, locals.find(text), nodes),
+        _ => lower_token(alloc, kind, text),
+    }
+}

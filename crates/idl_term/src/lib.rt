@@ -10,6 +10,7 @@ mod error;
 mod evaluation;
 mod examples;
 mod few_terms;
+mod flat;
 mod head;
 mod laws;
 mod leaf;

@@ -5,13 +5,36 @@ ghost use Rattle.smt_sexpr.specs.Tree.{Sexpr};
 ghost use Rattle.idl_scope.specs.Limits.{names_limit};
 ghost use Rattle.idl_term.specs.Lowered.{lowered};
 ghost use Rattle.idl_term.specs.code.Shapes.{Lowers};
+ghost use Rattle.idl_term.specs.code.Trees.{tree_of, IsTree};
 
 use crate::error::TermError;
+use crate::flat::lower_flat;
 use crate::machine::Machine;
 use idl_node::Nodes;
-use idl_scope::{Lowered, Scope};
+use idl_scope::{Locals, Lowered, Scope};
 use smt_sexpr::{SexprId, Sexprs};
 use std::alloc::Global;
+
+/// A term, by the machine where it has many parts. After an error the table may be longer.
+fn lower_term<'a>(
+    alloc: Global,
+    sexprs: &Sexprs<'a>,
+    id: SexprId,
+    scope: &Scope<'a>,
+    nodes: &mut Nodes,
+) -> Result<Lowered, TermError>
+    requires tree { IsTree sexprs.now id }
+    requires few { length scope.now.declared ≤ names_limit }
+    ensures makes { Lowers nodes.new (lowered scope.now nodes.old (tree_of sexprs.now id)) result }
+    ensures front { take (length nodes.old) nodes.new ≡ nodes.old }
+{
+    let locals = Locals::new(alloc, scope);
+    if let Some(made) = lower_flat(alloc, sexprs, id, &locals, nodes)? {
+        return Ok(made);
+    }
+    let mut machine = Machine::new(alloc, sexprs, scope);
+    machine.run(id, nodes)
+}
 
 /// What a term is made into in a scope; its nodes go into the table.
 ///
@@ -32,8 +55,7 @@ pub fn lower<'a>(
     ensures err { OnErr result (nodes.new ≡ nodes.old) }
 {
     let before = nodes.len();
-    let mut machine = Machine::new(alloc, sexprs, scope);
-    match machine.run(id, nodes) {
+    match lower_term(alloc, sexprs, id, scope, nodes) {
         Ok(lowered) => Ok(lowered),
         Err(error) => {
             nodes.cut(before);

@@ -16,7 +16,7 @@ use crate::applied::apply;
 use crate::binding::let_parts;
 use crate::error::{TermError, TermRefusal};
 use crate::head::{Head, head_of};
-use crate::leaf::{lower_names, lower_symbol, lower_token};
+use crate::leaf::{lower_leaf, lower_names};
 use crate::operator::Operator;
 use idl_node::Nodes;
 use idl_scope::{Locals, Lowered, Scope};
@@ -121,10 +121,7 @@ impl<'s, 'a> Machine<'s, 'a> {
             (weight self.old.table self.old.frames + 1) self.old self.new nodes.new result }
         ensures front { take (length nodes.old) nodes.new ≡ nodes.old }
     {
-        let value = match kind {
-            TokenKind::Symbol => lower_symbol(text, self.locals.find(text), nodes)?,
-            _ => lower_token(self.alloc, kind, text)?,
-        };
+        let value = lower_leaf(self.alloc, kind, text, &self.locals, nodes)?;
         self.values.push(value)?;
         Ok(())
     }

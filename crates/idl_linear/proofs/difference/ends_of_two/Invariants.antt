@@ -2,7 +2,7 @@ use Rattle.std.proofs.Common.{◌≡◌, ◌<◌, ◌+◌, Some, length}
 use Rattle.idl_linear.specs.Limits.{points_limit}
 use Rattle.idl_linear.specs.Differences.{ends_of}
 use Rattle.idl_linear.specs.code.Steps.{IsRest, less, ends_through}
-use Rattle.idl_linear.proofs.difference.compare.Given as goal
+use Rattle.idl_linear.proofs.difference.ends_of_two.Given as goal
 
 abbrev pub invariant-loop-summand : goal.invariant-loop-summand
 invariant-loop-summand l = record {
