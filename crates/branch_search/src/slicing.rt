@@ -128,9 +128,15 @@ fn divide_cube<E: Earlier, N: Net>(
     Ok(slice)
 }
 
+// How many decisions a slice may make that carries a plan through: so many that it is carried through.
+const IN_PLAN: u64 = 1 << 40;
+
 // How many decisions a slice may make. A decision that adds nothing to the net is cheap, and a script of many
 // formulas wants as many as it has names, so that there are far more of them than adds.
-fn decisions_of(budget: u64) -> u64 {
+fn decisions_of(budget: u64, has_plan: bool) -> u64 {
+    if has_plan {
+        return IN_PLAN;
+    }
     budget.saturating_mul(100).saturating_add(100_000)
 }
 
@@ -150,11 +156,11 @@ fn run<E: Earlier, N: Net>(
     ensures spent { IfOk result (HasSpent (N.adds_of net.old) budget (N.adds_of net.new)) }
 {
     let target = net.adds().saturating_add(budget);
+    state.renew(alloc, task)?;
     let rest = Rest {
-        decisions: decisions_of(budget),
+        decisions: decisions_of(budget, state.guide.has_plan()),
         target,
     };
-    state.renew(alloc, task)?;
     match state.begin(alloc, task, net, rest)? {
         Found::Model(schedule) => {
             let division = Division::Model(schedule);

@@ -184,6 +184,9 @@ impl State {
             }
         }
         self.seen = count;
+        if self.guide.plan_under(task.problem(), task.cube())? {
+            self.distances = Distances::new(alloc, &self.guide, task.problem().points)?;
+        }
         Ok(())
     }
 

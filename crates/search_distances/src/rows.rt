@@ -27,7 +27,7 @@ impl Drop for Rows {
 pub fn literal_of(guide: &Guide, number: usize) -> Option<(LiteralNumber, Literal)> {
     let number = LiteralNumber::try_from(number).ok()?;
     let literal = guide.literal(number)?;
-    if guide.is_pure(number) || literal.x == literal.y {
+    if guide.is_pure(number) || guide.is_idle(number) || literal.x == literal.y {
         None
     } else {
         Some((number, literal))

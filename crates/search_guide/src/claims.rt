@@ -7,7 +7,7 @@ use std::alloc::{AllocError, Global};
 /// There is a plan for at most so many operations, of at most so many claims.
 pub const MOST_OPERATIONS: usize = 16;
 
-const MOST_CLAIMS: usize = 12_000;
+const MOST_CLAIMS: usize = 25_000;
 
 /// The claim of fewer operations follows without a plan.
 const LEAST_SET: u32 = 3;
@@ -16,14 +16,69 @@ const LEAST_SET: u32 = 3;
 const UNWANTED: i64 = i64::MIN;
 
 /// One of the operations ends later than the time.
-#[derive(Clone, Copy)]
+#[derive(Clone, Copy, PartialEq, Eq, PartialOrd, Ord)]
 pub struct Claim {
+    pub time: i64,
     /// a bit for each operation
     pub set: u32,
-    pub time: i64,
     /// the same of the set without the operation that can start latest: one of these ends later than it starts
     pub without_set: u32,
     pub without_time: i64,
+}
+
+/// The claims that a plan learns, those at earlier times first: a claim rests on claims at earlier times.
+pub struct Claims {
+    list: Vec<Claim>,
+    /// for each set the time of its claim, and the set whose claim is learned in its place
+    times: Vec<i64>,
+    instead: Vec<u32>,
+}
+
+impl Drop for Claims {
+    fn drop(self) {
+        let Claims {
+            list,
+            times,
+            instead,
+        } = self;
+        drop(list);
+        drop(times);
+        drop(instead);
+    }
+}
+
+impl Claims {
+    pub fn none(alloc: Global) -> Self {
+        Claims {
+            list: Vec::new(alloc),
+            times: Vec::new(alloc),
+            instead: Vec::new(alloc),
+        }
+    }
+
+    pub fn as_slice(&self) -> &[Claim] {
+        &self.list
+    }
+
+    /// Which set's claim at which time stands for the set without the operation.
+    pub fn below(&self, set: u32, place: usize) -> (u32, i64) {
+        let smaller = learned(&self.instead, set & !only(place));
+        let time = self.times.get(smaller as usize).copied();
+        (smaller, time.unwrap_or(UNWANTED))
+    }
+}
+
+/// The set whose claim is learned in place of this one's.
+fn learned(instead: &[u32], set: u32) -> u32 {
+    let mut learned = set;
+    for _turn in 0..MOST_OPERATIONS {
+        let next = instead.get(learned as usize).copied().unwrap_or(0);
+        if next == learned {
+            return learned;
+        }
+        learned = next;
+    }
+    0
 }
 
 /// Whether the set has the operation.
@@ -152,19 +207,6 @@ impl<'a> Wanted<'a> {
         count
     }
 
-    /// The set whose claim is learned in place of this one's.
-    fn learned(&self, set: u32) -> u32 {
-        let mut learned = set;
-        for _turn in 0..MOST_OPERATIONS {
-            let next = self.instead.get(learned as usize).copied().unwrap_or(0);
-            if next == learned {
-                return learned;
-            }
-            learned = next;
-        }
-        0
-    }
-
     /// The claim of a set.
     fn claim(&self, set: u32) -> Claim {
         let time = self.time(set);
@@ -177,7 +219,7 @@ impl<'a> Wanted<'a> {
                 last = place;
             }
         }
-        let without_set = self.learned(set & !only(last));
+        let without_set = learned(&self.instead, set & !only(last));
         Claim {
             set,
             time,
@@ -188,8 +230,8 @@ impl<'a> Wanted<'a> {
 }
 
 /// The claims that are to be learned; none where they are too many.
-pub fn claims_of(alloc: Global, operations: &[Operation]) -> Result<Vec<Claim>, AllocError> {
-    let mut claims = Vec::new(alloc);
+pub fn claims_of(alloc: Global, operations: &[Operation]) -> Result<Claims, AllocError> {
+    let mut list = Vec::new(alloc);
     let count = operations.len().min(MOST_OPERATIONS);
     let sets = 1u32 << count;
     let mut wanted = Wanted {
@@ -203,13 +245,23 @@ pub fn claims_of(alloc: Global, operations: &[Operation]) -> Result<Vec<Claim>, 
     }
     wanted.want(sets - 1, time);
     if wanted.look() > MOST_CLAIMS {
-        return Ok(claims);
+        return Ok(Claims::none(alloc));
     }
     for set in 1..sets {
         let is_wanted = wanted.time(set) > UNWANTED && set.count_ones() >= LEAST_SET;
         if is_wanted && wanted.instead.get(set as usize).copied() == Some(set) {
-            claims.push(wanted.claim(set))?;
+            list.push(wanted.claim(set))?;
         }
     }
-    Ok(claims)
+    list.sort_unstable();
+    let Wanted {
+        operations: _,
+        times,
+        instead,
+    } = wanted;
+    Ok(Claims {
+        list,
+        times,
+        instead,
+    })
 }

@@ -26,12 +26,12 @@ const TARGET_CONFLICTS: u64 = 1_000;
 /// (`add_lemma`) and what took part in conflicts (`bump`, `bump_clause`, `decay`, `after_conflict`), and
 /// answers what to look at. What it was told wrongly makes its hints worse, and nothing else.
 pub struct Guide {
-    alloc: Global,
+    pub(crate) alloc: Global,
     policy: Policy,
     pub(crate) numbers: Numbers,
     pub(crate) clauses: Clauses,
     pub(crate) assignment: Assignment,
-    ladders: Ladders,
+    pub(crate) ladders: Ladders,
     pub(crate) watches: Watches,
     pub(crate) activities: Activities,
     pub(crate) phases: Phases,
@@ -120,12 +120,13 @@ impl Guide {
         } else {
             HallSet::none(alloc)
         };
+        let mut ladders = Ladders::start(alloc, numbers.atoms())?;
         let load_set = if policy.new_literals && !hall_set.is_under_way() {
-            LoadSet::find(alloc, problem, &mut numbers)?
+            LoadSet::find(alloc, problem, None, &mut numbers)?
         } else {
             LoadSet::none(alloc)
         };
-        let ladders = Ladders::start(alloc, numbers.atoms())?;
+        ladders.make_room(numbers.len())?;
         let phases = Phases::start(alloc, problem.points, numbers.atoms(), policy.pure_apart)?;
         let restarts = Restarts::new(numbers.len());
         let mut guide = Guide {
@@ -167,7 +168,7 @@ impl Guide {
     }
 
     /// Room for one more atom in the tables that begin empty.
-    fn push_atom(&mut self) -> Result<(), AllocError> {
+    pub(crate) fn push_atom(&mut self) -> Result<(), AllocError> {
         self.assignment.push()?;
         self.watches.push()?;
         self.activities.push()?;
@@ -195,7 +196,8 @@ impl Guide {
         if self.numbers.len() > before {
             self.push_atom()?;
             self.phases.push()?;
-            self.ladders.add(self.numbers.atoms(), number & !1)?;
+            self.ladders.make_room(self.numbers.len())?;
+            self.ladders.enter(self.numbers.atoms(), number & !1)?;
         }
         Ok(number)
     }
@@ -326,7 +328,7 @@ impl Guide {
     /// From here on `next` answers what follows from this literal of the trail.
     pub fn begin(&mut self, number: LiteralNumber) {
         let weaker = if self.policy.ladders {
-            self.ladders.weaker(number)
+            self.ladders.weaker(self.numbers.atoms(), number)
         } else {
             None
         };
@@ -366,7 +368,7 @@ impl Guide {
         }
         for _turn in 0..self.literals() {
             let number = self.activities.top()?.wrapping_mul(2);
-            if self.assignment.truth(number) == Truth::Open {
+            if self.assignment.truth(number) == Truth::Open && !self.is_idle(number) {
                 let atom = self.numbers.literal(number)?;
                 let side = self.phases.side(number, atom, values);
                 return Some(if side { number } else { negated(number) });
@@ -495,7 +497,7 @@ impl Guide {
             return self.hall_set.wants_root(&self.assignment);
         }
         if self.load_set.is_under_way() {
-            return self.load_set.wants_root(&self.numbers, &self.assignment);
+            return self.load_set.wants_root(&self.assignment);
         }
         self.policy.restarts && self.restarts.is_due()
     }

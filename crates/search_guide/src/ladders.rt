@@ -4,7 +4,7 @@
 //! is one literal. Without ladders the same takes one cycle of two literals through the net for each, and a
 //! search with wide clauses over one pair doesn't end in useful time (1.46 times as long over all that was
 //! measured).
-use crate::numbers::{LiteralNumber, negated};
+use crate::numbers::{LiteralNumber, atom_of, is_atom, negated};
 use std::alloc::{AllocError, Global};
 use std::collections::HashMap;
 use stn_core::Literal;
@@ -24,17 +24,27 @@ struct Rung {
     number: LiteralNumber,
 }
 
+/// What follows from a literal on its ladder.
+#[derive(Clone, Copy, PartialEq, Eq)]
+enum Step {
+    /// The literal doesn't stand on the ladder.
+    Apart,
+    /// Nothing: it is the weakest.
+    Last,
+    Weaker(LiteralNumber),
+}
+
 pub struct Ladders {
     /// for each literal the next weaker bound on its pair
-    weaker: Vec<Option<LiteralNumber>>,
-    /// for each pair the atom with the least bound
+    steps: Vec<Step>,
+    /// for each pair the atom with the least bound that stands on its ladder
     strongest: HashMap<Pair, LiteralNumber>,
 }
 
 impl Drop for Ladders {
     fn drop(self) {
-        let Ladders { weaker, strongest } = self;
-        drop(weaker);
+        let Ladders { steps, strongest } = self;
+        drop(steps);
         drop(strongest);
     }
 }
@@ -66,15 +76,14 @@ impl Ladders {
     /// The ladders of the atoms, which are numbered 0, 2, 4, ..
     pub fn start(alloc: Global, atoms: &[Literal]) -> Result<Self, AllocError> {
         let mut ladders = Ladders {
-            weaker: Vec::new(alloc),
+            steps: Vec::new(alloc),
             strongest: HashMap::new(alloc),
         };
-        for _atom in atoms {
-            ladders.push()?;
-        }
+        ladders.make_room(atoms.len())?;
         let rungs = sorted(alloc, atoms)?;
         let mut last: Option<Rung> = None;
         for rung in &rungs {
+            ladders.link(rung.number, None);
             match last {
                 Some(below) if below.x == rung.x && below.y == rung.y => {
                     ladders.link(below.number, Some(rung.number));
@@ -84,6 +93,7 @@ impl Ladders {
                         x: rung.x,
                         y: rung.y,
                     };
+                    ladders.put(negated(rung.number), None);
                     ladders.strongest.insert(pair, rung.number)?;
                 }
             }
@@ -92,16 +102,32 @@ impl Ladders {
         Ok(ladders)
     }
 
-    /// Room for one more atom.
-    fn push(&mut self) -> Result<(), AllocError> {
-        self.weaker.push(None)?;
-        self.weaker.push(None)?;
+    /// Room for so many atoms: those that are new stand on no ladder.
+    pub fn make_room(&mut self, atoms: usize) -> Result<(), AllocError> {
+        for _literal in self.steps.len()..atoms.saturating_mul(2) {
+            self.steps.push(Step::Apart)?;
+        }
         Ok(())
     }
 
+    fn step(&self, number: LiteralNumber) -> Step {
+        match self.steps.get(number as usize) {
+            Some(step) => *step,
+            None => Step::Apart,
+        }
+    }
+
+    /// Whether the literal stands on no ladder.
+    pub fn is_apart(&self, number: LiteralNumber) -> bool {
+        self.step(number) == Step::Apart
+    }
+
     fn put(&mut self, number: LiteralNumber, weaker: Option<LiteralNumber>) {
-        if let Some(slot) = self.weaker.get_mut(number as usize) {
-            *slot = weaker;
+        if let Some(slot) = self.steps.get_mut(number as usize) {
+            *slot = match weaker {
+                Some(weaker) => Step::Weaker(weaker),
+                None => Step::Last,
+            };
         }
     }
 
@@ -113,47 +139,97 @@ impl Ladders {
         }
     }
 
-    /// The next weaker bound on the literal's pair.
-    pub fn weaker(&self, number: LiteralNumber) -> Option<LiteralNumber> {
-        match self.weaker.get(number as usize) {
-            Some(weaker) => *weaker,
-            None => None,
+    /// The next weaker bound on the ladder behind one that stands there.
+    pub fn behind(&self, number: LiteralNumber) -> Option<LiteralNumber> {
+        match self.step(number) {
+            Step::Weaker(weaker) => Some(weaker),
+            Step::Last | Step::Apart => None,
         }
     }
 
-    /// One more atom, the last of `atoms`, with this number. It goes up its ladder from the strongest bound.
-    pub fn add(&mut self, atoms: &[Literal], number: LiteralNumber) -> Result<(), AllocError> {
-        let Some(atom) = atoms.last() else {
-            return Ok(());
-        };
-        self.push()?;
-        let pair = pair_of(*atom);
-        let Some(strongest) = self.strongest.get(&pair).copied() else {
-            self.strongest.insert(pair, number)?;
-            return Ok(());
-        };
+    /// The next weaker bound on the ladder of the literal's pair.
+    pub fn weaker(&self, atoms: &[Literal], number: LiteralNumber) -> Option<LiteralNumber> {
+        match self.step(number) {
+            Step::Weaker(weaker) => Some(weaker),
+            Step::Last => None,
+            Step::Apart => self.weaker_than(atoms, number),
+        }
+    }
+
+    /// The same of a literal that doesn't stand there.
+    fn weaker_than(&self, atoms: &[Literal], number: LiteralNumber) -> Option<LiteralNumber> {
+        let atom = atoms.get(atom_of(number))?;
+        let below = self.place_of(atoms, *atom);
+        if !is_atom(number) {
+            return below.map(negated);
+        }
+        match below {
+            Some(below) => self.behind(below),
+            None => self.strongest.get(&pair_of(*atom)).copied(),
+        }
+    }
+
+    /// The last atom on the ladder of the atom's pair that is stronger.
+    fn place_of(&self, atoms: &[Literal], atom: Literal) -> Option<LiteralNumber> {
+        let strongest = self.strongest.get(&pair_of(atom)).copied()?;
         if is_above(atoms, strongest, atom.c) {
-            self.strongest.insert(pair, number)?;
-            self.link(number, Some(strongest));
-            return Ok(());
+            return None;
         }
-        let below = self.last_below(atoms, strongest, atom.c);
-        let above = self.weaker(below);
-        self.link(below, Some(number));
-        self.link(number, above);
-        Ok(())
-    }
-
-    /// The last atom on the ladder from `number` on before the bounds that are greater.
-    fn last_below(&self, atoms: &[Literal], number: LiteralNumber, bound: i64) -> LiteralNumber {
-        let mut below = number;
+        let mut below = strongest;
         for _turn in 0..atoms.len() {
-            match self.weaker(below) {
-                Some(next) if !is_above(atoms, next, bound) => below = next,
-                _ => return below,
+            match self.behind(below) {
+                Some(next) if !is_above(atoms, next, atom.c) => below = next,
+                _ => return Some(below),
             }
         }
-        below
+        Some(below)
+    }
+
+    /// The atom with this number comes onto its ladder: whether it didn't stand there. It goes up from the strongest
+    /// bound.
+    pub fn enter(&mut self, atoms: &[Literal], number: LiteralNumber) -> Result<bool, AllocError> {
+        let Some(atom) = atoms.get(atom_of(number)).copied() else {
+            return Ok(false);
+        };
+        if !self.is_apart(number) {
+            return Ok(false);
+        }
+        let pair = pair_of(atom);
+        match self.place_of(atoms, atom) {
+            Some(below) => {
+                let above = self.behind(below);
+                self.link(below, Some(number));
+                self.link(number, above);
+            }
+            None => {
+                let above = self.strongest.get(&pair).copied();
+                self.strongest.insert(pair, number)?;
+                self.put(negated(number), None);
+                self.link(number, above);
+            }
+        }
+        Ok(true)
+    }
+
+    /// The atom leaves its ladder, if it stands there. The last one stays. The one error is want of memory.
+    pub fn leave(&mut self, atoms: &[Literal], number: LiteralNumber) -> Result<(), AllocError> {
+        let above = self.behind(number);
+        match (self.behind(negated(number)).map(negated), above) {
+            (Some(below), _) => self.link(below, above),
+            (None, Some(above)) => {
+                if let Some(atom) = atoms.get(atom_of(number)) {
+                    self.strongest.insert(pair_of(*atom), above)?;
+                }
+                self.put(negated(above), None);
+            }
+            (None, None) => return Ok(()),
+        }
+        for literal in [number, negated(number)] {
+            if let Some(slot) = self.steps.get_mut(literal as usize) {
+                *slot = Step::Apart;
+            }
+        }
+        Ok(())
     }
 }
 

@@ -131,15 +131,22 @@ impl Windows {
     }
 }
 
-/// Such operations of the problem, few of them if there is a choice.
-pub fn find(alloc: Global, problem: &Problem) -> Result<Option<Overload>, AllocError> {
+/// Such operations of the problem, where this literal is assumed too: few of them if there is a choice.
+pub fn find(
+    alloc: Global,
+    problem: &Problem,
+    assumed: Option<Literal>,
+) -> Result<Option<Overload>, AllocError> {
     let clauses = problem.clauses.as_slice();
     let mut gaps = HashMap::new(alloc);
     let pairs = pairs_of(alloc, clauses, &mut gaps)?;
     if pairs.is_empty() || pairs.len() > MOST_PAIRS {
         return Ok(None);
     }
-    let units = units_of(alloc, clauses)?;
+    let mut units = units_of(alloc, clauses)?;
+    if let Some(literal) = assumed {
+        units.push(literal)?;
+    }
     let origin = origin_of(alloc, problem.points, &units)?;
     let mut windows = Windows::new(alloc, problem.points, origin)?;
     windows.pass_all(&units);

@@ -247,7 +247,7 @@ impl Watches {
         };
         if let Some(weaker) = self.weaker {
             if assignment.truth(weaker) != Truth::True {
-                self.weaker = ladders.weaker(weaker);
+                self.weaker = ladders.behind(weaker);
                 return Ok(Proposal::Weaker(weaker));
             }
             self.weaker = None;

@@ -81,6 +81,19 @@ fn free_pairs(alloc: Global) -> Result<Problem, AllocError> {
     Ok(problem)
 }
 
+/// Four operations of two each on one machine, and the end of them all.
+fn machine(alloc: Global) -> Result<Problem, AllocError> {
+    let mut problem = empty(alloc, 6);
+    for p in 2..6u32 {
+        problem = with_clause(problem, [literal(0, p, 0)].as_slice())?;
+        problem = with_clause(problem, [literal(p, 1, -2)].as_slice())?;
+        for q in 2..p {
+            problem = with_clause(problem, [literal(p, q, -2), literal(q, p, -2)].as_slice())?;
+        }
+    }
+    Ok(problem)
+}
+
 /// Which answer of a slice it is.
 #[derive(Clone, Copy, Debug, PartialEq, Eq)]
 enum Answer {
@@ -130,6 +143,23 @@ fn run_twice(alloc: Global, problem: &Problem) -> Result<(Answer, u64), AllocErr
     Ok((answer_of(&answer), searcher.conflicts()))
 }
 
+/// Two slices of one searcher, each under one literal: which answers.
+fn run_both(
+    alloc: Global,
+    problem: &Problem,
+    one: Literal,
+    other: Literal,
+) -> Result<(Answer, Answer), AllocError> {
+    let mut net = Network::new(alloc, problem.points)?;
+    let mut searcher = Searcher::new(alloc, problem)?;
+    let none: &[Lemma] = &[];
+    let first = clause_of(alloc, problem.points, [one].as_slice())?;
+    let second = clause_of(alloc, problem.points, [other].as_slice())?;
+    let found = searcher.slice(alloc, problem, &none, first.as_slice(), 100, &mut net)?;
+    let then = searcher.slice(alloc, problem, &none, second.as_slice(), 100, &mut net)?;
+    Ok((answer_of(&found), answer_of(&then)))
+}
+
 #[test]
 fn three_orders_in_two_places(rt: HostRuntime) -> Result<(), Fail> {
     let alloc = rt.alloc();
@@ -167,5 +197,15 @@ fn free_pairs_and_decided_ones(rt: HostRuntime) -> Result<(), Fail> {
         (free, some, decided, equal),
         (Answer::Split, Answer::Split, Answer::Model, Answer::Refuted)
     );
+    Ok(())
+}
+
+/// Where the cube leaves a machine less time than its operations take, a slice carries a plan through.
+#[test]
+fn more_work_than_time(rt: HostRuntime) -> Result<(), Fail> {
+    let alloc = rt.alloc();
+    let problem = machine(alloc)?;
+    let answers = run_both(alloc, &problem, literal(1, 0, 7), literal(1, 0, 8))?;
+    assert_eq!(rt; answers, (Answer::Refuted, Answer::Model));
     Ok(())
 }
