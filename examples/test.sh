@@ -353,6 +353,34 @@ held "a bound that is known goes into the script" '
     /define-fun s_[0-5]_[0-5] / { starts++ }
     END { if (starts != 36) exit 1 }' bounded ft06 57
 
+# ---- depth: 4,095 ite in one another, as many as there may be, within 256 KB of stack
+
+# x where it is one of the numbers from 0 on, so many, and else the next one
+nested() {
+    awk -v count="$1" 'BEGIN {
+        for (k = 0; k < count; k++) printf "(ite (= x %d) 0 (+ 1 ", k
+        printf "0"
+        for (k = 0; k < count; k++) printf "))"
+        print ""
+    }'
+}
+
+# deep COUNT COMMANDS: what dtp writes of the commands, in which t is such a term; a script that is refused has status 1
+deep() {
+    { printf "(declare-const x Int) (define-fun t () Int " && nested "$1" && echo ") $2"; } |
+        (ulimit -s 256 && exec "$dtp" solve --workers 1) || [ $? = 1 ]
+}
+held "4,095 ite in one another are decided, and told behind sums, within 256 KB of stack" '
+    { answers = answers $0 ";" }
+    END { exit !(answers == "sat;((t 4000) ((- 5 t) (- 3995)) ((+ t x 1) 8001));") }' \
+    deep 4095 "(assert (= x 4000)) (assert (<= t 4000)) (check-sat) (get-value (t (- 5 t) (+ t x 1)))"
+held "a distinct of them and two others is decided within 256 KB of stack" '$0 != "sat" || NR > 1 { exit 1 }' \
+    deep 4095 "(assert (distinct t 5000 6000)) (check-sat)"
+held "a distinct of three of them is refused within 256 KB of stack" '$0 != "(error \"command 3: too many cases\")" || NR > 1 { exit 1 }' \
+    deep 4095 "(assert (distinct t t t))"
+held "a distinct sees that of 63 cases two are the same, within 256 KB of stack" '$0 != "unsat" || NR > 1 { exit 1 }' \
+    deep 62 "(assert (distinct (+ t x) (+ x 7) (+ t x))) (check-sat)"
+
 status=0
 "$dtp" solve < "$here/kitchen.smt2" >&- || status=$?
 [ "$status" = 4 ] || failed "a closed output ended with status $status, and not with 4 (what bench/native builds ends with 0)"

@@ -40,6 +40,7 @@ STAND_INS = [
     (r"use (bstr::ByteSlice|bstr::ByteVec|itoa::Buffer);", r"use shim::\1;"),
     (r"\bformat!\(in alloc;", "shim::format_in!(in alloc;"),
     (r"\.to_string\(alloc\)", ".to_string_in(alloc)"),
+    (r"\bfirsts\.get\(clause\.as_slice\(\)\)", "firsts.get(&clause.as_slice())"),
     (r"\.(try_)?collect\(", r".\1collect_in("),
     (r"\b(\w+): Drop\b", r"\1"),
     (r" \+ Drop\b", ""),

@@ -564,6 +564,33 @@ pub mod thread {
     pub use std::thread::yield_now;
     pub trait Threads {}
     impl Threads for crate::Host {}
+    /// A thread of a scope.
+    pub struct Builder(std::thread::Builder);
+    impl Builder {
+        pub fn new() -> Self {
+            Builder(std::thread::Builder::new())
+        }
+        pub fn stack_size(self, bytes: usize) -> Self {
+            Builder(self.0.stack_size(bytes))
+        }
+        pub fn spawn_scoped<'s, T: Send + 's, F: FnOnce() -> T + Send + 's>(
+            self,
+            scope: &'s std::thread::Scope<'s, '_>,
+            f: F,
+        ) -> std::io::Result<Joining<'s, T>> {
+            Ok(Joining(self.0.spawn_scoped(scope, f)?))
+        }
+    }
+    pub struct Joining<'s, T>(std::thread::ScopedJoinHandle<'s, T>);
+    impl<T> Joining<'_, T> {
+        pub fn join<R>(self, _: &R) -> T {
+            self.0.join().unwrap()
+        }
+    }
+    pub fn scope_env() {}
+    pub fn scope<'e, R, T, F: for<'s> FnOnce(&'s std::thread::Scope<'s, 'e>) -> T>(_: (), _: &R, f: F) -> T {
+        std::thread::scope(f)
+    }
     /// The items in so many parts, each by a thread of its own.
     pub fn for_each_mut<R, T: Send, F: Fn(usize, &mut T) + Sync>(_: &R, s: &mut [T], threads: usize, f: &F) {
         let length = s.len().div_ceil(threads.max(1)).max(1);

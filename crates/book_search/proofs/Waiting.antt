@@ -113,3 +113,7 @@ waiting_done problem old new w e =
 
 pub done_is : (old new : Ledger) → Records old (Take 0 Done) new → IsDone (state_of new)
 done_is old new r = subst IsDone (sym (state_next old new (Take 0 Done) r.1)) r.0
+
+-- the lemmas that the book opened with stay the same
+pub same_opening : (old taken new : Ledger) (id : ℕ) → taken ≡ with_event old (Take 0 (Cube id)) → IsDelivered taken id new → new.opening ≡ old.opening
+same_opening old taken new id et d = ap (λ (b : Ledger). b.opening) d.2 ∙ ap (λ (b : Ledger). b.opening) et

@@ -13,6 +13,6 @@ mod units;
 pub use base::{decide_units, refute_along};
 pub use finding::Finding;
 pub use pacing::Pacing;
-pub use solve::{finish, solve_one, solve_one_with};
+pub use solve::{finish, search_one, solve_one, solve_one_with};
 pub use solved::{Solved, conclude};
 pub use tools::Tools;

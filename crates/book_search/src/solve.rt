@@ -6,7 +6,8 @@ ghost use Rattle.book_core.specs.Shared.{lemmas_of};
 ghost use Rattle.book_core.specs.Runs.{state_of};
 ghost use Rattle.book_core.specs.Ends.{left_in};
 ghost use Rattle.book_core.specs.Verdicts.{IsRight};
-ghost use Rattle.book_search.specs.code.Deliveries.{IsDelivered, IsWaiting, Advances};
+ghost use Rattle.book_search.specs.Learned.{BeginsWith};
+ghost use Rattle.book_search.specs.code.Deliveries.{IsDelivered, IsEnded, IsWaiting, Advances};
 
 use crate::base::decide_units;
 use crate::pacing::Pacing;
@@ -56,6 +57,7 @@ fn turn(
     requires waiting { IsWaiting problem.now book.old }
     requires points { tools.old ≡ problem.now.points }
     ensures waiting { OnOk result (IsWaiting problem.now book.new) }
+    ensures opening { OnOk result (book.new.opening ≡ book.old.opening) }
     ensures points { tools.new ≡ tools.old }
     ensures advances { IfOk result (Advances book.old book.new) }
 {
@@ -71,18 +73,17 @@ fn turn(
     }
 }
 
-// What is left to do of the book, by these tools.
-fn finish_by(
+// The book with what was left to do, by these tools.
+fn end_by(
     alloc: Global,
     problem: &Problem,
     tools: Tools,
     book: Book,
     budget: u64,
-) -> Result<Solved, AllocError>
+) -> Result<Book, AllocError>
     requires waiting { IsWaiting problem.now book }
     requires points { tools ≡ problem.now.points }
-    ensures right { IfOk result (λ solved. IsRight problem.now solved.verdict) }
-    ensures lemmas { IfOk result (λ solved. IsOpening problem.now (lemmas_of solved.lemmas.items)) }
+    ensures { IfOk result (IsEnded problem.now book.opening) }
 {
     let mut book = book;
     let mut tools = tools;
@@ -98,6 +99,16 @@ fn finish_by(
             pacing.grow(tools.met_conflict());
         }
     }
+    Ok(book)
+}
+
+// What such a book comes to.
+fn conclude_ended(alloc: Global, problem: &Problem, book: Book) -> Result<Solved, AllocError>
+    requires { IsEnded problem.now book.opening book }
+    ensures right { IfOk result (λ solved. IsRight problem.now solved.verdict) }
+    ensures lemmas { IfOk result (λ solved. IsOpening problem.now (lemmas_of solved.lemmas.items)) }
+    ensures first { IfOk result (λ solved. BeginsWith book.opening solved.verdict (lemmas_of solved.lemmas.items)) }
+{
     match conclude(alloc, book)? {
         Ok(solved) => Ok(solved),
         Err(_) => unreachable!(),
@@ -115,9 +126,31 @@ pub fn finish(
     requires { IsWaiting problem.now book }
     ensures right { IfOk result (λ solved. IsRight problem.now solved.verdict) }
     ensures lemmas { IfOk result (λ solved. IsOpening problem.now (lemmas_of solved.lemmas.items)) }
+    ensures first { IfOk result (λ solved. BeginsWith book.opening solved.verdict (lemmas_of solved.lemmas.items)) }
 {
     let tools = Tools::alone(alloc, problem)?;
-    finish_by(alloc, problem, tools, book, budget)
+    let ended = end_by(alloc, problem, tools, book, budget)?;
+    let solved = conclude_ended(alloc, problem, ended)?;
+    Ok(solved)
+}
+
+// The book of the problem, which opens with these lemmas, with all that there is to do.
+fn end_one(
+    alloc: Global,
+    problem: &Problem,
+    opening: Batch,
+    phases: &[Value],
+    budget: u64,
+) -> Result<Book, AllocError>
+    requires seen { opening.seen ≡ 0 }
+    requires opening { IsOpening problem.now opening.lemmas }
+    ensures { IfOk result (IsEnded problem.now opening.lemmas) }
+{
+    let book = Book::new_with(alloc, problem.copy()?, opening)?;
+    let mut tools = Tools::alone(alloc, problem)?;
+    tools.follow(phases);
+    let ended = end_by(alloc, problem, tools, book, budget)?;
+    Ok(ended)
 }
 
 /// Decides the problem by slices of search, one after the other: a cube that isn't decided within the slice's
@@ -131,17 +164,36 @@ pub fn solve_one(alloc: Global, problem: &Problem, budget: u64) -> Result<Verdic
         Some(verdict) => Ok(verdict),
         None => {
             let nothing = Batch::new(0, Vec::new(alloc));
-            let solved = solve_one_with(alloc, problem, nothing, &[], budget)?;
-            Ok(solved.into_verdict())
+            let verdict = search_one(alloc, problem, nothing, &[], budget)?;
+            Ok(verdict)
         }
     }
 }
 
-/// As `solve_one`, by a book that opens with these lemmas. What the clauses of one literal decide by themselves isn't looked
-/// at first: `decide_units` is for who makes the lemmas, before it does.
+/// As `solve_one`, by slices alone, and by a book that opens with these lemmas: what the clauses of one literal decide by
+/// themselves isn't looked at first, since `decide_units` is for who makes the lemmas, before it does.
 ///
 /// Values of the first time points, as those of an earlier schedule, say how literals are decided that never were: a hint,
 /// and there may be none.
+pub fn search_one(
+    alloc: Global,
+    problem: &Problem,
+    opening: Batch,
+    phases: &[Value],
+    budget: u64,
+) -> Result<Verdict, AllocError>
+    requires seen { opening.seen ≡ 0 }
+    requires opening { IsOpening problem.now opening.lemmas }
+    ensures { IfOk result (IsRight problem.now) }
+{
+    let ended = end_one(alloc, problem, opening, phases, budget)?;
+    match ended.into_verdict()? {
+        Ok(verdict) => Ok(verdict),
+        Err(_) => unreachable!(),
+    }
+}
+
+/// As `search_one`, with what was learned beside the verdict.
 pub fn solve_one_with(
     alloc: Global,
     problem: &Problem,
@@ -153,9 +205,9 @@ pub fn solve_one_with(
     requires opening { IsOpening problem.now opening.lemmas }
     ensures right { IfOk result (λ solved. IsRight problem.now solved.verdict) }
     ensures lemmas { IfOk result (λ solved. IsOpening problem.now (lemmas_of solved.lemmas.items)) }
+    ensures first { IfOk result (λ solved. BeginsWith opening.lemmas solved.verdict (lemmas_of solved.lemmas.items)) }
 {
-    let book = Book::new_with(alloc, problem.copy()?, opening)?;
-    let mut tools = Tools::alone(alloc, problem)?;
-    tools.follow(phases);
-    finish_by(alloc, problem, tools, book, budget)
+    let ended = end_one(alloc, problem, opening, phases, budget)?;
+    let solved = conclude_ended(alloc, problem, ended)?;
+    Ok(solved)
 }

@@ -1,9 +1,11 @@
 //! What a book that opened with lemmas comes to.
-ghost use Rattle.std.specs.Prelude.{◌≡◌, IfOk, IfErr};
+ghost use Rattle.std.specs.Prelude.{◌≡◌, IfOk, IfErr, is_some};
 ghost use Rattle.book_core.specs.Books.{IsOpening, IsDone};
 ghost use Rattle.book_core.specs.Runs.{state_of};
 ghost use Rattle.book_core.specs.Shared.{lemmas_of};
 ghost use Rattle.book_core.specs.Verdicts.{IsRight};
+ghost use Rattle.book_search.specs.Learned.{learned_by, BeginsWith};
+ghost use Rattle.book_search.specs.code.Schedules.{brings_schedule, lemmas_where};
 
 use book_core::{Book, Event, Outcome, Verdict};
 use refute_tree::Lemma;
@@ -46,10 +48,30 @@ impl Solved {
     }
 }
 
+// Whether the event is the delivery of a schedule.
+fn brings_schedule(event: &Event) -> bool
+    ensures { result ≡ brings_schedule event.now }
+{
+    match event {
+        Event::Take(_, _) => false,
+        Event::Deliver(_, _, _, outcome) => match outcome {
+            Outcome::Found(_) => true,
+            Outcome::Shut(_) => false,
+            Outcome::Split(_) => false,
+        },
+        Event::Release(_, _) => false,
+    }
+}
+
 // Whether a schedule was found, by the newest deliveries.
-fn has_schedule(book: &Book) -> bool {
-    for event in book.journal().iter().rev() {
-        if let Event::Deliver(_, _, _, Outcome::Found(_)) = event {
+fn has_schedule(book: &Book) -> bool
+    ensures { result ≡ is_some (state_of book.now).found }
+{
+    let events = book.journal();
+    let mut left = events.len();
+    while left > 0 {
+        left -= 1;
+        if brings_schedule(&events[left]) {
             return true;
         }
     }
@@ -69,7 +91,9 @@ fn all_of(alloc: Global, lemmas: &[Arc<Lemma>]) -> Result<Vec<Arc<Lemma>>, Alloc
 
 // Where a schedule was found, the book's lemmas.
 fn learned(alloc: Global, book: &Book) -> Result<Vec<Arc<Lemma>>, AllocError>
-    ensures { IfOk result (λ lemmas. IsOpening book.now.problem (lemmas_of lemmas.items)) }
+    ensures opening { IfOk result (λ lemmas. IsOpening book.now.problem (lemmas_of lemmas.items)) }
+    ensures all { IfOk result (λ lemmas. lemmas_of lemmas.items
+        ≡ lemmas_where (is_some (state_of book.now).found) (state_of book.now).lemmas) }
 {
     book.sound();
     if !has_schedule(book) {
@@ -84,6 +108,8 @@ fn learned(alloc: Global, book: &Book) -> Result<Vec<Arc<Lemma>>, AllocError>
 pub fn conclude(alloc: Global, book: Book) -> Result<Result<Solved, Book>, AllocError>
     ensures right { IfOk result (λ r. IfOk r (λ solved. IsRight book.problem solved.verdict)) }
     ensures lemmas { IfOk result (λ r. IfOk r (λ solved. IsOpening book.problem (lemmas_of solved.lemmas.items))) }
+    ensures all { IfOk result (λ r. IfOk r (λ solved. lemmas_of solved.lemmas.items ≡ learned_by solved.verdict (state_of book).lemmas)) }
+    ensures first { IfOk result (λ r. IfOk r (λ solved. BeginsWith book.opening solved.verdict (lemmas_of solved.lemmas.items))) }
     ensures open { IfOk result (λ r. IfErr r (λ same. (IsDone (state_of book) → ⊥) × (same ≡ book))) }
 {
     let lemmas = learned(alloc, &book)?;

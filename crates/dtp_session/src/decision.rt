@@ -1,9 +1,10 @@
 //! What decides a question.
-ghost use Rattle.std.specs.Prelude.{IfOk};
+ghost use Rattle.std.specs.Prelude.{◌≡◌, ◌≤◌, IfOk};
 ghost use Rattle.smt_sexpr.specs.Tree.{Sexpr};
 ghost use Rattle.smt_script.specs.States.{State as Meaning};
 ghost use Rattle.smt_script.specs.declared.state.Question.TheVariants as asked;
 ghost use Rattle.script_walk.specs.code.Standing.{Stands};
+ghost use Rattle.book_core.specs.Books.{IsOpening};
 ghost use Rattle.book_core.specs.Verdicts.{IsRight};
 ghost use Rattle.dtp_session.specs.code.Forms.{version_wanted};
 ghost use Rattle.dtp_session.specs.code.Decisions.{IsTaken, IsDecision};
@@ -18,12 +19,13 @@ use book_search::{decide_units, refute_along};
 use cert_text::Entry;
 use clause_form::restrict;
 use kept_schedule::KeptSchedule;
+use learned_lemmas::Learned;
 use refute_tree::Batch;
 use smt_script::{Question, State};
 use std::alloc::{AllocError, Global};
 use std::sync::Wait;
 use std::thread::Threads;
-use steal_search::{Gate, solve_one_with, solve_shared_with};
+use steal_search::{Gate, search_one, search_shared};
 use stn_core::{NamedValues, Problem, Value};
 
 /// What decides a question.
@@ -44,13 +46,74 @@ fn phases_of(alloc: Global, kept: &KeptSchedule) -> Result<Vec<Value>, AllocErro
     Ok(phases)
 }
 
-/// Decides the problem: by clauses of one literal along what was noted, where these refute it, by all of these, and else by as many workers as are
-/// asked for; one is the caller itself. They decide literals as these hold on the values that are kept.
+/// What the problem's search opens with: what the problem takes over of an earlier one. Where an entry is to be written there is nothing, since the entry would
+/// have to show each lemma that was taken over.
+fn opening(
+    alloc: Global,
+    problem: &Problem,
+    learned: &Option<Learned>,
+    wanted: Wanted,
+) -> Result<Batch, AllocError>
+    ensures seen { IfOk result (λ batch. batch.seen ≡ 0) }
+    ensures opens { IfOk result (λ batch. IsOpening problem.now batch.lemmas) }
+{
+    match (wanted, learned) {
+        (Wanted::Verdict, Some(learned)) => learned.opening(alloc, problem),
+        _ => Ok(Batch::new(0, Vec::new(alloc))),
+    }
+}
+
+/// Keeps what searches of later problems may take over, where the problem is refuted.
+fn learn(
+    alloc: Global,
+    problem: &Problem,
+    verdict: &Verdict,
+    learned: &mut Option<Learned>,
+    wanted: Wanted,
+) -> Result<(), AllocError>
+    requires { IsRight problem.now verdict.now }
+{
+    if let (Wanted::Verdict, Verdict::Unsat(refutation)) = (wanted, verdict) {
+        if let Some(kept) = Learned::of(alloc, problem, refutation.as_slice())? {
+            *learned = Some(kept);
+        }
+    }
+    Ok(())
+}
+
+/// Decides the problem by as many workers as are asked for; one is the caller itself.
+fn search_from<R: Threads + Wait + Sync, G: Gate>(
+    rt: &R,
+    alloc: Global,
+    problem: &Problem,
+    opening: Batch,
+    phases: &[Value],
+    options: SearchOptions,
+    gate: &G,
+) -> Result<Verdict, AllocError>
+    requires seen { opening.seen ≡ 0 }
+    requires opens { IsOpening problem.now opening.lemmas }
+    ensures { IfOk result (IsRight problem.now) }
+{
+    let slice = u64::from(options.slice);
+    let workers = options.workers;
+    if workers == 1 {
+        let verdict = search_one(alloc, problem, opening, phases, slice)?;
+        return Ok(verdict);
+    }
+    let verdict = search_shared(rt, alloc, problem, opening, phases, workers, slice, gate)?;
+    Ok(verdict)
+}
+
+/// Decides the problem: by clauses of one literal along what was noted, where these refute it, by all of these, and else by a search. It decides literals
+/// as these hold on the values that are kept, and may open with what an earlier one learned.
 fn search<R: Threads + Wait + Sync, G: Gate>(
     rt: &R,
     alloc: Global,
     problem: &Problem,
     kept: &KeptSchedule,
+    learned: &mut Option<Learned>,
+    wanted: Wanted,
     options: SearchOptions,
     gate: &G,
 ) -> Result<Verdict, AllocError>
@@ -62,16 +125,11 @@ fn search<R: Threads + Wait + Sync, G: Gate>(
     if let Some(verdict) = decide_units(alloc, problem)? {
         return Ok(verdict);
     }
-    let slice = u64::from(options.slice);
     let phases = phases_of(alloc, kept)?;
-    let nothing = Batch::new(0, Vec::new(alloc));
-    if options.workers == 1 {
-        let solved = solve_one_with(alloc, problem, nothing, &phases, slice)?;
-        return Ok(solved.into_verdict());
-    }
-    let workers = options.workers;
-    let solved = solve_shared_with(rt, alloc, problem, nothing, &phases, workers, slice, gate)?;
-    Ok(solved.into_verdict())
+    let opening = opening(alloc, problem, learned, wanted)?;
+    let verdict = search_from(rt, alloc, problem, opening, &phases, options, gate)?;
+    learn(alloc, problem, &verdict, learned, wanted)?;
+    Ok(verdict)
 }
 
 /// Decides a check-sat: a schedule that satisfies the assertions, or a refutation of their problem.
@@ -81,6 +139,7 @@ fn satisfy<R: Threads + Wait + Sync, G: Gate>(
     state: &State,
     problem: Problem,
     kept: &KeptSchedule,
+    learned: &mut Option<Learned>,
     wanted: Wanted,
     options: SearchOptions,
     gate: &G,
@@ -96,7 +155,7 @@ fn satisfy<R: Threads + Wait + Sync, G: Gate>(
     stn_core::negation_kept();
     best_values::unbounded_law();
     unsat_cores::core_law();
-    match search(rt, alloc, &problem, kept, options, gate)? {
+    match search(rt, alloc, &problem, kept, learned, wanted, options, gate)? {
         Verdict::Sat(schedule) => {
             let values = restrict(alloc, schedule.as_slice(), state.names().sorts())?;
             let found = Found::shown(Entry::Sat(values));
@@ -111,7 +170,8 @@ fn satisfy<R: Threads + Wait + Sync, G: Gate>(
 
 /// Decides a question over the problem of the assertions. Where no entry is wanted, a refutation stays as the search left it,
 /// and is put in its form when it is written.
-/// What is kept of an earlier question is a hint for a check-sat: for some points another one, along which unit clauses may refute it, and values.
+/// What is kept of an earlier question is a hint for a check-sat: for some points another one, along which unit clauses may refute it, values, and
+/// lemmas.
 /// The time of the search may grow with the number of ways to choose a literal of each clause.
 pub fn decide<R: Threads + Wait + Sync, G: Gate>(
     rt: &R,
@@ -120,6 +180,7 @@ pub fn decide<R: Threads + Wait + Sync, G: Gate>(
     question: Question,
     problem: Problem,
     kept: &KeptSchedule,
+    learned: &mut Option<Learned>,
     wanted: Wanted,
     options: SearchOptions,
     gate: &G,
@@ -129,7 +190,9 @@ pub fn decide<R: Threads + Wait + Sync, G: Gate>(
         → IsDecision (version_wanted wanted) question x s.context decision) }
 {
     match question {
-        Question::CheckSat => satisfy(rt, alloc, state, problem, kept, wanted, options, gate),
+        Question::CheckSat => satisfy(
+            rt, alloc, state, problem, kept, learned, wanted, options, gate,
+        ),
         Question::Minimize(objective) => {
             minimize(rt, alloc, state, objective, problem, wanted, options, gate)
         }

@@ -7,7 +7,8 @@
 //! What is written of a script is the relation `IsReport` of `dtp_entry/specs/Transcripts.antt`, and what a call that fails
 //! has written is the relation `IsReportPart` there. A `check-sat` is answered by a few steps from an earlier schedule (`kept_schedule`), or
 //! decided over the clause form of the assertions: by `book_search::refute_along`, where these steps ended with points that lowered one another in
-//! a ring, and else by one call of `steal_search::solve_one`, or of `solve_shared` where there is more than one worker; a `minimize`
+//! a ring, and else by one call of `steal_search::search_one`, or of `search_shared` where there is more than one worker, which open with what an
+//! earlier search has learned (`learned_lemmas`); a `minimize`
 //! by one call of `best_bound::best_one`, or of `best_shared`.
 #![tactic(auto)]
 

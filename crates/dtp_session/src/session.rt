@@ -30,6 +30,7 @@ use dtp_entry::{Report, SessionError, problem};
 use dtp_io::Sink;
 use idl_term::context_law;
 use kept_schedule::KeptSchedule;
+use learned_lemmas::Learned;
 use script_walk::{Event, Walk, refusal_of};
 use smt_script::{Mode, Question, Satisfiability};
 use std::alloc::{AllocError, Global};
@@ -60,6 +61,8 @@ pub struct Session<'a> {
     pub marks: Vec<bool>,
     /// The schedule of the last question that had one.
     pub kept: KeptSchedule,
+    /// What the search of an earlier question has learned.
+    pub learned: Option<Learned>,
     /// Where the last question had assumptions and was answered `unsat`: for each assertion, and behind the active ones for
     /// each assumption, whether the refutation rests on it.
     pub cited: Vec<bool>,
@@ -93,6 +96,7 @@ impl<'a> Session<'a> {
             last_proof: None,
             marks: Vec::new(alloc),
             kept: KeptSchedule::new(alloc),
+            learned: None,
             cited: Vec::new(alloc),
             text: Vec::new(alloc),
         }
@@ -317,6 +321,7 @@ impl<'a> Session<'a> {
             question,
             problem,
             &self.kept,
+            &mut self.learned,
             wanted,
             self.options,
             gate,

@@ -17,7 +17,7 @@ use Rattle.lemma_shelf.specs.code.Tables.{HasClause}
 abbrev alike : List Literal → List Literal → Bool
 alike ls ms = pointwise same_literal ls ms
 
-alike_forth : (ls ms : List Literal) → alike ls ms ≡ true → ls ≡ ms
+pub alike_forth : (ls ms : List Literal) → alike ls ms ≡ true → ls ≡ ms
 alike_forth [] [] e = refl
 alike_forth [] (m ∷ ms) e = absurd (cc)
 alike_forth (l ∷ ls) [] e = absurd (cc)

@@ -21,3 +21,4 @@ pub mod Written
 pub mod Lowered
 pub mod Pushing
 pub mod Standing
+pub mod ForLemmas

@@ -23,7 +23,7 @@ use Rattle.lemma_shelf.specs.ItemFlaws.{fact_flaw, kept_flaw, flaw_there, item_c
 use Rattle.lemma_shelf.proofs.Tested.{all_clauses_decide}
 
 -- of two, the first and then the other
-both_none : (a b : Option Flaw) → first_of a b ≡ None → (a ≡ None) × (b ≡ None)
+pub both_none : (a b : Option Flaw) → first_of a b ≡ None → (a ≡ None) × (b ≡ None)
 both_none None b e = (refl, e)
 both_none (Some flaw) b e = absurd (cc)
 

@@ -3,3 +3,4 @@ pub mod Tables
 pub mod Walks
 pub mod Additions
 pub mod WrittenOut
+pub mod Citing

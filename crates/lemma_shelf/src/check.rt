@@ -87,8 +87,8 @@ fn is_active<'a>(
     Ok(active)
 }
 
-// The number of the lemma of a kept item that is there and usable.
-fn check_kept<'a>(
+/// The number of the lemma of a kept item that is there and usable.
+pub fn check_kept<'a>(
     alloc: Global,
     table: &Table,
     entries: &[Vec<usize>],

@@ -8,6 +8,7 @@
 mod adding;
 mod book;
 mod check;
+mod citing;
 mod entry;
 mod laws;
 mod lowering;

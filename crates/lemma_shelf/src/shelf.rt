@@ -8,13 +8,14 @@ ghost use Rattle.lemma_shelf.specs.code.WrittenOut.{last_of};
 ghost use Rattle.refute_tree.specs.Trees.{IsRefutation};
 
 use crate::check::check;
+use crate::citing::items_for;
 use crate::entry::add_items;
 use crate::laws::flaw_law;
 use crate::lowering::lowered;
 use crate::table::Table;
 use cert_check::CheckError;
-use kept_lemmas::{Item, usable_law};
-use refute_tree::Refutation;
+use kept_lemmas::{Item, Items, Kept, own_law, usable_law};
+use refute_tree::{Lemma, Refutation};
 use std::alloc::{AllocError, Global};
 use std::marker::Model;
 use stn_core::Problem;
@@ -105,8 +106,36 @@ impl Shelf {
         Ok(())
     }
 
-    // Puts a checked entry on the shelf.
-    fn add_entry(
+    /// The items of the next entry, which refutes the problem by these lemmas: in the place of each lemma that has a place, the item there, where
+    /// it states the same clause and may be used in the problem; else the lemma.
+    ///
+    /// The places are a hint, and there may be fewer of them than lemmas. It takes the time and memory of a copy of the lemmas that stay, and of what
+    /// [`Shelf::check_entry`] takes for those that are kept. The one error is want of memory.
+    pub fn cite(
+        &self,
+        alloc: Global,
+        problem: &Problem,
+        lemmas: &[Lemma],
+        places: &[Option<Kept>],
+    ) -> Result<Items, AllocError>
+        requires { IsRefutation problem.now.points problem.now.clauses lemmas.now }
+        ensures { IfOk result (λ items. AreRight self.now problem.now.points problem.now.clauses items) }
+    {
+        flaw_law();
+        own_law();
+        let items = items_for(
+            alloc,
+            &self.table,
+            self.entries.as_slice(),
+            problem,
+            lemmas,
+            places,
+        )?;
+        Ok(Items::new(items))
+    }
+
+    /// Puts an entry on the shelf whose items are right. The one error is want of memory.
+    pub fn add_entry(
         &mut self,
         alloc: Global,
         problem: &Problem,

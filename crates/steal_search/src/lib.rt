@@ -8,7 +8,7 @@ mod dealing;
 mod shared;
 mod worker;
 
-pub use book_search::{Solved, solve_one, solve_one_with};
-pub use shared::{Worker, solve_shared, solve_shared_over, solve_shared_with};
+pub use book_search::{Solved, search_one, solve_one, solve_one_with};
+pub use shared::{Worker, search_shared, solve_shared, solve_shared_over, solve_shared_with};
 pub use worker::work;
 pub use worker_gates::{Gate, HoldSecond, NoGate};

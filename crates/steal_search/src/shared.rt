@@ -3,6 +3,7 @@ ghost use Rattle.std.specs.Prelude.{◌≡◌, ◌≤◌, ◌<◌, ◌+◌, ◌^
 ghost use Rattle.book_core.specs.Books.{IsOpening};
 ghost use Rattle.book_core.specs.Shared.{lemmas_of};
 ghost use Rattle.book_core.specs.Verdicts.{IsRight};
+ghost use Rattle.book_search.specs.Learned.{BeginsWith};
 ghost use Rattle.book_search.specs.code.Deliveries.{IsWaiting};
 ghost use Rattle.book_lock.specs.Seats.{AllJoined};
 ghost use Rattle.cube_pool.specs.Hands.{AreInOrder};
@@ -293,7 +294,8 @@ fn closed<R: Threads + Wait + Sync, G: Gate>(
     requires workers { (1 ≤ workers) × (workers ≤ 64) }
     requires seen { opening.seen ≡ 0 }
     requires opening { IsOpening problem.now opening.lemmas }
-    ensures { IfOk result (IsWaiting problem.now) }
+    ensures waiting { IfOk result (IsWaiting problem.now) }
+    ensures opening { IfOk result (λ book. book.opening ≡ opening.lemmas) }
 {
     let (desk, mut seat) = Desk::start_with(alloc, problem.copy()?, opening)?;
     let mut pace = Pace::new(alloc, problem, budget, calls)?;
@@ -346,7 +348,7 @@ pub fn solve_shared_over<R: Threads + Wait + Sync, G: Gate>(
         return Ok(verdict);
     }
     let nothing = Batch::new(0, Vec::new(alloc));
-    let solved = solved_by(
+    let verdict = searched_by(
         rt,
         alloc,
         problem,
@@ -357,11 +359,63 @@ pub fn solve_shared_over<R: Threads + Wait + Sync, G: Gate>(
         calls,
         gate,
     )?;
-    Ok(solved.into_verdict())
+    Ok(verdict)
 }
 
-/// As `solve_shared`, by a book that opens with these lemmas, and with values of the first time points that say how the caller's
-/// first slices decide literals: as `book_search::solve_one_with`, which says also what isn't done first.
+/// As `solve_shared`, by slices alone, by a book that opens with these lemmas, and with values of the first time points that say
+/// how the caller's first slices decide literals: as `book_search::search_one`, which says also what isn't done first.
+pub fn search_shared<R: Threads + Wait + Sync, G: Gate>(
+    rt: &R,
+    alloc: Global,
+    problem: &Problem,
+    opening: Batch,
+    phases: &[Value],
+    workers: u32,
+    budget: u64,
+    gate: &G,
+) -> Result<Verdict, AllocError>
+    requires workers { (1 ≤ workers) × (workers ≤ 64) }
+    requires seen { opening.seen ≡ 0 }
+    requires opening { IsOpening problem.now opening.lemmas }
+    ensures { IfOk result (IsRight problem.now) }
+{
+    let calls = Arc::new(alloc, Calls::new())?;
+    let verdict = searched_by(
+        rt, alloc, problem, opening, phases, workers, budget, &calls, gate,
+    )?;
+    Ok(verdict)
+}
+
+// The same, where the workers share these calls.
+fn searched_by<R: Threads + Wait + Sync, G: Gate>(
+    rt: &R,
+    alloc: Global,
+    problem: &Problem,
+    opening: Batch,
+    phases: &[Value],
+    workers: u32,
+    budget: u64,
+    calls: &Arc<Calls>,
+    gate: &G,
+) -> Result<Verdict, AllocError>
+    requires workers { (1 ≤ workers) × (workers ≤ 64) }
+    requires seen { opening.seen ≡ 0 }
+    requires opening { IsOpening problem.now opening.lemmas }
+    ensures { IfOk result (IsRight problem.now) }
+{
+    let book = closed(
+        rt, alloc, problem, opening, phases, workers, budget, calls, gate,
+    )?;
+    match book.into_verdict()? {
+        Ok(verdict) => Ok(verdict),
+        Err(book) => {
+            let solved = finish(alloc, problem, book, budget)?;
+            Ok(solved.into_verdict())
+        }
+    }
+}
+
+/// As `search_shared`, with what was learned beside the verdict: as `book_search::solve_one_with`.
 pub fn solve_shared_with<R: Threads + Wait + Sync, G: Gate>(
     rt: &R,
     alloc: Global,
@@ -377,6 +431,7 @@ pub fn solve_shared_with<R: Threads + Wait + Sync, G: Gate>(
     requires opening { IsOpening problem.now opening.lemmas }
     ensures right { IfOk result (λ solved. IsRight problem.now solved.verdict) }
     ensures lemmas { IfOk result (λ solved. IsOpening problem.now (lemmas_of solved.lemmas.items)) }
+    ensures first { IfOk result (λ solved. BeginsWith opening.lemmas solved.verdict (lemmas_of solved.lemmas.items)) }
 {
     let calls = Arc::new(alloc, Calls::new())?;
     let solved = solved_by(
@@ -402,6 +457,7 @@ fn solved_by<R: Threads + Wait + Sync, G: Gate>(
     requires opening { IsOpening problem.now opening.lemmas }
     ensures right { IfOk result (λ solved. IsRight problem.now solved.verdict) }
     ensures lemmas { IfOk result (λ solved. IsOpening problem.now (lemmas_of solved.lemmas.items)) }
+    ensures first { IfOk result (λ solved. BeginsWith opening.lemmas solved.verdict (lemmas_of solved.lemmas.items)) }
 {
     let book = closed(
         rt, alloc, problem, opening, phases, workers, budget, calls, gate,

@@ -19,6 +19,7 @@
 //! | `fails-anywhere` | nothing: the row is run again with each read and each write failing in turn, over pieces of 1, 7 and 4,096 bytes; nothing may be written then, or a front of the output |
 //! | `cut-anywhere` | nothing: each front of the source that lacks more than a last line feed is to be refused |
 //! | `workers-meet` | nothing: one of two workers is held at its second slice's end until the other ends one; it has to come |
+//! | `stack` | a number: the row is run again, without faults, on a thread with so many bytes of stack |
 //! | `status` | the status that must come, 0 where nothing is said |
 #![tactic(auto)]
 

@@ -44,6 +44,8 @@ pub struct Row {
     pub cut_anywhere: bool,
     /// Two workers are to search at the same time.
     pub workers_meet: bool,
+    /// It is to go on so many bytes of stack too.
+    pub stack: Option<usize>,
     pub output: Vec<u8>,
     pub status: u64,
 }
@@ -63,6 +65,7 @@ impl Row {
             fails_anywhere: false,
             cut_anywhere: false,
             workers_meet: false,
+            stack: None,
             output: Vec::new(alloc),
             status: 0,
         })
@@ -107,6 +110,10 @@ impl Row {
             }
             "workers-meet" => {
                 self.workers_meet = true;
+                Ok(())
+            }
+            "stack" => {
+                self.stack = Some(usize::try_from(number(text)?).map_err(|_| LineError::Refused)?);
                 Ok(())
             }
             "status" => {

@@ -1,6 +1,6 @@
 //! The rows of a table, run one after the other.
 use crate::row::{LineError, Row};
-use crate::tries::{fails_anywhere, is_refused_anywhere, run_row};
+use crate::tries::{fails_anywhere, is_met_on_stack, is_refused_anywhere, run_row};
 use dtp_io::{MemSink, MemSource, Sink, WriteFault, write_all_of};
 use dtp_run::{NoGate, run};
 use std::alloc::{AllocError, Global};
@@ -146,6 +146,11 @@ fn fault_of<R: Threads + Wait + Sync>(
     }
     if row.cut_anywhere && !is_refused_anywhere(rt, alloc, row) {
         return Some(": otherwise for a front of the source\n");
+    }
+    if let Some(bytes) = row.stack {
+        if !is_met_on_stack(rt, alloc, row, bytes) {
+            return Some(": otherwise with little stack\n");
+        }
     }
     None
 }

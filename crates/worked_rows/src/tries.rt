@@ -1,11 +1,12 @@
-//! A row that is run again and again: with each fault in turn, or on each front of its source.
+//! A row that is run again and again: with each fault in turn, on each front of its source, or with little stack.
 use crate::row::Row;
 use dtp_io::{MemSink, MemSource};
 use dtp_run::{Gate, NoGate, run};
 use std::alloc::Global;
 use std::num::NonZeroUsize;
 use std::sync::Wait;
-use std::thread::Threads;
+use std::thread;
+use std::thread::{Builder, Threads};
 
 /// The sizes of the pieces in which a row with faults is read and written.
 const PIECES: [usize; 3] = [1, 7, 4_096];
@@ -170,4 +171,37 @@ pub fn is_refused_anywhere<R: Threads + Wait + Sync>(rt: &R, alloc: Global, row:
         }
     }
     true
+}
+
+/// Whether the row goes as it is written on a thread with so many bytes of stack.
+pub fn is_met_on_stack<R: Threads + Wait + Sync>(
+    rt: &R,
+    alloc: Global,
+    row: &Row,
+    bytes: usize,
+) -> bool {
+    thread::scope(thread::scope_env(), rt, |scope| {
+        match Builder::new()
+            .stack_size(bytes)
+            .spawn_scoped(scope, move || is_met(rt, alloc, row))
+        {
+            Ok(handle) => handle.join(rt),
+            Err(_) => false,
+        }
+    })
+}
+
+/// Whether the row goes as it is written, without faults.
+fn is_met<R: Threads + Wait + Sync>(rt: &R, alloc: Global, row: &Row) -> bool {
+    let run = run_row(
+        rt,
+        alloc,
+        &row.words,
+        &row.source,
+        row.pieces,
+        &[],
+        &[],
+        &NoGate,
+    );
+    row.is_met(run.status, run.written())
 }

@@ -35,3 +35,9 @@ pub record IsWaiting (problem : Problem) (b : Ledger) : Type 0 where
 abbrev pub Advances : Ledger → Ledger → Option Bool → Type 0
 Advances old new None = IsDone (state_of new)
 Advances old new (Some divided) = left_in new < left_in old
+
+-- the book has the problem, opened with these lemmas, and nothing is left to do
+pub record IsEnded (problem : Problem) (opening : List Lemma) (b : Ledger) : Type 0 where
+  pub problem_is : b.problem ≡ problem
+  pub opening_is : b.opening ≡ opening
+  pub done : IsDone (state_of b)

@@ -1,4 +1,6 @@
-use Rattle.book_search.proofs.Waiting.{cube_taken, done_taken, taken_held, same_cube, waiting_on, taken_less, unfound_taken, waiting_done, done_is}
+use Rattle.std.proofs.Common.{ap}
+use Rattle.book_core.specs.Runs.{Ledger}
+use Rattle.book_search.proofs.Waiting.{cube_taken, done_taken, taken_held, same_cube, same_opening, waiting_on, taken_less, unfound_taken, waiting_done, done_is}
 use Rattle.book_search.proofs.solve.turn.Goals as goal
 
 pub work-requires-clause-held : goal.work-requires-clause-held
@@ -35,3 +37,13 @@ pub returns-in-Done-clause-advances : goal.returns-in-Done-clause-advances
 returns-in-Done-clause-advances c =
     let t = done_taken c.args.book.now c.take.new.self c.in_ok-id.field-0 c.in-Done.is c.in_ok-id.ensures.ok in
     done_is c.args.book.now c.take.new.self t
+
+pub returns-in_ok-divided-in-Cube-clause-opening : goal.returns-in_ok-divided-in-Cube-clause-opening
+returns-in_ok-divided-in-Cube-clause-opening c =
+    let t = cube_taken c.args.book.now c.take.new.self c.in_ok-id.field-0 c.in-Cube.id c.in-Cube.cube c.in-Cube.is c.in_ok-id.ensures.ok in
+    same_opening c.args.book.now c.take.new.self c.work.new.book c.in-Cube.id t.0.1 c.in_ok-divided-in-Cube.ensures.delivered
+
+pub returns-in-Done-clause-opening : goal.returns-in-Done-clause-opening
+returns-in-Done-clause-opening c =
+    let t = done_taken c.args.book.now c.take.new.self c.in_ok-id.field-0 c.in-Done.is c.in_ok-id.ensures.ok in
+    ap (λ (b : Ledger). b.opening) t.1

@@ -1,11 +1,12 @@
 use Rattle.std.proofs.Common.{◌≡◌}
 use Rattle.book_core.specs.Ends.{left_in}
 use Rattle.book_search.specs.code.Deliveries.{IsWaiting}
-use Rattle.book_search.proofs.solve.finish_by.Given as goal
+use Rattle.book_search.proofs.solve.end_by.Given as goal
 
 abbrev pub invariant-turns : goal.invariant-turns
 invariant-turns l = record {
   waiting : IsWaiting l.problem l.book;
+  opening : l.book.opening ≡ l.fn.book.opening;
   points : l.tools ≡ l.problem.points;
 }
 

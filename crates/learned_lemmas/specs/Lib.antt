@@ -1,0 +1,1 @@
+-- No definitions: what a search opens with is a word of book_core.

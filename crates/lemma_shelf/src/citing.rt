@@ -1,0 +1,101 @@
+//! Lemmas of a refutation that earlier entries state already.
+ghost use Rattle.std.specs.Prelude.{◌≡◌, length, map, IsTrue, IfOk, IfSome};
+ghost use Rattle.std.specs.List.{AllZip};
+ghost use Rattle.kept_lemmas.specs.declared.item.Item.TheVariants.{Keep};
+ghost use Rattle.lemma_shelf.specs.code.Citing.{StandsFor};
+ghost use Rattle.lemma_shelf.specs.code.Walks.{shelf_in, IsWhole, AreWithin, Knows};
+
+use crate::check::{KeptError, check_kept};
+use crate::table::Table;
+use crate::walk::Walk;
+use kept_lemmas::{Item, Kept};
+use refute_tree::Lemma;
+use std::alloc::{AllocError, Global};
+use stn_core::{Literal, Problem};
+
+// Whether both are the same literals.
+fn are_same(one: &[Literal], other: &[Literal]) -> bool
+    ensures { IsTrue result → one.now ≡ other.now }
+{
+    one == other
+}
+
+// Whether the item at the place states the lemma's clause, and may be used in the problem.
+fn stands<'a>(
+    alloc: Global,
+    table: &Table,
+    entries: &[Vec<usize>],
+    problem: &'a Problem,
+    walk: &mut Option<Walk<'a>>,
+    lemma: &Lemma,
+    place: Kept,
+) -> Result<bool, AllocError>
+    requires table { IsWhole table.now }
+    requires entries { AreWithin table.now (map (λ n. n.items) entries.now) }
+    requires walk { IfSome walk.old (Knows table.now problem.now.clauses) }
+    ensures stands { IfOk result (λ b. IsTrue b → StandsFor (shelf_in table.now (map (λ n. n.items) entries.now))
+        problem.now.points problem.now.clauses lemma.now (Keep place)) }
+    ensures walk { IfOk result (λ _. IfSome walk.new (Knows table.now problem.now.clauses)) }
+{
+    match check_kept(alloc, table, entries, problem, walk, place) {
+        Ok(number) => {
+            let clause = table.lemmas[number].clause.as_slice();
+            Ok(are_same(clause, lemma.clause.as_slice()))
+        }
+        Err(KeptError::Refused(_)) => {
+            *walk = None;
+            Ok(false)
+        }
+        Err(KeptError::OutOfMemory) => Err(AllocError),
+    }
+}
+
+// The item that stands for the lemma: the one at the place, where it does, and else the lemma itself.
+fn item_for<'a>(
+    alloc: Global,
+    table: &Table,
+    entries: &[Vec<usize>],
+    problem: &'a Problem,
+    walk: &mut Option<Walk<'a>>,
+    lemma: &Lemma,
+    place: Option<Kept>,
+) -> Result<Item, AllocError>
+    requires table { IsWhole table.now }
+    requires entries { AreWithin table.now (map (λ n. n.items) entries.now) }
+    requires walk { IfSome walk.old (Knows table.now problem.now.clauses) }
+    ensures stands { IfOk result (λ item. StandsFor (shelf_in table.now (map (λ n. n.items) entries.now))
+        problem.now.points problem.now.clauses lemma.now item) }
+    ensures walk { IfOk result (λ _. IfSome walk.new (Knows table.now problem.now.clauses)) }
+{
+    if let Some(place) = place {
+        if stands(alloc, table, entries, problem, walk, lemma, place)? {
+            return Ok(Item::Keep(place));
+        }
+    }
+    Ok(Item::Own(lemma.copy(alloc)?))
+}
+
+/// For each lemma the item that stands for it: the one at its place, if it has one, where that states the lemma's clause and may be used in
+/// the problem.
+pub fn items_for(
+    alloc: Global,
+    table: &Table,
+    entries: &[Vec<usize>],
+    problem: &Problem,
+    lemmas: &[Lemma],
+    places: &[Option<Kept>],
+) -> Result<Vec<Item>, AllocError>
+    requires table { IsWhole table.now }
+    requires entries { AreWithin table.now (map (λ n. n.items) entries.now) }
+    ensures { IfOk result (λ items. AllZip (StandsFor (shelf_in table.now (map (λ n. n.items) entries.now))
+        problem.now.points problem.now.clauses) lemmas.now items.items) }
+{
+    let mut walk = None;
+    let mut items = Vec::with_capacity(alloc, lemmas.len())?;
+    for (j, lemma) in lemmas.iter().enumerate() {
+        let place = places.get(j).copied().unwrap_or(None);
+        let item = item_for(alloc, table, entries, problem, &mut walk, lemma, place)?;
+        items.push(item)?;
+    }
+    Ok(items)
+}
