@@ -100,18 +100,6 @@ impl Row {
                 self.pieces = NonZeroUsize::new(count).ok_or(LineError::Refused)?;
                 Ok(())
             }
-            "fails-anywhere" => {
-                self.fails_anywhere = true;
-                Ok(())
-            }
-            "cut-anywhere" => {
-                self.cut_anywhere = true;
-                Ok(())
-            }
-            "workers-meet" => {
-                self.workers_meet = true;
-                Ok(())
-            }
             "stack" => {
                 self.stack = Some(usize::try_from(number(text)?).map_err(|_| LineError::Refused)?);
                 Ok(())
@@ -120,8 +108,20 @@ impl Row {
                 self.status = number(text)?;
                 Ok(())
             }
+            _ if self.take_word(key) => Ok(()),
             _ => self.take_text(alloc, key, text),
         }
+    }
+
+    /// Takes a key that says all by itself, if it is one.
+    fn take_word(&mut self, key: &str) -> bool {
+        match key {
+            "fails-anywhere" => self.fails_anywhere = true,
+            "cut-anywhere" => self.cut_anywhere = true,
+            "workers-meet" => self.workers_meet = true,
+            _ => return false,
+        }
+        true
     }
 
     /// Whether a run that wrote these bytes and ended with this status went as it is written.
