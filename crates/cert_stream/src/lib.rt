@@ -6,4 +6,4 @@
 
 mod stream;
 
-pub use stream::write_entry;
+pub use stream::{write_entry, write_shown};

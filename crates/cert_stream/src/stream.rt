@@ -3,9 +3,10 @@
 
 ghost use Rattle.std.specs.Prelude.{◌≡◌, ◌∷◌, [], ◌++◌, map, codes, OnOk};
 ghost use Rattle.smt_sexpr.specs.Printing.{text_of, text_behind};
-ghost use Rattle.smt_sexpr.specs.Shapes.{items_of, list_of};
-ghost use Rattle.cert_text.specs.declared.entry.Entry.TheVariants.{Best, Unbounded};
-ghost use Rattle.cert_text.specs.Form.{number_of_value, entry_sexpr, line_of};
+ghost use Rattle.smt_sexpr.specs.Shapes.{form, items_of, list_of};
+ghost use Rattle.cert_text.specs.declared.entry.Entry.TheVariants.{Unbounded};
+ghost use Rattle.cert_text.specs.Form.{number_of_value, values_sexpr, entry_sexpr, file_entry_sexpr, line_of};
+ghost use Rattle.dtp_entry.specs.Keeping.{shown_by};
 ghost use Rattle.dtp_entry.specs.Written.{WritesOne};
 ghost use Rattle.cert_stream.specs.code.Streams.{Streams};
 
@@ -13,7 +14,7 @@ use bstr::ByteVec;
 use cert_text::{Entry, Part};
 use dtp_entry::{SessionError, write_text};
 use dtp_io::Sink;
-use refute_tree::Lemma;
+use kept_lemmas::Item;
 use std::alloc::{AllocError, Global};
 use stn_core::{NamedValue, Value};
 
@@ -115,21 +116,21 @@ fn begin_best(least: Value, text: &mut Vec<u8>) -> Result<(), AllocError>
     text.push_str(b" ")
 }
 
-// The line of a least value.
-fn stream_best<K: Sink>(
+// The line of a least value, with lemmas or other items behind the values.
+fn stream_best<T: Part, K: Sink>(
     least: Value,
     values: &[NamedValue],
-    lemmas: &[Lemma],
+    items: &[T],
     text: &mut Vec<u8>,
     sink: &mut K,
 ) -> Result<(), SessionError>
-    ensures { Streams (line_of (entry_sexpr (Best least values.now lemmas.now)))
+    ensures { Streams (line_of (form (codes "best") (number_of_value least ∷ values_sexpr values.now ∷ map (λ x. T.sexpr x) items.now)))
         text.old.items text.new.items (K.holds sink.old) (K.holds sink.new)
         (K.faults sink.old) (K.faults sink.new) result }
 {
     begin_best(least, text)?;
     stream_list(values, text, sink)?;
-    stream_line(b"", lemmas, text, sink)
+    stream_line(b"", items, text, sink)
 }
 
 // The line of a term without a least value.
@@ -170,6 +171,42 @@ fn stream_entry<K: Sink>(
             stream_unbounded(values.as_slice(), points.as_slice(), text, sink)
         }
     }
+}
+
+fn stream_shown<K: Sink>(
+    entry: &Entry,
+    items: &[Item],
+    text: &mut Vec<u8>,
+    sink: &mut K,
+) -> Result<(), SessionError>
+    ensures { Streams (line_of (file_entry_sexpr (shown_by entry.now items.now)))
+        text.old.items text.new.items (K.holds sink.old) (K.holds sink.new)
+        (K.faults sink.old) (K.faults sink.new) result }
+{
+    match entry {
+        Entry::Sat(values) => stream_line(b"(sat", values.as_slice(), text, sink),
+        Entry::Unsat(_) => stream_line(b"(unsat", items, text, sink),
+        Entry::Best(least, values, _) => stream_best(*least, values.as_slice(), items, text, sink),
+        Entry::Unbounded(values, points) => {
+            stream_unbounded(values.as_slice(), points.as_slice(), text, sink)
+        }
+    }
+}
+
+/// Writes the line of an entry with these items in the place of its lemmas, in pieces. Without memory for a piece, those before it are written.
+pub fn write_shown<K: Sink>(
+    alloc: Global,
+    entry: &Entry,
+    items: &[Item],
+    sink: &mut K,
+) -> Result<(), SessionError>
+    ensures { WritesOne (λ text. text ≡ line_of (file_entry_sexpr (shown_by entry.now items.now))) (K.holds sink.old) (K.holds sink.new)
+        (K.faults sink.old) (K.faults sink.new) result }
+{
+    let mut text = Vec::new(alloc);
+    stream_shown(entry, items, &mut text, sink)?;
+    write_text(sink, text.as_slice())?;
+    Ok(())
 }
 
 /// Writes the line of an entry, in pieces. Without memory for a piece, those before it are written.

@@ -23,6 +23,7 @@ use Rattle.cert_text.specs.Form.{header_sexpr, entry_sexpr, end_sexpr, line_of}
 use Rattle.dtp_entry.specs.declared.report.Report.TheVariants.{Certificate}
 use Rattle.dtp_entry.specs.Entries.{verdict_of}
 use Rattle.dtp_entry.specs.Transcripts.{Output, piece_by, pieces, IsOutput, IsReport}
+use Rattle.dtp_entry.proofs.Pieces.{pieces_are}
 use Rattle.dtp_session.specs.Ends.{status_of as end_status}
 use Rattle.dtp_session.specs.declared.session.Solved.{Solved}
 use Rattle.dtp_session.specs.declared.session.Solved.TheVariants.{ScriptStopped}
@@ -96,7 +97,9 @@ lines_are script text found output =
     let w = output.are.are in
     let over : status_of (course verdict_of (start_with found) w.commands w.ending) ≡ Some 0 = ap (λ (ts : List (Turn Entry)). status_of ts) (sym w.are) ∙ output.over in
     let h : IsWritten output.turns = subst IsWritten (sym w.are) (course_written w.commands (start_with found) w.ending over) in
-    output.text ∙ ap (λ (t : List ℕ). line_of (header_sexpr One) ++ t) (h ∙ ap (λ (es : List Entry). entry_lines es ++ line_of end_sexpr) output.used)
+    output.text
+    ∙ ap (λ (t : List ℕ). line_of (header_sexpr One) ++ t)
+    (pieces_are (Certificate One) tt [] output.turns output.written output.writes ∙ h ∙ ap (λ (es : List Entry). entry_lines es ++ line_of end_sexpr) output.used)
 
 -- ---- the first of them
 

@@ -18,10 +18,13 @@ use Rattle.cert_text.specs.declared.entry.FileEntry.{FileEntry}
 use Rattle.cert_text.specs.declared.entry.Entry.{Entry}
 use Rattle.cert_text.specs.declared.entry.Entry.TheVariants.{Sat, Unsat, Best, Unbounded}
 use Rattle.cert_text.specs.Form.{header_sexpr, file_entry_sexpr, file_entry_of, end_sexpr, line_of}
+use Rattle.kept_lemmas.specs.declared.item.Item.{Item}
 use Rattle.kept_lemmas.specs.declared.item.Item.TheVariants.{Own}
-use Rattle.kept_lemmas.specs.Entries.{Placed, shelf_of}
+use Rattle.kept_lemmas.specs.Entries.{Placed, shelf_of, AreRight}
+use Rattle.kept_lemmas.specs.Facts.{Facts, Shelf, facts_of}
+use Rattle.kept_lemmas.specs.Laws.{ShelfGoesOn}
 use Rattle.cert_text.specs.Laws.{OwnText, OwnFits}
-use Rattle.lemma_shelf.specs.Laws.{OwnFlawLaw}
+use Rattle.lemma_shelf.specs.Laws.{ItemsFlawLaw, OwnFlawLaw}
 use Rattle.cert_read.specs.Certificates.{certificate, ReadsCertificate}
 use Rattle.cert_read.specs.Written.{entries_text, certificate_text, IsClosedGap, FileEntryFits}
 use Rattle.idl_term.specs.Contexts.{Context, environment}
@@ -48,7 +51,8 @@ use Rattle.dtp_entry.specs.declared.report.Report.TheVariants.{Certificate}
 use Rattle.smt_script.specs.declared.state.Satisfiability.{Satisfiability}
 use Rattle.dtp_entry.specs.Bests.{Satisfies}
 use Rattle.dtp_entry.specs.Entries.{points_of, problem_of, problem_below, verdict_of, IsLeast, IsUnbounded, IsRight, IsEntryOf}
-use Rattle.dtp_entry.specs.Transcripts.{opening, pieces, IsLegal, IsReport}
+use Rattle.dtp_entry.specs.Keeping.{shown_by, StandIn, facts_shown}
+use Rattle.dtp_entry.specs.Transcripts.{IsLine, IsWritten, IsLegal, IsReport}
 use Rattle.dtp_entry.proofs.Verdicts.{sorts_count}
 use Rattle.dtp_check.specs.declared.judgement.EntryFlaw.{EntryFlaw}
 use Rattle.dtp_check.specs.declared.judgement.EntryFlaw.TheVariants.{Flawed}
@@ -109,6 +113,90 @@ same_verdict (Unsat lemmas) = refl
 same_verdict (Best m values lemmas) = refl
 same_verdict (Unbounded values set) = refl
 
+-- ---- an entry with items in the place of its lemmas
+
+shown_verdict : (entry : Entry) (items : List Item) → told_by (shown_by entry items) ≡ verdict_of entry
+shown_verdict (Sat values) items = refl
+shown_verdict (Unsat lemmas) items = refl
+shown_verdict (Best m values lemmas) items = refl
+shown_verdict (Unbounded values set) items = refl
+
+-- what is placed for later entries states what the items do
+placed_facts : (shelf : Shelf) (question : Question) (c : Context) (entry : Entry) (items : List Item)
+    → facts_of shelf (placed question c (shown_by entry items)).clauses (placed question c (shown_by entry items)).items ≡ facts_shown shelf question c entry items
+placed_facts shelf question c (Sat values) items = refl
+placed_facts shelf question c (Unsat lemmas) items = refl
+placed_facts shelf CheckSat c (Best m values lemmas) items = refl
+placed_facts shelf (Minimize o) c (Best m values lemmas) items = refl
+placed_facts shelf question c (Unbounded values set) items = refl
+
+placed_behind : ShelfGoesOn → (before : List Placed) (shelf now : Shelf) (question : Question) (c : Context) (entry : Entry) (items : List Item) → shelf_of before ≡ shelf → now ≡ shelf ++ facts_shown shelf question c entry items ∷ []
+    → shelf_of (before ++ placed question c (shown_by entry items) ∷ []) ≡ now
+placed_behind law before shelf now question c entry items same states =
+    let p : Placed = placed question c (shown_by entry items) in
+    law before p ∙ ap (λ (s : Shelf). s ++ facts_of s p.clauses p.items ∷ []) same
+    ∙ ap (λ (facts : Facts). shelf ++ facts ∷ []) (placed_facts shelf question c entry items) ∙ sym states
+
+module _ (law : ItemsFlawLaw) (before : List Placed) (shelf : Shelf) (same : shelf_of before ≡ shelf) (x : Sexpr) (c : Context) where
+  items_right : (clauses : List (List Literal)) (items : List Item) → AreRight shelf (points_of c) clauses items → refutation_flaw before c clauses items ≡ None
+  items_right clauses items h =
+      ap (option_map Flawed) ((law (shelf_of before) (points_of c) clauses items).1 (subst (λ (s : Shelf). AreRight s (points_of c) clauses items) (sym same) h))
+
+  best_shown : (o : Objective) (m : ℤ) (values : List NamedValue) (lemmas : List Lemma) (items : List Item) → IsLeast c x o m values lemmas → AreRight shelf (points_of c) (problem_below c o m) items
+      → first_of_two (least_flaw x o c m values) (refutation_flaw before c (problem_below c o m) items) ≡ None
+  best_shown o m values lemmas items h right =
+      none_of_two (least_flaw x o c m values) (refutation_flaw before c (problem_below c o m) items)
+      (right_least x o c m values (record { values_none = values_none c values h.satisfies; attains = h.attained; in_limit = h.within }))
+      (items_right (problem_below c o m) items right)
+
+  shown_right : (question : Question) (entry : Entry) (items : List Item) → IsRight question x c entry → StandIn shelf question c entry items → entry_flaw before question x c (shown_by entry items) ≡ None
+  shown_right CheckSat (Sat values) items h stand = values_none c values h
+  shown_right (Minimize o) (Sat values) items h stand = absurd h
+  shown_right question (Unsat lemmas) items h stand = items_right (problem_of c) items stand.right
+  shown_right CheckSat (Best m values lemmas) items h stand = absurd h
+  shown_right (Minimize o) (Best m values lemmas) items h stand = best_shown o m values lemmas items h stand.right
+  shown_right CheckSat (Unbounded values set) items h stand = absurd h
+  shown_right (Minimize o) (Unbounded values set) items h stand = right_set o (points_of c) (problem_of c) values set (set_of c o values set h)
+
+-- ---- an entry as it stands in the file
+
+-- In the second version the entries before state what is on the shelf; the first keeps nothing.
+abbrev Agree : Version → List Placed → Shelf → Type 0
+Agree One before shelf = Unit {0}
+Agree Two before shelf = shelf_of before ≡ shelf
+
+start_agrees : (version : Version) → Agree version [] []
+start_agrees One = tt
+start_agrees Two = refl
+
+record IsFiled (version : Version) (shelf now : Shelf) (question : Question) (x : Sexpr) (c : Context) (entry : Entry) (line : List ℕ) : Type 0 where
+  shown : FileEntry
+  text : line ≡ line_of (file_entry_sexpr shown)
+  fits : FileEntryFits version shown
+  verdict : told_by shown ≡ verdict_of entry
+  right : (before : List Placed) → Agree version before shelf → entry_flaw before question x c shown ≡ None
+  agrees : (before : List Placed) → Agree version before shelf → Agree version (before ++ placed question c shown ∷ []) now
+
+module _ (flaw : FlawLaw) (items_flaw : ItemsFlawLaw) (own : OwnFlawLaw) (goes_on : ShelfGoesOn) (text_is : OwnText) (fits_are : OwnFits) where
+  filed : (version : Version) (shelf now : Shelf) (question : Question) (x : Sexpr) (c : Context) (entry : Entry) (line : List ℕ) → IsEntryOf version question x c entry → IsLine (Certificate version) shelf question c entry line now
+      → IsFiled version shelf now question x c entry line
+  filed One shelf now question x c entry line right (is, same) = record {
+    shown = file_entry_of entry;
+    text = is ∙ ap (λ (y : Sexpr). line_of y) (sym (text_is entry));
+    fits = fits_are One entry right.fits;
+    verdict = same_verdict entry;
+    right = λ before agree. entry_right flaw own before x c question entry right.right;
+    agrees = λ before agree. tt;
+  }
+  filed Two shelf now question x c entry line right (items, h, is) = record {
+    shown = shown_by entry items;
+    text = is;
+    fits = h.fits;
+    verdict = shown_verdict entry items;
+    right = λ before agree. shown_right items_flaw before shelf agree x c question entry items right.right h.stand;
+    agrees = λ before agree. placed_behind goes_on before shelf now question c entry items agree h.states;
+  }
+
 -- ---- commands that are carried out
 
 -- such a command is a list
@@ -147,18 +235,16 @@ closed_ends script place le closed =
 abbrev EndsIn : Bool → List ℕ → ℕ → PartEnd → ℕ → Type 0
 EndsIn exits bytes last end behind = FollowsExit exits ((end ≡ part.Exit) × (last ≡ behind)) (EndsPart bytes last end behind)
 
--- the entries as they stand in a file
-abbrev shown_of : List (Turn Entry) → List FileEntry
-shown_of turns = map file_entry_of (answers_of turns)
+abbrev judged_at : State → List FileEntry → List Sexpr → List Placed → Type 0
+judged_at s entries xs before = (k : ℕ) (held : Option FileEntry) → judged_turns before (course told_by (record { number = k; state = s; held = held; left = entries }) xs ended) ≡ Accepted
 
-abbrev judged_at : State → List FileEntry → List Sexpr → Type 0
-judged_at s entries xs = (k : ℕ) (held : Option FileEntry) (before : List Placed) → judged_turns before (course told_by (record { number = k; state = s; held = held; left = entries }) xs ended) ≡ Accepted
-
--- what was written of commands from the place on, by these turns, is the entries and the end, and they are accepted
-record IsSplit (version : Version) (script : List ℕ) (place : ℕ) (s : State) (xs : List Sexpr) (turns : List (Turn Entry)) : Type 0 where
-  text : pieces (Certificate version) turns ≡ entries_text (shown_of turns) ++ line_of end_sexpr
-  fits : All (FileEntryFits version) (shown_of turns)
-  accepted : judged_at s (shown_of turns) xs
+-- what was written of commands from the place on is the entries and the end, and they are accepted behind entries that state what is
+-- on the shelf
+record IsSplit (version : Version) (script : List ℕ) (place : ℕ) (s : State) (shelf : Shelf) (xs : List Sexpr) (written : List ℕ) : Type 0 where
+  shown : List FileEntry
+  text : written ≡ entries_text shown ++ line_of end_sexpr
+  fits : All (FileEntryFits version) shown
+  accepted : (before : List Placed) → Agree version before shelf → judged_at s shown xs before
   last : ℕ
   exits : Bool
   within : last ≤ length script
@@ -174,27 +260,37 @@ failed_status e = absurd cc
 abbrev Make : Type 0
 Make = Place Entry → List (Turn Entry)
 
-module _ (one : OneOutcome) (on : ListReadsOn) (within : ListIsWithin) (flaw : FlawLaw) (own : OwnFlawLaw) (text_is : OwnText) (fits_are : OwnFits) (only : OnlyExitEnds) (version : Version) where
+module _ (one : OneOutcome) (on : ListReadsOn) (within : ListIsWithin) (flaw : FlawLaw) (items_flaw : ItemsFlawLaw) (own : OwnFlawLaw) (goes_on : ShelfGoesOn) (text_is : OwnText) (fits_are : OwnFits) (only : OnlyExitEnds)
+    (version : Version) where
   abbrev AreLegal : List (Turn Entry) → Type 0
   AreLegal turns = AllByRecursion (IsLegal (Certificate version)) turns
 
+  abbrev AreWritten : Shelf → List (Turn Entry) → List ℕ → Type 0
+  AreWritten shelf turns written = IsWritten (Certificate version) shelf turns written
+
+  -- the end's line, and nothing behind it
+  end_line : (written piece rest : List ℕ) → written ≡ piece ++ rest → piece ≡ line_of end_sexpr → rest ≡ [] → written ≡ line_of end_sexpr
+  end_line written piece rest e is none =
+      e ∙ ap (λ (t : List ℕ). t ++ rest) is ∙ ap (λ (t : List ℕ). line_of end_sexpr ++ t) none ∙ append-nil (line_of end_sexpr)
+
   -- no command follows: the end of the text is the end of the script
-  split_end : (ys : List Sexpr) (script : List ℕ) (place here : ℕ) (p : Place Entry) (ending : Ending) → status_of (last_turn p ending) ≡ Some 0 → place ≤ length script → place ≡ here → EndsAs script here ending
-      → IsWholeFrom script place ys → IsSplit version script place p.state [] (last_turn p ending)
+  split_end : (ys : List Sexpr) (script : List ℕ) (place here : ℕ) (p : Place Entry) (ending : Ending) (shelf : Shelf) (written : List ℕ) → AreWritten shelf (last_turn p ending) written → status_of (last_turn p ending) ≡ Some 0
+      → place ≤ length script → place ≡ here → EndsAs script here ending → IsWholeFrom script place ys → IsSplit version script place p.state shelf [] written
   unfolding ScriptPart
-  split_end ys script place here p stopped over le e closes is = absurd (no_status over)
-  split_end ys script place here p (unread why) over le e closes is = absurd (failed_status over)
-  split_end [] script place here p ended over le e closes is = record {
-    text = append-nil (line_of end_sexpr);
+  split_end ys script place here p stopped shelf written w over le e closes is = absurd (no_status over)
+  split_end ys script place here p (unread why) shelf written w over le e closes is = absurd (failed_status over)
+  split_end [] script place here p ended shelf written (piece, rest, now, f, at, none) over le e closes is = record {
+    shown = [];
+    text = end_line written piece rest f at.0 none;
     fits = All-nil (FileEntryFits version);
-    accepted = λ k held before. ap (judged_turns before) (course_none (record { number = k; state = p.state; held = held; left = [] }));
+    accepted = λ before agree k held. ap (judged_turns before) (course_none (record { number = k; state = p.state; held = held; left = [] }));
     last = place;
     exits = false;
     within = le;
     closed = is;
     reads = λ added end behind h. h;
   }
-  split_end (y ∷ ys) script place here p ended over le e (n, finishes) (mid, spells, is) = absurd (not_finished one script place y mid n spells (subst (λ (p : ℕ). Outcomes script p finished n) (sym e) finishes))
+  split_end (y ∷ ys) script place here p ended shelf written w over le e (n, finishes) (mid, spells, is) = absurd (not_finished one script place y mid n spells (subst (λ (p : ℕ). Outcomes script p finished n) (sym e) finishes))
 
   module _ (script : List ℕ) (place mid : ℕ) (p : Place Entry) (x : Sexpr) (spells : Spells script place x mid) where
     on_command : (step : Step) → after p.state x ≡ Ok step → (added : List ℕ) → Spells (script ++ added) place x mid
@@ -209,10 +305,10 @@ module _ (one : OneOutcome) (on : ListReadsOn) (within : ListIsWithin) (flaw : F
         within script place mid l.0 (subst (λ (z : Sexpr). Spells script place z mid) l.1 spells)
 
     -- a command that goes on, in the state behind its answer
-    reads_more : (step : Step) → after p.state x ≡ Ok step → step.effect ≢ Exit → (next : State) (xs : List Sexpr) (turns : List (Turn Entry)) (h : IsSplit version script mid next xs turns)
+    reads_more : (step : Step) → after p.state x ≡ Ok step → step.effect ≢ Exit → (next : State) (shelf : Shelf) (xs : List Sexpr) (written : List ℕ) (h : IsSplit version script mid next shelf xs written)
         → (added : List ℕ) (end : PartEnd) (behind : ℕ) → EndsIn h.exits (script ++ added) h.last end behind → ScriptPart (script ++ added) place (x ∷ xs) end behind
     unfolding ScriptPart
-    reads_more step e apart next xs turns h added end behind closes = (
+    reads_more step e apart next shelf xs written h added end behind closes = (
       mid,
       on_command step e added,
       carried_apart p.state x step e,
@@ -220,48 +316,52 @@ module _ (one : OneOutcome) (on : ListReadsOn) (within : ListIsWithin) (flaw : F
     )
 
     -- a command of which nothing is written
-    split_told : (notice : Notice) (next : State) (xs : List Sexpr) (turns : List (Turn Entry)) → IsSplit version script mid next xs turns → after p.state x ≡ Ok (step_of next (Tell notice))
-        → IsSplit version script place p.state (x ∷ xs) (turn p next (tells x notice) ∷ turns)
-    split_told notice next xs turns h e = record {
-      text = h.text;
+    split_told : (notice : Notice) (next : State) (shelf : Shelf) (xs : List Sexpr) (written rest : List ℕ) → written ≡ rest → IsSplit version script mid next shelf xs rest → after p.state x ≡ Ok (step_of next (Tell notice))
+        → IsSplit version script place p.state shelf (x ∷ xs) written
+    split_told notice next shelf xs written rest same h e = record {
+      shown = h.shown;
+      text = same ∙ h.text;
       fits = h.fits;
-      accepted = λ k held before.
-          ap (judged_turns before) (told_turn told_by (record { number = k; state = p.state; held = held; left = shown_of turns }) x next notice e xs ended) ∙ h.accepted (k + 1) held before;
+      accepted = λ before agree k held.
+          ap (judged_turns before) (told_turn told_by (record { number = k; state = p.state; held = held; left = h.shown }) x next notice e xs ended) ∙ h.accepted before agree (k + 1) held;
       last = h.last;
       exits = h.exits;
       within = h.within;
       closed = h.closed;
-      reads = reads_more (step_of next (Tell notice)) e (told_apart notice) next xs turns h;
+      reads = reads_more (step_of next (Tell notice)) e (told_apart notice) next shelf xs rest h;
     }
 
-    split_check : (question : Question) (next : State) → after p.state x ≡ Ok (step_of next (Ask question)) → refusal_of question next x ≡ None → (xs : List Sexpr) (turns : List (Turn Entry)) (entry : Entry) → IsEntryOf version question x next.context entry
-        → IsSplit version script mid (settled (verdict_of entry) next) xs turns → IsSplit version script place p.state (x ∷ xs) (turn p next (answers question x entry) ∷ turns)
-    split_check question next e free xs turns entry right h = record {
-      text = ap (λ (y : Sexpr). line_of y ++ pieces (Certificate version) turns) (sym (text_is entry)) ∙ ap (λ (t : List ℕ). line_of (file_entry_sexpr (file_entry_of entry)) ++ t) h.text
-          ∙ sym (append_assoc (line_of (file_entry_sexpr (file_entry_of entry))) (entries_text (shown_of turns)) (line_of end_sexpr));
-      fits = All-cons (FileEntryFits version) (file_entry_of entry) (shown_of turns) (fits_are version entry right.fits) h.fits;
-      accepted = λ k held before.
-          let shown = file_entry_of entry in
+    split_check : (question : Question) (next : State) → after p.state x ≡ Ok (step_of next (Ask question)) → refusal_of question next x ≡ None → (shelf now : Shelf) (xs : List Sexpr) (written line rest : List ℕ) (entry : Entry) → written ≡ line ++ rest
+        → IsFiled version shelf now question x next.context entry line → IsSplit version script mid (settled (verdict_of entry) next) now xs rest → IsSplit version script place p.state shelf (x ∷ xs) written
+    split_check question next e free shelf now xs written line rest entry is filed_so h = record {
+      shown = filed_so.shown ∷ h.shown;
+      text = is ∙ ap (λ (t : List ℕ). t ++ rest) filed_so.text ∙ ap (λ (t : List ℕ). line_of (file_entry_sexpr filed_so.shown) ++ t) h.text
+          ∙ sym (append_assoc (line_of (file_entry_sexpr filed_so.shown)) (entries_text h.shown) (line_of end_sexpr));
+      fits = All-cons (FileEntryFits version) filed_so.shown h.shown filed_so.fits h.fits;
+      accepted = λ before agree k held.
+          let shown = filed_so.shown in
           let sofar = before ++ placed question next.context shown ∷ [] in
-          let there : Place FileEntry = record { number = k; state = p.state; held = held; left = shown ∷ shown_of turns } in
-          let coming : State → List (Turn FileEntry) = λ s. course told_by (record { number = k + 1; state = s; held = Some shown; left = shown_of turns }) xs ended in
-          ap (judged_turns before) (answered_turn told_by there x next question shown (shown_of turns) e free refl xs ended)
-          ∙ ap (λ (f : Option EntryFlaw). judged_entry (length before + 1) f (judged_turns sofar (coming (settled (told_by shown) next)))) (entry_right flaw own before x next.context question entry right.right)
-          ∙ ap (λ (v : Satisfiability). judged_turns sofar (coming (settled v next))) (same_verdict entry)
-          ∙ h.accepted (k + 1) (Some shown) sofar;
+          let there : Place FileEntry = record { number = k; state = p.state; held = held; left = shown ∷ h.shown } in
+          let coming : State → List (Turn FileEntry) = λ s. course told_by (record { number = k + 1; state = s; held = Some shown; left = h.shown }) xs ended in
+          ap (judged_turns before) (answered_turn told_by there x next question shown h.shown e free refl xs ended)
+          ∙ ap (λ (f : Option EntryFlaw). judged_entry (length before + 1) f (judged_turns sofar (coming (settled (told_by shown) next)))) (filed_so.right before agree)
+          ∙ ap (λ (v : Satisfiability). judged_turns sofar (coming (settled v next))) filed_so.verdict
+          ∙ h.accepted sofar (filed_so.agrees before agree) (k + 1) (Some shown);
       last = h.last;
       exits = h.exits;
       within = h.within;
       closed = h.closed;
-      reads = reads_more (step_of next (Ask question)) e (ask_apart question) (settled (verdict_of entry) next) xs turns h;
+      reads = reads_more (step_of next (Ask question)) e (ask_apart question) (settled (verdict_of entry) next) now xs rest h;
     }
 
-    split_exit : (next : State) → after p.state x ≡ Ok (step_of next Exit) → (xs : List Sexpr) → xs ≡ [] → IsClosedGap (drop mid script) → IsSplit version script place p.state (x ∷ xs) (turn p next ends ∷ [])
+    split_exit : (next : State) → after p.state x ≡ Ok (step_of next Exit) → (shelf : Shelf) (xs : List Sexpr) (written : List ℕ) → written ≡ line_of end_sexpr → xs ≡ [] → IsClosedGap (drop mid script)
+        → IsSplit version script place p.state shelf (x ∷ xs) written
     unfolding ScriptPart
-    split_exit next e xs over is = record {
-      text = append-nil (line_of end_sexpr);
+    split_exit next e shelf xs written line over is = record {
+      shown = [];
+      text = line;
       fits = All-nil (FileEntryFits version);
-      accepted = λ k held before. ap (judged_turns before) (exit_turn told_by (record { number = k; state = p.state; held = held; left = [] }) x next e xs ended);
+      accepted = λ before agree k held. ap (judged_turns before) (exit_turn told_by (record { number = k; state = p.state; held = held; left = [] }) x next e xs ended);
       last = mid;
       exits = true;
       within = command_within (step_of next Exit) e;
@@ -283,61 +383,67 @@ module _ (one : OneOutcome) (on : ListReadsOn) (within : ListIsWithin) (flaw : F
     IsWholeBehind ys exits = FollowsExit exits ((ys ≡ []) × IsClosedGap (drop mid script)) (IsWholeFrom script mid ys)
 
     module _ (here : ℕ) (xs ys : List Sexpr) (reads : Commands script mid xs here) (is : IsWholeBehind ys (is_exit x)) (make : Make)
-        (rest : (q : Place Entry) → AreLegal (make q) → status_of (make q) ≡ Some 0 → mid ≤ length script → IsWholeFrom script mid ys → IsSplit version script mid q.state xs (make q)) where
+        (rest : (q : Place Entry) (shelf : Shelf) (written : List ℕ) → AreWritten shelf (make q) written → AreLegal (make q) → status_of (make q) ≡ Some 0 → mid ≤ length script → IsWholeFrom script mid ys
+        → IsSplit version script mid q.state shelf xs written)
+        (shelf : Shelf) (written : List ℕ) where
       whole_behind : (step : Step) → after p.state x ≡ Ok step → step.effect ≢ Exit → IsWholeFrom script mid ys
       whole_behind step e apart = subst (IsWholeBehind ys) (not_exit only p.state x step e apart) is
 
-      split_asked : (question : Question) (next : State) → after p.state x ≡ Ok (step_of next (Ask question)) → refusal_of question next x ≡ None → (left : List Entry) → AreLegal (asked verdict_of p next question x left make) → status_of (asked verdict_of p next question x left make) ≡ Some 0
-          → IsSplit version script place p.state (x ∷ xs) (asked verdict_of p next question x left make)
-      split_asked question next e free [] legal over = absurd (no_status over)
-      split_asked question next e free (entry ∷ left) legal over =
+      split_asked : (question : Question) (next : State) → after p.state x ≡ Ok (step_of next (Ask question)) → refusal_of question next x ≡ None → (left : List Entry) → AreWritten shelf (asked verdict_of p next question x left make) written
+          → AreLegal (asked verdict_of p next question x left make) → status_of (asked verdict_of p next question x left make) ≡ Some 0 → IsSplit version script place p.state shelf (x ∷ xs) written
+      split_asked question next e free [] w legal over = absurd (no_status over)
+      split_asked question next e free (entry ∷ left) (line, more, now, f, at, w) legal over =
           let q = behind_answer verdict_of p next entry left in
           let step = step_of next (Ask question) in
-          split_check question next e free xs (make q) entry legal.0.right (rest q legal.1 over (command_within step e) (whole_behind step e (ask_apart question)))
+          split_check question next e free shelf now xs written line more entry f
+          (filed flaw items_flaw own goes_on text_is fits_are version shelf now question x next.context entry line legal.0.right at)
+          (rest q now more w legal.1 over (command_within step e) (whole_behind step e (ask_apart question)))
 
-      split_taken : (question : Question) (next : State) → after p.state x ≡ Ok (step_of next (Ask question)) → (why : Option Kind) → refusal_of question next x ≡ why → AreLegal (taken verdict_of p next question x why make) → status_of (taken verdict_of p next question x why make) ≡ Some 0
-          → IsSplit version script place p.state (x ∷ xs) (taken verdict_of p next question x why make)
-      split_taken question next e (Some kind) f legal over = absurd (failed_status over)
-      split_taken question next e None f legal over = split_asked question next e f p.left legal over
+      split_taken : (question : Question) (next : State) → after p.state x ≡ Ok (step_of next (Ask question)) → (why : Option Kind) → refusal_of question next x ≡ why → AreWritten shelf (taken verdict_of p next question x why make) written
+          → AreLegal (taken verdict_of p next question x why make) → status_of (taken verdict_of p next question x why make) ≡ Some 0 → IsSplit version script place p.state shelf (x ∷ xs) written
+      split_taken question next e (Some kind) f w legal over = absurd (failed_status over)
+      split_taken question next e None f w legal over = split_asked question next e f p.left w legal over
 
-      split_effect : (effect : Effect) (next : State) → after p.state x ≡ Ok (step_of next effect) → AreLegal (by_effect verdict_of p next x effect make) → status_of (by_effect verdict_of p next x effect make) ≡ Some 0
-          → IsSplit version script place p.state (x ∷ xs) (by_effect verdict_of p next x effect make)
-      split_effect (Tell notice) next e legal over =
+      split_effect : (effect : Effect) (next : State) → after p.state x ≡ Ok (step_of next effect) → AreWritten shelf (by_effect verdict_of p next x effect make) written → AreLegal (by_effect verdict_of p next x effect make)
+          → status_of (by_effect verdict_of p next x effect make) ≡ Some 0 → IsSplit version script place p.state shelf (x ∷ xs) written
+      split_effect (Tell notice) next e (piece, more, now, f, at, w) legal over =
           let q = behind_told p next in
           let step = step_of next (Tell notice) in
-          split_told notice next xs (make q) (rest q legal.1 over (command_within step e) (whole_behind step e (told_apart notice))) e
-      split_effect (Ask question) next e legal over = split_taken question next e (refusal_of question next x) refl legal over
-      split_effect Exit next e legal over =
+          split_told notice next shelf xs written more (f ∙ ap (λ (t : List ℕ). t ++ more) at.0)
+          (rest q shelf more (subst (λ (k : Shelf). AreWritten k (make q) more) at.1 w) legal.1 over (command_within step e) (whole_behind step e (told_apart notice))) e
+      split_effect (Ask question) next e w legal over = split_taken question next e (refusal_of question next x) refl w legal over
+      split_effect Exit next e (piece, more, now, f, at, none) legal over =
           let step = step_of next Exit in
           let left : (ys ≡ []) × IsClosedGap (drop mid script) = subst (IsWholeBehind ys) ((only p.state x step e).0 refl) is in
-          split_exit next e xs (none_behind here xs (command_within step e) left.1 reads) left.1
+          split_exit next e shelf xs written (end_line written piece more f at.0 none) (none_behind here xs (command_within step e) left.1 reads) left.1
 
-      split_by : (r : Result Step Refusal) → after p.state x ≡ r → AreLegal (by_command verdict_of p x r make) → status_of (by_command verdict_of p x r make) ≡ Some 0 → IsSplit version script place p.state (x ∷ xs) (by_command verdict_of p x r make)
-      split_by (Err why) e legal over = absurd (failed_status over)
-      split_by (Ok step) e legal over = split_effect step.effect step.state e legal over
+      split_by : (r : Result Step Refusal) → after p.state x ≡ r → AreWritten shelf (by_command verdict_of p x r make) written → AreLegal (by_command verdict_of p x r make) → status_of (by_command verdict_of p x r make) ≡ Some 0
+          → IsSplit version script place p.state shelf (x ∷ xs) written
+      split_by (Err why) e w legal over = absurd (failed_status over)
+      split_by (Ok step) e w legal over = split_effect step.effect step.state e w legal over
 
-  split : (xs ys : List Sexpr) (script : List ℕ) (place here : ℕ) (p : Place Entry) (ending : Ending) → AreLegal (course verdict_of p xs ending) → status_of (course verdict_of p xs ending) ≡ Some 0 → place ≤ length script → Commands script place xs here → EndsAs script here ending
-      → IsWholeFrom script place ys → IsSplit version script place p.state xs (course verdict_of p xs ending)
+  split : (xs ys : List Sexpr) (script : List ℕ) (place here : ℕ) (p : Place Entry) (ending : Ending) (shelf : Shelf) (written : List ℕ) → AreWritten shelf (course verdict_of p xs ending) written → AreLegal (course verdict_of p xs ending)
+      → status_of (course verdict_of p xs ending) ≡ Some 0 → place ≤ length script → Commands script place xs here → EndsAs script here ending → IsWholeFrom script place ys → IsSplit version script place p.state shelf xs written
   unfolding course
-  split [] ys script place here p ending legal over le e closes is = split_end ys script place here p ending over le e closes is
-  split (x ∷ xs) [] script place here p ending legal over le (mid, spells, rest) closes is = absurd (not_finished one script place x mid (length script) spells (closed_ends script place le is))
-  split (x ∷ xs) (y ∷ ys) script place here p ending legal over le (mid, spells, rest) closes (there, spells_y, is) =
+  split [] ys script place here p ending shelf written w legal over le e closes is = split_end ys script place here p ending shelf written w over le e closes is
+  split (x ∷ xs) [] script place here p ending shelf written w legal over le (mid, spells, rest) closes is = absurd (not_finished one script place x mid (length script) spells (closed_ends script place le is))
+  split (x ∷ xs) (y ∷ ys) script place here p ending shelf written w legal over le (mid, spells, rest) closes (there, spells_y, is) =
       let same = same_sexpr one script place y x there mid spells_y spells in
       let at_mid : FollowsExit (is_exit y) ((ys ≡ []) × IsClosedGap (drop mid script)) (IsWholeFrom script mid ys) = subst (λ (m : ℕ). FollowsExit (is_exit y) ((ys ≡ []) × IsClosedGap (drop m script)) (IsWholeFrom script m ys)) same.1 is in
       let of_x : FollowsExit (is_exit x) ((ys ≡ []) × IsClosedGap (drop mid script)) (IsWholeFrom script mid ys) = subst (λ (z : Sexpr). FollowsExit (is_exit z) ((ys ≡ []) × IsClosedGap (drop mid script)) (IsWholeFrom script mid ys)) same.0 at_mid in
       split_by script place mid p x spells here xs ys rest of_x (λ q. course verdict_of q xs ending)
-      (λ q legal_there over_there inside whole_on. split xs ys script mid here q ending legal_there over_there inside rest closes whole_on) (after p.state x) refl legal over
+      (λ q shelf_there written_there w_there legal_there over_there inside whole_on. split xs ys script mid here q ending shelf_there written_there w_there legal_there over_there inside rest closes whole_on) shelf written (after p.state x) refl w legal over
 
   -- ---- the whole
 
-  module _ (script out : List ℕ) (xs : List Sexpr) (turns : List (Turn Entry)) (h : IsSplit version script 0 start_state xs turns) (reads_there : ReadsCertificate (script ++ out) h.last (certificate version (shown_of turns))) where
+  module _ (script out : List ℕ) (xs : List Sexpr) (written : List ℕ) (h : IsSplit version script 0 start_state [] xs written) (reads_there : ReadsCertificate (script ++ out) h.last (certificate version h.shown)) where
     judged_by : (b : Bool) → h.exits ≡ b → IsJudged (script ++ out) Accepted
     judged_by true e = record {
       commands = xs;
       end = part.Exit;
       behind = h.last;
       script = h.reads out part.Exit h.last (subst (λ (b : Bool). EndsIn b (script ++ out) h.last part.Exit h.last) (sym e) (refl, refl));
-      judged_part = (certificate version (shown_of turns), reads_there, sym (h.accepted 1 None []));
+      judged_part = (certificate version h.shown, reads_there, sym (h.accepted [] (start_agrees version) 1 None));
     }
     judged_by false e =
         let v = reads_there.0 in
@@ -347,22 +453,21 @@ module _ (one : OneOutcome) (on : ListReadsOn) (within : ListIsWithin) (flaw : F
           end = part.Header v;
           behind = mid;
           script = h.reads out (part.Header v) mid (subst (λ (b : Bool). EndsIn b (script ++ out) h.last (part.Header v) mid) (sym e) reads_there.2);
-          judged_part = (certificate version (shown_of turns), reads_there.3, sym (h.accepted 1 None []));
+          judged_part = (certificate version h.shown, reads_there.3, sym (h.accepted [] (start_agrees version) 1 None));
         }
 
   pub certified_as : CertificateReadsBack → (script out : List ℕ) → IsReport (Certificate version) script out 0 → IsWhole script → IsJudged (script ++ out) Accepted
   certified_as back script out (found, output) (ys, is) =
       let a = output.are in
-      let report = Certificate version in
       let w = a.are in
       let turns = course verdict_of (start_with found) w.commands w.ending in
       let legal : AreLegal turns = subst AreLegal w.are a.legal in
       let over : status_of turns ≡ Some 0 = ap (λ (ts : List (Turn Entry)). status_of ts) (sym w.are) ∙ output.over in
-      let h = split w.commands ys script 0 w.behind (start_with found) w.ending legal over (omega arith) w.reads w.ends is in
-      let same : out ≡ certificate_text version (shown_of turns) =
-      output.text ∙ ap (λ (ts : List (Turn Entry)). opening report ++ pieces report ts) w.are ∙ ap (λ (t : List ℕ). line_of (header_sexpr version) ++ t) h.text in
-      let there : drop h.last (script ++ out) ≡ drop h.last script ++ certificate_text version (shown_of turns) = drop-append-le h.last script out h.within ∙ ap (λ (t : List ℕ). drop h.last script ++ t) same in
-      judged_by script out w.commands turns h (back version (shown_of turns) (script ++ out) (drop h.last script) h.last h.fits h.closed there) h.exits refl
+      let writes : AreWritten [] turns output.written = subst (λ (ts : List (Turn Entry)). AreWritten [] ts output.written) w.are output.writes in
+      let h = split w.commands ys script 0 w.behind (start_with found) w.ending [] output.written writes legal over (omega arith) w.reads w.ends is in
+      let same : out ≡ certificate_text version h.shown = output.text ∙ ap (λ (t : List ℕ). line_of (header_sexpr version) ++ t) h.text in
+      let there : drop h.last (script ++ out) ≡ drop h.last script ++ certificate_text version h.shown = drop-append-le h.last script out h.within ∙ ap (λ (t : List ℕ). drop h.last script ++ t) same in
+      judged_by script out w.commands output.written h (back version h.shown (script ++ out) (drop h.last script) h.last h.fits h.closed there) h.exits refl
 
-pub certified : OneOutcome → ListReadsOn → ListIsWithin → FlawLaw → OwnFlawLaw → OwnText → OwnFits → OnlyExitEnds → CertificateReadsBack → CertifiedIsAccepted
-certified one on within flaw own text fits only back version script out report whole = certified_as one on within flaw own text fits only version back script out report whole
+pub certified : OneOutcome → ListReadsOn → ListIsWithin → FlawLaw → ItemsFlawLaw → OwnFlawLaw → ShelfGoesOn → OwnText → OwnFits → OnlyExitEnds → CertificateReadsBack → CertifiedIsAccepted
+certified one on within flaw items_flaw own goes_on text fits only back version script out report whole = certified_as one on within flaw items_flaw own goes_on text fits only version back script out report whole

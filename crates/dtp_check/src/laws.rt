@@ -39,6 +39,7 @@ pub fn certified_is_accepted()
     smt_script::exit_law();
     cert_check::flaw_law();
     lemma_shelf::flaw_law();
+    kept_lemmas::entries_law();
     cert_text::own_lemmas_alone();
     cert_read::certificate_reads_back();
 }

@@ -20,7 +20,8 @@ use Rattle.script_walk.specs.Questions.{refusal_of}
 use Rattle.script_walk.specs.Course.{Place, start_with, Turn, behind_told, behind_answer, asked, taken, by_effect, by_command, course, status_of}
 use Rattle.dtp_entry.specs.declared.report.Report.TheVariants.{Certificate}
 use Rattle.dtp_entry.specs.Entries.{verdict_of}
-use Rattle.dtp_entry.specs.Transcripts.{IsReport}
+use Rattle.dtp_entry.specs.Transcripts.{pieces, IsReport}
+use Rattle.dtp_entry.proofs.Pieces.{are_pieces}
 use Rattle.dtp_check.specs.Judged.{FollowsExit}
 use Rattle.dtp_check.specs.Laws.{CertifiedIsAccepted}
 use Rattle.dtp_check.specs.Whole.{IsWholeFrom}
@@ -112,6 +113,8 @@ accepted one headers inside only law source script text h is =
         };
         over = h.decide.over;
         used = h.decide.used;
+        written = pieces (Certificate One) (turns_of h.commands found);
+        writes = are_pieces (Certificate One) tt [] (turns_of h.commands found);
         text = h.is;
       },
     ) in

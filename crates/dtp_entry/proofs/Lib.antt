@@ -1,5 +1,6 @@
 pub mod Bests
 pub mod OneTranscript
+pub mod Pieces
 pub mod Roots
 pub mod Verdicts
 pub mod Written

@@ -33,7 +33,8 @@ use Rattle.dtp_entry.specs.declared.report.Report.TheVariants.{Verdicts, Certifi
 use Rattle.dtp_entry.specs.Bests.{IsBestFor}
 use Rattle.dtp_entry.specs.Entries.{AtCheckSat, AtMinimize, IsRight, verdict_of}
 use Rattle.dtp_entry.specs.Laws.{OneVerdict, OneTranscriptByEntries, OneTranscriptButGaps, AskNone, OneTranscript}
-use Rattle.dtp_entry.specs.Transcripts.{IsSo, Held, told, decision_line, opening, closing, piece_by, pieces, is_of_held, tells_held, line_with_gaps, lines_with_gaps, IsLegal, Output, IsOutput}
+use Rattle.dtp_entry.specs.Transcripts.{IsSo, Held, told, decision_line, opening, closing, piece_by, pieces, IsWritten, is_of_held, tells_held, line_with_gaps, lines_with_gaps, IsLegal, Output, IsOutput}
+use Rattle.dtp_entry.proofs.Pieces.{pieces_are}
 
 same_refusal : (e f : SexprRefusal) → unreadable e ≡ unreadable f → e ≡ f
 same_refusal e f h = cc
@@ -70,6 +71,12 @@ text_refl (Certificate v) q a = tt
 
 text_by : (r q : Report) (a b c d : List ℕ) → a ≡ c → b ≡ d → SameText r q c d → SameText r q a b
 text_by r q a b c d e f h = subst (λ (t : List ℕ). SameText r q t b) (sym e) (subst (λ (t : List ℕ). SameText r q c t) (sym f) h)
+
+-- what is written of turns with the same pieces
+text_written : (r q : Report) (ts us : List (Turn Entry)) (a b : List ℕ) → IsWritten r [] ts a → IsWritten q [] us b → SameText r q (pieces r ts) (pieces q us) → SameText r q a b
+text_written Verdicts Verdicts ts us a b h k e = pieces_are Verdicts tt [] ts a h ∙ e ∙ sym (pieces_are Verdicts tt [] us b k)
+text_written Verdicts (Certificate w) ts us a b h k e = tt
+text_written (Certificate v) q ts us a b h k e = tt
 
 -- the turns from here on, the text where there is a reason for it
 record Same (r q : Report) (Reason : Type 0) (ts us : List (Turn Entry)) : Type 0 where
@@ -354,9 +361,10 @@ module _ (one : OneOutcome) (bytes : List ℕ) (r q : Report) where
 
     output_one : OneOutput a b h.turns k.turns
     output_one = record {
-      text = λ found. text_by r q a.text b.text (opening r ++ pieces r ts) (opening q ++ pieces q us)
-          (h.text ∙ ap (λ (l : List (Turn Entry)). opening r ++ pieces r l) h.are.are.are) (k.text ∙ ap (λ (l : List (Turn Entry)). opening q ++ pieces q l) k.are.are.are)
-          (text_append r q (opening r) (opening q) (pieces r ts) (pieces q us) (opening_one r q) (same_turns.text (refl, used ∙ found ∙ sym used_too)));
+      text = λ found. text_by r q a.text b.text (opening r ++ h.written) (opening q ++ k.written) h.text k.text
+          (text_append r q (opening r) (opening q) h.written k.written (opening_one r q)
+          (text_written r q ts us h.written k.written (subst (λ (l : List (Turn Entry)). IsWritten r [] l h.written) h.are.are.are h.writes)
+          (subst (λ (l : List (Turn Entry)). IsWritten q [] l k.written) k.are.are.are k.writes) (same_turns.text (refl, used ∙ found ∙ sym used_too))));
       lines = ap (λ (l : List (Turn Entry)). lines_with_gaps l) h.are.are.are ∙ same_turns.lines ∙ sym (ap (λ (l : List (Turn Entry)). lines_with_gaps l) k.are.are.are);
       verdicts = sym (ap (map verdict_of) used) ∙ same_turns.verdicts ∙ ap (map verdict_of) used_too;
       said = sym (ap (map (decision_line Verdicts)) used) ∙ same_turns.said ∙ ap (map (decision_line Verdicts)) used_too;
@@ -457,4 +465,6 @@ transcript_one one asked_told script a b s t (found, h) none (others, k) =
     let of_course = subst AskNone h.are.are.are none in
     let quiet = have_lines asked_told h.are.are.commands (place 1 start_state None found) h.are.are.ending of_course in
     let has_lines = subst (AllByRecursion HasLine) (sym h.are.are.are) quiet in
-    (h.text ∙ text_of_lines h.turns k.turns has_lines lines.0 ∙ sym k.text, lines.1)
+    let of_pieces : h.written ≡ k.written =
+    pieces_are Verdicts tt [] h.turns h.written h.writes ∙ text_of_lines h.turns k.turns has_lines lines.0 ∙ sym (pieces_are Verdicts tt [] k.turns k.written k.writes) in
+    (h.text ∙ of_pieces ∙ sym k.text, lines.1)

@@ -2,6 +2,7 @@ pub mod Reports
 pub mod Bests
 pub mod Cores
 pub mod Entries
+pub mod Keeping
 pub mod Laws
 pub mod Transcripts
 pub mod Written

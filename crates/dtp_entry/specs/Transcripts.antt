@@ -11,9 +11,12 @@ use Rattle.smt_script.specs.Commands.{asked_terms, echoed_text, minimized}
 use Rattle.smt_script.specs.States.{State, Assumed, asked_of, levels_of}
 use Rattle.smt_answer.specs.Texts.{verdict_line, minimum_line, unbounded_line, success_line, unsupported_line, model_lines, values_line, cited_names, core_line, cited_items, assumptions_line, information_line, echo_line, error_line}
 use Rattle.cert_text.specs.declared.entry.Version.{Version}
+use Rattle.cert_text.specs.declared.entry.Version.TheVariants.{One, Two}
 use Rattle.cert_text.specs.declared.entry.Entry.{Entry}
 use Rattle.cert_text.specs.declared.entry.Entry.TheVariants.{Sat, Unsat, Best, Unbounded}
-use Rattle.cert_text.specs.Form.{header_sexpr, entry_sexpr, end_sexpr, line_of}
+use Rattle.cert_text.specs.Form.{header_sexpr, entry_sexpr, file_entry_sexpr, end_sexpr, line_of}
+use Rattle.kept_lemmas.specs.declared.item.Item.{Item}
+use Rattle.kept_lemmas.specs.Facts.{Shelf}
 use Rattle.stn_core.specs.declared.named.NamedValue.{NamedValue}
 use Rattle.refute_tree.specs.declared.lemma.Lemma.{Lemma}
 use Rattle.clause_form.specs.Restricting.{restricted}
@@ -26,6 +29,7 @@ use Rattle.dtp_entry.specs.Reports.{version_of}
 use Rattle.dtp_entry.specs.Bests.{IsBestFor, HasNoBest}
 use Rattle.dtp_entry.specs.Cores.{cites_assertion, NoneTogether}
 use Rattle.dtp_entry.specs.Entries.{IsEntryOf, verdict_of}
+use Rattle.dtp_entry.specs.Keeping.{shown_by, IsShownBy}
 use Rattle.script_walk.specs.Course.{start_with, Turn, Outcome, tells, answers, asks, ends, fails, IsCourseOf, status_of, answers_of, IsFit}
 use Rattle.dtp_entry.specs.Written.{IsFront}
 
@@ -149,9 +153,33 @@ piece_by report t (asks question x) = []
 piece_by report t ends = closing report
 piece_by report t (fails kind) = error_line t.before.number kind
 
+-- of turns, where each entry stands as it is
 abbrev pub pieces : Report → List (Turn Entry) → List ℕ
 pieces report [] = []
 pieces report (t ∷ ts) = piece_by report t t.outcome ++ pieces report ts
+
+-- The line of a question in a report, by the entry that decides it. On the first shelf stands what the entries before state, on the
+-- second one what is stated behind this one: in a certificate of the second version items stand in the place of the entry's
+-- lemmas, and may keep some of them. Else the entry stands as it is, and nothing is kept.
+abbrev pub IsLine : Report → Shelf → Question → Context → Entry → List ℕ → Shelf → Type 0
+IsLine Verdicts shelf question c entry line now = (line ≡ decision_line Verdicts entry) × (now ≡ shelf)
+IsLine (Certificate One) shelf question c entry line now = (line ≡ decision_line (Certificate One) entry) × (now ≡ shelf)
+IsLine (Certificate Two) shelf question c entry line now =
+    (items : List Item) × IsShownBy shelf question c entry items now × (line ≡ line_of (file_entry_sexpr (shown_by entry items)))
+
+-- what is written of a turn
+abbrev pub IsPiece : Report → Shelf → Turn Entry → Outcome Entry → List ℕ → Shelf → Type 0
+IsPiece report shelf t (answers question x entry) piece now = IsLine report shelf question t.state.context entry piece now
+IsPiece report shelf t (tells x notice) piece now = (piece ≡ piece_by report t (tells x notice)) × (now ≡ shelf)
+IsPiece report shelf t (asks question x) piece now = (piece ≡ []) × (now ≡ shelf)
+IsPiece report shelf t ends piece now = (piece ≡ closing report) × (now ≡ shelf)
+IsPiece report shelf t (fails kind) piece now = (piece ≡ error_line t.before.number kind) × (now ≡ shelf)
+
+-- of turns, one behind the other
+abbrev pub IsWritten : Report → Shelf → List (Turn Entry) → List ℕ → Type 0
+IsWritten report shelf [] text = text ≡ []
+IsWritten report shelf (t ∷ ts) text =
+    (piece rest : List ℕ) × (now : Shelf) × (text ≡ piece ++ rest) × IsPiece report shelf t t.outcome piece now × IsWritten report now ts rest
 
 -- what the mode holds is told: a model, values, a proof, a core or assumptions
 abbrev pub is_of_held : Notice → Bool
@@ -192,20 +220,24 @@ pub record AreTurns (report : Report) (script : List ℕ) (found : List Entry) (
   pub are : IsCourseOf verdict_of script 0 (start_with found) turns
   pub legal : AllByRecursion (IsLegal report) turns
 
--- what is written of a script, with the entries that decided its questions: the pieces of all its turns
+-- what is written of a script, with the entries that decided its questions: what is written of all its turns
 pub record IsOutput (report : Report) (script : List ℕ) (out : Output) : Type 0 where
   pub turns : List (Turn Entry)
   pub are : AreTurns report script out.found turns
   pub over : status_of turns ≡ Some out.status
   pub used : answers_of turns ≡ out.found
-  pub text : out.text ≡ opening report ++ pieces report turns
+  pub written : List ℕ
+  pub writes : IsWritten report [] turns written
+  pub text : out.text ≡ opening report ++ written
 
--- a legal front of what is written of a script: a front of the pieces of some turns
+-- a legal front of what is written of a script: a front of what is written of some turns
 pub record IsReportPart (report : Report) (script text : List ℕ) : Type 0 where
   pub found : List Entry
   pub turns : List (Turn Entry)
   pub are : AreTurns report script found turns
-  pub front : IsFront text (opening report ++ pieces report turns)
+  pub written : List ℕ
+  pub writes : IsWritten report [] turns written
+  pub front : IsFront text (opening report ++ written)
 
 -- what is written of a script, and the status
 abbrev pub IsReport : Report → List ℕ → List ℕ → ℕ → Type 0

@@ -13,6 +13,8 @@ use Rattle.clause_form.specs.Restricting.{restricted}
 use Rattle.idl_term.specs.Contexts.{Context, IsScheduleFor, IsContext, start, declares, defines, asserts, names}
 use Rattle.idl_term.specs.Scopes.{Scope, Declaration, sorts_of}
 use Rattle.idl_node.specs.Sorts.{AreOfSorts}
+use Rattle.idl_node.specs.Truth.{point_values, AreTruths}
+use Rattle.kept_lemmas.specs.Facts.{Shelf}
 use Rattle.refute_tree.specs.declared.lemma.Lemma.{Lemma}
 use Rattle.smt_script.specs.declared.state.Effect.TheVariants.{Tell}
 use Rattle.smt_script.specs.declared.state.Effect.{Effect}
@@ -38,14 +40,16 @@ use Rattle.dtp_entry.specs.Cores.{cites_assertion}
 use Rattle.dtp_entry.specs.Entries.{verdict_of}
 use Rattle.dtp_entry.specs.Reports.{version_of}
 use Rattle.dtp_entry.specs.Transcripts.{Held, schedule_in, told, told_proof, Decides}
-use Rattle.dtp_session.specs.declared.decision.Decision.{Decision}
 use Rattle.dtp_session.specs.declared.piece.Piece.{Piece}
 use Rattle.dtp_session.specs.declared.piece.Piece.TheVariants.{Proof, Told}
 use Rattle.dtp_session.specs.declared.piece.Piece.TheVariants as piece
 use Rattle.dtp_session.specs.declared.session.Session.{Session}
 use Rattle.dtp_session.specs.code.Decisions.{IsDecision}
-use Rattle.dtp_session.proofs.Deciding.{decision, schedule_decides}
-use Rattle.dtp_session.specs.code.Sessions.{ShowsSchedule, AreCitedIn, CitesAssumed, ShowsRefutation, ShowsVerdict, Holds, IsAskedIn, MayTell, KeepsReading, KeepsVerdict, KeepsPlace, Tells, IsChecked, IsAnswered}
+use Rattle.dtp_session.specs.code.Forms.{schedule_shown}
+use Rattle.dtp_session.specs.code.Keeping.{IsShownIn, passed}
+use Rattle.dtp_session.proofs.Deciding.{sat_decides, schedule_decides}
+use Rattle.dtp_session.proofs.Keeping.{passed_as}
+use Rattle.dtp_session.specs.code.Sessions.{ShowsSchedule, AreCitedIn, CitesAssumed, ShowsRefutation, ShowsVerdict, Holds, IsAskedIn, MayTell, KeepsReading, KeepsVerdict, Tells, IsChecked, IsAnswered}
 
 -- ---- behind a command
 
@@ -180,26 +184,26 @@ roots_counted _ (names c name t nodes root h free is) =
     let before = roots_counted c h in omega (arith, before, length-append c.roots (root ∷ []), length-append c.assertions (t ∷ []))
 
 -- of a decision of what was asked of (d), where c is active behind it
-module _ (version : Version) (question : Question) (x : Sexpr) (c d : Context) (assumed : Option Assumed) (cited : List Bool) (found : Decision)
-    (active : IsActive c d) (of : asked_by c assumed ≡ d) (decided : IsDecision version question x d found)
-    (cites : (lemmas : List Lemma) → found.found ≡ Unsat lemmas → CitesAssumed c assumed lemmas cited) where
-  scheduled : (entry : Entry) (schedule : List NamedValue) → found.found ≡ entry → schedule_in d entry ≡ Some schedule → ShowsSchedule c (asked_by c assumed) (Some found.found) found.given []
+module _ (version : Version) (question : Question) (x : Sexpr) (c d : Context) (assumed : Option Assumed) (cited : List Bool) (found : Entry) (given : Option (List NamedValue))
+    (active : IsActive c d) (of : asked_by c assumed ≡ d) (decided : IsDecision version question x d found given)
+    (cites : (lemmas : List Lemma) → found ≡ Unsat lemmas → CitesAssumed c assumed lemmas cited) where
+  scheduled : (entry : Entry) (schedule : List NamedValue) → found ≡ entry → schedule_in d entry ≡ Some schedule → ShowsSchedule c (asked_by c assumed) (Some found) given []
   scheduled entry schedule e is =
-      let in_entry : schedule_in d found.found ≡ Some schedule = ap (schedule_in d) e ∙ is in
+      let in_entry : schedule_in d found ≡ Some schedule = ap (schedule_in d) e ∙ is in
       let has = decided.satisfies schedule in_entry in
       record {
-        entry = found.found;
+        entry = found;
         schedule = schedule;
         held = refl;
         shown = decided.same ∙ in_entry;
-        is = schedule_same c d found.found active.declared ∙ in_entry;
+        is = schedule_same c d found active.declared ∙ in_entry;
         fits = fits_same c d schedule active.declared has.0.0;
         satisfies = subst (λ (k : Context). Satisfies k schedule) (sym of) has.0;
         within = has.1;
         truths = record { within = omega arith; each = λ k h. absurd (omega arith) };
       }
 
-  refuted : (lemmas : List Lemma) → found.found ≡ Unsat lemmas → ShowsRefutation version c assumed (Some found.found) cited
+  refuted : (lemmas : List Lemma) → found ≡ Unsat lemmas → ShowsRefutation version c assumed (Some found) cited
   refuted lemmas e = record {
     lemmas = lemmas;
     held = ap Some e;
@@ -208,15 +212,15 @@ module _ (version : Version) (question : Question) (x : Sexpr) (c d : Context) (
     cites = cites lemmas e;
   }
 
-  shows_entry : (s : State) (entry : Entry) → found.found ≡ entry → ShowsVerdict version (settled (verdict_of entry) s).mode c assumed (Some found.found) found.given [] cited
+  shows_entry : (s : State) (entry : Entry) → found ≡ entry → ShowsVerdict version (settled (verdict_of entry) s).mode c assumed (Some found) given [] cited
   shows_entry s (Sat schedule) e = scheduled (Sat schedule) schedule e refl
   shows_entry s (Unsat lemmas) e = refuted lemmas e
   shows_entry s (Best m schedule lemmas) e = scheduled (Best m schedule lemmas) schedule e refl
   shows_entry s (Unbounded values set) e = scheduled (Unbounded values set) (restricted (sorts_of d.declared) values) e refl
 
   -- a decision shows its verdict, before any value is asked for
-  pub decision_shows : (s : State) → ShowsVerdict version (settled (verdict_of found.found) s).mode c assumed (Some found.found) found.given [] cited
-  decision_shows s = shows_entry s found.found refl
+  pub decision_shows : (s : State) → ShowsVerdict version (settled (verdict_of found) s).mode c assumed (Some found) given [] cited
+  decision_shows s = shows_entry s found refl
 
 asked_active : (c : Context) (a : Option Assumed) → asked_by c a ≡ c → asked_by (active_by c a) a ≡ c
 asked_active c None h = h
@@ -237,38 +241,76 @@ cites_by s (Some a) lemmas cited of made active marks =
     }
 
 -- a session that holds a decision
-module _ (kept : Kept) (q : Session) (s : State) (version : Version) (question : Question) (x : Sexpr) (found : Decision) (at : Stands kept s) (asked : IsAskedIn question x s)
-    (decided : IsDecision version question x s.context found)
-    (cites : (lemmas : List Lemma) → s.assumed ≢ None → found.found ≡ Unsat lemmas → AreCitedIn s.context lemmas q.cited.items)
-    (e : version_of q.report ≡ version) (held : q.held ≡ Some found.found) (given : q.given ≡ found.given) (marks : q.marks.items ≡ []) where
-  shows_decided : ShowsVerdict version (settled (verdict_of found.found) s).mode (active_by s.context s.assumed) s.assumed (Some found.found) found.given [] q.cited.items
+module _ (kept : Kept) (q : Session) (s : State) (version : Version) (question : Question) (x : Sexpr) (found : Entry) (given : Option (List NamedValue)) (at : Stands kept s) (asked : IsAskedIn question x s)
+    (decided : IsDecision version question x s.context found given)
+    (cites : (lemmas : List Lemma) → s.assumed ≢ None → found ≡ Unsat lemmas → AreCitedIn s.context lemmas q.cited.items)
+    (e : version_of q.report ≡ version) (held : q.held ≡ Some found) (gives : q.given ≡ given) (marks : q.marks.items ≡ []) where
+  shows_decided : ShowsVerdict version (settled (verdict_of found) s).mode (active_by s.context s.assumed) s.assumed (Some found) given [] q.cited.items
   shows_decided =
       let active : IsActive (active_by s.context s.assumed) s.context = active_in kept s kept.assumed s.assumed at.stands at.stands.assumed in
-      decision_shows version question x (active_by s.context s.assumed) s.context s.assumed q.cited.items found active (asked_active s.context s.assumed asked.active) decided
+      decision_shows version question x (active_by s.context s.assumed) s.context s.assumed q.cited.items found given active (asked_active s.context s.assumed asked.active) decided
       (λ lemmas is. cites_by s s.assumed lemmas q.cited.items asked.active at.made.active active (λ some. cites lemmas some is)) s
 
-  pub holds_decision : Stands q.walk.state (settled (verdict_of found.found) s) → Holds q (settled (verdict_of found.found) s)
+  pub holds_decision : Stands q.walk.state (settled (verdict_of found) s) → Holds q (settled (verdict_of found) s)
   holds_decision stands = record {
     stands = stands;
-    shows = rw (e, held, given, marks, settled_active (verdict_of found.found) s, settled_assumed (verdict_of found.found) s) shows_decided;
+    shows = rw (e, held, gives, marks, settled_active (verdict_of found) s, settled_assumed (verdict_of found) s) shows_decided;
   }
 
   -- a question that was decided anew
-  pub decided_anew : (p : Session) → Stands q.walk.state (settled (verdict_of found.found) s) → q.walk.number ≡ p.walk.number + 1 → IsChecked question x p q s
-  decided_anew p stands number = record {
-    entry = found.found;
-    decides = subst (λ (v : Version). Decides v question x s.context found.found) (sym e) decided.decides;
+  pub decided_anew : (p : Session) → Stands q.walk.state (settled (verdict_of found) s) → q.walk.number ≡ p.walk.number + 1 → IsShownIn version p.earlier question s.context found q.items q.earlier → IsChecked question x p q s
+  decided_anew p stands number shows = record {
+    entry = found;
+    decides = subst (λ (v : Version). Decides v question x s.context found) (sym e) decided.decides;
     held = held;
     stands = holds_decision stands;
     number = number;
+    shows = subst (λ (v : Version). IsShownIn v p.earlier question s.context found q.items q.earlier) (sym e) shows;
   }
 
 -- one that a schedule answers
 pub satisfied_by : (kept : Kept) (p q : Session) (s : State) (x : Sexpr) (values : List NamedValue) → Stands kept s → IsAskedIn CheckSat x s → Satisfies s.context values → AreWithinLimit values
-    → Stands q.walk.state (settled verdict.Sat s) → q.held ≡ Some (Sat values) → q.given ≡ None → q.marks.items ≡ [] → q.walk.number ≡ p.walk.number + 1 → IsChecked CheckSat x p q s
-satisfied_by kept p q s x values at asked satisfies within stands held given marks number =
-    decided_anew kept q s (version_of q.report) CheckSat x (decision (Sat values) None) at asked (schedule_decides s.context (version_of q.report) x values satisfies within)
-    (λ lemmas some e. absurd cc) refl held given marks p stands number
+    → Stands q.walk.state (settled verdict.Sat s) → q.held ≡ Some (Sat values) → q.given ≡ None → q.marks.items ≡ [] → q.walk.number ≡ p.walk.number + 1 → q.earlier ≡ passed (version_of q.report) p.earlier
+    → IsChecked CheckSat x p q s
+satisfied_by kept p q s x values at asked satisfies within stands held given marks number earlier =
+    let decided = schedule_decides s.context (version_of q.report) x values satisfies within in
+    decided_anew kept q s (version_of q.report) CheckSat x (Sat values) None at asked decided (λ lemmas some e. absurd cc) refl held given marks p stands number
+    (passed_as (version_of q.report) p.earlier q.earlier CheckSat x s.context (Sat values) (Sat values) q.items refl tt decided.decides.right earlier)
+
+same_entry : (a b : Entry) → ◌≡◌ {A = Held} (Some a) (Some b) → a ≡ b
+same_entry a b e = cc
+
+-- one that the schedule answers that is held
+pub satisfied_again : (p q : Session) (s : State) (x : Sexpr) (found made : Entry) → Holds p s → IsAskedIn CheckSat x s → p.walk.state.mode ≡ mode.Sat → p.held ≡ Some found
+    → ((schedule : List NamedValue) → schedule_shown p.given found ≡ Some schedule → made ≡ Sat schedule) → Stands q.walk.state (settled verdict.Sat s) → q.held ≡ Some made → q.marks.items ≡ p.marks.items
+    → q.walk.number ≡ p.walk.number + 1 → q.earlier ≡ passed (version_of q.report) p.earlier → IsChecked CheckSat x p q s
+satisfied_again p q s x found made holds asked sat has makes stands held marks number earlier =
+    let is_sat = mode_is p s mode.Sat holds sat in
+    let w = held_schedule p s holds is_sat in
+    let none = alone_behind CheckSat x s mode.Sat asked is_sat (λ e. absurd cc) in
+    let same : w.entry ≡ found = same_entry w.entry found (sym w.held ∙ has) in
+    let is : made ≡ Sat w.schedule = makes w.schedule (ap (schedule_shown p.given) (sym same) ∙ w.shown) in
+    let satisfies : Satisfies s.context w.schedule = subst (λ (k : Context). Satisfies k w.schedule) asked.active w.satisfies in
+    let decides : Decides (version_of q.report) CheckSat x s.context (Sat w.schedule) = sat_decides s.context (version_of q.report) x w.schedule satisfies w.within in
+    let shown : ShowsSchedule s.context s.context q.held q.given q.marks.items = record {
+      entry = Sat w.schedule;
+      schedule = w.schedule;
+      held = held ∙ ap Some is;
+      shown = refl;
+      is = refl;
+      fits = w.fits;
+      satisfies = satisfies;
+      within = w.within;
+      truths = subst (λ (bs : List Bool). AreTruths s.context.nodes (point_values w.schedule) bs) (sym marks) w.truths;
+    } in
+    record {
+      entry = Sat w.schedule;
+      decides = decides;
+      held = held ∙ ap Some is;
+      stands = record { stands = stands; shows = rw (active_is verdict.Sat s None none, settled_assumed verdict.Sat s, none) shown };
+      number = number;
+      shows = passed_as (version_of q.report) p.earlier q.earlier CheckSat x s.context (Sat w.schedule) (Sat w.schedule) q.items refl tt decides.right earlier;
+    }
 
 -- ---- where what is kept of a schedule is all that was changed
 
@@ -282,6 +324,7 @@ checked_aside p mid q s question x same h = record {
   held = h.held;
   stands = h.stands;
   number = h.number ∙ ap (λ (m : Session). m.walk.number + 1) same;
+  shows = subst (λ (k : Shelf). IsShownIn (version_of q.report) k question s.context h.entry q.items q.earlier) (ap (λ (m : Session). m.earlier) same) h.shows;
 }
 
 pub answered_aside : (p mid q : Session) (s : State) (question : Question) (x : Sexpr) (found : Piece) → mid ≡ record p { kept = mid.kept } → IsAnswered question x mid q s found → IsAnswered question x p q s found
@@ -294,8 +337,8 @@ answered_aside p mid q s question x piece.Closing same h = h
 
 -- and one that the refutation answers that is held
 pub refuted_again : (p q : Session) (s : State) (question : Question) (x : Sexpr) → Holds p s → IsAskedIn question x s → p.walk.state.mode ≡ mode.Unsat → Stands q.walk.state (settled verdict.Unsat s) → q.held ≡ p.held → q.report ≡ p.report
-    → q.walk.number ≡ p.walk.number + 1 → IsChecked question x p q s
-refuted_again p q s question x holds asked unsat stands held report number =
+    → q.walk.number ≡ p.walk.number + 1 → ((lemmas : List Lemma) → IsShownIn (version_of q.report) p.earlier question s.context (Unsat lemmas) q.items q.earlier) → IsChecked question x p q s
+refuted_again p q s question x holds asked unsat stands held report number shows =
     let is_unsat = mode_is p s mode.Unsat holds unsat in
     let w = held_refutation p s holds is_unsat in
     let none = alone_behind question x s mode.Unsat asked is_unsat (λ e. absurd cc) in
@@ -309,6 +352,7 @@ refuted_again p q s question x holds asked unsat stands held report number =
       held = held ∙ w.held;
       stands = record { stands = stands; shows = rw (active_is verdict.Unsat s None none, settled_assumed verdict.Unsat s, none) shown };
       number = number;
+      shows = shows w.lemmas;
     }
 
 -- a walk that was only told of is as ready as before

@@ -46,9 +46,9 @@ use Rattle.dtp_entry.specs.Entries.{points_of, problem_of, problem_below, IsProb
 use Rattle.dtp_entry.specs.Transcripts.{Decides, schedule_in}
 use Rattle.dtp_entry.specs.code.Asking.{IsAskedBy}
 use Rattle.dtp_entry.proofs.Bests.{Laws, solution_schedule, value_restricted, right_is_so}
-use Rattle.dtp_session.specs.declared.decision.Decision.{Decision}
 use Rattle.dtp_session.specs.code.Forms.{formed, schedule_shown}
-use Rattle.dtp_session.specs.code.Decisions.{IsTaken, IsDecision, IsKeptOf, IsShownRefuted, IsShownLeast}
+use Rattle.dtp_session.specs.code.Decisions.{IsTaken, IsDecision, IsKeptOf, IsShownRefuted, IsShownLeast, RefutesLess}
+use Rattle.dtp_session.specs.code.Keeping.{IsProblemFor}
 use Rattle.dtp_session.proofs.Fitting.{IsFormed, refutation_within, written_lemmas_over, written_without_clash}
 use Rattle.dtp_session.proofs.Shortening.{short_lemmas_over, lemmas_short, formed_second}
 
@@ -136,10 +136,13 @@ least_shown version problem question o schedule d e m lemmas kept found asks sam
   shown = shown ∙ ap (λ (z : ℤ). Best z schedule (map (formed version question.clauses) kept)) sum;
 }
 
--- ---- decisions
+-- what is kept refutes the question
+pub less_refuted : (problem question : Problem) (o : Objective) (d e : ℤ) (lemmas kept : List Lemma) → Asks problem o.x o.y e question → e ≡ d → IsKeptOf question.clauses lemmas kept → RefutesLess problem o d lemmas → IsRefutation question.points question.clauses kept
+less_refuted problem question o d e lemmas kept asks same is_kept refuted =
+    let here : Asks problem o.x o.y d question = subst (λ (z : ℤ). Asks problem o.x o.y z question) same asks in
+    is_kept.refutes question.points question.clauses (refuted_as problem.points question.points _ question.clauses lemmas (sym here.points) (sym here.clauses) refuted)
 
-abbrev pub decision : Entry → Option (List NamedValue) → Decision
-decision found given = record { found = found; given = given }
+-- ---- decisions
 
 same_schedule : (a b : List NamedValue) → ◌≡◌ {A = Option (List NamedValue)} (Some a) (Some b) → a ≡ b
 same_schedule a b e = cc
@@ -148,7 +151,7 @@ module _ (c : Context) where
   -- a decision by an entry with this schedule
   with_schedule : (version : Version) (question : Question) (x : Sexpr) (entry : Entry) (schedule : List NamedValue) (given : Option (List NamedValue))
       → Decides version question x c entry → (same : schedule_shown given entry ≡ schedule_in c entry) → schedule_in c entry ≡ Some schedule → Satisfies c schedule → AreWithinLimit schedule
-      → IsDecision version question x c (decision entry given)
+      → IsDecision version question x c entry given
   with_schedule version question x entry schedule given decides same is satisfies within = record {
     decides = decides;
     same = same;
@@ -164,14 +167,14 @@ module _ (c : Context) where
       record { right = record { right = satisfies; fits = within; form = sat_in_form version named }; so = (named, satisfies.0, satisfies.1) }
 
   -- a schedule decides a check-sat
-  pub schedule_decides : (version : Version) (x : Sexpr) (named : List NamedValue) → Satisfies c named → AreWithinLimit named → IsDecision version CheckSat x c (decision (Sat named) None)
+  pub schedule_decides : (version : Version) (x : Sexpr) (named : List NamedValue) → Satisfies c named → AreWithinLimit named → IsDecision version CheckSat x c (Sat named) None
   schedule_decides version x named satisfies within =
       with_schedule version CheckSat x (Sat named) named None (sat_decides version x named satisfies within) refl refl satisfies within
 
 module _ (laws : Laws) (c : Context) (context : IsContext c) where
   decision_as : (version : Version) (question : Question) (x : Sexpr) (entry found : Entry) (given : Option (List NamedValue)) → found ≡ entry
-      → IsDecision version question x c (decision entry given) → IsDecision version question x c (decision found given)
-  decision_as version question x entry found given e h = subst (λ (f : Entry). IsDecision version question x c (decision f given)) (sym e) h
+      → IsDecision version question x c entry given → IsDecision version question x c found given
+  decision_as version question x entry found given e h = subst (λ (f : Entry). IsDecision version question x c f given) (sym e) h
 
   -- what the values give
   given_satisfies : (values : List ℤ) (named : List NamedValue) → length values ≡ points_of c → ProblemHolds values (problem_of c) → named ≡ restricted (sorts_of c.declared) values → Satisfies c named
@@ -184,7 +187,7 @@ module _ (laws : Laws) (c : Context) (context : IsContext c) where
     -- ---- a schedule
 
     pub sat_decision : (version : Version) (x : Sexpr) (values : List ℤ) (named : List NamedValue) (found : Entry) → IsSolution problem values → named ≡ restricted (sorts_of c.declared) values → AreWithinLimit named → found ≡ Sat named
-        → IsDecision version CheckSat x c (decision found None)
+        → IsDecision version CheckSat x c found None
     sat_decision version x values named found solution e within is_found =
         let satisfies = solution_satisfies values named solution e in
         decision_as version CheckSat x (Sat named) found None is_found
@@ -199,7 +202,7 @@ module _ (laws : Laws) (c : Context) (context : IsContext c) where
         subst (λ (cs : List (List Literal)). All (IsShort cs) (map (formed Two problem.clauses) kept)) is.clauses (shown_short form_laws problem kept h all)
 
     pub unsat_decision : (form_laws : FormLaws) (version : Version) (question : Question) (x : Sexpr) (lemmas : List Lemma) (found : Entry) → IsAskedBy question x c → answer.IsNothing problem lemmas → IsShownRefuted version problem lemmas found
-        → IsDecision version question x c (decision found None)
+        → IsDecision version question x c found None
     unsat_decision form_laws version question x lemmas found asked h s =
         let kept = s.kept in
         let refuted = s.is_kept.refutes problem.points problem.clauses h.0 in
@@ -216,6 +219,10 @@ module _ (laws : Laws) (c : Context) (context : IsContext c) where
         } in
         decision_as version question x (Unsat entry) found None s.shown (record { decides = decides; same = refl; satisfies = λ schedule e. absurd cc })
 
+    -- over this problem
+    pub refuted_for : (version : Version) (question : Question) (lemmas : List Lemma) (found : Entry) → IsShownRefuted version problem lemmas found → IsProblemFor question c problem.points problem.clauses found
+    refuted_for version question lemmas found s = subst (λ (e : Entry). IsProblemFor question c problem.points problem.clauses e) (sym s.shown) (is.points, is.clauses)
+
     -- ---- a least value
 
     module _ (o : Objective) (x : Sexpr) (asked : IsAskedBy (Minimize o) x c) where
@@ -227,6 +234,11 @@ module _ (laws : Laws) (c : Context) (context : IsContext c) where
       question_is difference question e =
           e ∙ ap (λ (cs : List (List Literal)). cs ++ (below o.x o.y difference ∷ []) ∷ []) is.clauses
           ∙ ap (λ (d : ℤ). problem_of c ++ (below o.x o.y d ∷ []) ∷ []) (sym (back difference o.k))
+
+      pub least_for : (version : Version) (schedule : List NamedValue) (difference : ℤ) (lemmas : List Lemma) (found : Entry) (question : Problem) → Asks problem o.x o.y difference question → IsShownLeast version problem o schedule difference lemmas found
+          → IsProblemFor (Minimize o) c question.points question.clauses found
+      least_for version schedule difference lemmas found question asks s =
+          subst (λ (e : Entry). IsProblemFor (Minimize o) c question.points question.clauses e) (sym s.shown) (asks.points ∙ is.points, question_is difference question asks.clauses)
 
       least_in_form : (version : Version) (difference : ℤ) (schedule : List NamedValue) (question : Problem) → question.clauses ≡ problem_below c o (difference +ℤ o.k)
           → (form_laws : FormLaws) (kept : List Lemma) (h : IsRefutation question.points question.clauses kept) (all : All (LemmaIsOver question.points) kept)
@@ -245,7 +257,7 @@ module _ (laws : Laws) (c : Context) (context : IsContext c) where
 
       pub least_decision : (form_laws : FormLaws) (version : Version) (values : List ℤ) (schedule : List NamedValue) (difference : ℤ) (lemmas : List Lemma) (found : Entry)
           → answer.IsLeast problem o.x o.y values difference lemmas → schedule ≡ restricted (sorts_of c.declared) values → AreWithinLimit schedule → IsShownLeast version problem o schedule difference lemmas found
-          → IsDecision version (Minimize o) x c (decision found None)
+          → IsDecision version (Minimize o) x c found None
       least_decision form_laws version values schedule difference lemmas found h e within s =
           let m : ℤ = difference +ℤ o.k in
           let question = s.question in
@@ -287,7 +299,7 @@ module _ (laws : Laws) (c : Context) (context : IsContext c) where
 
       pub unbounded_decision : (version : Version) (values : List ℤ) (set : List ℕ) (schedule : List NamedValue) (found : Entry)
           → answer.IsUnbounded problem o.x o.y values set → schedule ≡ restricted (sorts_of c.declared) values → AreWithinLimit schedule → found ≡ Unbounded values set
-          → IsDecision version (Minimize o) x c (decision found (Some schedule))
+          → IsDecision version (Minimize o) x c found (Some schedule)
       unbounded_decision version values set schedule found h e within is_found =
           let few = problem.few in
           let right : IsUnbounded c o values set = record {

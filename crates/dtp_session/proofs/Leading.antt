@@ -8,6 +8,7 @@ use Rattle.script_walk.specs.Course.{Turn, Outcome, status_of, answers_of}
 use Rattle.dtp_entry.specs.declared.report.Report.{Report}
 use Rattle.dtp_entry.specs.declared.report.Report.TheVariants.{Verdicts}
 use Rattle.dtp_entry.specs.Transcripts.{opening, pieces, AreTurns, IsLegal}
+use Rattle.dtp_entry.proofs.Pieces.{are_pieces}
 use Rattle.dtp_session.specs.Leasts.{minimum_by, last_minimum, IsLeastOf}
 use Rattle.dtp_session.specs.declared.least.Minimum.{Minimum}
 use Rattle.dtp_session.specs.declared.session.Session.{Session}
@@ -65,7 +66,15 @@ module _ (script : List ℕ) (p : Session) (before : Option Minimum) (h : IsLeas
   least_ends now (end, same) =
       let all = h.whole [] 0 end.turns end.runs in (
         record { text = opening Verdicts ++ pieces Verdicts all.0; found = h.found ++ []; status = 0 },
-        record { turns = all.0; are = all.1.are; over = all.1.over; used = all.1.used; text = refl },
+        record {
+          turns = all.0;
+          are = all.1.are;
+          over = all.1.over;
+          used = all.1.used;
+          written = pieces Verdicts all.0;
+          writes = are_pieces Verdicts tt [] all.0;
+          text = refl;
+        },
         same ∙ sym (all.2 ∙ end.same before),
       )
 
@@ -74,6 +83,14 @@ module _ (script : List ℕ) (p : Session) (before : Option Minimum) (h : IsLeas
   least_stops now (end, same) =
       let all = h.whole [] 1 end.turns end.runs in (
         record { text = opening Verdicts ++ pieces Verdicts all.0; found = h.found ++ []; status = 1 },
-        record { turns = all.0; are = all.1.are; over = all.1.over; used = all.1.used; text = refl },
+        record {
+          turns = all.0;
+          are = all.1.are;
+          over = all.1.over;
+          used = all.1.used;
+          written = pieces Verdicts all.0;
+          writes = are_pieces Verdicts tt [] all.0;
+          text = refl;
+        },
         refl,
       )

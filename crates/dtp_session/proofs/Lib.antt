@@ -1,5 +1,6 @@
 pub mod Answering
 pub mod Fitting
+pub mod Keeping
 pub mod Shortening
 pub mod Looping
 pub mod Leading

@@ -11,7 +11,8 @@ use Rattle.script_walk.specs.code.Events.{IsReady as IsWalkReady}
 use Rattle.script_walk.proofs.Turns.{stopped_from}
 use Rattle.dtp_entry.specs.declared.report.Report.{Report}
 use Rattle.dtp_entry.specs.Entries.{verdict_of}
-use Rattle.dtp_entry.specs.Transcripts.{opening, Output, pieces, IsOutput, IsReport, IsReportPart}
+use Rattle.kept_lemmas.specs.Facts.{Shelf}
+use Rattle.dtp_entry.specs.Transcripts.{opening, Output, IsWritten, IsOutput, IsReport, IsReportPart}
 use Rattle.dtp_entry.specs.Written.{Writes, IsFront, IsPartOf, HasFault}
 use Rattle.dtp_entry.proofs.Written.{appends_nothing}
 use Rattle.dtp_session.specs.declared.piece.Piece.{Piece}
@@ -39,6 +40,10 @@ module _ (p : Session) (start : IsStart p) where
       let at_start = subst (λ (o : Place Entry). IsCourseOf verdict_of p.walk.lexer.bytes p.walk.lexer.place o turns) (same_place p start_state None left 1 start.walk.number start.held) h in
       subst (λ (n : ℕ). IsCourseOf verdict_of p.walk.lexer.bytes n (start_with left) turns) start.walk.place at_start
 
+  -- nothing is stated yet
+  start_writes : (turns : List (Turn Entry)) (text : List ℕ) → IsWritten p.report p.earlier turns text → IsWritten p.report [] turns text
+  start_writes turns text h = subst (λ (shelf : Shelf). IsWritten p.report shelf turns text) start.earlier h
+
   so_far_by : (before now : Option (List ℕ)) (text : List ℕ) → Appends before now text → text ≡ opening p.report → IsSoFar p.report p.walk.lexer.bytes p before now
   so_far_by before now text adds is = record {
     s = start_state;
@@ -51,14 +56,17 @@ module _ (p : Session) (start : IsStart p) where
       are = record { are = start_are rest.found from.turns from.runs.are; legal = from.runs.legal };
       over = from.runs.over;
       used = from.runs.used;
-      text = ap (λ (t : List ℕ). t ++ rest.text) is ∙ ap (λ (t : List ℕ). opening p.report ++ t) from.text;
+      written = rest.text;
+      writes = start_writes from.turns rest.text from.writes;
+      text = ap (λ (t : List ℕ). t ++ rest.text) is;
     };
     part = λ rest from. record {
       found = from.found;
       turns = from.turns;
       are = record { are = start_are from.found from.turns from.are; legal = from.legal };
-      front = subst (λ (t : List ℕ). IsFront (t ++ rest) (opening p.report ++ pieces p.report from.turns)) (sym is)
-          (front_behind (opening p.report) rest (pieces p.report from.turns) from.front);
+      written = from.written;
+      writes = start_writes from.turns from.written from.writes;
+      front = subst (λ (t : List ℕ). IsFront (t ++ rest) (opening p.report ++ from.written)) (sym is) (front_behind (opening p.report) rest from.written from.front);
     };
   }
 
@@ -70,6 +78,8 @@ module _ (p : Session) (start : IsStart p) where
     found = [];
     turns = [];
     are = record { are = stopped_from verdict_of p.walk.lexer.bytes 0 (start_with []); legal = tt };
+    written = [];
+    writes = refl;
     front = front;
   }
 

@@ -14,12 +14,12 @@ use Rattle.idl_node.specs.Truth.{point_values, AreTruths}
 use Rattle.idl_term.specs.Applied.{Made}
 use Rattle.idl_term.specs.Contexts.{Context, IsScheduleFor, environment}
 use Rattle.idl_term.specs.Lowered.{lowered}
-use Rattle.idl_term.specs.Scopes.{Scope, Declaration}
+use Rattle.idl_term.specs.Scopes.{Scope}
 use Rattle.idl_term.specs.Values.{Value, value}
 use Rattle.idl_term.specs.declared.error.TermRefusal.{TermRefusal}
 use Rattle.idl_term.proofs.Evaluating.{values_count}
 use Rattle.smt_answer.specs.code.Answers.{AreAnswers, is_marked}
-use Rattle.smt_answer.specs.Texts.{information_line, model_lines, values_line, cited_names, core_line, with_item, cited_items, assumptions_line}
+use Rattle.smt_answer.specs.Texts.{information_line, values_line, cited_names, core_line, with_item, cited_items, assumptions_line}
 use Rattle.smt_answer.proofs.Cores.{names_same}
 use Rattle.smt_sexpr.specs.Shapes.{items_of}
 use Rattle.smt_script.specs.code.Kept.{Kept, IsAssumed, AssumedStands, sexpr_of}
@@ -37,12 +37,12 @@ use Rattle.smt_script.proofs.Levels.{levels_count}
 use Rattle.script_walk.specs.code.Standing.{Stands}
 use Rattle.unsat_cores.specs.Cores.{is_cited_root}
 use Rattle.dtp_entry.specs.Cores.{cites_assertion}
-use Rattle.dtp_entry.specs.Transcripts.{Held, schedule_held, told_of, told, told_model, told_values, told_core, assumptions_of, told_assumptions}
+use Rattle.dtp_entry.specs.Transcripts.{Held, schedule_held, told_of, told, told_values, told_core, assumptions_of, told_assumptions}
 use Rattle.dtp_entry.specs.declared.report.Report.TheVariants.{Verdicts}
 use Rattle.dtp_entry.proofs.Verdicts.{sorts_count}
 use Rattle.dtp_session.specs.declared.session.Session.{Session}
 use Rattle.dtp_session.specs.code.Forms.{schedule_shown, CiteSame}
-use Rattle.dtp_session.specs.code.Sessions.{AreCitedIn, AreCitedBy, CitesAssumed, Holds}
+use Rattle.dtp_session.specs.code.Sessions.{AreCitedBy, CitesAssumed, Holds}
 use Rattle.dtp_session.proofs.Answering.{held_schedule, held_refutation}
 
 -- ---- information

@@ -4,12 +4,12 @@ use Rattle.std.proofs.lemmas.Result.{on_ok_weaker, on_err_weaker}
 use Rattle.cert_text.specs.declared.entry.Entry.{Entry}
 use Rattle.cert_text.specs.Form.{entry_sexpr, line_of}
 use Rattle.dtp_entry.specs.declared.error.SessionError.{SessionError}
-use Rattle.dtp_entry.specs.Transcripts.{decision_line}
 use Rattle.dtp_entry.specs.Written.{Writes, IsPartOf, WritesOne}
 use Rattle.dtp_entry.proofs.Written.{appends_nothing}
 use Rattle.dtp_session.specs.declared.piece.Piece.{Piece}
 use Rattle.dtp_session.specs.declared.piece.Piece.TheVariants.{Decision, Proof}
 use Rattle.dtp_session.specs.declared.session.Session.{Session}
+use Rattle.dtp_session.specs.code.Keeping.{line_shown}
 use Rattle.dtp_session.specs.code.Sessions.{IsText}
 
 -- what is legal for one reason is legal for another
@@ -26,10 +26,10 @@ module _ (P Q : List ℕ → Type 0) (f : (text : List ℕ) → P text → Q tex
   }
 
 pub decision_told : (p : Session) (entry : Entry) (before now : Option (List ℕ)) (faults_before faults_now : ℕ) (r : Result (Unit {0}) SessionError) → p.held ≡ Some entry
-    → WritesOne (λ text. text ≡ decision_line p.report entry) before now faults_before faults_now r → WritesOne (IsText p Decision) before now faults_before faults_now r
+    → WritesOne (λ text. text ≡ line_shown p.report entry p.items) before now faults_before faults_now r → WritesOne (IsText p Decision) before now faults_before faults_now r
 decision_told p entry before now faults_before faults_now r held h =
-    writes_too (λ text. text ≡ decision_line p.report entry) (IsText p Decision)
-    (λ text is other e. (let same : entry ≡ other = (let both : Some entry ≡ Some other = sym held ∙ e in cc) in is ∙ ap (decision_line p.report) same))
+    writes_too (λ text. text ≡ line_shown p.report entry p.items) (IsText p Decision)
+    (λ text is other e. (let same : entry ≡ other = (let both : Some entry ≡ Some other = sym held ∙ e in cc) in is ∙ ap (λ (found : Entry). line_shown p.report found p.items) same))
     before now faults_before faults_now r h
 
 pub proof_told : (p : Session) (entry : Entry) (before now : Option (List ℕ)) (faults_before faults_now : ℕ) (r : Result (Unit {0}) SessionError) → p.held ≡ Some entry

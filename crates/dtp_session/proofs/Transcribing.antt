@@ -18,13 +18,16 @@ use Rattle.script_walk.proofs.Turns.{IsLast, stopped_from, told_from, answered_f
 use Rattle.dtp_entry.specs.declared.report.Report.{Report}
 use Rattle.dtp_entry.specs.Entries.{verdict_of}
 use Rattle.dtp_entry.specs.Reports.{version_of}
-use Rattle.dtp_entry.specs.Transcripts.{Held, closing, decision_line, told, Decides, pieces, IsLegal}
+use Rattle.kept_lemmas.specs.Facts.{Shelf}
+use Rattle.dtp_entry.specs.Transcripts.{Held, closing, told, Decides, IsPiece, IsWritten, IsLegal}
 use Rattle.dtp_entry.specs.Written.{IsFront}
 use Rattle.dtp_session.specs.declared.piece.Piece.{Piece}
 use Rattle.dtp_session.specs.declared.piece.Piece.TheVariants.{Opening, Decision, Proof, Told, Closing, Error}
 use Rattle.dtp_session.specs.declared.session.Session.{Session}
+use Rattle.dtp_session.specs.code.Keeping.{IsShownIn, line_shown}
 use Rattle.dtp_session.specs.code.Leading.{LeadsOn, EndsHere}
 use Rattle.dtp_session.specs.code.Sessions.{IsText, Holds, place_of, Runs, PartFrom, KeepsReading, KeepsPlace, Tells, IsChecked, IsGoing, GoesOn, Leads, IsNext}
+use Rattle.dtp_session.proofs.Keeping.{line_legal}
 
 -- ---- fronts
 
@@ -47,6 +50,8 @@ nothing_yet p s added e = record {
   turns = [];
   are = stopped_from verdict_of p.walk.lexer.bytes p.walk.lexer.place (place_of p s []);
   legal = tt;
+  written = [];
+  writes = refl;
   front = nothing_front added [] e;
 }
 
@@ -61,12 +66,14 @@ module _ (p q : Session) (s : State) (report : q.report ≡ p.report) where
           turns = t ∷ [];
           are = end.is;
           legal = (tt, tt);
+          written = closing p.report ++ [];
+          writes = (closing p.report, [], p.earlier, refl, (refl, refl), refl);
           front = front_more added (closing p.report) [] (front_of added text (closing p.report) (is ∙ ap closing report) front);
         };
         leads = λ text is. record {
           turns = t ∷ [];
           runs = record { are = end.is; legal = (tt, tt); over = refl; used = refl };
-          text = is ∙ ap closing report ∙ sym (append-nil (closing p.report));
+          writes = (text, [], p.earlier, sym (append-nil text), (is ∙ ap closing report, refl), refl);
         };
       }
 
@@ -81,12 +88,14 @@ module _ (p q : Session) (s : State) (report : q.report ≡ p.report) where
           turns = t ∷ [];
           are = is_last;
           legal = (tt, tt);
+          written = error_line p.walk.number kind ++ [];
+          writes = (error_line p.walk.number kind, [], p.earlier, refl, (refl, refl), refl);
           front = front_more added (error_line p.walk.number kind) [] (front_of added text (error_line p.walk.number kind) (is ∙ line) front);
         };
         leads = λ text is. record {
           turns = t ∷ [];
           runs = record { are = is_last; legal = (tt, tt); over = refl; used = refl };
-          text = is ∙ line ∙ sym (append-nil (error_line p.walk.number kind));
+          writes = (text, [], p.earlier, sym (append-nil text), (is ∙ line, refl), refl);
         };
       }
 
@@ -112,8 +121,8 @@ module _ (p : Session) (s : State) where
 abbrev pub next_place : Session → State → Held → List Entry → Place Entry
 next_place p next held left = record { number = p.walk.number + 1; state = next; held = held; left = left }
 
--- a first turn from here, which comes to this, with these entries used and this line written, and a state behind it
-pub record IsStep (p : Session) (s : State) (mid : ℕ) (next : State) (held : Held) (found : List Entry) (line : List ℕ) (outcome : Outcome Entry) : Type 0 where
+-- a first turn from here, which comes to this, with these entries used and this line written, and a state and a shelf behind it
+pub record IsStep (p : Session) (s : State) (mid : ℕ) (next : State) (held : Held) (found : List Entry) (line : List ℕ) (now : Shelf) (outcome : Outcome Entry) : Type 0 where
   pub first : List Entry → Turn Entry
   pub comes : (left : List Entry) → (first left).outcome ≡ outcome
   pub are : (left : List Entry) (turns : List (Turn Entry)) → IsCourseOf verdict_of p.walk.lexer.bytes mid (next_place p next held left) turns
@@ -121,7 +130,7 @@ pub record IsStep (p : Session) (s : State) (mid : ℕ) (next : State) (held : H
   pub legal : (left : List Entry) → IsLegal p.report (first left)
   pub used : (left : List Entry) (turns : List (Turn Entry)) → answers_of (first left ∷ turns) ≡ found ++ answers_of turns
   pub status : (left : List Entry) (turns : List (Turn Entry)) → status_of (first left ∷ turns) ≡ status_of turns
-  pub text : (left : List Entry) (turns : List (Turn Entry)) → pieces p.report (first left ∷ turns) ≡ line ++ pieces p.report turns
+  pub writes : (left : List Entry) → IsPiece p.report p.earlier (first left) (first left).outcome line now
 
 going_leads : (p q : Session) (s : State) (piece : Piece) → IsGoing piece → GoesOn p q s piece → Leads p q s piece
 going_leads p q s Opening going h = h
@@ -139,15 +148,16 @@ same_place q next held left k e f =
     ap (λ (n : ℕ). of_all n q.held) e ∙ ap (λ (h : Held). of_all k h) f
 
 -- the session behind the turn
-pub record IsBehind (p q : Session) (mid : ℕ) (held : Held) : Type 0 where
+pub record IsBehind (p q : Session) (mid : ℕ) (held : Held) (now : Shelf) : Type 0 where
   pub place : q.walk.lexer.place ≡ mid
   pub bytes : q.walk.lexer.bytes ≡ p.walk.lexer.bytes
   pub number : q.walk.number ≡ p.walk.number + 1
   pub shows : q.held ≡ held
   pub report : q.report ≡ p.report
+  pub earlier : q.earlier ≡ now
 
-module _ (p q : Session) (s : State) (mid : ℕ) (next : State) (held : Held) (found : List Entry) (line : List ℕ) (outcome : Outcome Entry)
-    (step : IsStep p s mid next held found line outcome) (there : IsBehind p q mid held) where
+module _ (p q : Session) (s : State) (mid : ℕ) (next : State) (held : Held) (found : List Entry) (line : List ℕ) (now : Shelf) (outcome : Outcome Entry)
+    (step : IsStep p s mid next held found line now outcome) (there : IsBehind p q mid held now) where
   are_there : (left : List Entry) (turns : List (Turn Entry)) → IsCourseOf verdict_of q.walk.lexer.bytes q.walk.lexer.place (place_of q next left) turns
       → IsCourseOf verdict_of p.walk.lexer.bytes mid (next_place p next held left) turns
   are_there left turns h =
@@ -158,8 +168,8 @@ module _ (p q : Session) (s : State) (mid : ℕ) (next : State) (held : Held) (f
   legal_there : (turns : List (Turn Entry)) → AllByRecursion (IsLegal q.report) turns → AllByRecursion (IsLegal p.report) turns
   legal_there turns h = subst (λ (r : Report). AllByRecursion (IsLegal r) turns) there.report h
 
-  pieces_there : (turns : List (Turn Entry)) → pieces q.report turns ≡ pieces p.report turns
-  pieces_there turns = ap (λ (r : Report). pieces r turns) there.report
+  writes_there : (turns : List (Turn Entry)) (text : List ℕ) → IsWritten q.report q.earlier turns text → IsWritten p.report now turns text
+  writes_there turns text h = subst (λ (r : Report). IsWritten r now turns text) there.report (subst (λ (shelf : Shelf). IsWritten q.report shelf turns text) there.earlier h)
 
   runs_on : (rest : List Entry) (status : ℕ) (turns : List (Turn Entry)) → Runs q next rest status turns → Runs p s (found ++ rest) status (step.first rest ∷ turns)
   runs_on rest status turns h = record {
@@ -186,16 +196,16 @@ module _ (p q : Session) (s : State) (mid : ℕ) (next : State) (held : Held) (f
     whole = λ text is rest from. record {
       turns = step.first rest.found ∷ from.turns;
       runs = runs_on rest.found rest.status from.turns from.runs;
-      text = ap (λ (t : List ℕ). t ++ rest.text) (is_line text is) ∙ ap (λ (t : List ℕ). line ++ t) (from.text ∙ pieces_there from.turns) ∙ sym (step.text rest.found from.turns);
+      writes = (line, rest.text, now, ap (λ (t : List ℕ). t ++ rest.text) (is_line text is), step.writes rest.found, writes_there from.turns rest.text from.writes);
     };
     part = λ text rest is from. record {
       found = found ++ from.found;
       turns = step.first from.found ∷ from.turns;
       are = step.are from.found from.turns (are_there from.found from.turns from.are);
       legal = (step.legal from.found, legal_there from.turns from.legal);
-      front = subst (λ (t : List ℕ). IsFront (t ++ rest) (pieces p.report (step.first from.found ∷ from.turns))) (sym (is_line text is))
-          (front_of (line ++ rest) (line ++ pieces p.report from.turns) (pieces p.report (step.first from.found ∷ from.turns)) (sym (step.text from.found from.turns))
-          (front_behind line rest (pieces p.report from.turns) (front_of rest (pieces q.report from.turns) (pieces p.report from.turns) (pieces_there from.turns) from.front)));
+      written = line ++ from.written;
+      writes = (line, from.written, now, refl, step.writes from.found, writes_there from.turns from.written from.writes);
+      front = subst (λ (t : List ℕ). IsFront (t ++ rest) (line ++ from.written)) (sym (is_line text is)) (front_behind line rest from.written from.front);
     };
   }
 
@@ -206,8 +216,9 @@ module _ (p q : Session) (s : State) (mid : ℕ) (next : State) (held : Held) (f
       turns = step.first [] ∷ [];
       are = step.are [] [] (stopped_from verdict_of p.walk.lexer.bytes mid (next_place p next held []));
       legal = (step.legal [], tt);
-      front = front_of added (line ++ []) (pieces p.report (step.first [] ∷ [])) (sym (step.text [] []))
-          (front_more added line [] (front_of added text line (is_line text is) front));
+      written = line ++ [];
+      writes = (line, [], now, refl, step.writes [], refl);
+      front = front_more added line [] (front_of added text line (is_line text is) front);
     };
     leads = going_leads p q s piece going (going_on piece is_line holds);
   }
@@ -215,17 +226,18 @@ module _ (p q : Session) (s : State) (mid : ℕ) (next : State) (held : Held) (f
 -- ---- what a command comes to
 
 module _ (p q : Session) (w : Walk) (s : State) (bytes : w.lexer.bytes ≡ p.walk.lexer.bytes) (keeps : KeepsReading (record p { walk = w }) q) where
-  is_behind : (held : Held) → w.number ≡ p.walk.number + 1 → q.held ≡ held → IsBehind p q w.lexer.place held
+  is_behind : (held : Held) → w.number ≡ p.walk.number + 1 → q.held ≡ held → IsBehind p q w.lexer.place held p.earlier
   is_behind held number h = record {
     place = ap (λ (l : Lexing). l.place) keeps.lexer;
     bytes = ap (λ (l : Lexing). l.bytes) keeps.lexer ∙ bytes;
     number = keeps.number ∙ number;
     shows = h;
     report = keeps.report;
+    earlier = keeps.earlier;
   }
 
   told_is : (id : ℕ) (n : Notice) → (event : IsEvent p.walk w s (ToldOf id n)) →
-      IsStep p s w.lexer.place event.carries.1.next p.held [] (told p.report p.held event.carries.1.next event.x n) (tells event.x n)
+      IsStep p s w.lexer.place event.carries.1.next p.held [] (told p.report p.held event.carries.1.next event.x n) p.earlier (tells event.x n)
   told_is id n event =
       let to = event.carries.1 in
       record {
@@ -235,26 +247,28 @@ module _ (p q : Session) (w : Walk) (s : State) (bytes : w.lexer.bytes ≡ p.wal
         legal = λ left. tt;
         used = λ left turns. refl;
         status = λ left turns. refl;
-        text = λ left turns. refl;
+        writes = λ left. (refl, refl);
       }
 
   pub told_next : (id : ℕ) (n : Notice) (piece : Piece) → (event : IsEvent p.walk w s (ToldOf id n)) → Tells (record p { walk = w }) q event.carries.1.next event.x n piece → IsNext p q s piece
   told_next id n piece event told_so =
       let to = event.carries.1 in
-      going_next p q s w.lexer.place to.next p.held [] (told p.report p.held to.next event.x n) (tells event.x n) (told_is id n event) (is_behind p.held event.carries.2 told_so.held) piece told_so.going told_so.text told_so.stands
+      going_next p q s w.lexer.place to.next p.held [] (told p.report p.held to.next event.x n) p.earlier (tells event.x n) (told_is id n event) (is_behind p.held event.carries.2 told_so.held) piece told_so.going told_so.text told_so.stands
 
   pub told_leads : (id : ℕ) (n : Notice) (piece : Piece) → (event : IsEvent p.walk w s (ToldOf id n)) → Tells (record p { walk = w }) q event.carries.1.next event.x n piece → LeadsOn p q s (tells event.x n)
   told_leads id n piece event told_so =
       let to = event.carries.1 in
-      leads_on p q s w.lexer.place to.next p.held [] (told p.report p.held to.next event.x n) (tells event.x n) (told_is id n event) (is_behind p.held event.carries.2 told_so.held) told_so.stands
+      leads_on p q s w.lexer.place to.next p.held [] (told p.report p.held to.next event.x n) p.earlier (tells event.x n) (told_is id n event) (is_behind p.held event.carries.2 told_so.held) told_so.stands
 
 module _ (p q : Session) (w : Walk) (s : State) (bytes : w.lexer.bytes ≡ p.walk.lexer.bytes) (keeps : KeepsPlace (record p { walk = w }) q) where
   module _ (id : ℕ) (question : Question) (event : IsEvent p.walk w s (Asked id question)) (free : refusal_of question event.carries.1.next event.x ≡ None)
       (h : IsChecked question event.x (record p { walk = w }) q event.carries.1.next) where
-    checked_is : IsStep p s w.lexer.place (settled (verdict_of h.entry) event.carries.1.next) (Some h.entry) (h.entry ∷ []) (decision_line p.report h.entry) (answers question event.x h.entry)
+    checked_is : IsStep p s w.lexer.place (settled (verdict_of h.entry) event.carries.1.next) (Some h.entry) (h.entry ∷ []) (line_shown p.report h.entry q.items) q.earlier (answers question event.x h.entry)
     checked_is =
         let to = event.carries.1 in
         let decides : Decides (version_of p.report) question event.x to.next.context h.entry = subst (λ (r : Report). Decides (version_of r) question event.x to.next.context h.entry) keeps.report h.decides in
+        let shows : IsShownIn (version_of p.report) p.earlier question to.next.context h.entry q.items q.earlier =
+        subst (λ (r : Report). IsShownIn (version_of r) p.earlier question to.next.context h.entry q.items q.earlier) keeps.report h.shows in
         record {
           first = λ left. turn (place_of p s (h.entry ∷ left)) to.next (answers question event.x h.entry);
           comes = λ left. refl;
@@ -262,26 +276,27 @@ module _ (p q : Session) (w : Walk) (s : State) (bytes : w.lexer.bytes ≡ p.wal
           legal = λ left. decides;
           used = λ left turns. refl;
           status = λ left turns. refl;
-          text = λ left turns. refl;
+          writes = λ left. line_legal p.report p.earlier q.earlier question to.next.context h.entry q.items shows;
         }
 
-    checked_there : IsBehind p q w.lexer.place (Some h.entry)
+    checked_there : IsBehind p q w.lexer.place (Some h.entry) q.earlier
     checked_there = record {
       place = ap (λ (l : Lexing). l.place) keeps.lexer;
       bytes = ap (λ (l : Lexing). l.bytes) keeps.lexer ∙ bytes;
       number = h.number ∙ ap (λ (n : ℕ). n + 1) event.carries.2;
       shows = h.held;
       report = keeps.report;
+      earlier = refl;
     }
 
     pub checked_next : IsNext p q s Decision
     checked_next =
-        going_next p q s w.lexer.place (settled (verdict_of h.entry) event.carries.1.next) (Some h.entry) (h.entry ∷ []) (decision_line p.report h.entry) (answers question event.x h.entry) checked_is checked_there Decision tt
-        (λ text is. is h.entry h.held ∙ ap (λ (r : Report). decision_line r h.entry) keeps.report) h.stands
+        going_next p q s w.lexer.place (settled (verdict_of h.entry) event.carries.1.next) (Some h.entry) (h.entry ∷ []) (line_shown p.report h.entry q.items) q.earlier (answers question event.x h.entry) checked_is checked_there Decision tt
+        (λ text is. is h.entry h.held ∙ ap (λ (r : Report). line_shown r h.entry q.items) keeps.report) h.stands
 
     pub checked_leads : LeadsOn p q s (answers question event.x h.entry)
     checked_leads =
-        leads_on p q s w.lexer.place (settled (verdict_of h.entry) event.carries.1.next) (Some h.entry) (h.entry ∷ []) (decision_line p.report h.entry) (answers question event.x h.entry) checked_is checked_there h.stands
+        leads_on p q s w.lexer.place (settled (verdict_of h.entry) event.carries.1.next) (Some h.entry) (h.entry ∷ []) (line_shown p.report h.entry q.items) q.earlier (answers question event.x h.entry) checked_is checked_there h.stands
 
   -- a question that is refused ends the script
   pub barred_next : (id : ℕ) (question : Question) (kind : Kind) → (event : IsEvent p.walk w s (Asked id question)) → refusal_of question event.carries.1.next event.x ≡ Some kind

@@ -1,5 +1,6 @@
 -- Words of the code alone, which contracts of the code's own calls cite: no part of the meaning.
 pub mod Forms
+pub mod Keeping
 pub mod Decisions
 pub mod Sessions
 pub mod Leading

@@ -7,19 +7,19 @@ ghost use Rattle.script_walk.specs.code.Standing.{Stands};
 ghost use Rattle.book_core.specs.Books.{IsOpening};
 ghost use Rattle.book_core.specs.Verdicts.{IsRight};
 ghost use Rattle.dtp_session.specs.code.Forms.{version_wanted};
-ghost use Rattle.dtp_session.specs.code.Decisions.{IsTaken, IsDecision};
+ghost use Rattle.dtp_session.specs.code.Decisions.{IsTaken, IsDecidedBy};
 
-use crate::found::Found;
+use crate::earlier::Earlier;
 use crate::minimum::minimize;
 use crate::options::SearchOptions;
-use crate::shown::refuted;
+use crate::shown::{Shown, refuted, without_lemmas};
 use crate::wanted::Wanted;
 use book_core::Verdict;
 use book_search::{decide_units, refute_along};
 use cert_text::Entry;
 use clause_form::restrict;
 use kept_schedule::KeptSchedule;
-use learned_lemmas::Learned;
+use learned_lemmas::Taken;
 use refute_tree::Batch;
 use smt_script::{Question, State};
 use std::alloc::{AllocError, Global};
@@ -31,7 +31,7 @@ use stn_core::{NamedValues, Problem, Value};
 /// What decides a question.
 #[derive(Drop)]
 pub struct Decision {
-    pub found: Found,
+    pub shown: Shown,
     /// Where the entry has values of the time points: the schedule that they give.
     pub given: Option<NamedValues>,
 }
@@ -44,41 +44,6 @@ fn phases_of(alloc: Global, kept: &KeptSchedule) -> Result<Vec<Value>, AllocErro
         phases.push(Value::from(*value))?;
     }
     Ok(phases)
-}
-
-/// What the problem's search opens with: what the problem takes over of an earlier one. Where an entry is to be written there is nothing, since the entry would
-/// have to show each lemma that was taken over.
-fn opening(
-    alloc: Global,
-    problem: &Problem,
-    learned: &Option<Learned>,
-    wanted: Wanted,
-) -> Result<Batch, AllocError>
-    ensures seen { IfOk result (λ batch. batch.seen ≡ 0) }
-    ensures opens { IfOk result (λ batch. IsOpening problem.now batch.lemmas) }
-{
-    match (wanted, learned) {
-        (Wanted::Verdict, Some(learned)) => learned.opening(alloc, problem),
-        _ => Ok(Batch::new(0, Vec::new(alloc))),
-    }
-}
-
-/// Keeps what searches of later problems may take over, where the problem is refuted.
-fn learn(
-    alloc: Global,
-    problem: &Problem,
-    verdict: &Verdict,
-    learned: &mut Option<Learned>,
-    wanted: Wanted,
-) -> Result<(), AllocError>
-    requires { IsRight problem.now verdict.now }
-{
-    if let (Wanted::Verdict, Verdict::Unsat(refutation)) = (wanted, verdict) {
-        if let Some(kept) = Learned::of(alloc, problem, refutation.as_slice())? {
-            *learned = Some(kept);
-        }
-    }
-    Ok(())
 }
 
 /// Decides the problem by as many workers as are asked for; one is the caller itself.
@@ -105,14 +70,14 @@ fn search_from<R: Threads + Wait + Sync, G: Gate>(
     Ok(verdict)
 }
 
-/// Decides the problem: by clauses of one literal along what was noted, where these refute it, by all of these, and else by a search. It decides literals
-/// as these hold on the values that are kept, and may open with what an earlier one learned.
+/// Decides the problem: by clauses of one literal along what was noted, where these refute it, by all of these, by an earlier refutation, and else by a search. It
+/// decides literals as these hold on the values that are kept, and may open with what an earlier one learned.
 fn search<R: Threads + Wait + Sync, G: Gate>(
     rt: &R,
     alloc: Global,
     problem: &Problem,
     kept: &KeptSchedule,
-    learned: &mut Option<Learned>,
+    earlier: &Earlier,
     wanted: Wanted,
     options: SearchOptions,
     gate: &G,
@@ -125,11 +90,13 @@ fn search<R: Threads + Wait + Sync, G: Gate>(
     if let Some(verdict) = decide_units(alloc, problem)? {
         return Ok(verdict);
     }
-    let phases = phases_of(alloc, kept)?;
-    let opening = opening(alloc, problem, learned, wanted)?;
-    let verdict = search_from(rt, alloc, problem, opening, &phases, options, gate)?;
-    learn(alloc, problem, &verdict, learned, wanted)?;
-    Ok(verdict)
+    match earlier.taken(alloc, problem, wanted)? {
+        Taken::Refutes(refutation) => Ok(Verdict::Unsat(refutation)),
+        Taken::Opens(opening) => {
+            let phases = phases_of(alloc, kept)?;
+            search_from(rt, alloc, problem, opening, &phases, options, gate)
+        }
+    }
 }
 
 /// Decides a check-sat: a schedule that satisfies the assertions, or a refutation of their problem.
@@ -139,14 +106,14 @@ fn satisfy<R: Threads + Wait + Sync, G: Gate>(
     state: &State,
     problem: Problem,
     kept: &KeptSchedule,
-    learned: &mut Option<Learned>,
+    earlier: &mut Earlier,
     wanted: Wanted,
     options: SearchOptions,
     gate: &G,
 ) -> Result<Decision, AllocError>
     requires { (s : Meaning) × (x : Sexpr) × Stands state.now s × IsTaken asked.CheckSat x s problem }
     ensures { IfOk result (λ decision. (s : Meaning) (x : Sexpr) → Stands state.now s → IsTaken asked.CheckSat x s problem
-        → IsDecision (version_wanted wanted) asked.CheckSat x s.context decision) }
+        → IsDecidedBy (version_wanted wanted) earlier.old asked.CheckSat x s.context decision earlier.new) }
 {
     idl_term::context_law();
     clause_form::clause_form_law();
@@ -155,15 +122,15 @@ fn satisfy<R: Threads + Wait + Sync, G: Gate>(
     stn_core::negation_kept();
     best_values::unbounded_law();
     unsat_cores::core_law();
-    match search(rt, alloc, &problem, kept, learned, wanted, options, gate)? {
+    match search(rt, alloc, &problem, kept, earlier, wanted, options, gate)? {
         Verdict::Sat(schedule) => {
             let values = restrict(alloc, schedule.as_slice(), state.names().sorts())?;
-            let found = Found::shown(Entry::Sat(values));
-            Ok(Decision { found, given: None })
+            let shown = without_lemmas(alloc, wanted, Entry::Sat(values), earlier)?;
+            Ok(Decision { shown, given: None })
         }
         Verdict::Unsat(refutation) => {
-            let found = refuted(alloc, wanted, problem, refutation)?;
-            Ok(Decision { found, given: None })
+            let shown = refuted(alloc, wanted, problem, refutation, earlier)?;
+            Ok(Decision { shown, given: None })
         }
     }
 }
@@ -180,21 +147,21 @@ pub fn decide<R: Threads + Wait + Sync, G: Gate>(
     question: Question,
     problem: Problem,
     kept: &KeptSchedule,
-    learned: &mut Option<Learned>,
+    earlier: &mut Earlier,
     wanted: Wanted,
     options: SearchOptions,
     gate: &G,
 ) -> Result<Decision, AllocError>
     requires { (s : Meaning) × (x : Sexpr) × Stands state.now s × IsTaken question x s problem }
     ensures { IfOk result (λ decision. (s : Meaning) (x : Sexpr) → Stands state.now s → IsTaken question x s problem
-        → IsDecision (version_wanted wanted) question x s.context decision) }
+        → IsDecidedBy (version_wanted wanted) earlier.old question x s.context decision earlier.new) }
 {
     match question {
         Question::CheckSat => satisfy(
-            rt, alloc, state, problem, kept, learned, wanted, options, gate,
+            rt, alloc, state, problem, kept, earlier, wanted, options, gate,
         ),
-        Question::Minimize(objective) => {
-            minimize(rt, alloc, state, objective, problem, wanted, options, gate)
-        }
+        Question::Minimize(objective) => minimize(
+            rt, alloc, state, objective, problem, earlier, wanted, options, gate,
+        ),
     }
 }

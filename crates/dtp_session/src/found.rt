@@ -3,9 +3,10 @@ ghost use Rattle.std.specs.Prelude.{◌≡◌, ◌≢◌, ◌++◌, ℕ, List, S
 ghost use Rattle.stn_core.specs.declared.named.NamedValue.{NamedValue};
 ghost use Rattle.cert_text.specs.declared.entry.Version.TheVariants.{One};
 ghost use Rattle.cert_text.specs.declared.entry.Entry.TheVariants.{Sat, Unsat};
-ghost use Rattle.cert_text.specs.Form.{entry_sexpr, line_of};
+ghost use Rattle.cert_text.specs.Form.{entry_sexpr, file_entry_sexpr, line_of};
 ghost use Rattle.dtp_entry.specs.declared.report.Report.TheVariants.{Verdicts};
 ghost use Rattle.dtp_entry.specs.Entries.{verdict_of};
+ghost use Rattle.dtp_entry.specs.Keeping.{shown_by};
 ghost use Rattle.dtp_entry.specs.Transcripts.{decision_line};
 ghost use Rattle.dtp_entry.specs.Written.{WritesOne};
 ghost use Rattle.refute_tree.specs.declared.lemma.Lemma.{Lemma};
@@ -14,10 +15,11 @@ ghost use Rattle.dtp_session.specs.code.Forms.{shown_in, schedule_shown, CiteSam
 
 use crate::form::forms_of;
 use crate::least::Minimum;
-use cert_stream::write_entry;
+use cert_stream::{write_entry, write_shown};
 use cert_text::{Entry, Version};
 use dtp_entry::SessionError;
 use dtp_io::Sink;
+use kept_lemmas::Items;
 use refute_tree::Refutation;
 use smt_answer::{minimum_text, unbounded_text, verdict_text};
 use smt_script::Satisfiability;
@@ -152,6 +154,19 @@ impl Found {
             Entry::Best(minimum, _, _) => minimum_text(*minimum, text),
             Entry::Unbounded(_, _) => unbounded_text(text),
         }
+    }
+
+    /// Writes the entry's line with these items in the place of its lemmas, item by item.
+    pub fn write_with<K: Sink>(
+        &self,
+        alloc: Global,
+        items: &Items,
+        sink: &mut K,
+    ) -> Result<(), SessionError>
+        ensures { WritesOne (λ text. text ≡ line_of (file_entry_sexpr (shown_by self.now items.now))) (K.holds sink.old) (K.holds sink.new)
+            (K.faults sink.old) (K.faults sink.new) result }
+    {
+        write_shown(alloc, &self.entry, items.as_slice(), sink)
     }
 
     /// Writes the entry's line, lemma by lemma.

@@ -7,12 +7,12 @@ ghost use Rattle.smt_script.specs.States.{State as Meaning};
 ghost use Rattle.smt_script.specs.declared.state.Question.TheVariants as asked;
 ghost use Rattle.script_walk.specs.code.Standing.{Stands};
 ghost use Rattle.dtp_session.specs.code.Forms.{version_wanted};
-ghost use Rattle.dtp_session.specs.code.Decisions.{IsTaken, IsDecision, IsShownLeast};
+ghost use Rattle.dtp_session.specs.code.Decisions.{IsTaken, IsDecidedBy, RefutesLess, IsLeastShown};
 
 use crate::decision::Decision;
-use crate::found::Found;
+use crate::earlier::Earlier;
 use crate::options::SearchOptions;
-use crate::shown::{found, kept, refuted};
+use crate::shown::{Shown, kept, refuted, with_lemmas, without_lemmas};
 use crate::wanted::Wanted;
 use best_bound::{Best, best_one, best_shared};
 use best_values::question;
@@ -58,11 +58,13 @@ fn least(
     schedule: NamedValues,
     difference: i64,
     refutation: Refutation,
-) -> Result<Found, AllocError>
+    earlier: &mut Earlier,
+) -> Result<Shown, AllocError>
     requires x_in { objective.x < problem.now.points }
     requires y_in { objective.y < problem.now.points }
     requires within { IsWithinLimit difference }
-    ensures { IfOk result (IsShownLeast (version_wanted wanted) problem.now objective schedule difference refutation) }
+    requires refutes { RefutesLess problem.now objective difference refutation }
+    ensures { IfOk result (λ shown. IsLeastShown (version_wanted wanted) earlier.old problem.now objective schedule difference refutation shown earlier.new) }
 {
     let asked = question(
         alloc,
@@ -73,7 +75,8 @@ fn least(
     )?;
     let lemmas = kept(alloc, wanted, &asked, refutation)?;
     let minimum = Value::from(difference) + Value::from(objective.k);
-    let shown = found(alloc, wanted, asked, Entry::Best(minimum, schedule, lemmas))?;
+    let entry = Entry::Best(minimum, schedule, lemmas);
+    let shown = with_lemmas(alloc, wanted, asked, entry, earlier)?;
     Ok(shown)
 }
 
@@ -85,6 +88,7 @@ pub fn minimize<R: Threads + Wait + Sync, G: Gate>(
     state: &State,
     objective: Objective,
     problem: Problem,
+    earlier: &mut Earlier,
     wanted: Wanted,
     options: SearchOptions,
     gate: &G,
@@ -92,7 +96,7 @@ pub fn minimize<R: Threads + Wait + Sync, G: Gate>(
     requires { (s : Meaning) × (x : Sexpr) × Stands state.now s × IsTaken (asked.Minimize objective) x s problem }
     ensures { IfOk result (λ decision. (s : Meaning) (x : Sexpr) → Stands state.now s
         → IsTaken (asked.Minimize objective) x s problem
-        → IsDecision (version_wanted wanted) (asked.Minimize objective) x s.context decision) }
+        → IsDecidedBy (version_wanted wanted) earlier.old (asked.Minimize objective) x s.context decision earlier.new) }
 {
     idl_term::context_law();
     clause_form::clause_form_law();
@@ -103,21 +107,21 @@ pub fn minimize<R: Threads + Wait + Sync, G: Gate>(
     unsat_cores::core_law();
     match search(rt, alloc, &problem, objective, options, gate)? {
         Best::Nothing(refutation) => {
-            let found = refuted(alloc, wanted, problem, refutation)?;
-            Ok(Decision { found, given: None })
+            let shown = refuted(alloc, wanted, problem, refutation, earlier)?;
+            Ok(Decision { shown, given: None })
         }
         Best::Least(values, difference, refutation) => {
             let schedule = restrict(alloc, values.as_slice(), state.names().sorts())?;
-            let found = least(
-                alloc, wanted, &problem, objective, schedule, difference, refutation,
+            let shown = least(
+                alloc, wanted, &problem, objective, schedule, difference, refutation, earlier,
             )?;
-            Ok(Decision { found, given: None })
+            Ok(Decision { shown, given: None })
         }
         Best::Unbounded(values, set) => {
             let schedule = restrict(alloc, values.as_slice(), state.names().sorts())?;
-            let found = Found::shown(Entry::Unbounded(values, set));
+            let shown = without_lemmas(alloc, wanted, Entry::Unbounded(values, set), earlier)?;
             Ok(Decision {
-                found,
+                shown,
                 given: Some(schedule),
             })
         }

@@ -4,13 +4,15 @@ ghost use Rattle.dtp_entry.specs.Transcripts.{decision_line};
 ghost use Rattle.dtp_entry.specs.Written.{WritesOne};
 ghost use Rattle.dtp_entry.specs.declared.report.Report.TheVariants.{Verdicts};
 ghost use Rattle.dtp_session.specs.declared.piece.Piece.TheVariants.{Decision, Proof, Told};
+ghost use Rattle.dtp_session.specs.code.Keeping.{line_shown};
 ghost use Rattle.dtp_session.specs.code.Sessions.{IsText};
 
 use crate::found::Found;
 use crate::session::Session;
-use cert_text::{write_end, write_header};
+use cert_text::{Version, write_end, write_header};
 use dtp_entry::{Report, SessionError, write_text};
 use dtp_io::Sink;
+use kept_lemmas::Items;
 use smt_answer::{Kind, error_text};
 use std::alloc::{AllocError, Global};
 
@@ -46,14 +48,16 @@ fn write_line<K: Sink>(
     alloc: Global,
     report: Report,
     found: &Found,
+    items: &Items,
     sink: &mut K,
 ) -> Result<(), SessionError>
-    ensures { WritesOne (λ text. text ≡ decision_line report found.now) (K.holds sink.old) (K.holds sink.new)
+    ensures { WritesOne (λ text. text ≡ line_shown report found.now items.now) (K.holds sink.old) (K.holds sink.new)
         (K.faults sink.old) (K.faults sink.new) result }
 {
     match report {
         Report::Verdicts => write_verdict(alloc, found, sink),
-        Report::Certificate(_) => found.write(alloc, sink),
+        Report::Certificate(Version::One) => found.write(alloc, sink),
+        Report::Certificate(Version::Two) => found.write_with(alloc, items, sink),
     }
 }
 
@@ -108,7 +112,7 @@ impl<'a> Session<'a> {
             (K.faults sink.old) (K.faults sink.new) result }
     {
         match &self.held {
-            Some(found) => write_line(self.alloc, self.report, found, sink),
+            Some(found) => write_line(self.alloc, self.report, found, &self.items, sink),
             None => Ok(()),
         }
     }

@@ -1,5 +1,5 @@
 //! A script that is being answered: the loop of the program.
-ghost use Rattle.std.specs.Prelude.{◌≡◌, ◌≢◌, ◌≤◌, ◌<◌, ◌-◌, ◌^◌, List, IfOk, IfSome, OnOk, OnErr, Err, None};
+ghost use Rattle.std.specs.Prelude.{◌≡◌, ◌≢◌, ◌≤◌, ◌<◌, ◌-◌, ◌^◌, List, false, IsTrue, IfOk, IfSome, OnOk, OnErr, Err, None};
 ghost use Rattle.dtp_io.specs.Faults.{Rose};
 ghost use Rattle.smt_sexpr.specs.Tree.{Sexpr};
 ghost use Rattle.smt_script.specs.States.{State as Meaning};
@@ -10,6 +10,7 @@ ghost use Rattle.script_walk.specs.code.Events.{IsReady as IsWalkReady};
 ghost use Rattle.script_walk.specs.code.Standing.{Stands};
 ghost use Rattle.refute_tree.specs.declared.lemma.Lemma.{Lemma};
 ghost use Rattle.cert_text.specs.declared.entry.Entry.TheVariants.{Unsat};
+ghost use Rattle.cert_text.specs.declared.entry.Version.TheVariants.{Two};
 ghost use Rattle.stn_core.specs.Named.{AreWithinLimit};
 ghost use Rattle.dtp_entry.specs.Bests.{Satisfies};
 ghost use Rattle.dtp_entry.specs.Reports.{version_of};
@@ -21,16 +22,18 @@ ghost use Rattle.dtp_session.specs.Ends.{status_of};
 ghost use Rattle.dtp_session.specs.code.Forms.{version_wanted};
 
 use crate::decision::{Decision, decide};
+use crate::earlier::Earlier;
 use crate::found::Found;
 use crate::options::SearchOptions;
 use crate::piece::Piece;
+use crate::shown::Shown;
 use crate::wanted::{Wanted, last_proof};
 use cert_text::{Entry, Version};
 use dtp_entry::{Report, SessionError, problem};
 use dtp_io::Sink;
 use idl_term::context_law;
+use kept_lemmas::Items;
 use kept_schedule::KeptSchedule;
-use learned_lemmas::Learned;
 use script_walk::{Event, Walk, refusal_of};
 use smt_script::{Mode, Question, Satisfiability};
 use std::alloc::{AllocError, Global};
@@ -61,8 +64,10 @@ pub struct Session<'a> {
     pub marks: Vec<bool>,
     /// The schedule of the last question that had one.
     pub kept: KeptSchedule,
-    /// What the search of an earlier question has learned.
-    pub learned: Option<Learned>,
+    /// What the entries of earlier questions leave to later ones.
+    pub earlier: Earlier,
+    /// In a certificate of the second version: what stands in the place of the lemmas of the entry that is held.
+    pub items: Items,
     /// Where the last question had assumptions and was answered `unsat`: for each assertion, and behind the active ones for
     /// each assumption, whether the refutation rests on it.
     pub cited: Vec<bool>,
@@ -96,7 +101,8 @@ impl<'a> Session<'a> {
             last_proof: None,
             marks: Vec::new(alloc),
             kept: KeptSchedule::new(alloc),
-            learned: None,
+            earlier: Earlier::new(alloc),
+            items: Items::new(Vec::new(alloc)),
             cited: Vec::new(alloc),
             text: Vec::new(alloc),
         }
@@ -181,8 +187,7 @@ impl<'a> Session<'a> {
         Ok(piece)
     }
 
-    /// Answers a check-sat: by what is held where nothing was changed since the last answer, by the schedule of an earlier question where a
-    /// few steps from it lead to one that does, and else anew.
+    /// Answers a check-sat: by what is held where nothing was changed since the last answer, and else anew.
     fn ask_verdict<R: Threads + Wait + Sync, G: Gate>(
         &mut self,
         rt: &R,
@@ -196,17 +201,38 @@ impl<'a> Session<'a> {
     {
         match self.walk.state.mode() {
             Mode::Sat => {
-                self.satisfy_again();
-                return Ok(Piece::Decision);
+                self.satisfy_again()?;
+                Ok(Piece::Decision)
             }
             Mode::Unsat => {
-                self.refute_again();
-                return Ok(Piece::Decision);
+                if self.refute_again()? {
+                    return Ok(Piece::Decision);
+                }
+                let piece = self.ask_anew(rt, gate)?;
+                Ok(piece)
             }
-            Mode::Nothing => {}
+            Mode::Nothing => {
+                let piece = self.ask_anew(rt, gate)?;
+                Ok(piece)
+            }
         }
+    }
+
+    /// Answers a check-sat by the schedule of an earlier question, where a few steps from it lead to one that satisfies the assertions, and else by their
+    /// problem.
+    fn ask_anew<R: Threads + Wait + Sync, G: Gate>(
+        &mut self,
+        rt: &R,
+        gate: &G,
+    ) -> Result<Piece, AllocError>
+        requires holds { (s : Meaning) × (x : Sexpr) × Holds self.old s × IsAskedIn asked.CheckSat x s }
+        requires few { self.old.walk.number < 2 ^ 64 - 1 }
+        ensures answered { IfOk result (λ piece. (s : Meaning) (x : Sexpr) → Holds self.old s → IsAskedIn asked.CheckSat x s
+            → IsAnswered asked.CheckSat x self.old self.new s piece) }
+        ensures keeps { KeepsPlace self.old self.new }
+    {
         if let Some(values) = self.satisfying()? {
-            self.satisfy_by(values);
+            self.satisfy_by(values)?;
             return Ok(Piece::Decision);
         }
         let piece = self.ask_problem(rt, gate, Question::CheckSat)?;
@@ -214,19 +240,21 @@ impl<'a> Session<'a> {
     }
 
     /// Answers a check-sat by the schedule that is held.
-    fn satisfy_again(&mut self)
+    fn satisfy_again(&mut self) -> Result<(), AllocError>
         requires holds { (s : Meaning) × Holds self.old s }
         requires sat { self.old.walk.state.mode ≡ mode.Sat }
         requires few { self.old.walk.number < 2 ^ 64 - 1 }
-        ensures checked { (s : Meaning) (x : Sexpr) → Holds self.old s → IsAskedIn asked.CheckSat x s
-            → IsChecked asked.CheckSat x self.old self.new s }
+        ensures checked { OnOk result ((s : Meaning) (x : Sexpr) → Holds self.old s → IsAskedIn asked.CheckSat x s
+            → IsChecked asked.CheckSat x self.old self.new s) }
         ensures keeps { KeepsPlace self.old self.new }
     {
         let Some(found) = self.held.take() else {
             unreachable!()
         };
         self.held = Some(found.satisfying(self.given.take()));
+        self.earlier.pass(self.report.version())?;
         self.walk.settle(Satisfiability::Sat);
+        Ok(())
     }
 
     /// The schedule of an earlier question, changed by a few steps, where these lead to one that satisfies the assertions.
@@ -246,29 +274,60 @@ impl<'a> Session<'a> {
     }
 
     /// Answers a check-sat by this schedule.
-    fn satisfy_by(&mut self, values: NamedValues)
+    fn satisfy_by(&mut self, values: NamedValues) -> Result<(), AllocError>
         requires holds { (s : Meaning) × Holds self.old s }
         requires few { self.old.walk.number < 2 ^ 64 - 1 }
-        ensures checked { (s : Meaning) (x : Sexpr) → Holds self.old s → IsAskedIn asked.CheckSat x s
-            → Satisfies s.context values → AreWithinLimit values → IsChecked asked.CheckSat x self.old self.new s }
+        ensures checked { OnOk result ((s : Meaning) (x : Sexpr) → Holds self.old s → IsAskedIn asked.CheckSat x s
+            → Satisfies s.context values → AreWithinLimit values → IsChecked asked.CheckSat x self.old self.new s) }
         ensures keeps { KeepsPlace self.old self.new }
     {
         self.held = Some(Found::shown(Entry::Sat(values)));
         self.given = None;
         self.marks.clear();
+        self.earlier.pass(self.report.version())?;
         self.walk.settle(Satisfiability::Sat);
+        Ok(())
     }
 
-    /// Answers a question by the refutation that is held.
-    fn refute_again(&mut self)
+    /// Answers a question by the refutation that is held, unless a certificate of the second version can't keep its last lemma.
+    fn refute_again(&mut self) -> Result<bool, AllocError>
         requires holds { (s : Meaning) × Holds self.old s }
         requires unsat { self.old.walk.state.mode ≡ mode.Unsat }
         requires few { self.old.walk.number < 2 ^ 64 - 1 }
-        ensures checked { (s : Meaning) (x : Sexpr) (question : Asked) → Holds self.old s → IsAskedIn question x s
-            → IsChecked question x self.old self.new s }
+        ensures checked { IfOk result (λ again. IsTrue again
+            → (s : Meaning) (x : Sexpr) (question : Asked) → Holds self.old s → IsAskedIn question x s
+            → IsChecked question x self.old self.new s) }
+        ensures untouched { IfOk result (λ again. again ≡ false → self.new ≡ self.old) }
         ensures keeps { KeepsPlace self.old self.new }
     {
+        match self.report.version() {
+            Version::One => {
+                self.walk.settle(Satisfiability::Unsat);
+                Ok(true)
+            }
+            Version::Two => self.keep_refutation(),
+        }
+    }
+
+    /// The same in a certificate of the second version, where the last lemma of the last refutation is looked for among what earlier entries state.
+    fn keep_refutation(&mut self) -> Result<bool, AllocError>
+        requires holds { (s : Meaning) × Holds self.old s }
+        requires unsat { self.old.walk.state.mode ≡ mode.Unsat }
+        requires few { self.old.walk.number < 2 ^ 64 - 1 }
+        requires version { version_of self.old.report ≡ Two }
+        ensures checked { IfOk result (λ again. IsTrue again
+            → (s : Meaning) (x : Sexpr) (question : Asked) → Holds self.old s → IsAskedIn question x s
+            → IsChecked question x self.old self.new s) }
+        ensures untouched { IfOk result (λ again. again ≡ false → self.new ≡ self.old) }
+        ensures keeps { KeepsPlace self.old self.new }
+    {
+        let problem = problem(self.alloc, &self.walk.state)?;
+        let Some(items) = self.earlier.again(self.alloc, &problem)? else {
+            return Ok(false);
+        };
+        self.items = items;
         self.walk.settle(Satisfiability::Unsat);
+        Ok(true)
     }
 
     /// Answers a question over the problem of the assertions, which may refuse it. Where a refutation is held, it answers.
@@ -289,8 +348,9 @@ impl<'a> Session<'a> {
             return Ok(Piece::Error(kind));
         }
         if let Mode::Unsat = self.walk.state.mode() {
-            self.refute_again();
-            return Ok(Piece::Decision);
+            if self.refute_again()? {
+                return Ok(Piece::Decision);
+            }
         }
         self.decide_anew(rt, gate, question, problem)?;
         Ok(Piece::Decision)
@@ -314,22 +374,24 @@ impl<'a> Session<'a> {
         self.given = None;
         self.marks.clear();
         let wanted = self.wanted();
-        let Decision { found, given } = decide(
+        let Decision { shown, given } = decide(
             rt,
             self.alloc,
             &self.walk.state,
             question,
             problem,
             &self.kept,
-            &mut self.learned,
+            &mut self.earlier,
             wanted,
             self.options,
             gate,
         )?;
+        let Shown { found, items } = shown;
         self.keep_schedule(&found, &given)?;
         let cited = self.cited_by(&found)?;
         self.walk.settle(found.verdict());
         self.held = Some(found);
+        self.items = items;
         self.given = given;
         self.cited = cited;
         Ok(())

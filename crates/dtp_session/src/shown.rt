@@ -1,13 +1,18 @@
 //! Refutations as entries show them.
-ghost use Rattle.std.specs.Prelude.{◌≡◌, IfOk};
+ghost use Rattle.std.specs.Prelude.{◌≡◌, All, IfOk};
+ghost use Rattle.refute_tree.specs.Batches.{LemmaIsOver};
+ghost use Rattle.refute_tree.specs.Trees.{IsRefutation};
 ghost use Rattle.dtp_session.specs.code.Forms.{shown_in, version_wanted};
 ghost use Rattle.dtp_session.specs.code.Decisions.{IsKeptOf, IsShownRefuted};
+ghost use Rattle.dtp_session.specs.code.Keeping.{RefutesBy, IsEntered, passed};
 ghost use Rattle.trim_lemmas.specs.Trimming.{StaysRefutation, StaysOver};
 
+use crate::earlier::Earlier;
 use crate::form::entry_in_form;
 use crate::found::Found;
 use crate::wanted::Wanted;
 use cert_text::{Entry, NUMBER_LIMIT};
+use kept_lemmas::Items;
 use refute_tree::Refutation;
 use std::alloc::{AllocError, Global};
 use stn_core::Problem;
@@ -41,33 +46,75 @@ pub fn kept(
     Ok(kept)
 }
 
-/// What is held of an entry over the problem. Its form is made where the entry is wanted.
-pub fn found(
+/// An entry as it is held, with the items that stand in the place of its lemmas in a certificate of the second version.
+#[derive(Drop)]
+pub struct Shown {
+    pub found: Found,
+    pub items: Items,
+}
+
+/// What is held of an entry without lemmas.
+pub fn without_lemmas(
+    alloc: Global,
+    wanted: Wanted,
+    entry: Entry,
+    earlier: &mut Earlier,
+) -> Result<Shown, AllocError>
+    ensures found { IfOk result (λ shown. shown.found ≡ entry) }
+    ensures passed { IfOk result (λ shown. earlier.new ≡ passed (version_wanted wanted) earlier.old) }
+{
+    earlier.pass(wanted.version())?;
+    Ok(Shown {
+        found: Found::shown(entry),
+        items: Items::new(Vec::new(alloc)),
+    })
+}
+
+/// What is held of an entry whose lemmas refute the problem. Its form is made where the entry is wanted.
+pub fn with_lemmas(
     alloc: Global,
     wanted: Wanted,
     problem: Problem,
     entry: Entry,
-) -> Result<Found, AllocError>
-    ensures { IfOk result (λ found. found ≡ shown_in (version_wanted wanted) problem.clauses entry) }
+    earlier: &mut Earlier,
+) -> Result<Shown, AllocError>
+    requires { RefutesBy problem.points problem.clauses entry }
+    ensures found { IfOk result (λ shown. shown.found ≡ shown_in (version_wanted wanted) problem.clauses entry) }
+    ensures entered { IfOk result (λ shown.
+        IsEntered (version_wanted wanted) earlier.old problem.points problem.clauses shown.found shown.items earlier.new) }
 {
+    refute_tree::lengths_law();
     match wanted {
-        Wanted::Verdict => Ok(Found::unformed(problem, entry)),
+        Wanted::Verdict => Ok(Shown {
+            found: Found::unformed(problem, entry),
+            items: Items::new(Vec::new(alloc)),
+        }),
         Wanted::Entry(version) => {
-            let shown = entry_in_form(alloc, version, &problem, entry)?;
-            Ok(Found::shown(shown))
+            let formed = entry_in_form(alloc, version, &problem, entry)?;
+            let items = earlier.enter(alloc, version, &problem, &formed)?;
+            Ok(Shown {
+                found: Found::shown(formed),
+                items,
+            })
         }
     }
 }
 
-/// The entry of a refutation of the problem.
+/// The entry of a refutation of the problem. Later problems' searches may take over lemmas of it.
 pub fn refuted(
     alloc: Global,
     wanted: Wanted,
     problem: Problem,
     refutation: Refutation,
-) -> Result<Found, AllocError>
-    ensures { IfOk result (IsShownRefuted (version_wanted wanted) problem refutation) }
+    earlier: &mut Earlier,
+) -> Result<Shown, AllocError>
+    requires refutes { IsRefutation problem.points problem.clauses refutation }
+    requires over { All (LemmaIsOver problem.points) refutation }
+    ensures found { IfOk result (λ shown. IsShownRefuted (version_wanted wanted) problem refutation shown.found) }
+    ensures entered { IfOk result (λ shown.
+        IsEntered (version_wanted wanted) earlier.old problem.points problem.clauses shown.found shown.items earlier.new) }
 {
+    earlier.learn(alloc, &problem, refutation.as_slice(), wanted)?;
     let lemmas = kept(alloc, wanted, &problem, refutation)?;
-    found(alloc, wanted, problem, Entry::Unsat(lemmas))
+    with_lemmas(alloc, wanted, problem, Entry::Unsat(lemmas), earlier)
 }

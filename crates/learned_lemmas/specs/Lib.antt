@@ -1,1 +1,2 @@
--- No definitions: what a search opens with is a word of book_core.
+pub mod Taken
+pub mod code

@@ -6,28 +6,31 @@ use refute_tree::Lemma;
 use std::alloc::{AllocError, Global};
 use std::sync::Arc;
 
-/// How many literals a lemma has at most that is kept for its own sake.
-const LONGEST: usize = 3;
-
-/// How many lemmas are kept for their own sake at most: the newest ones.
-const MOST: usize = 20;
+/// Which lemmas are kept for their own sake: the newest of the short ones.
+#[derive(Clone, Copy)]
+pub struct Choice {
+    /// How many literals such a lemma has at most.
+    pub longest: usize,
+    /// How many of them are kept at most.
+    pub most: usize,
+}
 
 // Whether the lemma is short. One without literals says that its problem has no solution, and is of no use to another.
-fn is_short(lemma: &Lemma) -> bool {
+fn is_short(lemma: &Lemma, longest: usize) -> bool {
     let count = lemma.clause.as_slice().len();
-    0 < count && count <= LONGEST
+    0 < count && count <= longest
 }
 
 /// For each lemma whether it is kept for its own sake.
-pub fn wanted(alloc: Global, lemmas: &[Lemma]) -> Result<Vec<bool>, AllocError>
+pub fn wanted(alloc: Global, lemmas: &[Lemma], choice: Choice) -> Result<Vec<bool>, AllocError>
     ensures { IfOk result (λ wanted. length wanted.items ≡ length lemmas.now) }
 {
     let mut wanted = vec![in alloc; false; lemmas.len()]?;
-    let mut left = MOST;
+    let mut left = choice.most;
     let mut number = lemmas.len();
     'back: while number > 0 && left > 0 {
         number -= 1;
-        if is_short(&lemmas[number]) {
+        if is_short(&lemmas[number], choice.longest) {
             wanted[number] = true;
             left -= 1;
         }

@@ -1,21 +1,41 @@
 //! Lemmas of a problem that was refuted.
-ghost use Rattle.std.specs.Prelude.{◌≡◌, All, IfOk};
+ghost use Rattle.std.specs.Prelude.{All, IsTrue, IfOk};
 ghost use Rattle.refute_tree.specs.Trees.{IsRefutation};
 ghost use Rattle.refute_tree.specs.Batches.{LemmaIsOver};
-ghost use Rattle.book_core.specs.Books.{IsOpening};
+ghost use Rattle.learned_lemmas.specs.Taken.{IsTakenOver};
+ghost use Rattle.learned_lemmas.specs.code.Ends.{EndsEmpty};
 
-use crate::choice::{copies, shared, wanted};
+use crate::choice::{Choice, copies, shared, wanted};
 use carried_lemmas::carry;
-use refute_tree::{Batch, Lemma};
+use refute_tree::{Batch, Lemma, Refutation};
 use std::alloc::{AllocError, Global};
 use std::marker::Model;
 use std::sync::Arc;
 use stn_core::Problem;
-use trim_lemmas::trimmed_batch;
+use trim_lemmas::{TrimmedBatch, trimmed_batch};
 
 /// How many lemmas a refutation has at most of which any are kept: choosing some copies all of them, and the searches of questions that
 /// follow one another are short.
 const LONGEST: usize = 4_096;
+
+/// What a problem takes over of an earlier one's refutation.
+#[derive(Drop)]
+pub enum Taken {
+    /// All of it: the problem has the clauses that it rests on, and so no solution.
+    Refutes(Refutation),
+    /// Lemmas for the problem's search to open with, perhaps none.
+    Opens(Batch),
+}
+
+// Whether the last lemma has no literals.
+fn refutes(lemmas: &[Lemma]) -> bool
+    ensures { IsTrue result → EndsEmpty lemmas.now }
+{
+    match lemmas.last() {
+        Some(lemma) => lemma.clause.as_slice().is_empty(),
+        None => false,
+    }
+}
 
 /// Lemmas that were learned of a problem, each refuted over it and those before it.
 pub struct Learned {
@@ -45,23 +65,24 @@ impl Model for Learned {
 }
 
 impl Learned {
-    /// What is kept of a refutation of the problem, if any of it is: the newest of its short lemmas, with those that they cite, and of a long refutation
-    /// nothing. It takes time and memory in the text of the problem and of the refutation that isn't long.
+    /// What is kept of a refutation of the problem, if any of it is: its lemmas of this choice and the last one, with those that they cite; of a long
+    /// refutation, and of one of a single lemma, which is found as quickly, nothing. It takes time and memory in the text of the problem and of the
+    /// refutation that isn't long.
     pub fn of(
         alloc: Global,
         problem: &Problem,
         refutation: &[Lemma],
+        choice: Choice,
     ) -> Result<Option<Self>, AllocError>
         requires refutes { IsRefutation problem.now.points problem.now.clauses refutation.now }
         requires over { All (LemmaIsOver problem.now.points) refutation.now }
     {
-        if refutation.len() > LONGEST {
+        if refutation.len() < 2 || refutation.len() > LONGEST {
             return Ok(None);
         }
-        let wanted = wanted(alloc, refutation)?;
-        if !wanted.iter().any(|is_wanted| *is_wanted) {
-            return Ok(None);
-        }
+        let mut wanted = wanted(alloc, refutation, choice)?;
+        let last = wanted.len() - 1;
+        wanted[last] = true;
         let batch = Batch::new(0, copies(alloc, refutation)?);
         let left = trimmed_batch(alloc, batch, wanted)?;
         let lemmas = shared(alloc, left.batch.lemmas())?;
@@ -69,13 +90,23 @@ impl Learned {
         Ok(Some(Learned { problem, lemmas }))
     }
 
-    /// What a problem takes over of it, for its search to open with: the lemmas whose clauses and points it has. It takes time and memory in the text of
-    /// both problems and of the lemmas.
-    pub fn opening(&self, alloc: Global, problem: &Problem) -> Result<Batch, AllocError>
-        ensures seen { IfOk result (λ batch. batch.seen ≡ 0) }
-        ensures opens { IfOk result (λ batch. IsOpening problem.now batch.lemmas) }
+    /// What a problem takes over of it: the refutation, where the problem has its clauses and points, and else, for its search to open with, the lemmas of
+    /// this choice whose clauses and points it has, with those that they cite. It takes time and memory in the text of both problems and of the lemmas.
+    pub fn taken(
+        &self,
+        alloc: Global,
+        problem: &Problem,
+        choice: Choice,
+    ) -> Result<Taken, AllocError>
+        ensures { IfOk result (IsTakenOver problem.now) }
     {
         let batch = carry(alloc, &self.problem, self.lemmas.as_slice(), problem)?;
-        Ok(batch)
+        if refutes(batch.lemmas()) {
+            return Ok(Taken::Refutes(Refutation::new(batch.into_lemmas())));
+        }
+        let wanted = wanted(alloc, batch.lemmas(), choice)?;
+        let left = trimmed_batch(alloc, batch, wanted)?;
+        let TrimmedBatch { batch, needed: _ } = left;
+        Ok(Taken::Opens(batch))
     }
 }

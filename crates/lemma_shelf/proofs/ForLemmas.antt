@@ -5,7 +5,9 @@ use Rattle.std.specs.List.{AllZip}
 use Rattle.stn_core.specs.declared.literal.Literal.{Literal}
 use Rattle.refute_tree.specs.declared.lemma.Lemma.{Lemma}
 use Rattle.cert_check.specs.declared.flaw.Flaw.{Flaw}
+use Rattle.cert_check.specs.declared.flaw.FlawKind.{FlawKind}
 use Rattle.cert_check.specs.Flaws.{lemma_flaw, first_of, lemmas_flaw}
+use Rattle.kept_lemmas.specs.declared.item.Kept.{Kept}
 use Rattle.kept_lemmas.specs.declared.item.Item.{Item}
 use Rattle.kept_lemmas.specs.declared.item.Item.TheVariants.{Own, Keep}
 use Rattle.kept_lemmas.specs.Facts.{Shelf}
@@ -13,7 +15,8 @@ use Rattle.kept_lemmas.specs.Entries.{AreRight}
 use Rattle.kept_lemmas.specs.Laws.{OwnLaw}
 use Rattle.refute_tree.specs.Trees.{IsRefutation}
 use Rattle.lemma_shelf.specs.ItemFlaws.{flaw_there, item_clause, item_flaw, items_flaw_from}
-use Rattle.lemma_shelf.specs.code.Citing.{StandsFor}
+use Rattle.lemma_shelf.specs.InPlace.{StandsInPlace}
+use Rattle.lemma_shelf.specs.code.Citing.{States, StandsFor}
 use Rattle.lemma_shelf.specs.code.Tables.{own_item}
 use Rattle.lemma_shelf.proofs.Lists.{take_more}
 use Rattle.lemma_shelf.proofs.Unflawed.{both_none, unflawed_items, right_items, own_flaw}
@@ -68,3 +71,18 @@ module _ (shelf : Shelf) (points : ℕ) (clauses : List (List Literal)) where
       let own : AreRight shelf points clauses (map own_item lemmas) = (law shelf points clauses lemmas).1 refutes in
       let none : LemmasFlaw lemmas [] ≡ None = sym (own_flaw shelf points clauses [] lemmas) ∙ right_items shelf points clauses (map own_item lemmas) own in
       unflawed_items shelf points clauses items (standing_unflawed [] lemmas items all none)
+
+-- what stands for lemmas, whatever the problem
+pub standing_in_place : (shelf : Shelf) (points : ℕ) (clauses : List (List Literal)) (lemmas : List Lemma) (items : List Item) → AllZip (StandsFor shelf points clauses) lemmas items → AllZip (StandsInPlace shelf) lemmas items
+standing_in_place shelf points clauses [] [] all = tt
+standing_in_place shelf points clauses [] (item ∷ items) all = absurd all
+standing_in_place shelf points clauses (lemma ∷ lemmas) [] all = absurd all
+standing_in_place shelf points clauses (lemma ∷ lemmas) (Own own ∷ items) all = (all.0, standing_in_place shelf points clauses lemmas items all.1)
+standing_in_place shelf points clauses (lemma ∷ lemmas) (Keep kept ∷ items) all = (all.0.1, standing_in_place shelf points clauses lemmas items all.1)
+
+-- a place that states the clause without literals refutes the problem by itself
+pub kept_alone : (shelf : Shelf) (points : ℕ) (clauses : List (List Literal)) (kept : Kept) → States shelf points clauses [] kept → AreRight shelf points clauses (Keep kept ∷ [])
+kept_alone shelf points clauses kept s =
+    let earlier : List (List Literal) → Option Flaw = λ cs. items_flaw_from shelf points clauses cs [] in
+    unflawed_items shelf points clauses (Keep kept ∷ [])
+    (ap (λ (f : Option FlawKind). first_of (flaw_there [] f) (earlier (item_clause shelf (Keep kept) ∷ []))) s.0 ∙ ap (λ (c : List Literal). earlier (c ∷ [])) s.1)

@@ -1,22 +1,18 @@
 -- Items that come to the table.
-use Rattle.std.proofs.Common.{arith, ◌≡◌, ℕ, ◌<◌, ◌+◌, inl, inr, List, [], ◌∷◌, ◌++◌, length, take, Option, Some, None, All, refl, sym, ap, subst, ◌∙◌}
+use Rattle.std.proofs.Common.{arith, ◌≡◌, ℕ, ◌<◌, ◌+◌, List, [], ◌∷◌, ◌++◌, length, take, Option, Some, None, All, refl, sym, ap, subst, ◌∙◌}
 use Rattle.std.specs.Prelude.{slice_get, option_map}
 use Rattle.std.proofs.lemmas.List.{map-append}
 use Rattle.std.proofs.lemmas.List.Elements.{All-nil, All-head, All-tail, All-push, All-weaker}
 use Rattle.stn_core.specs.declared.literal.Literal.{Literal}
-use Rattle.refute_tree.specs.declared.lemma.Lemma.{Lemma}
-use Rattle.kept_lemmas.specs.declared.item.Kept.{Kept}
 use Rattle.kept_lemmas.specs.declared.item.Item.{Item}
-use Rattle.kept_lemmas.specs.declared.item.Item.TheVariants.{Own, Keep}
-use Rattle.kept_lemmas.specs.Facts.{Fact, Facts, Shelf, fact_or_none, item_fact, facts_of}
+use Rattle.kept_lemmas.specs.Facts.{Fact, Facts, Shelf, item_fact, facts_of}
 use Rattle.kept_lemmas.specs.Entries.{IsItemRight, AreRight}
 use Rattle.kept_lemmas.proofs.FactLists.{facts-append}
 use Rattle.lemma_shelf.specs.declared.table.Table.{Table}
-use Rattle.lemma_shelf.specs.code.Tables.{fact_at, facts_at, CountsTo, number_of}
-use Rattle.lemma_shelf.specs.code.Walks.{facts_in, shelf_in, IsWhole, AreWithin, AreCounted, HasLemma}
+use Rattle.lemma_shelf.specs.code.Tables.{fact_at, facts_at, CountsTo}
+use Rattle.lemma_shelf.specs.code.Walks.{facts_in, shelf_in, IsWhole, AreWithin, AreCounted}
 use Rattle.lemma_shelf.specs.code.Additions.{GoesOn, AddsItem, HasItems}
 use Rattle.lemma_shelf.proofs.Counting.{counts_on, counted_longer}
-use Rattle.lemma_shelf.proofs.Keeping.{by_entry, kept_is, number_holds}
 use Rattle.lemma_shelf.proofs.Lists.{take_more}
 
 module _ (before now : Table) (goes : GoesOn before now) where

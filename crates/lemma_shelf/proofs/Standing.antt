@@ -1,17 +1,17 @@
 -- What is written out stands on the shelf, and what is cited behind it.
-use Rattle.std.proofs.Common.{arith, ◌≡◌, ℕ, ◌<◌, ◌≤◌, ◌+◌, ◌-◌, List, [], ◌∷◌, ◌++◌, length, map, flat_map, take, drop, get_or, Option, Some, None, All, Contains, refl, sym, ap, subst, ◌∙◌}
+use Rattle.std.proofs.Common.{arith, ◌≡◌, ℕ, ◌<◌, ◌+◌, ◌-◌, List, [], ◌∷◌, ◌++◌, length, map, flat_map, take, drop, get_or, Option, Some, None, All, Contains, refl, sym, ap, subst, ◌∙◌}
 use Rattle.std.specs.Prelude.{slice_get, option_and_then}
 use Rattle.std.proofs.lemmas.Grind.{flat_map-append}
 use Rattle.std.proofs.lemmas.List.{length-map, take-append-drop, take-map, map-append}
 use Rattle.std.proofs.lemmas.List.Elements.{All-weaker}
-use Rattle.std.proofs.lemmas.Option.{slice_get-get_or, slice_get_within, get_or_from_slice_get}
+use Rattle.std.proofs.lemmas.Option.{slice_get_within, get_or_from_slice_get}
 use Rattle.stn_core.specs.declared.literal.Literal.{Literal}
 use Rattle.refute_tree.specs.declared.step.Step.TheVariants.{Lemma as Earlier}
 use Rattle.refute_tree.specs.declared.lemma.Lemma.{Lemma}
-use Rattle.kept_lemmas.specs.Facts.{Fact, Facts, Shelf}
+use Rattle.kept_lemmas.specs.Facts.{Facts, Shelf}
 use Rattle.kept_lemmas.proofs.FactLists.{all_at}
-use Rattle.lemma_shelf.specs.Lowering.{IsSublist, in_order, own_facts, AreOfShelf, AreCited}
-use Rattle.lemma_shelf.specs.code.Tables.{table_facts, fact_at, facts_at, shelf_by, CountsTo, IsTable, steps_at}
+use Rattle.lemma_shelf.specs.Lowering.{IsSublist, in_order, AreOfShelf, AreCited}
+use Rattle.lemma_shelf.specs.code.Tables.{table_facts, fact_at, facts_at, shelf_by, CountsTo, IsTable}
 use Rattle.lemma_shelf.specs.code.WrittenOut.{RestsOn, itself, cited, IsLowered, last_of}
 use Rattle.lemma_shelf.proofs.Counting.{counts_apart, counts_below, numbers_among, sublist_map, one_place, place_before}
 use Rattle.lemma_shelf.proofs.Lists.{some_there, get_take, all_parts, contained_at}

@@ -1,5 +1,6 @@
 pub mod Clauses
 pub mod Examples
+pub mod InPlace
 pub mod ItemFlaws
 pub mod Laws
 pub mod Lowering

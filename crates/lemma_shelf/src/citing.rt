@@ -1,8 +1,7 @@
 //! Lemmas of a refutation that earlier entries state already.
 ghost use Rattle.std.specs.Prelude.{◌≡◌, length, map, IsTrue, IfOk, IfSome};
 ghost use Rattle.std.specs.List.{AllZip};
-ghost use Rattle.kept_lemmas.specs.declared.item.Item.TheVariants.{Keep};
-ghost use Rattle.lemma_shelf.specs.code.Citing.{StandsFor};
+ghost use Rattle.lemma_shelf.specs.code.Citing.{States, StandsFor};
 ghost use Rattle.lemma_shelf.specs.code.Walks.{shelf_in, IsWhole, AreWithin, Knows};
 
 use crate::check::{KeptError, check_kept};
@@ -20,27 +19,27 @@ fn are_same(one: &[Literal], other: &[Literal]) -> bool
     one == other
 }
 
-// Whether the item at the place states the lemma's clause, and may be used in the problem.
-fn stands<'a>(
+// Whether the item at the place states the clause, and may be used in the problem.
+pub fn stands<'a>(
     alloc: Global,
     table: &Table,
     entries: &[Vec<usize>],
     problem: &'a Problem,
     walk: &mut Option<Walk<'a>>,
-    lemma: &Lemma,
+    clause: &[Literal],
     place: Kept,
 ) -> Result<bool, AllocError>
     requires table { IsWhole table.now }
     requires entries { AreWithin table.now (map (λ n. n.items) entries.now) }
     requires walk { IfSome walk.old (Knows table.now problem.now.clauses) }
-    ensures stands { IfOk result (λ b. IsTrue b → StandsFor (shelf_in table.now (map (λ n. n.items) entries.now))
-        problem.now.points problem.now.clauses lemma.now (Keep place)) }
+    ensures stands { IfOk result (λ b. IsTrue b → States (shelf_in table.now (map (λ n. n.items) entries.now))
+        problem.now.points problem.now.clauses clause.now place) }
     ensures walk { IfOk result (λ _. IfSome walk.new (Knows table.now problem.now.clauses)) }
 {
     match check_kept(alloc, table, entries, problem, walk, place) {
         Ok(number) => {
-            let clause = table.lemmas[number].clause.as_slice();
-            Ok(are_same(clause, lemma.clause.as_slice()))
+            let there = table.lemmas[number].clause.as_slice();
+            Ok(are_same(there, clause))
         }
         Err(KeptError::Refused(_)) => {
             *walk = None;
@@ -68,7 +67,8 @@ fn item_for<'a>(
     ensures walk { IfOk result (λ _. IfSome walk.new (Knows table.now problem.now.clauses)) }
 {
     if let Some(place) = place {
-        if stands(alloc, table, entries, problem, walk, lemma, place)? {
+        let clause = lemma.clause.as_slice();
+        if stands(alloc, table, entries, problem, walk, clause, place)? {
             return Ok(Item::Keep(place));
         }
     }

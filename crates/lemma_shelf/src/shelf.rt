@@ -1,14 +1,17 @@
-ghost use Rattle.std.specs.Prelude.{◌≡◌, ◌+◌, ◌-◌, [], ◌∷◌, ◌++◌, length, map, take, OnOk, OnErr, IfOk, slice_get};
+ghost use Rattle.std.specs.Prelude.{◌≡◌, ◌+◌, ◌-◌, [], ◌∷◌, ◌++◌, length, map, take, OnOk, OnErr, IfOk, IfSome, slice_get};
+ghost use Rattle.std.specs.List.{AllZip};
 ghost use Rattle.cert_check.specs.Flaws.{TellsFlaw};
+ghost use Rattle.kept_lemmas.specs.declared.item.Item.TheVariants.{Keep};
 ghost use Rattle.kept_lemmas.specs.Entries.{AreRight};
 ghost use Rattle.kept_lemmas.specs.Facts.{facts_of};
+ghost use Rattle.lemma_shelf.specs.InPlace.{StandsInPlace};
 ghost use Rattle.lemma_shelf.specs.ItemFlaws.{items_flaw};
 ghost use Rattle.lemma_shelf.specs.Lowering.{Refutes, StatesLast, AreOfShelf, AreCited};
 ghost use Rattle.lemma_shelf.specs.code.WrittenOut.{last_of};
 ghost use Rattle.refute_tree.specs.Trees.{IsRefutation};
 
 use crate::check::check;
-use crate::citing::items_for;
+use crate::citing::{items_for, stands};
 use crate::entry::add_items;
 use crate::laws::flaw_law;
 use crate::lowering::lowered;
@@ -107,7 +110,7 @@ impl Shelf {
     }
 
     /// The items of the next entry, which refutes the problem by these lemmas: in the place of each lemma that has a place, the item there, where
-    /// it states the same clause and may be used in the problem; else the lemma.
+    /// it states the same clause and may be used in the problem; else the lemma itself.
     ///
     /// The places are a hint, and there may be fewer of them than lemmas. It takes the time and memory of a copy of the lemmas that stay, and of what
     /// [`Shelf::check_entry`] takes for those that are kept. The one error is want of memory.
@@ -119,7 +122,8 @@ impl Shelf {
         places: &[Option<Kept>],
     ) -> Result<Items, AllocError>
         requires { IsRefutation problem.now.points problem.now.clauses lemmas.now }
-        ensures { IfOk result (λ items. AreRight self.now problem.now.points problem.now.clauses items) }
+        ensures right { IfOk result (λ items. AreRight self.now problem.now.points problem.now.clauses items) }
+        ensures stand { IfOk result (λ items. AllZip (StandsInPlace self.now) lemmas.now items) }
     {
         flaw_law();
         own_law();
@@ -132,6 +136,28 @@ impl Shelf {
             places,
         )?;
         Ok(Items::new(items))
+    }
+
+    /// The item at the place, as all items of the next entry, where it refutes the problem by itself. It takes the time and memory of one kept item of
+    /// [`Shelf::check_entry`]. The one error is want of memory.
+    pub fn keep(
+        &self,
+        alloc: Global,
+        problem: &Problem,
+        place: Kept,
+    ) -> Result<Option<Items>, AllocError>
+        ensures right { IfOk result (λ found. IfSome found (λ items.
+            AreRight self.now problem.now.points problem.now.clauses items)) }
+        ensures alone { IfOk result (λ found. IfSome found (λ items. items ≡ Keep place ∷ [])) }
+    {
+        let entries = self.entries.as_slice();
+        let mut walk = None;
+        if !stands(alloc, &self.table, entries, problem, &mut walk, &[], place)? {
+            return Ok(None);
+        }
+        let mut items = Vec::with_capacity(alloc, 1)?;
+        items.push(Item::Keep(place))?;
+        Ok(Some(Items::new(items)))
     }
 
     /// Puts an entry on the shelf whose items are right. The one error is want of memory.

@@ -30,9 +30,10 @@ use Rattle.dtp_entry.specs.code.Asking.{IsAskedBy}
 use Rattle.dtp_entry.specs.Entries.{verdict_of}
 use Rattle.dtp_entry.specs.Reports.{version_of}
 use Rattle.script_walk.specs.code.Standing.{Stands}
-use Rattle.dtp_entry.specs.Transcripts.{Held, schedule_in, opening, closing, decision_line, told, Decides, Output, pieces, IsLegal}
+use Rattle.dtp_entry.specs.Transcripts.{Held, schedule_in, opening, closing, told, Decides, Output, IsWritten, IsLegal}
 use Rattle.dtp_entry.specs.Written.{IsFront}
 use Rattle.dtp_session.specs.code.Forms.{schedule_shown}
+use Rattle.dtp_session.specs.code.Keeping.{IsShownIn, line_shown}
 use Rattle.dtp_session.specs.declared.piece.Piece.{Piece}
 use Rattle.dtp_session.specs.declared.piece.Piece.TheVariants.{Opening, Decision, Proof, Told, Closing, Error}
 use Rattle.dtp_session.specs.declared.session.Session.{Session}
@@ -40,7 +41,7 @@ use Rattle.dtp_session.specs.declared.session.Session.{Session}
 -- the text of a piece
 abbrev pub IsText : Session → Piece → List ℕ → Type 0
 IsText p Opening text = text ≡ opening p.report
-IsText p Decision text = (entry : Entry) → p.held ≡ Some entry → text ≡ decision_line p.report entry
+IsText p Decision text = (entry : Entry) → p.held ≡ Some entry → text ≡ line_shown p.report entry p.items
 IsText p Proof text = (entry : Entry) → p.held ≡ Some entry → text ≡ line_of (entry_sexpr entry)
 IsText p Told text = text ≡ p.text.items
 IsText p Closing text = text ≡ closing p.report
@@ -116,6 +117,7 @@ pub record IsStart (p : Session) : Type 0 where
   pub walk : IsWalkStart p.walk
   pub stands : Holds p start_state
   pub held : p.held ≡ None
+  pub earlier : p.earlier ≡ []
 
 -- nothing was changed but what is held and what the commands have led to
 pub record KeepsReading (p q : Session) : Type 0 where
@@ -123,6 +125,7 @@ pub record KeepsReading (p q : Session) : Type 0 where
   pub sexprs : q.walk.sexprs ≡ p.walk.sexprs
   pub number : q.walk.number ≡ p.walk.number
   pub report : q.report ≡ p.report
+  pub earlier : q.earlier ≡ p.earlier
 
 -- nothing was changed but the text and the marks
 pub record KeepsVerdict (p q : Session) : Type 0 where
@@ -159,14 +162,16 @@ pub record Runs (p : Session) (s : State) (found : List Entry) (status : ℕ) (t
 pub record From (p : Session) (s : State) (out : Output) : Type 0 where
   pub turns : List (Turn Entry)
   pub runs : Runs p s out.found out.status turns
-  pub text : out.text ≡ pieces p.report turns
+  pub writes : IsWritten p.report p.earlier turns out.text
 
 pub record PartFrom (p : Session) (s : State) (text : List ℕ) : Type 0 where
   pub found : List Entry
   pub turns : List (Turn Entry)
   pub are : IsCourseOf verdict_of p.walk.lexer.bytes p.walk.lexer.place (place_of p s found) turns
   pub legal : AllByRecursion (IsLegal p.report) turns
-  pub front : IsFront text (pieces p.report turns)
+  pub written : List ℕ
+  pub writes : IsWritten p.report p.earlier turns written
+  pub front : IsFront text written
 
 -- with a piece before it
 abbrev pub behind : List ℕ → List Entry → Output → Output
@@ -194,6 +199,7 @@ pub record IsChecked (question : Question) (x : Sexpr) (p q : Session) (s : Stat
   pub held : q.held ≡ Some entry
   pub stands : Holds q (settled (verdict_of entry) s)
   pub number : q.walk.number ≡ p.walk.number + 1
+  pub shows : IsShownIn (version_of q.report) p.earlier question s.context entry q.items q.earlier
 
 -- the question was decided, or it is refused
 abbrev pub IsAnswered : Question → Sexpr → Session → Session → State → Piece → Type 0

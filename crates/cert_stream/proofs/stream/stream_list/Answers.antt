@@ -1,4 +1,4 @@
-use Rattle.std.proofs.Common.{[], refl, sym, ap, ◌∙◌, List, ◌∷◌, map}
+use Rattle.std.proofs.Common.{refl, ap, List, map}
 use Rattle.std.proofs.lemmas.Result.{err_from_is_err_and}
 use Rattle.smt_sexpr.specs.Printing.{text_of}
 use Rattle.smt_sexpr.specs.Shapes.{list_of}

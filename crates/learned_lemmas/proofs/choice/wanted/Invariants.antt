@@ -1,4 +1,4 @@
-use Rattle.std.proofs.Common.{◌≡◌, ◌≤◌, ℕ, length}
+use Rattle.std.proofs.Common.{◌≡◌, ◌≤◌, length}
 use Rattle.learned_lemmas.proofs.choice.wanted.Given as goal
 
 abbrev pub invariant-back : goal.invariant-back

@@ -6,10 +6,10 @@ use Rattle.lemma_shelf.proofs.citing.stands.Goals as goal
 pub returns-in-Ok-clause-stands : goal.returns-in-Ok-clause-stands
 returns-in-Ok-clause-stands c = λ same. (
   c.in-Ok.ensures.ok.1,
-  sym (c.as_slice-clause.ensures ∙
+  sym (c.as_slice-there.ensures ∙
       clause_kept c.args.table.now.book c.args.table.now.lemmas.items (map (λ n. n.items) c.args.entries.now) c.args.place c.in-Ok.number c.index.result.now c.in-Ok.ensures.ok.0
       (slice_get_read c.args.table.now.lemmas.items (length c.args.table.now.lemmas.items) c.in-Ok.number c.index.result.now refl
       (within c.args.table.now.book c.args.table.now.lemmas.items c.args.table.now.points.items c.requires.table (map (λ n. n.items) c.args.entries.now)
       c.args.problem.now.points c.args.problem.now.clauses c.args.place c.in-Ok.number c.in-Ok.ensures.ok.0 c.requires.entries) c.index.ensures))
-      ∙ c.are_same.ensures same ∙ c.as_slice.ensures,
+      ∙ c.are_same.ensures same,
 )

@@ -1,26 +1,11 @@
-use Rattle.std.proofs.Common.{refl, subst, List, Option}
-use Rattle.std.specs.Prelude.{IfSome}
-use Rattle.stn_core.specs.declared.named.NamedValue.{NamedValue}
-use Rattle.stn_core.specs.Named.{AreWithinLimit}
+use Rattle.std.proofs.Common.{sym, subst}
 use Rattle.smt_script.specs.declared.state.Question.TheVariants.{CheckSat}
-use Rattle.smt_script.specs.States.{State}
-use Rattle.script_walk.specs.code.Standing.{Stands}
-use Rattle.dtp_entry.specs.Bests.{Satisfies}
-use Rattle.dtp_session.proofs.Answering.{holds_aside, checked_aside, answered_aside}
+use Rattle.dtp_session.specs.declared.session.Session.{Session}
+use Rattle.dtp_session.specs.code.Sessions.{Holds, IsAnswered}
 use Rattle.dtp_session.proofs.session.Session.ask_verdict.Goals as goal
 
-pub returns-in-Some-clause-answered : goal.returns-in-Some-clause-answered
-returns-in-Some-clause-answered g c = λ s x holds asked.
-    let p = c.args.self.now in
-    let mid = c.satisfying.new.self in
-    let same = c.satisfying.ensures.same in
-    let there = subst (λ (found : Option (List NamedValue)). IfSome found (λ values. (t : State) → Stands p.walk.state t → Satisfies t.context values × AreWithinLimit values)) c.in-Some.is c.in_ok-values.ensures.found in
-    let fits = there s holds.stands in
-    (refl, checked_aside p mid c.satisfy_by.new.self s CheckSat x same (c.satisfy_by.ensures.checked s x (holds_aside p mid s same holds) asked fits.0 fits.1))
-
-pub returns-clause-answered : goal.returns-clause-answered
-returns-clause-answered g c = λ s x holds asked.
-    let p = c.args.self.now in
-    let mid = c.satisfying.new.self in
-    let same = c.satisfying.ensures.same in
-    answered_aside p mid c.ask_problem.new.self s CheckSat x c.in_ok-piece.piece same (c.in_ok-piece.ensures.answered s x (holds_aside p mid s same holds) asked)
+pub returns-in_ok-piece-in-Unsat-clause-answered : goal.returns-in_ok-piece-in-Unsat-clause-answered
+returns-in_ok-piece-in-Unsat-clause-answered g c = λ s x holds asked.
+    let same = c.in_ok-refute_again-in-Unsat.ensures.untouched c.if-branch.false in
+    subst (λ (m : Session). IsAnswered CheckSat x m c.ask_anew.new.self s c.in_ok-piece-in-Unsat.piece) same
+    (c.in_ok-piece-in-Unsat.ensures.answered s x (subst (λ (m : Session). Holds m s) (sym same) holds) asked)

@@ -5,7 +5,10 @@ use Rattle.script_walk.specs.code.Standing.{Stands}
 use Rattle.script_walk.specs.declared.walk.Walk.{Walk}
 use Rattle.dtp_entry.specs.Reports.{version_of}
 use Rattle.dtp_session.specs.declared.session.Session.{Session}
+use Rattle.kept_lemmas.specs.Facts.{Shelf}
+use Rattle.cert_text.specs.declared.entry.Version.{Version}
 use Rattle.dtp_session.specs.code.Forms.{version_wanted}
+use Rattle.dtp_session.specs.code.Keeping.{IsShownIn}
 use Rattle.dtp_session.proofs.Answering.{decided_anew}
 use Rattle.dtp_session.proofs.session.Session.decide_anew.Goals as goal
 
@@ -27,6 +30,12 @@ returns-clause-checked g c = λ s x holds asked taken.
     let version : version_wanted c.wanted-wanted.result ≡ version_of c.keep_schedule.new.self.report = c.wanted-wanted.ensures.version ∙ sym (ap version_of report) in
     let stands = subst (λ (v : Satisfiability). Stands c.settle.new.self.state (settled v s)) c.verdict.ensures (c.settle.ensures.stands s there_later) in
     let marks : c.keep_schedule.new.self.marks.items ≡ [] = ap (λ (p : Session). p.marks.items) aside ∙ ap (λ (p : Session). p.marks.items) same ∙ c.clear.ensures.items in
-    decided_anew c.keep_schedule.new.self.walk.state _ s (version_wanted c.wanted-wanted.result) c.args.question x c.in_ok-found.field-0 there_later asked (c.in_ok-found.ensures s x there taken)
+    let decided = c.in_ok-shown.ensures s x there taken in
+    let before : c.wanted-wanted.new.self.earlier ≡ c.args.self.now.earlier = ap (λ (p : Session). p.earlier) same in
+    let behind : c.keep_schedule.new.self.earlier ≡ c.decide.new.earlier = ap (λ (p : Session). p.earlier) aside in
+    let shows = subst (λ (v : Version). IsShownIn v c.wanted-wanted.new.self.earlier c.args.question s.context c.in_ok-shown.field-0.shown.found c.in_ok-shown.field-0.shown.items c.decide.new.earlier) refl decided.shows in
+    let shows_now = subst (λ (k : Shelf). IsShownIn (version_wanted c.wanted-wanted.result) c.args.self.now.earlier c.args.question s.context c.in_ok-shown.field-0.shown.found c.in_ok-shown.field-0.shown.items k) (sym behind)
+    (subst (λ (k : Shelf). IsShownIn (version_wanted c.wanted-wanted.result) k c.args.question s.context c.in_ok-shown.field-0.shown.found c.in_ok-shown.field-0.shown.items c.decide.new.earlier) before shows) in
+    decided_anew c.keep_schedule.new.self.walk.state _ s (version_wanted c.wanted-wanted.result) c.args.question x c.in_ok-shown.field-0.shown.found c.in_ok-shown.field-0.given there_later asked decided.decides
     (λ lemmas some is. c.in_ok-cited.ensures.cites s lemmas there_later some is) (sym version) refl refl marks c.args.self.now stands
-    (ap (λ (w : Walk). w.number) c.settle.ensures.rest ∙ ap (λ (w : Walk). w.number + 1) later)
+    (ap (λ (w : Walk). w.number) c.settle.ensures.rest ∙ ap (λ (w : Walk). w.number + 1) later) shows_now

@@ -1,8 +1,13 @@
-use Rattle.std.proofs.Common.{refl, ap}
+use Rattle.std.proofs.Common.{refl, sym, ap, subst, ◌∙◌}
+use Rattle.cert_text.specs.declared.entry.Version.{Version}
+use Rattle.cert_text.specs.declared.entry.Entry.TheVariants.{Unsat}
 use Rattle.script_walk.specs.declared.walk.Walk.{Walk}
+use Rattle.dtp_session.specs.code.Keeping.{IsShownIn}
 use Rattle.dtp_session.proofs.Answering.{refuted_again}
 use Rattle.dtp_session.proofs.session.Session.refute_again.Goals as goal
 
-pub returns-clause-checked : goal.returns-clause-checked
-returns-clause-checked c = λ s x question holds asked.
-    refuted_again c.args.self.now _ s question x holds asked c.requires.unsat (c.settle.ensures.stands s holds.stands) refl refl (ap (λ (w : Walk). w.number) c.settle.ensures.rest)
+pub returns-in-One-clause-checked : goal.returns-in-One-clause-checked
+returns-in-One-clause-checked c = λ yes s x question holds asked.
+    let p = c.args.self.now in
+    refuted_again p _ s question x holds asked c.requires.unsat (c.settle.ensures.stands s holds.stands) refl refl (ap (λ (w : Walk). w.number) c.settle.ensures.rest)
+    (λ lemmas. subst (λ (v : Version). IsShownIn v p.earlier question s.context (Unsat lemmas) p.items p.earlier) (sym c.in-One.is ∙ c.version.ensures) refl)

@@ -3,13 +3,14 @@ use Rattle.std.specs.List.{AllZip}
 use Rattle.kept_lemmas.specs.declared.item.Item.{Item}
 use Rattle.kept_lemmas.specs.Facts.{Shelf}
 use Rattle.kept_lemmas.specs.Entries.{AreRight}
+use Rattle.lemma_shelf.specs.InPlace.{StandsInPlace}
 use Rattle.lemma_shelf.specs.code.Citing.{StandsFor}
 use Rattle.lemma_shelf.specs.code.Walks.{shelf_in}
-use Rattle.lemma_shelf.proofs.ForLemmas.{standing_right}
+use Rattle.lemma_shelf.proofs.ForLemmas.{standing_right, standing_in_place}
 use Rattle.lemma_shelf.proofs.shelf.Shelf.cite.Goals as goal
 
-pub returns : goal.returns
-returns c =
+pub returns-clause-right : goal.returns-clause-right
+returns-clause-right c =
     let points = c.args.problem.now.points in
     let clauses = c.args.problem.now.clauses in
     let lemmas = c.args.lemmas.now in
@@ -17,3 +18,13 @@ returns c =
     let inside = subst (λ es. AllZip (StandsFor (shelf_in c.self.inside.table (map (λ n. n.items) es)) points clauses) lemmas items) c.as_slice.ensures.value c.in_ok-items.ensures in
     let all = subst (λ (shelf : Shelf). AllZip (StandsFor shelf points clauses) lemmas items) c.self.view_is inside in
     subst (λ (made : List Item). AreRight c.args.self.now points clauses made) (sym c.new.ensures) (standing_right c.args.self.now points clauses c.own_law.ensures lemmas items all c.requires)
+
+pub returns-clause-stand : goal.returns-clause-stand
+returns-clause-stand c =
+    let points = c.args.problem.now.points in
+    let clauses = c.args.problem.now.clauses in
+    let lemmas = c.args.lemmas.now in
+    let items = c.in_ok-items.items.items in
+    let inside = subst (λ es. AllZip (StandsFor (shelf_in c.self.inside.table (map (λ n. n.items) es)) points clauses) lemmas items) c.as_slice.ensures.value c.in_ok-items.ensures in
+    let all = subst (λ (shelf : Shelf). AllZip (StandsFor shelf points clauses) lemmas items) c.self.view_is inside in
+    subst (λ (made : List Item). AllZip (StandsInPlace c.args.self.now) lemmas made) (sym c.new.ensures) (standing_in_place c.args.self.now points clauses lemmas items all)

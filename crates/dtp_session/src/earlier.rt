@@ -1,0 +1,272 @@
+//! What the entries of earlier questions leave to later ones.
+ghost use Rattle.std.specs.Prelude.{◌≡◌, ◌∷◌, [], ◌++◌, All, IsTrue, IfOk, OnOk};
+ghost use Rattle.refute_tree.specs.Batches.{LemmaIsOver};
+ghost use Rattle.refute_tree.specs.Trees.{IsRefutation};
+ghost use Rattle.learned_lemmas.specs.Taken.{IsTakenOver};
+ghost use Rattle.kept_lemmas.specs.Entries.{AreRight};
+ghost use Rattle.kept_lemmas.specs.Facts.{facts_of};
+ghost use Rattle.dtp_session.specs.code.Keeping.{IsNamed, IsItemNamed, RefutesBy, AreEntered, IsEntered, IsAgain, passed};
+
+use crate::wanted::Wanted;
+use cert_text::{Entry, NUMBER_LIMIT, Version};
+use indexmap::IndexMap;
+use kept_lemmas::{Item, Items, Kept};
+use learned_lemmas::{Learned, Taken};
+use lemma_shelf::Shelf;
+use refute_tree::{Batch, Lemma};
+use std::alloc::{AllocError, Global};
+use std::marker::Model;
+use stn_core::{Literal, Problem};
+
+/// Whether the format can name what is kept at the place.
+fn is_place_named(kept: Kept) -> bool
+    ensures { IsTrue result → IsNamed kept }
+{
+    kept.entry as u64 <= NUMBER_LIMIT && kept.item as u64 <= NUMBER_LIMIT
+}
+
+/// Whether the format can name what the item keeps.
+fn is_named(item: &Item) -> bool
+    ensures { IsTrue result → IsItemNamed item.now }
+{
+    match item {
+        Item::Own(_) => true,
+        Item::Keep(kept) => is_place_named(*kept),
+    }
+}
+
+/// The same of each.
+fn are_named(items: &[Item]) -> bool
+    ensures { IsTrue result → All IsItemNamed items.now }
+{
+    items.iter().all(|item| is_named(item))
+}
+
+/// Notes which clauses the entry's own lemmas state.
+fn note(
+    alloc: Global,
+    places: &mut IndexMap<Vec<Literal>, Kept>,
+    entry: usize,
+    items: &[Item],
+) -> Result<(), AllocError> {
+    for (number, item) in items.iter().enumerate() {
+        if let Item::Own(lemma) = item {
+            let clause = Vec::from_slice(alloc, lemma.clause.as_slice())?;
+            let place = Kept {
+                entry,
+                item: number,
+            };
+            places.insert(clause, place)?;
+        }
+    }
+    Ok(())
+}
+
+/// What earlier entries leave to later ones: lemmas that a search opens with, and what a certificate of the second version keeps. Contracts see what
+/// the entries of such a certificate state, entry by entry; the rest are hints.
+pub struct Earlier {
+    /// What the search of an earlier question has learned.
+    learned: Option<Learned>,
+    /// The entries of the certificate.
+    shelf: Shelf,
+    /// For a clause the last item that was written of it.
+    places: IndexMap<Vec<Literal>, Kept>,
+    /// The last item of the last refutation.
+    last: Option<Kept>,
+}
+
+impl Drop for Earlier {
+    fn drop(self) {
+        let Earlier {
+            learned,
+            shelf,
+            places,
+            last: _,
+        } = self;
+        drop(learned);
+        drop(shelf);
+        drop(places);
+    }
+}
+
+impl Model for Earlier {
+    ghost use Rattle.kept_lemmas.specs.Facts.{Shelf as KeptShelf};
+
+    ghost Value = { KeptShelf };
+
+    ghost view = { λ e. e.shelf };
+}
+
+impl Earlier {
+    /// Nothing yet. It takes no memory.
+    pub fn new(alloc: Global) -> Self
+        ensures { result ≡ [] }
+    {
+        Earlier {
+            learned: None,
+            shelf: Shelf::new(alloc),
+            places: IndexMap::new(alloc),
+            last: None,
+        }
+    }
+
+    /// What the problem takes over of an earlier one's refutation. In the first version that is nothing, since an entry would have to show each lemma that was
+    /// taken over.
+    pub fn taken(
+        &self,
+        alloc: Global,
+        problem: &Problem,
+        wanted: Wanted,
+    ) -> Result<Taken, AllocError>
+        ensures { IfOk result (IsTakenOver problem.now) }
+    {
+        match (wanted.choice(), &self.learned) {
+            (Some(choice), Some(learned)) => learned.taken(alloc, problem, choice),
+            _ => Ok(Taken::Opens(Batch::new(0, Vec::new(alloc)))),
+        }
+    }
+
+    /// Keeps what searches of later problems may take over of a refutation.
+    pub fn learn(
+        &mut self,
+        alloc: Global,
+        problem: &Problem,
+        refutation: &[Lemma],
+        wanted: Wanted,
+    ) -> Result<(), AllocError>
+        requires refutes { IsRefutation problem.now.points problem.now.clauses refutation.now }
+        requires over { All (LemmaIsOver problem.now.points) refutation.now }
+        ensures { self.new ≡ self.old }
+    {
+        if let Some(choice) = wanted.choice() {
+            if let Some(learned) = Learned::of(alloc, problem, refutation, choice)? {
+                self.learned = Some(learned);
+            }
+        }
+        Ok(())
+    }
+
+    /// An entry without lemmas, in a certificate of the version: of it nothing can be kept.
+    pub fn pass(&mut self, version: Version) -> Result<(), AllocError>
+        ensures { OnOk result (self.new ≡ passed version self.old) }
+    {
+        match version {
+            Version::One => Ok(()),
+            Version::Two => self.shelf.skip(),
+        }
+    }
+
+    /// For each lemma the last item that states its clause.
+    fn places_of(&self, alloc: Global, lemmas: &[Lemma]) -> Result<Vec<Option<Kept>>, AllocError> {
+        let mut places = Vec::with_capacity(alloc, lemmas.len())?;
+        for lemma in lemmas {
+            places.push(self.places.get(lemma.clause.as_slice()).copied())?;
+        }
+        Ok(places)
+    }
+
+    /// Puts these items behind the earlier entries. The last of them is where the refutation ends.
+    fn add(&mut self, alloc: Global, problem: &Problem, items: &[Item]) -> Result<(), AllocError>
+        requires { AreRight self.old problem.now.points problem.now.clauses items.now }
+        ensures { OnOk result (self.new ≡ self.old ++ facts_of self.old problem.now.clauses items.now ∷ []) }
+    {
+        self.shelf.add_entry(alloc, problem, items)?;
+        let entry = self.shelf.len();
+        note(alloc, &mut self.places, entry, items)?;
+        self.last = items.len().checked_sub(1).map(|item| Kept { entry, item });
+        Ok(())
+    }
+
+    /// The items of an entry that refutes the problem by the item at the place alone, where that does.
+    fn keep(
+        &mut self,
+        alloc: Global,
+        problem: &Problem,
+        place: Option<Kept>,
+    ) -> Result<Option<Items>, AllocError>
+        ensures { IfOk result (IsAgain self.old problem.now.points problem.now.clauses self.new) }
+    {
+        let Some(place) = place else {
+            return Ok(None);
+        };
+        if !is_place_named(place) {
+            return Ok(None);
+        }
+        let Some(items) = self.shelf.keep(alloc, problem, place)? else {
+            return Ok(None);
+        };
+        self.add(alloc, problem, items.as_slice())?;
+        Ok(Some(items))
+    }
+
+    /// The items of the next entry, which refutes the problem by these lemmas: the last item of an earlier entry, where that will do, and else one for each
+    /// lemma. So many entries or items as the format can't name are in no memory.
+    fn cite(
+        &mut self,
+        alloc: Global,
+        problem: &Problem,
+        lemmas: &[Lemma],
+    ) -> Result<Items, AllocError>
+        requires { IsRefutation problem.now.points problem.now.clauses lemmas.now }
+        ensures { IfOk result (λ items. AreEntered self.old problem.now.points problem.now.clauses lemmas.now items self.new) }
+    {
+        let places = self.places_of(alloc, lemmas)?;
+        let last = places.last().copied().unwrap_or(None);
+        match self.keep(alloc, problem, last)? {
+            Some(items) => Ok(items),
+            None => self.cite_each(alloc, problem, lemmas, places.as_slice()),
+        }
+    }
+
+    /// The same with an item for each lemma.
+    fn cite_each(
+        &mut self,
+        alloc: Global,
+        problem: &Problem,
+        lemmas: &[Lemma],
+        places: &[Option<Kept>],
+    ) -> Result<Items, AllocError>
+        requires { IsRefutation problem.now.points problem.now.clauses lemmas.now }
+        ensures { IfOk result (λ items. AreEntered self.old problem.now.points problem.now.clauses lemmas.now items self.new) }
+    {
+        let items = self.shelf.cite(alloc, problem, lemmas, places)?;
+        if !are_named(items.as_slice()) {
+            return Err(AllocError);
+        }
+        self.add(alloc, problem, items.as_slice())?;
+        Ok(items)
+    }
+
+    /// The items that stand in the place of the entry's lemmas, in a certificate of the version, where these refute the problem. In the first version
+    /// there are none, and nothing is kept.
+    pub fn enter(
+        &mut self,
+        alloc: Global,
+        version: Version,
+        problem: &Problem,
+        entry: &Entry,
+    ) -> Result<Items, AllocError>
+        requires { RefutesBy problem.now.points problem.now.clauses entry.now }
+        ensures { IfOk result (λ items.
+            IsEntered version self.old problem.now.points problem.now.clauses entry.now items self.new) }
+    {
+        if let Version::One = version {
+            return Ok(Items::new(Vec::new(alloc)));
+        }
+        match entry {
+            Entry::Unsat(refutation) => self.cite(alloc, problem, refutation.as_slice()),
+            Entry::Best(_, _, refutation) => self.cite(alloc, problem, refutation.as_slice()),
+            Entry::Sat(_) | Entry::Unbounded(_, _) => {
+                self.pass(version)?;
+                Ok(Items::new(Vec::new(alloc)))
+            }
+        }
+    }
+
+    /// The items of an entry that refutes the problem as the last refutation did, where that refutes it: the last item of that, kept.
+    pub fn again(&mut self, alloc: Global, problem: &Problem) -> Result<Option<Items>, AllocError>
+        ensures { IfOk result (IsAgain self.old problem.now.points problem.now.clauses self.new) }
+    {
+        self.keep(alloc, problem, self.last)
+    }
+}
