@@ -34,6 +34,10 @@ KEPT = b"""(declare-const p Bool) (assert p) (assert (not p)) (check-sat) (push 
 (unsat (keep 1 0))
 (end)
 """
+AGAIN = (
+    "(declare-const x Int) (declare-const y Int) (assert (or (< x y) (< x (- y 3)))) (push 1) (assert (or (< y x) (< y (- x 3)))) (check-sat) (check-sat) (pop 1) (check-sat) "
+    "(assert (< x 5)) (assert (or (< y x) (< y (- x 3)))) (check-sat) (minimize x)"
+)
 PROOFS = "(set-option :produce-proofs true) (declare-const x Int) (declare-const y Int) (assert (< x y)) (assert (< y x)) (check-sat) (get-proof)"
 
 
@@ -54,6 +58,7 @@ def rows(program):
     yield "solve, an error", ["solve", "--workers", "1"], b"(declare-const x Int) (check-sat) (assert (< x 9999999999999999999999)) (check-sat)"
     for version in "1", "2":
         yield f"certify, version {version}", ["certify", "--workers", "1", "--format", version], pigeons
+    yield "certify, kept lemmas", ["certify", "--workers", "1", "--format", "2"], AGAIN.encode()
     for name, script in ("orders", orders), ("pigeons", pigeons):
         certificate = subprocess.run([program, "certify", "--workers", "1", "--format", "2"], input=script, capture_output=True, check=True).stdout
         behind = script + b"\n" + certificate
