@@ -12,11 +12,10 @@ use Rattle.stn_core.specs.declared.schedule.Greatest.TheVariants.{Greatest as As
 use Rattle.stn_core.specs.Answer.{IsBest, IsAnswer, IsCycleAmong}
 use Rattle.stn_core.specs.Laws.{CycleLaw}
 use Rattle.stn_core.specs.Literal.{value_at, literal_at, Holds, IsOver}
-use Rattle.stn_core.specs.Schedule.{IsInRange}
+use Rattle.stn_core.specs.Schedule.{IsInRange, AreNear}
 use Rattle.stn_core.specs.Problem.{ClauseHolds, ProblemHolds}
 use Rattle.stn_core.specs.Solution.{IsSolution}
 use Rattle.best_values.specs.Widths.{width_of}
-use Rattle.better_schedules.specs.Near.{AreNear}
 use Rattle.better_schedules.specs.Laws.{NearLaw, WidthLaw}
 use Rattle.better_schedules.specs.code.Choices.{IsTrueOf, IsChoice, IsFlat}
 

@@ -1,5 +1,4 @@
 pub mod Widths
-pub mod Near
 pub mod Sets
 pub mod Gaps
 pub mod Choosing

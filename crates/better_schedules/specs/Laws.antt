@@ -2,9 +2,8 @@
 use Rattle.std.specs.Prelude.{ℕ, ◌<◌, ◌*◌, List, All, Contains, ℤ, pos, neg_ℤ, ◌≤ℤ◌}
 use Rattle.stn_core.specs.declared.literal.Literal.{Literal}
 use Rattle.stn_core.specs.Literal.{value_at, IsOver}
-use Rattle.stn_core.specs.Schedule.{IsGreatestSchedule}
+use Rattle.stn_core.specs.Schedule.{IsGreatestSchedule, AreNear}
 use Rattle.best_values.specs.Widths.{width_of}
-use Rattle.better_schedules.specs.Near.{AreNear}
 
 -- no value of a greatest schedule is below 0 by more than the widest bound for each point
 abbrev pub NearLaw : Type 0

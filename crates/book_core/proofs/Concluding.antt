@@ -1,5 +1,5 @@
 -- What is concluded is right.
-use Rattle.std.proofs.Common.{arith, ◌≡◌, ℕ, zero, suc, ◌+◌, ◌-◌, inl, inr, List, [], ◌∷◌, ◌++◌, length, map, take, Option, Some, None, All, ℤ, refl, sym, ap, ◌∙◌, subst, append_assoc, append-nil, ◌<◌, ◌≤◌, get_or, Bool, true, ◌==◌}
+use Rattle.std.proofs.Common.{arith, ◌≡◌, ℕ, zero, suc, ◌+◌, ◌-◌, inl, inr, List, [], ◌∷◌, ◌++◌, length, map, take, Option, Some, None, All, ℤ, refl, sym, ap, ◌∙◌, subst, ◌<◌, ◌≤◌, get_or, Bool, true, ◌==◌}
 use Rattle.std.specs.Prelude.{slice_get, IfSome, IsSome}
 use Rattle.std.proofs.lemmas.Int.{ints}
 use Rattle.std.proofs.lemmas.Option.{slice_get_within}
@@ -14,6 +14,7 @@ use Rattle.refute_tree.specs.declared.lemma.Lemma.{Lemma}
 use Rattle.refute_tree.specs.Trees.{Tree, stated, literals_named, IsRefuted, IsRefutation, IsOnPoints, NamesPoints}
 use Rattle.refute_tree.specs.Batches.{AreRefuted, NamesOver, LemmaIsOver}
 use Rattle.refute_tree.proofs.Moved.{batch_moved, joined}
+use Rattle.refute_tree.proofs.Numbered.{each_refuted}
 use Rattle.cover_tree.specs.Covers.{Cubes, NoneFree, NoneHeld, cube_at}
 use Rattle.cover_tree.proofs.Sets.{get_behind}
 use Rattle.cover_tree.proofs.Tables.{get_map}
@@ -56,14 +57,6 @@ on_points points l h = record { x_in = h.x_in; y_in = h.y_in }
 
 step_on_points : (points : ℕ) (s : Step) → NamesOver points s → NamesPoints points s
 step_on_points points s h = All-weaker (IsOver points) (IsOnPoints points) (on_points points) (literals_named s) h
-
-each_refuted : (points : ℕ) (clauses earlier : List (List Literal)) (lemmas : List Lemma) → AreRefuted points clauses earlier lemmas → (j : ℕ) (lemma : Lemma) → slice_get lemmas j ≡ Some lemma → IsRefuted points clauses (earlier ++ map stated (take j lemmas)) lemma
-each_refuted points clauses earlier [] h j lemma e = absurd cc
-each_refuted points clauses earlier (l ∷ lemmas) h zero lemma e =
-    let same : l ≡ lemma = cc in
-    subst (λ (k : List (List Literal)). IsRefuted points clauses k lemma) (sym (append-nil earlier)) (subst (IsRefuted points clauses earlier) same h.0)
-each_refuted points clauses earlier (l ∷ lemmas) h (suc j) lemma e =
-    subst (λ (k : List (List Literal)). IsRefuted points clauses k lemma) (append_assoc earlier (l.clause ∷ []) (map stated (take j lemmas))) (each_refuted points clauses (earlier ++ l.clause ∷ []) lemmas h.1 j lemma e)
 
 -- all lemmas and the last one are a refutation
 pub closed_refutation : (problem : Problem) (lemmas : List Lemma) (steps : List Step) → AreRefuted problem.points problem.clauses [] lemmas → Tree problem.clauses (map stated lemmas) [] steps [] → All (NamesOver problem.points) steps → IsRefutation problem.points problem.clauses (lemmas ++ last_lemma steps ∷ [])

@@ -1,5 +1,5 @@
 -- What is carried is refuted over the new problem, and within its limits.
-use Rattle.std.proofs.Common.{arith, ◌≡◌, ◌<◌, ◌+◌, ℕ, zero, suc, true, false, List, [], ◌∷◌, ◌++◌, length, map, take, Option, Some, None, All, Contains, refl, sym, ap, subst, ◌∙◌, get_or, append_assoc, append-nil, length-append, flat_map, unwrap_or}
+use Rattle.std.proofs.Common.{arith, ◌≡◌, ◌<◌, ◌+◌, ℕ, zero, suc, true, false, List, [], ◌∷◌, ◌++◌, length, map, take, Option, Some, None, All, Contains, refl, sym, ap, subst, ◌∙◌, get_or, length-append, flat_map, unwrap_or}
 use Rattle.std.specs.Prelude.{slice_get}
 use Rattle.std.specs.List.{items_where_true}
 use Rattle.std.proofs.lemmas.List.{take-map, length-take-le, length-map}
@@ -13,6 +13,7 @@ use Rattle.refute_tree.specs.declared.lemma.Lemma.{Lemma}
 use Rattle.refute_tree.specs.Trees.{clause_of, Tree, Forest, leaf, clash, cases, none, more, IsOnPoints, NamesPoints, IsRefuted, stated}
 use Rattle.refute_tree.specs.Batches.{LemmaBatch, AreRefuted, NamesOver, LemmaIsOver, LemmaRefersBelow}
 use Rattle.refute_tree.proofs.References.{all_below}
+use Rattle.refute_tree.proofs.Numbered.{each_refuted, refuted_each}
 use Rattle.kept_lemmas.specs.declared.item.Item.{Item}
 use Rattle.kept_lemmas.specs.declared.item.Item.TheVariants.{Own}
 use Rattle.kept_lemmas.specs.Facts.{Fact, Facts, support_of_clause, support_of_fact, named_by_fact, step_support, step_named, own_fact, facts_from}
@@ -23,27 +24,6 @@ use Rattle.trim_lemmas.proofs.Picked.{comes_from, goes_to, get_mapped, map_get}
 use Rattle.carried_lemmas.specs.Carried.{lemma_facts, IsEqualAt, carried_step, carried_lemma, IsCarried}
 use Rattle.carried_lemmas.specs.code.Carrying.{ReferBack}
 use Rattle.carried_lemmas.proofs.Lists.{all_before, all_behind, all_from_get, taken_get, some_there, of_each}
-
--- ---- refuted lemmas by their numbers
-
-each_refuted : (points : ℕ) (clauses first : List (List Literal)) (lemmas : List Lemma) → AreRefuted points clauses first lemmas
-    → (k : ℕ) (lemma : Lemma) → slice_get lemmas k ≡ Some lemma → IsRefuted points clauses (first ++ map stated (take k lemmas)) lemma
-each_refuted points clauses first [] h k lemma e = absurd (cc)
-each_refuted points clauses first (l ∷ lemmas) h zero lemma e =
-    let same : l ≡ lemma = cc in
-    subst (λ (cs : List (List Literal)). IsRefuted points clauses cs lemma) (sym (append-nil first)) (subst (IsRefuted points clauses first) same h.0)
-each_refuted points clauses first (l ∷ lemmas) h (suc k) lemma e =
-    subst (λ (cs : List (List Literal)). IsRefuted points clauses cs lemma) (append_assoc first (l.clause ∷ []) (map stated (take k lemmas)))
-    (each_refuted points clauses (first ++ l.clause ∷ []) lemmas h.1 k lemma e)
-
-refuted_each : (points : ℕ) (clauses first : List (List Literal)) (lemmas : List Lemma)
-    → ((k : ℕ) (lemma : Lemma) → slice_get lemmas k ≡ Some lemma → IsRefuted points clauses (first ++ map stated (take k lemmas)) lemma)
-    → AreRefuted points clauses first lemmas
-refuted_each points clauses first [] h = tt
-refuted_each points clauses first (l ∷ lemmas) h = (
-  subst (λ (cs : List (List Literal)). IsRefuted points clauses cs l) (append-nil first) (h 0 l refl),
-  refuted_each points clauses (first ++ l.clause ∷ []) lemmas (λ k lemma e. subst (λ (cs : List (List Literal)). IsRefuted points clauses cs lemma) (sym (append_assoc first (l.clause ∷ []) (map stated (take k lemmas)))) (h (suc k) lemma e)),
-)
 
 -- refuted lemmas refer to none behind them
 pub refer_back : (points : ℕ) (clauses : List (List Literal)) (lemmas : List Lemma) → AreRefuted points clauses [] lemmas → ReferBack lemmas

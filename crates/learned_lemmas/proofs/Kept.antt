@@ -1,23 +1,13 @@
 -- What is kept of a refutation is refuted over its problem.
-use Rattle.std.proofs.Common.{◌≡◌, ◌∷◌, ◌++◌, ℕ, zero, suc, List, [], map, take, Some, All, refl, sym, subst, ◌∙◌, append_assoc, append-nil}
-use Rattle.std.specs.Prelude.{slice_get}
-use Rattle.stn_core.specs.declared.literal.Literal.{Literal}
+use Rattle.std.proofs.Common.{◌≡◌, ℕ, List, [], map, All, sym, subst, ◌∙◌}
 use Rattle.stn_core.specs.declared.problem.Problem.{Problem}
 use Rattle.refute_tree.specs.declared.lemma.Lemma.{Lemma}
-use Rattle.refute_tree.specs.Trees.{IsRefuted, IsRefutation, stated}
+use Rattle.refute_tree.specs.Trees.{IsRefutation}
 use Rattle.refute_tree.specs.Batches.{LemmaBatch, AreRefuted, LemmaIsOver}
+use Rattle.refute_tree.proofs.Numbered.{each_refuted, refuted_each}
 use Rattle.trim_lemmas.specs.Trimming.{StaysRefuted, StaysOver}
 use Rattle.book_core.specs.Books.{IsOpening}
 use Rattle.learned_lemmas.specs.code.Ends.{EndsEmpty}
-
-refuted_each : (points : ℕ) (clauses first : List (List Literal)) (lemmas : List Lemma)
-    → ((k : ℕ) (lemma : Lemma) → slice_get lemmas k ≡ Some lemma → IsRefuted points clauses (first ++ map stated (take k lemmas)) lemma)
-    → AreRefuted points clauses first lemmas
-refuted_each points clauses first [] h = tt
-refuted_each points clauses first (l ∷ lemmas) h = (
-  subst (λ (cs : List (List Literal)). IsRefuted points clauses cs l) (append-nil first) (h 0 l refl),
-  refuted_each points clauses (first ++ l.clause ∷ []) lemmas (λ k lemma e. subst (λ (cs : List (List Literal)). IsRefuted points clauses cs lemma) (sym (append_assoc first (l.clause ∷ []) (map stated (take k lemmas)))) (h (suc k) lemma e)),
-)
 
 -- what is left of a batch of its lemmas, as it is given away
 pub kept_opens : (problem : Problem) (refutation lent kept : List Lemma) (batch left : LemmaBatch)
@@ -30,16 +20,6 @@ kept_opens problem refutation lent kept batch left refutes over seen is stays st
     let within : All (LemmaIsOver problem.points) batch.lemmas = subst (All (LemmaIsOver problem.points)) (sym is) over in
     let here : IsOpening problem left.lemmas = record { refuted = stays problem.points problem.clauses [] (sym seen) all; over = stays_over problem.points within } in
     subst (IsOpening problem) (sym f) (subst (IsOpening problem) (sym e) here)
-
-each_refuted : (points : ℕ) (clauses first : List (List Literal)) (lemmas : List Lemma) → AreRefuted points clauses first lemmas
-    → (k : ℕ) (lemma : Lemma) → slice_get lemmas k ≡ Some lemma → IsRefuted points clauses (first ++ map stated (take k lemmas)) lemma
-each_refuted points clauses first [] h k lemma e = absurd cc
-each_refuted points clauses first (l ∷ lemmas) h zero lemma e =
-    let same : l ≡ lemma = cc in
-    subst (λ (cs : List (List Literal)). IsRefuted points clauses cs lemma) (sym (append-nil first)) (subst (λ (m : Lemma). IsRefuted points clauses first m) same h.0)
-each_refuted points clauses first (l ∷ lemmas) h (suc k) lemma e =
-    subst (λ (cs : List (List Literal)). IsRefuted points clauses cs lemma) (append_assoc first (l.clause ∷ []) (map stated (take k lemmas)))
-    (each_refuted points clauses (first ++ l.clause ∷ []) lemmas h.1 k lemma e)
 
 -- carried lemmas that end as a refutation does are one
 pub carried_refutes : (problem : Problem) (lemmas given lent : List Lemma) → AreRefuted problem.points problem.clauses [] lemmas → All (LemmaIsOver problem.points) lemmas → lent ≡ lemmas → given ≡ lemmas → EndsEmpty lent

@@ -14,4 +14,5 @@ pub mod Shortened
 pub mod Renamed
 pub mod Moved
 pub mod References
+pub mod Numbered
 pub mod Changed

@@ -19,7 +19,7 @@ get_first (y ∷ first) own later zero x lt e = e
 get_first (y ∷ first) own later (suc j) x lt e = get_first first own later j x (omega arith) e
 
 -- what stands behind them
-get_behind : (first own : List (List Literal)) (j : ℕ) → slice_get (first ++ own) (length first + j) ≡ slice_get own j
+pub get_behind : (first own : List (List Literal)) (j : ℕ) → slice_get (first ++ own) (length first + j) ≡ slice_get own j
 get_behind [] own j = ap (slice_get own) (omega arith)
 get_behind (y ∷ first) own j =
     let e : length (y ∷ first) + j ≡ suc (length first + j) = omega arith in

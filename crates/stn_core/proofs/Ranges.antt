@@ -1,16 +1,17 @@
--- The values of a greatest schedule are in range, whatever made it: were there a gap below 0 that is wider than any
--- bound, the points under it could be raised.
+-- The values of a greatest schedule are near 0, and so in range, whatever made it: were there a gap below 0 that is wider than
+-- any bound, the points under it could be raised.
 use Rattle.std.proofs.Common.{arith, ap, sym, ◌∙◌, subst, inl, inr, ◌⊎◌, ◌≡◌, ℕ, suc, zero, ◌<◌, ◌≤◌, ◌+◌, ◌*◌, Bool, true, false, cond, List, [], ◌∷◌, length, map, All, get_or, ℤ, pos, neg_ℤ, ◌+ℤ◌, ◌≤ℤ◌, ◌<ℤ◌}
 use Rattle.std.proofs.lemmas.Int.{ints, by_lt_z}
 use Rattle.std.proofs.lemmas.Bool.{cases_Bool, cases_lt}
 use Rattle.std.proofs.lemmas.List.{get_or-map, length-map, get_or_default}
-use Rattle.stn_core.specs.Limits.{bound_limit, points_limit, value_limit}
+use Rattle.stn_core.specs.Limits.{bound_limit, points_limit}
 use Rattle.stn_core.specs.declared.literal.Literal.{Literal}
 use Rattle.stn_core.specs.Schedule.{IsInRange}
 use Rattle.stn_core.specs.Literal.{value_at, Holds, IsOver}
-use Rattle.stn_core.specs.Schedule.{IsSchedule, IsGreatestSchedule}
+use Rattle.stn_core.specs.Schedule.{IsSchedule, IsGreatestSchedule, AreNear}
 use Rattle.stn_core.proofs.Rounds.{below_from_test, reached_from_test}
 use lib.Signed.{lt_z}
+use Rattle.std.proofs.Math.Nat.{suc-mul}
 
 record Above (t a : ℤ) : Type 0 where
   test : lt_z t a ≡ true
@@ -116,8 +117,8 @@ raised_above t a h =
 raised_at : (t : ℤ) (v : List ℤ) (p : ℕ) → p < length v → value_at (map (raised t) v) p ≡ raised t (value_at v p)
 raised_at t v p p_in = get_or-map (raised t) v p (pos 0) (pos 0) p_in
 
-raised_schedule : (points : ℕ) (literals : List Literal) (v : List ℤ) (t : ℤ) → All (IsOver points) literals → IsSchedule points literals v → t <ℤ pos 0 → ((p : ℕ) → p < points → (value_at v p ≤ℤ t) ⊎ ((t +ℤ pos (bound_limit + 1)) <ℤ value_at v p)) → IsSchedule points literals (map (raised t) v)
-raised_schedule points literals v t over s t_low gaps = record {
+raised_schedule : (w points : ℕ) (literals : List Literal) (v : List ℤ) (t : ℤ) → AreNear w literals → All (IsOver points) literals → IsSchedule points literals v → t <ℤ pos 0 → ((p : ℕ) → p < points → (value_at v p ≤ℤ t) ⊎ ((t +ℤ pos w) <ℤ value_at v p)) → IsSchedule points literals (map (raised t) v)
+raised_schedule w points literals v t near over s t_low gaps = record {
   count = length-map v (raised t) ∙ s.count;
   at_most_0 = λ p h.
       let at = raised_at t v p (subst (λ (n : ℕ). p < n) (sym s.count) h) in
@@ -126,12 +127,11 @@ raised_schedule points literals v t over s t_low gaps = record {
         | inl lo ↦ let r = raised_low t (value_at v p) lo in omega (arith, ints)
         | inr hi ↦ let r = raised_above t (value_at v p) (omega (arith, ints)) in omega (arith, ints)
       ];
-  holds = λ k d h. holds_at (get_or literals k d) (over k d h) (s.holds k d h);
+  holds = λ k d h. holds_at (get_or literals k d) (near k d h) (over k d h) (s.holds k d h);
 }
   where
-    holds_at : (l : Literal) → IsOver points l → Holds v l → Holds (map (raised t) v) l
-    holds_at l o h =
-        let low = o.low in
+    holds_at : (l : Literal) → neg_ℤ (pos w) ≤ℤ l.c → IsOver points l → Holds v l → Holds (map (raised t) v) l
+    holds_at l low o h =
         let x_at = raised_at t v l.x (subst (λ (n : ℕ). l.x < n) (sym s.count) o.x_in) in
         let y_at = raised_at t v l.y (subst (λ (n : ℕ). l.y < n) (sym s.count) o.y_in) in
         elim (gaps l.x o.x_in) [
@@ -150,27 +150,42 @@ raised_schedule points literals v t over s t_low gaps = record {
         ]
 
 -- below 0, one more value comes within the width of a bound
-one_more : (points : ℕ) (literals : List Literal) (v : List ℤ) (t : ℤ) (p : ℕ) → All (IsOver points) literals → IsGreatestSchedule points literals v → t <ℤ pos 0 → p < points → value_at v p ≤ℤ t → low_count t v < low_count (t +ℤ pos (bound_limit + 1)) v
-one_more points literals v t p over g t_low p_in lo =
-    elim (cases_lt (low_count t v) (low_count (t +ℤ pos (bound_limit + 1)) v)) [
+one_more : (w points : ℕ) (literals : List Literal) (v : List ℤ) (t : ℤ) (p : ℕ) → AreNear w literals → All (IsOver points) literals → IsGreatestSchedule points literals v → t <ℤ pos 0 → p < points → value_at v p ≤ℤ t → low_count t v < low_count (t +ℤ pos w) v
+one_more w points literals v t p near over g t_low p_in lo =
+    elim (cases_lt (low_count t v) (low_count (t +ℤ pos w) v)) [
       | inl lt ↦ lt
       | inr ge ↦
           let s = g.schedule in
           let count = s.count in
-          let raised_is = raised_schedule points literals v t over g.schedule t_low (λ q h. gap t (t +ℤ pos (bound_limit + 1)) v q (omega (arith, ints)) ge (subst (λ (n : ℕ). q < n) (sym s.count) h)) in
+          let raised_is = raised_schedule w points literals v t near over g.schedule t_low (λ q h. gap t (t +ℤ pos w) v q (omega (arith, ints)) ge (subst (λ (n : ℕ). q < n) (sym s.count) h)) in
           let most = g.greatest (map (raised t) v) raised_is p p_in in
           let at = raised_at t v p (subst (λ (n : ℕ). p < n) (sym s.count) p_in) in
           let r = raised_low t (value_at v p) lo in
           absurd (omega (arith, ints))
     ]
 
-counted : (points : ℕ) (literals : List Literal) (v : List ℤ) (p : ℕ) (k : ℕ) → All (IsOver points) literals → IsGreatestSchedule points literals v → p < points → (value_at v p +ℤ pos (k * (bound_limit + 1))) <ℤ pos (bound_limit + 1) → k < low_count (value_at v p +ℤ pos (k * (bound_limit + 1))) v
-counted points literals v p zero over g p_in h = count_some _ v p (subst (λ (n : ℕ). p < n) (sym g.schedule.count) p_in) (omega (arith, ints))
-counted points literals v p (suc k) over g p_in h =
-    let before = counted points literals v p k over g p_in (omega (arith, ints)) in
-    let more = one_more points literals v (value_at v p +ℤ pos (k * (bound_limit + 1))) p over g (omega (arith, ints)) p_in (omega (arith, ints)) in
-    let e : (value_at v p +ℤ pos (k * (bound_limit + 1))) +ℤ pos (bound_limit + 1) ≡ value_at v p +ℤ pos (suc k * (bound_limit + 1)) = omega (arith, ints) in
+counted : (w points : ℕ) (literals : List Literal) (v : List ℤ) (p : ℕ) (k : ℕ) → AreNear w literals → All (IsOver points) literals → IsGreatestSchedule points literals v → p < points → (value_at v p +ℤ pos (k * w)) <ℤ pos w → k < low_count (value_at v p +ℤ pos (k * w)) v
+counted w points literals v p zero near over g p_in h = count_some _ v p (subst (λ (n : ℕ). p < n) (sym g.schedule.count) p_in) (omega (arith, ints))
+counted w points literals v p (suc k) near over g p_in h =
+    let step : suc k * w ≡ k * w + w = suc-mul k w in
+    let before = counted w points literals v p k near over g p_in (omega (arith, ints)) in
+    let more = one_more w points literals v (value_at v p +ℤ pos (k * w)) p near over g (omega (arith, ints)) p_in (omega (arith, ints)) in
+    let e : (value_at v p +ℤ pos (k * w)) +ℤ pos w ≡ value_at v p +ℤ pos (suc k * (w)) = omega (arith, ints) in
     omega (arith, ap (λ (t : ℤ). low_count t v) e)
+
+-- a value is above its width's multiple for all other points
+widest : (points w : ℕ) (literals : List Literal) (v : List ℤ) → AreNear w literals → All (IsOver points) literals → IsGreatestSchedule points literals v → (p : ℕ) → p < points → pos w ≤ℤ (value_at v p +ℤ pos (points * w))
+widest points w literals v near over g p p_in =
+    let count = g.schedule.count in
+    by_lt_z (value_at v p +ℤ pos (points * w)) (pos w) (λ (lt : (value_at v p +ℤ pos (points * w)) <ℤ pos w).
+    let many = counted w points literals v p points near over g p_in lt in
+    let most = count-le-length (value_at v p +ℤ pos (points * w)) v in
+    absurd (omega (arith, many, most, count))) (λ (ge : pos w ≤ℤ (value_at v p +ℤ pos (points * w))). ge)
+
+pub near_greatest : (points w : ℕ) (literals : List Literal) (v : List ℤ) → AreNear w literals → All (IsOver points) literals → IsGreatestSchedule points literals v → (p : ℕ) → p < points → neg_ℤ (pos (points * w)) ≤ℤ value_at v p
+near_greatest points w literals v near over g p p_in =
+    let wide = widest points w literals v near over g p p_in in
+    omega (arith, ints)
 
 pub in_range_of_greatest : (points : ℕ) (literals : List Literal) (v : List ℤ) → points ≤ points_limit → All (IsOver points) literals → IsGreatestSchedule points literals v → All IsInRange v
 in_range_of_greatest points literals v few over g k d h =
@@ -178,10 +193,5 @@ in_range_of_greatest points literals v few over g k d h =
     let k_in : k < points = omega arith in
     let same : get_or v k d ≡ value_at v k = get_or_default v k d (pos 0) h in
     let high = g.schedule.at_most_0 k k_in in
-    record {
-      low = by_lt_z (neg_ℤ (pos value_limit)) (get_or v k d) (λ (lt : neg_ℤ (pos value_limit) <ℤ get_or v k d). lt) (λ (ge : get_or v k d ≤ℤ neg_ℤ (pos value_limit)).
-          let many = counted points literals v k points over g k_in (omega (arith, ints)) in
-          let most = count-le-length (value_at v k +ℤ pos (points * (bound_limit + 1))) v in
-          absurd (omega arith));
-      high = omega (arith, ints);
-    }
+    let wide = widest points (bound_limit + 1) literals v (λ i e i_in. (over i e i_in).low) over g k k_in in
+    record { low = omega (arith, ints); high = omega (arith, ints) }

@@ -20,3 +20,7 @@ pub record IsGreatestSchedule (points : ℕ) (literals : List Literal) (values :
 pub record IsInRange (value : ℤ) : Type 0 where
   pub low : neg_ℤ (pos value_limit) <ℤ value
   pub high : value ≤ℤ pos 0
+
+-- no bound is below the negative of the width
+abbrev pub AreNear : ℕ → List Literal → Type 0
+AreNear width literals = All (λ (l : Literal). neg_ℤ (pos width) ≤ℤ l.c) literals

@@ -1,5 +1,5 @@
 -- What is trimmed is refuted as it was.
-use Rattle.std.proofs.Common.{arith, ◌≡◌, ◌<◌, ◌≤◌, ◌+◌, ◌-◌, ℕ, zero, suc, Bool, true, false, List, [], ◌∷◌, ◌++◌, length, map, take, Some, All, Contains, refl, sym, ap, subst, ◌∙◌, get_or, append_assoc, append-nil, length-append}
+use Rattle.std.proofs.Common.{arith, ◌≡◌, ◌<◌, ◌≤◌, ◌+◌, ◌-◌, ℕ, zero, suc, Bool, true, false, List, [], ◌∷◌, ◌++◌, length, map, take, Some, All, Contains, refl, sym, ap, subst, ◌∙◌, get_or, length-append}
 use Rattle.std.specs.Prelude.{slice_get, nat_lt, if◌then◌else◌}
 use Rattle.std.specs.List.{items_where_true}
 use Rattle.std.proofs.lemmas.Bool.Decides.{nat_tests}
@@ -12,10 +12,9 @@ use Rattle.refute_tree.specs.declared.step.Step.TheVariants.{Cycle, Input, Lemma
 use Rattle.refute_tree.specs.declared.lemma.Lemma.{Lemma}
 use Rattle.refute_tree.specs.Trees.{clause_of, Tree, Forest, leaf, clash, cases, none, more, NamesPoints, IsRefuted, IsRefutation, stated}
 use Rattle.refute_tree.specs.Batches.{LemmaBatch, AreRefuted, NamesOver, LemmaIsOver}
+use Rattle.refute_tree.proofs.Moved.{get_behind}
+use Rattle.refute_tree.proofs.Numbered.{each_refuted, refuted_each}
 use Rattle.trim_lemmas.specs.Trimming.{root, cited, AreNeeded, IsLast, IsWanted, place, renumbered_number, renumbered_step, renumbered, shortened, IsTrimmed, IsTrimmedBatch, StaysRefutation, StaysRefuted, StaysOver, StaysStated, last_clause}
-use Rattle.trim_lemmas.specs.declared.places.Places.{Places}
-use Rattle.trim_lemmas.specs.code.Marks.{ArePlaces, lemma_by}
-use Rattle.trim_lemmas.proofs.Counted.{lemmas_same}
 use Rattle.trim_lemmas.proofs.Picked.{picked_none, comes_from, goes_to, get_mapped, map_get, All-picked}
 
 -- ---- a tree whose lemmas are all kept
@@ -121,32 +120,6 @@ get_first : (first own other : List (List Literal)) (j : ℕ) (x : List Literal)
 get_first [] own other j x lt e = absurd (omega arith)
 get_first (y ∷ first) own other zero x lt e = e
 get_first (y ∷ first) own other (suc j) x lt e = get_first first own other j x (omega arith) e
-
-get_behind : (first own : List (List Literal)) (j : ℕ) → slice_get (first ++ own) (length first + j) ≡ slice_get own j
-get_behind [] own j = ap (slice_get own) (omega arith)
-get_behind (y ∷ first) own j =
-    let e : length (y ∷ first) + j ≡ suc (length first + j) = omega arith in
-    ap (slice_get (y ∷ (first ++ own))) e ∙ get_behind first own j
-
--- refuted lemmas, one after the other and by their numbers
-each_refuted : (points : ℕ) (clauses first : List (List Literal)) (lemmas : List Lemma) → AreRefuted points clauses first lemmas
-    → (k : ℕ) (lemma : Lemma) → slice_get lemmas k ≡ Some lemma → IsRefuted points clauses (first ++ map stated (take k lemmas)) lemma
-each_refuted points clauses first [] h k lemma e = absurd (cc)
-each_refuted points clauses first (l ∷ lemmas) h zero lemma e =
-    let same : l ≡ lemma = cc in
-    subst (λ (cs : List (List Literal)). IsRefuted points clauses cs lemma) (sym (append-nil first)) (subst (IsRefuted points clauses first) same h.0)
-each_refuted points clauses first (l ∷ lemmas) h (suc k) lemma e =
-    subst (λ (cs : List (List Literal)). IsRefuted points clauses cs lemma) (append_assoc first (l.clause ∷ []) (map stated (take k lemmas)))
-    (each_refuted points clauses (first ++ l.clause ∷ []) lemmas h.1 k lemma e)
-
-refuted_each : (points : ℕ) (clauses first : List (List Literal)) (lemmas : List Lemma)
-    → ((k : ℕ) (lemma : Lemma) → slice_get lemmas k ≡ Some lemma → IsRefuted points clauses (first ++ map stated (take k lemmas)) lemma)
-    → AreRefuted points clauses first lemmas
-refuted_each points clauses first [] h = tt
-refuted_each points clauses first (l ∷ lemmas) h = (
-  subst (λ (cs : List (List Literal)). IsRefuted points clauses cs l) (append-nil first) (h 0 l refl),
-  refuted_each points clauses (first ++ l.clause ∷ []) lemmas (λ k lemma e. subst (λ (cs : List (List Literal)). IsRefuted points clauses cs lemma) (sym (append_assoc first (l.clause ∷ []) (map stated (take k lemmas)))) (h (suc k) lemma e)),
-)
 
 -- ---- the list
 

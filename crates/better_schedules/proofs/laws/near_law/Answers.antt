@@ -1,4 +1,4 @@
-use Rattle.better_schedules.proofs.Near.{near_greatest}
+use Rattle.stn_core.proofs.Ranges.{near_greatest}
 use Rattle.better_schedules.proofs.laws.near_law.Goals as goal
 
 pub returns : goal.returns
