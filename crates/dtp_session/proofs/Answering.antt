@@ -14,6 +14,7 @@ use Rattle.idl_term.specs.Contexts.{Context, IsScheduleFor, IsContext, start, de
 use Rattle.idl_term.specs.Scopes.{Scope, Declaration, sorts_of}
 use Rattle.idl_node.specs.Sorts.{AreOfSorts}
 use Rattle.idl_node.specs.Truth.{point_values, AreTruths}
+use Rattle.kept_lemmas.specs.declared.item.Kept.{Kept as Place}
 use Rattle.kept_lemmas.specs.Facts.{Shelf}
 use Rattle.refute_tree.specs.declared.lemma.Lemma.{Lemma}
 use Rattle.smt_script.specs.declared.state.Effect.TheVariants.{Tell}
@@ -49,12 +50,12 @@ use Rattle.dtp_session.specs.code.Forms.{schedule_shown}
 use Rattle.dtp_session.specs.code.Keeping.{IsShownIn, passed}
 use Rattle.dtp_session.proofs.Deciding.{sat_decides, schedule_decides}
 use Rattle.dtp_session.proofs.Keeping.{passed_as}
-use Rattle.dtp_session.specs.code.Sessions.{ShowsSchedule, AreCitedIn, CitesAssumed, ShowsRefutation, ShowsVerdict, Holds, IsAskedIn, MayTell, KeepsReading, KeepsVerdict, Tells, IsChecked, IsAnswered}
+use Rattle.dtp_session.specs.code.Sessions.{ShowsSchedule, AreCitedIn, CitesAssumed, RefutesAgain, ShowsRefutation, ShowsVerdict, Holds, IsAskedIn, MayTell, KeepsReading, KeepsVerdict, Tells, IsChecked, IsAnswered}
 
 -- ---- behind a command
 
 abbrev Shows : Session → Mode → Context → Option Assumed → Type 0
-Shows p m c a = ShowsVerdict (version_of p.report) m c a p.held p.given p.marks.items p.cited.items
+Shows p m c a = ShowsVerdict (version_of p.report) m c a p.held p.given p.marks.items p.cited.items p.earlier p.last
 
 shows_by : (p : Session) (m n : Mode) (c d : Context) (a b : Option Assumed) → m ≡ n → c ≡ d → a ≡ b → Shows p n d b → Shows p m c a
 shows_by p m n c d a b e f g h =
@@ -93,7 +94,7 @@ may_after w s x n h model values proof core assumptions =
 pub holds_kept : (p q : Session) (s : State) → KeepsVerdict p q → q.marks ≡ p.marks → Holds p s → Holds q s
 holds_kept p q s keeps marks holds = record {
   stands = subst (λ (k : Kept). Stands k s) (sym keeps.state) holds.stands;
-  shows = rw (keeps.held, keeps.given, keeps.cited, marks, keeps.reading.report) holds.shows;
+  shows = rw (keeps.held, keeps.given, keeps.cited, marks, keeps.reading.report, keeps.reading.earlier, keeps.last) holds.shows;
 }
 
 -- ---- a question that what is held answers
@@ -103,8 +104,12 @@ pub held_schedule : (p : Session) (s : State) → Holds p s → s.mode ≡ mode.
 held_schedule p s holds sat = subst (λ (m : Mode). Shows p m s.context s.assumed) sat holds.shows
 
 -- the refutation that is held
-pub held_refutation : (p : Session) (s : State) → Holds p s → s.mode ≡ mode.Unsat → ShowsRefutation (version_of p.report) s.context s.assumed p.held p.cited.items
+pub held_refutation : (p : Session) (s : State) → Holds p s → s.mode ≡ mode.Unsat → ShowsRefutation (version_of p.report) s.context s.assumed p.held p.cited.items p.earlier p.last
 held_refutation p s holds unsat = subst (λ (m : Mode). Shows p m s.context s.assumed) unsat holds.shows
+
+-- the item that may be kept where nothing was changed
+pub held_again : (p : Session) (s : State) → Holds p s → s.mode ≡ mode.Unsat → RefutesAgain p.earlier (asked_of s) p.last
+held_again p s holds unsat = (held_refutation p s holds unsat).again
 
 pub mode_is : (p : Session) (s : State) (m : Mode) → Holds p s → p.walk.state.mode ≡ m → s.mode ≡ m
 mode_is p s m holds e = sym holds.stands.stands.mode ∙ e
@@ -186,7 +191,8 @@ roots_counted _ (names c name t nodes root h free is) =
 -- of a decision of what was asked of (d), where c is active behind it
 module _ (version : Version) (question : Question) (x : Sexpr) (c d : Context) (assumed : Option Assumed) (cited : List Bool) (found : Entry) (given : Option (List NamedValue))
     (active : IsActive c d) (of : asked_by c assumed ≡ d) (decided : IsDecision version question x d found given)
-    (cites : (lemmas : List Lemma) → found ≡ Unsat lemmas → CitesAssumed c assumed lemmas cited) where
+    (cites : (lemmas : List Lemma) → found ≡ Unsat lemmas → CitesAssumed c assumed lemmas cited)
+    (shelf : Shelf) (last : Option Place) (again : (lemmas : List Lemma) → found ≡ Unsat lemmas → RefutesAgain shelf d last) where
   scheduled : (entry : Entry) (schedule : List NamedValue) → found ≡ entry → schedule_in d entry ≡ Some schedule → ShowsSchedule c (asked_by c assumed) (Some found) given []
   scheduled entry schedule e is =
       let in_entry : schedule_in d found ≡ Some schedule = ap (schedule_in d) e ∙ is in
@@ -203,23 +209,24 @@ module _ (version : Version) (question : Question) (x : Sexpr) (c d : Context) (
         truths = record { within = omega arith; each = λ k h. absurd (omega arith) };
       }
 
-  refuted : (lemmas : List Lemma) → found ≡ Unsat lemmas → ShowsRefutation version c assumed (Some found) cited
+  refuted : (lemmas : List Lemma) → found ≡ Unsat lemmas → ShowsRefutation version c assumed (Some found) cited shelf last
   refuted lemmas e = record {
     lemmas = lemmas;
     held = ap Some e;
     decides = λ other y. subst (λ (k : Context). Decides version other y k (Unsat lemmas)) (sym of)
         (each_question version question other x y d lemmas (subst (λ (f : Entry). Decides version question x d f) e decided.decides));
     cites = cites lemmas e;
+    again = subst (λ (k : Context). RefutesAgain shelf k last) (sym of) (again lemmas e);
   }
 
-  shows_entry : (s : State) (entry : Entry) → found ≡ entry → ShowsVerdict version (settled (verdict_of entry) s).mode c assumed (Some found) given [] cited
+  shows_entry : (s : State) (entry : Entry) → found ≡ entry → ShowsVerdict version (settled (verdict_of entry) s).mode c assumed (Some found) given [] cited shelf last
   shows_entry s (Sat schedule) e = scheduled (Sat schedule) schedule e refl
   shows_entry s (Unsat lemmas) e = refuted lemmas e
   shows_entry s (Best m schedule lemmas) e = scheduled (Best m schedule lemmas) schedule e refl
   shows_entry s (Unbounded values set) e = scheduled (Unbounded values set) (restricted (sorts_of d.declared) values) e refl
 
   -- a decision shows its verdict, before any value is asked for
-  pub decision_shows : (s : State) → ShowsVerdict version (settled (verdict_of found) s).mode c assumed (Some found) given [] cited
+  pub decision_shows : (s : State) → ShowsVerdict version (settled (verdict_of found) s).mode c assumed (Some found) given [] cited shelf last
   decision_shows s = shows_entry s found refl
 
 asked_active : (c : Context) (a : Option Assumed) → asked_by c a ≡ c → asked_by (active_by c a) a ≡ c
@@ -244,12 +251,13 @@ cites_by s (Some a) lemmas cited of made active marks =
 module _ (kept : Kept) (q : Session) (s : State) (version : Version) (question : Question) (x : Sexpr) (found : Entry) (given : Option (List NamedValue)) (at : Stands kept s) (asked : IsAskedIn question x s)
     (decided : IsDecision version question x s.context found given)
     (cites : (lemmas : List Lemma) → s.assumed ≢ None → found ≡ Unsat lemmas → AreCitedIn s.context lemmas q.cited.items)
+    (again : (lemmas : List Lemma) → found ≡ Unsat lemmas → RefutesAgain q.earlier s.context q.last)
     (e : version_of q.report ≡ version) (held : q.held ≡ Some found) (gives : q.given ≡ given) (marks : q.marks.items ≡ []) where
-  shows_decided : ShowsVerdict version (settled (verdict_of found) s).mode (active_by s.context s.assumed) s.assumed (Some found) given [] q.cited.items
+  shows_decided : ShowsVerdict version (settled (verdict_of found) s).mode (active_by s.context s.assumed) s.assumed (Some found) given [] q.cited.items q.earlier q.last
   shows_decided =
       let active : IsActive (active_by s.context s.assumed) s.context = active_in kept s kept.assumed s.assumed at.stands at.stands.assumed in
       decision_shows version question x (active_by s.context s.assumed) s.context s.assumed q.cited.items found given active (asked_active s.context s.assumed asked.active) decided
-      (λ lemmas is. cites_by s s.assumed lemmas q.cited.items asked.active at.made.active active (λ some. cites lemmas some is)) s
+      (λ lemmas is. cites_by s s.assumed lemmas q.cited.items asked.active at.made.active active (λ some. cites lemmas some is)) q.earlier q.last again s
 
   pub holds_decision : Stands q.walk.state (settled (verdict_of found) s) → Holds q (settled (verdict_of found) s)
   holds_decision stands = record {
@@ -274,7 +282,7 @@ pub satisfied_by : (kept : Kept) (p q : Session) (s : State) (x : Sexpr) (values
     → IsChecked CheckSat x p q s
 satisfied_by kept p q s x values at asked satisfies within stands held given marks number earlier =
     let decided = schedule_decides s.context (version_of q.report) x values satisfies within in
-    decided_anew kept q s (version_of q.report) CheckSat x (Sat values) None at asked decided (λ lemmas some e. absurd cc) refl held given marks p stands number
+    decided_anew kept q s (version_of q.report) CheckSat x (Sat values) None at asked decided (λ lemmas some e. absurd cc) (λ lemmas e. absurd cc) refl held given marks p stands number
     (passed_as (version_of q.report) p.earlier q.earlier CheckSat x s.context (Sat values) (Sat values) q.items refl tt decided.decides.right earlier)
 
 same_entry : (a b : Entry) → ◌≡◌ {A = Held} (Some a) (Some b) → a ≡ b
@@ -337,15 +345,15 @@ answered_aside p mid q s question x piece.Closing same h = h
 
 -- and one that the refutation answers that is held
 pub refuted_again : (p q : Session) (s : State) (question : Question) (x : Sexpr) → Holds p s → IsAskedIn question x s → p.walk.state.mode ≡ mode.Unsat → Stands q.walk.state (settled verdict.Unsat s) → q.held ≡ p.held → q.report ≡ p.report
-    → q.walk.number ≡ p.walk.number + 1 → ((lemmas : List Lemma) → IsShownIn (version_of q.report) p.earlier question s.context (Unsat lemmas) q.items q.earlier) → IsChecked question x p q s
-refuted_again p q s question x holds asked unsat stands held report number shows =
+    → q.walk.number ≡ p.walk.number + 1 → ((lemmas : List Lemma) → IsShownIn (version_of q.report) p.earlier question s.context (Unsat lemmas) q.items q.earlier) → RefutesAgain q.earlier s.context q.last → IsChecked question x p q s
+refuted_again p q s question x holds asked unsat stands held report number shows again =
     let is_unsat = mode_is p s mode.Unsat holds unsat in
     let w = held_refutation p s holds is_unsat in
     let none = alone_behind question x s mode.Unsat asked is_unsat (λ e. absurd cc) in
     let decides : (other : Question) (y : Sexpr) → Decides (version_of q.report) other y s.context (Unsat w.lemmas) = λ other y.
     subst (λ (r : Report). Decides (version_of r) other y s.context (Unsat w.lemmas)) (sym report)
     (subst (λ (k : Context). Decides (version_of p.report) other y k (Unsat w.lemmas)) asked.active (w.decides other y)) in
-    let shown : ShowsRefutation (version_of q.report) s.context None q.held q.cited.items = record { lemmas = w.lemmas; held = held ∙ w.held; decides = decides; cites = tt } in
+    let shown : ShowsRefutation (version_of q.report) s.context None q.held q.cited.items q.earlier q.last = record { lemmas = w.lemmas; held = held ∙ w.held; decides = decides; cites = tt; again = again } in
     record {
       entry = Unsat w.lemmas;
       decides = decides question x;

@@ -1,5 +1,5 @@
 -- Items in the place of a found entry's lemmas.
-use Rattle.std.proofs.Common.{inl, inr, refl, sym, subst, ◌≡◌, ◌^◌, ℕ, List, [], ◌∷◌, ◌++◌}
+use Rattle.std.proofs.Common.{inl, inr, refl, sym, subst, ◌≡◌, ◌-◌, ◌^◌, ℕ, List, [], ◌∷◌, ◌++◌, length, Option, Some, None}
 use Rattle.std.specs.Prelude.{All}
 use Rattle.std.specs.List.{AllZip, AllByRecursion}
 use Rattle.std.proofs.lemmas.List.Elements.{recursion_from_All, All-from_recursion}
@@ -12,6 +12,8 @@ use Rattle.kept_lemmas.specs.declared.item.Kept.{Kept}
 use Rattle.kept_lemmas.specs.declared.item.Item.{Item}
 use Rattle.kept_lemmas.specs.declared.item.Item.TheVariants.{Own, Keep}
 use Rattle.kept_lemmas.specs.Facts.{Shelf, facts_of}
+use Rattle.kept_lemmas.specs.Entries.{AreRight}
+use Rattle.lemma_shelf.proofs.Refuting.{again_right}
 use Rattle.lemma_shelf.specs.InPlace.{StandsInPlace}
 use Rattle.cert_text.specs.declared.entry.Version.{Version}
 use Rattle.cert_text.specs.declared.entry.Version.TheVariants.{One, Two}
@@ -28,7 +30,8 @@ use Rattle.dtp_entry.specs.Keeping.{IsShortItem, AreInPlace, IsShownBy}
 use Rattle.dtp_entry.specs.Reports.{version_of}
 use Rattle.dtp_entry.specs.Transcripts.{IsLine}
 use Rattle.dtp_session.specs.code.Forms.{shown_in}
-use Rattle.dtp_session.specs.code.Keeping.{IsItemNamed, RefutesBy, AreEntered, IsEntered, IsOneKept, IsProblemFor, IsShownIn, passed, line_shown}
+use Rattle.dtp_session.specs.code.Keeping.{IsItemNamed, RefutesBy, AreEntered, IsEntered, IsOneKept, IsLastOf, IsProblemFor, IsShownIn, passed, line_shown}
+use Rattle.dtp_session.specs.code.Sessions.{RefutesAgain}
 
 -- ---- items for lemmas
 
@@ -129,6 +132,19 @@ again_shows shelf now question c points clauses lemmas items e f h =
     subst (λ (n : ℕ). IsOneKept shelf n (problem_of c) items now) e (subst (λ (cs : List (List Literal)). IsOneKept shelf points cs items now) f h) in
     let there = kept_in_place shelf now (points_of c) (problem_of c) items one in
     record { stand = there.place; fits = there.within; states = there.states }
+
+-- the last item of what stands in the last entry refutes the same problem
+last_refutes : (version : Version) (shelf now : Shelf) (question : Question) (c : Context) (lemmas : List Lemma) (items : List Item) (place : Kept) → version ≡ Two → place.entry ≡ length now → place.item ≡ length items - 1
+    → IsShownIn version shelf question c (Unsat lemmas) items now → AreRight now (points_of c) (problem_of c) (Keep place ∷ [])
+last_refutes version shelf now question c lemmas items place two entry item shows =
+    let h = subst (λ (v : Version). IsShownIn v shelf question c (Unsat lemmas) items now) two shows in
+    again_right shelf now (points_of c) (problem_of c) items place h.stand.right h.states entry item
+
+pub refutes_again : (version : Version) (shelf now : Shelf) (question : Question) (c : Context) (found : Entry) (lemmas : List Lemma) (items : List Item) (last : Option Kept) → found ≡ Unsat lemmas → IsLastOf version now items last
+    → IsShownIn version shelf question c found items now → RefutesAgain now c last
+refutes_again version shelf now question c found lemmas items None is of shows = tt
+refutes_again version shelf now question c found lemmas items (Some place) is of shows =
+    last_refutes version shelf now question c lemmas items place of.0 of.1 of.2 (subst (λ (e : Entry). IsShownIn version shelf question c e items now) is shows)
 
 -- the line of an entry with its items
 pub line_legal : (report : Report) (shelf now : Shelf) (question : Question) (c : Context) (entry : Entry) (items : List Item) → IsShownIn (version_of report) shelf question c entry items now

@@ -1,11 +1,14 @@
 //! What the entries of earlier questions leave to later ones.
-ghost use Rattle.std.specs.Prelude.{◌≡◌, ◌∷◌, [], ◌++◌, All, IsTrue, IfOk, OnOk};
+ghost use Rattle.std.specs.Prelude.{◌≡◌, ℕ, List, ◌∷◌, [], ◌++◌, All, IsTrue, IfOk, OnOk};
 ghost use Rattle.refute_tree.specs.Batches.{LemmaIsOver};
 ghost use Rattle.refute_tree.specs.Trees.{IsRefutation};
 ghost use Rattle.learned_lemmas.specs.Taken.{IsTakenOver};
+ghost use Rattle.stn_core.specs.declared.literal.Literal.{Literal as Bound};
+ghost use Rattle.kept_lemmas.specs.declared.item.Item.TheVariants.{Keep};
 ghost use Rattle.kept_lemmas.specs.Entries.{AreRight};
 ghost use Rattle.kept_lemmas.specs.Facts.{facts_of};
-ghost use Rattle.dtp_session.specs.code.Keeping.{IsNamed, IsItemNamed, RefutesBy, AreEntered, IsEntered, IsAgain, passed};
+ghost use Rattle.cert_text.specs.declared.entry.Version.TheVariants.{Two};
+ghost use Rattle.dtp_session.specs.code.Keeping.{IsNamed, IsItemNamed, RefutesBy, AreEntered, IsEntered, IsAgain, IsLastOf, passed};
 
 use crate::wanted::Wanted;
 use cert_text::{Entry, NUMBER_LIMIT, Version};
@@ -71,8 +74,6 @@ pub struct Earlier {
     shelf: Shelf,
     /// For a clause the last item that was written of it.
     places: IndexMap<Vec<Literal>, Kept>,
-    /// The last item of the last refutation.
-    last: Option<Kept>,
 }
 
 impl Drop for Earlier {
@@ -81,7 +82,6 @@ impl Drop for Earlier {
             learned,
             shelf,
             places,
-            last: _,
         } = self;
         drop(learned);
         drop(shelf);
@@ -106,7 +106,6 @@ impl Earlier {
             learned: None,
             shelf: Shelf::new(alloc),
             places: IndexMap::new(alloc),
-            last: None,
         }
     }
 
@@ -165,7 +164,7 @@ impl Earlier {
         Ok(places)
     }
 
-    /// Puts these items behind the earlier entries. The last of them is where the refutation ends.
+    /// Puts these items behind the earlier entries.
     fn add(&mut self, alloc: Global, problem: &Problem, items: &[Item]) -> Result<(), AllocError>
         requires { AreRight self.old problem.now.points problem.now.clauses items.now }
         ensures { OnOk result (self.new ≡ self.old ++ facts_of self.old problem.now.clauses items.now ∷ []) }
@@ -173,7 +172,6 @@ impl Earlier {
         self.shelf.add_entry(alloc, problem, items)?;
         let entry = self.shelf.len();
         note(alloc, &mut self.places, entry, items)?;
-        self.last = items.len().checked_sub(1).map(|item| Kept { entry, item });
         Ok(())
     }
 
@@ -263,10 +261,30 @@ impl Earlier {
         }
     }
 
-    /// The items of an entry that refutes the problem as the last refutation did, where that refutes it: the last item of that, kept.
-    pub fn again(&mut self, alloc: Global, problem: &Problem) -> Result<Option<Items>, AllocError>
-        ensures { IfOk result (IsAgain self.old problem.now.points problem.now.clauses self.new) }
+    /// The place of the last of the last entry's items.
+    pub fn last_of(&self, items: &Items) -> Option<Kept>
+        ensures { IsLastOf Two self.now items.now result }
     {
-        self.keep(alloc, problem, self.last)
+        let item = items.as_slice().len().checked_sub(1)?;
+        Some(Kept {
+            entry: self.shelf.len(),
+            item,
+        })
+    }
+
+    /// The items of an entry that keeps the item at the place alone, if the format can name it, where that refutes what is asked: no problem is looked
+    /// at.
+    pub fn again(&mut self, alloc: Global, place: Kept) -> Result<Option<Items>, AllocError>
+        requires { (points : ℕ) × (clauses : List (List Bound)) × AreRight self.old points clauses (Keep place ∷ []) }
+        ensures { IfOk result (λ found. (points : ℕ) (clauses : List (List Bound))
+            → AreRight self.old points clauses (Keep place ∷ []) → IsAgain self.old points clauses self.new found) }
+    {
+        if !is_place_named(place) {
+            return Ok(None);
+        }
+        let mut items = Vec::with_capacity(alloc, 1)?;
+        items.push(Item::Keep(place))?;
+        self.shelf.add_kept(place)?;
+        Ok(Some(Items::new(items)))
     }
 }

@@ -20,6 +20,7 @@ ghost use Rattle.dtp_session.specs.code.Decisions.{IsTaken};
 ghost use Rattle.dtp_session.specs.code.Sessions.{Holds, IsReady, IsStart, IsAskedIn, AreCitedIn, KeepsPlace, KeepsScript, IsChecked, IsAnswered, IsGoing, IsNext};
 ghost use Rattle.dtp_session.specs.Ends.{status_of};
 ghost use Rattle.dtp_session.specs.code.Forms.{version_wanted};
+ghost use Rattle.dtp_session.specs.code.Keeping.{IsLastOf};
 
 use crate::decision::{Decision, decide};
 use crate::earlier::Earlier;
@@ -32,7 +33,7 @@ use cert_text::{Entry, Version};
 use dtp_entry::{Report, SessionError, problem};
 use dtp_io::Sink;
 use idl_term::context_law;
-use kept_lemmas::Items;
+use kept_lemmas::{Items, Kept};
 use kept_schedule::KeptSchedule;
 use script_walk::{Event, Walk, refusal_of};
 use smt_script::{Mode, Question, Satisfiability};
@@ -68,6 +69,8 @@ pub struct Session<'a> {
     pub earlier: Earlier,
     /// In a certificate of the second version: what stands in the place of the lemmas of the entry that is held.
     pub items: Items,
+    /// There, where these are a refutation: the last of them, which is kept where nothing is changed before the next question.
+    pub last: Option<Kept>,
     /// Where the last question had assumptions and was answered `unsat`: for each assertion, and behind the active ones for
     /// each assumption, whether the refutation rests on it.
     pub cited: Vec<bool>,
@@ -103,6 +106,7 @@ impl<'a> Session<'a> {
             kept: KeptSchedule::new(alloc),
             earlier: Earlier::new(alloc),
             items: Items::new(Vec::new(alloc)),
+            last: None,
             cited: Vec::new(alloc),
             text: Vec::new(alloc),
         }
@@ -309,7 +313,7 @@ impl<'a> Session<'a> {
         }
     }
 
-    /// The same in a certificate of the second version, where the last lemma of the last refutation is looked for among what earlier entries state.
+    /// The same in a certificate of the second version: the last lemma of the last refutation is kept.
     fn keep_refutation(&mut self) -> Result<bool, AllocError>
         requires holds { (s : Meaning) × Holds self.old s }
         requires unsat { self.old.walk.state.mode ≡ mode.Unsat }
@@ -321,13 +325,26 @@ impl<'a> Session<'a> {
         ensures untouched { IfOk result (λ again. again ≡ false → self.new ≡ self.old) }
         ensures keeps { KeepsPlace self.old self.new }
     {
-        let problem = problem(self.alloc, &self.walk.state)?;
-        let Some(items) = self.earlier.again(self.alloc, &problem)? else {
+        let Some(place) = self.last else {
             return Ok(false);
         };
+        let Some(items) = self.earlier.again(self.alloc, place)? else {
+            return Ok(false);
+        };
+        self.last = self.last_item(&items);
         self.items = items;
         self.walk.settle(Satisfiability::Unsat);
         Ok(true)
+    }
+
+    /// The place of the last of these items, which stand in the last entry of a certificate of the second version.
+    fn last_item(&self, items: &Items) -> Option<Kept>
+        ensures { IsLastOf (version_of self.now.report) self.now.earlier items.now result }
+    {
+        match self.report.version() {
+            Version::One => None,
+            Version::Two => self.earlier.last_of(items),
+        }
     }
 
     /// Answers a question over the problem of the assertions, which may refuse it. Where a refutation is held, it answers.
@@ -389,6 +406,7 @@ impl<'a> Session<'a> {
         let Shown { found, items } = shown;
         self.keep_schedule(&found, &given)?;
         let cited = self.cited_by(&found)?;
+        self.last = self.last_item(&items);
         self.walk.settle(found.verdict());
         self.held = Some(found);
         self.items = items;

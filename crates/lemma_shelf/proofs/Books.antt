@@ -31,7 +31,7 @@ alike_itself : (ls : List Literal) → alike ls ls ≡ true
 alike_itself [] = refl
 alike_itself (l ∷ ls) = and_from (same_literal l l) (alike ls ls) ((same_literal_decides l l).1 refl) (alike_itself ls)
 
-alike_back : (ls ms : List Literal) → ls ≡ ms → alike ls ms ≡ true
+pub alike_back : (ls ms : List Literal) → ls ≡ ms → alike ls ms ≡ true
 alike_back ls ms e = subst (λ (x : List Literal). alike ls x ≡ true) e (alike_itself ls)
 
 module _ {V : Type 0} (items : V → List Literal) (clause : List Literal) where

@@ -1,7 +1,8 @@
 -- Items that stand for the lemmas of a refutation have no flaw.
-use Rattle.std.proofs.Common.{◌≡◌, ◌+◌, ℕ, List, [], ◌∷◌, ◌++◌, map, take, Option, None, Some, sym, ap, subst, ◌∙◌}
+use Rattle.std.proofs.Common.{arith, ◌≡◌, ◌+◌, ℕ, List, [], ◌∷◌, ◌++◌, length, map, take, Option, None, Some, inl, inr, refl, sym, ap, subst, ◌∙◌, length-append}
 use Rattle.std.specs.Prelude.{slice_get}
 use Rattle.std.specs.List.{AllZip}
+use Rattle.std.proofs.lemmas.Option.{slice_get_within}
 use Rattle.stn_core.specs.declared.literal.Literal.{Literal}
 use Rattle.refute_tree.specs.declared.lemma.Lemma.{Lemma}
 use Rattle.cert_check.specs.declared.flaw.Flaw.{Flaw}
@@ -10,16 +11,16 @@ use Rattle.cert_check.specs.Flaws.{lemma_flaw, first_of, lemmas_flaw}
 use Rattle.kept_lemmas.specs.declared.item.Kept.{Kept}
 use Rattle.kept_lemmas.specs.declared.item.Item.{Item}
 use Rattle.kept_lemmas.specs.declared.item.Item.TheVariants.{Own, Keep}
-use Rattle.kept_lemmas.specs.Facts.{Shelf}
+use Rattle.kept_lemmas.specs.Facts.{Shelf, kept_fact, fact_or_none}
 use Rattle.kept_lemmas.specs.Entries.{AreRight}
 use Rattle.kept_lemmas.specs.Laws.{OwnLaw}
 use Rattle.refute_tree.specs.Trees.{IsRefutation}
 use Rattle.lemma_shelf.specs.ItemFlaws.{flaw_there, item_clause, item_flaw, items_flaw_from}
-use Rattle.lemma_shelf.specs.InPlace.{StandsInPlace}
-use Rattle.lemma_shelf.specs.code.Citing.{States, StandsFor}
+use Rattle.lemma_shelf.specs.InPlace.{StandsInPlace, IsPicked}
+use Rattle.lemma_shelf.specs.code.Citing.{States, StandsFor, IsPickedBy}
 use Rattle.lemma_shelf.specs.code.Tables.{own_item}
-use Rattle.lemma_shelf.proofs.Lists.{take_more}
-use Rattle.lemma_shelf.proofs.Unflawed.{both_none, unflawed_items, right_items, own_flaw}
+use Rattle.lemma_shelf.proofs.Lists.{take_more, get_parts, get_last}
+use Rattle.lemma_shelf.proofs.Unflawed.{both_none, kept_rightly, kept_unflawed, unflawed_items, right_items, own_flaw}
 
 zip_push : {A B : Type 0} (R : A → B → Type 0) (xs : List A) (ys : List B) (x : A) (y : B) → AllZip R xs ys → R x y → AllZip R (xs ++ x ∷ []) (ys ++ y ∷ [])
 zip_push R [] [] x y all h = (h, tt)
@@ -32,6 +33,28 @@ pub zip_more : {A B : Type 0} (R : A → B → Type 0) (xs : List A) (ys more : 
 zip_more {A = A} {B = B} R xs ys more k x y at is all h =
     subst (λ (ms : List B). AllZip R (take (k + 1) xs) ms) (sym is)
     (subst (λ (ls : List A). AllZip R ls (ys ++ y ∷ [])) (sym (take_more xs k x at)) (zip_push R (take k xs) ys x y all h))
+
+-- one more of the second list, for the member of the first at its place
+pub each_more : {A B : Type 0} (R : ℕ → A → B → Type 0) (xs : List A) (ys more : List B) (k : ℕ) (x : A) (y : B) → length ys ≡ k → slice_get xs k ≡ Some x → more ≡ ys ++ y ∷ []
+    → ((j : ℕ) (a : A) (b : B) → slice_get xs j ≡ Some a → slice_get ys j ≡ Some b → R j a b) → R k x y
+    → (j : ℕ) (a : A) (b : B) → slice_get xs j ≡ Some a → slice_get more j ≡ Some b → R j a b
+each_more {A = A} {B = B} R xs ys more k x y count at is all here j a b ea eb =
+    let there : slice_get (ys ++ y ∷ []) j ≡ Some b = ap (λ (zs : List B). slice_get zs j) (sym is) ∙ eb in
+    elim (get_parts ys (y ∷ []) j b there) [
+      | inl h ↦ all j a b ea h.1
+      | inr h ↦
+          let low = h.0 in
+          let within = slice_get_within (ys ++ y ∷ []) j b there in
+          let long = length-append ys (y ∷ []) in
+          let same : j ≡ k = omega (arith, low, within, long, count) in
+          let last : slice_get (ys ++ y ∷ []) j ≡ Some y = ap (slice_get (ys ++ y ∷ [])) (same ∙ sym count) ∙ get_last ys y in
+          let one : x ≡ a = some_same (sym at ∙ ap (slice_get xs) (sym same) ∙ ea) in
+          let two : y ≡ b = some_same (sym last ∙ there) in
+          subst (λ (n : ℕ). R n a b) (sym same) (subst (λ (c : A). R k c b) one (subst (λ (d : B). R k x d) two here))
+    ]
+  where
+    some_same : {C : Type 0} {c d : C} → Some c ≡ Some d → c ≡ d
+    some_same e = cc
 
 module _ (shelf : Shelf) (points : ℕ) (clauses : List (List Literal)) where
   abbrev Stands : Lemma → Item → Type 0
@@ -86,3 +109,15 @@ kept_alone shelf points clauses kept s =
     let earlier : List (List Literal) → Option Flaw = λ cs. items_flaw_from shelf points clauses cs [] in
     unflawed_items shelf points clauses (Keep kept ∷ [])
     (ap (λ (f : Option FlawKind). first_of (flaw_there [] f) (earlier (item_clause shelf (Keep kept) ∷ []))) s.0 ∙ ap (λ (c : List Literal). earlier (c ∷ [])) s.1)
+
+-- and where it does, it states that clause
+pub alone_states : (shelf : Shelf) (points : ℕ) (clauses : List (List Literal)) (kept : Kept) → AreRight shelf points clauses (Keep kept ∷ []) → States shelf points clauses [] kept
+alone_states shelf points clauses kept r = (kept_unflawed shelf points clauses kept (r.each 0 (Keep kept) refl), r.last (fact_or_none (kept_fact shelf kept)) refl)
+
+-- what is picked, in the words of the format
+pub picked_as : (shelf : Shelf) (points : ℕ) (clauses : List (List Literal)) (lemma : Lemma) (place : Option Kept) (item : Item) → IsPickedBy shelf points clauses lemma place item → IsPicked shelf points clauses lemma place item
+picked_as shelf points clauses lemma None item h = h
+picked_as shelf points clauses lemma (Some kept) item h = (
+  λ may. h.0 (kept_unflawed shelf points clauses kept may.0, may.1),
+  λ none. h.1 (λ states. none (kept_rightly shelf points clauses kept states.0, states.1)),
+)

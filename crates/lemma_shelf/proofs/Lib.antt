@@ -15,6 +15,7 @@ pub mod MoreLemmas
 pub mod MoreItems
 pub mod Steps
 pub mod Refuting
+pub mod Repeating
 pub mod Resting
 pub mod Placing
 pub mod Written

@@ -68,7 +68,7 @@ module _ (first before now : Table) (shelf : Shelf) (clauses : List (List Litera
         ∙ sym (ap (facts_of shelf clauses) (take_more items i item at));
   }
 
-number_found : (table : Facts) (found : Option ℕ) (fact : Fact) → option_map (fact_at table) found ≡ Some fact → (n : ℕ) × (found ≡ Some n)
+pub number_found : (table : Facts) (found : Option ℕ) (fact : Fact) → option_map (fact_at table) found ≡ Some fact → (n : ℕ) × (found ≡ Some n)
 number_found table None fact e = absurd (cc)
 number_found table (Some n) fact e = (n, refl)
 

@@ -13,10 +13,11 @@ use Rattle.cert_check.specs.Tests.{is_on_points}
 use Rattle.cert_check.specs.Flaws.{flaw_at, lemma_flaw, ends_empty, first_of, lemmas_flaw}
 use Rattle.cert_check.proofs.Decided.{all_on_points_decides}
 use Rattle.cert_check.proofs.Reading.{unflawed_lemma, refuted_lemma}
+use Rattle.kept_lemmas.specs.declared.item.Kept.{Kept}
 use Rattle.kept_lemmas.specs.declared.item.Item.{Item}
 use Rattle.kept_lemmas.specs.declared.item.Item.TheVariants.{Own, Keep}
 use Rattle.kept_lemmas.specs.Facts.{Fact, Facts, Shelf, stated_by, kept_fact, item_fact, facts_from, facts_of}
-use Rattle.kept_lemmas.specs.Entries.{IsUsable, IsItemRight, AreRight}
+use Rattle.kept_lemmas.specs.Entries.{IsUsable, IsKeptRightly, IsItemRight, AreRight}
 use Rattle.kept_lemmas.proofs.FactLists.{facts-length}
 use Rattle.lemma_shelf.specs.Clauses.{is_clause_of}
 use Rattle.lemma_shelf.specs.ItemFlaws.{fact_flaw, kept_flaw, flaw_there, item_clause, item_flaw, items_flaw_from, items_flaw}
@@ -76,6 +77,15 @@ module _ (shelf : Shelf) (points : ℕ) (clauses : List (List Literal)) where
       there : (o : Option FlawKind) → flaw_there earlier o ≡ None → o ≡ None
       there None e = refl
       there (Some kind) e = absurd (cc)
+
+  -- a kept item has no flaw exactly where it is kept rightly
+  pub kept_rightly : (kept : Kept) → kept_flaw points clauses (kept_fact shelf kept) ≡ None → IsKeptRightly shelf points clauses kept
+  kept_rightly kept h =
+      let found = kept_by [] (kept_fact shelf kept) (ap (flaw_there []) h) in
+      record { fact = found.0; there = found.1; usable = found.2 }
+
+  pub kept_unflawed : (kept : Kept) → IsKeptRightly shelf points clauses kept → kept_flaw points clauses (kept_fact shelf kept) ≡ None
+  kept_unflawed kept h = ap (kept_flaw points clauses) h.there ∙ usable_fact h.fact h.usable
 
   unflawed_item : (facts : Facts) (item : Item) → item_flaw shelf points clauses (map stated_by facts) item ≡ None → IsItemRight shelf points clauses facts item
   unflawed_item facts (Own lemma) h = unflawed_lemma points clauses (map stated_by facts) lemma h

@@ -1,16 +1,19 @@
-ghost use Rattle.std.specs.Prelude.{◌≡◌, ◌+◌, ◌-◌, [], ◌∷◌, ◌++◌, length, map, take, OnOk, OnErr, IfOk, IfSome, slice_get};
+ghost use Rattle.std.specs.Prelude.{◌≡◌, ◌+◌, ◌-◌, ℕ, List, [], ◌∷◌, ◌++◌, length, map, take, Some, None, OnOk, OnErr, IfOk, IfSome, slice_get, slice_index_or};
 ghost use Rattle.std.specs.List.{AllZip};
 ghost use Rattle.cert_check.specs.Flaws.{TellsFlaw};
+ghost use Rattle.kept_lemmas.specs.declared.item.Item.{Item as CitedItem};
 ghost use Rattle.kept_lemmas.specs.declared.item.Item.TheVariants.{Keep};
 ghost use Rattle.kept_lemmas.specs.Entries.{AreRight};
 ghost use Rattle.kept_lemmas.specs.Facts.{facts_of};
-ghost use Rattle.lemma_shelf.specs.InPlace.{StandsInPlace};
+ghost use Rattle.lemma_shelf.specs.InPlace.{StandsInPlace, IsPicked};
 ghost use Rattle.lemma_shelf.specs.ItemFlaws.{items_flaw};
 ghost use Rattle.lemma_shelf.specs.Lowering.{Refutes, StatesLast, AreOfShelf, AreCited};
 ghost use Rattle.lemma_shelf.specs.code.WrittenOut.{last_of};
 ghost use Rattle.refute_tree.specs.Trees.{IsRefutation};
+ghost use Rattle.refute_tree.specs.declared.lemma.Lemma.{Lemma as CitedLemma};
+ghost use Rattle.stn_core.specs.declared.literal.Literal.{Literal as Bound};
 
-use crate::check::check;
+use crate::check::{check, find};
 use crate::citing::{items_for, stands};
 use crate::entry::add_items;
 use crate::laws::flaw_law;
@@ -124,6 +127,9 @@ impl Shelf {
         requires { IsRefutation problem.now.points problem.now.clauses lemmas.now }
         ensures right { IfOk result (λ items. AreRight self.now problem.now.points problem.now.clauses items) }
         ensures stand { IfOk result (λ items. AllZip (StandsInPlace self.now) lemmas.now items) }
+        ensures picked { IfOk result (λ items. (j : ℕ) (lemma : CitedLemma) (item : CitedItem)
+            → slice_get lemmas.now j ≡ Some lemma → slice_get items j ≡ Some item
+            → IsPicked self.now problem.now.points problem.now.clauses lemma (slice_index_or places.now j None) item) }
     {
         flaw_law();
         own_law();
@@ -149,6 +155,9 @@ impl Shelf {
         ensures right { IfOk result (λ found. IfSome found (λ items.
             AreRight self.now problem.now.points problem.now.clauses items)) }
         ensures alone { IfOk result (λ found. IfSome found (λ items. items ≡ Keep place ∷ [])) }
+        // There are none exactly where the item doesn't refute the problem by itself.
+        ensures none { IfOk result (λ found. found ≡ None
+            → AreRight self.now problem.now.points problem.now.clauses (Keep place ∷ []) → ⊥) }
     {
         let entries = self.entries.as_slice();
         let mut walk = None;
@@ -191,6 +200,22 @@ impl Shelf {
                 Err(error)
             }
         }
+    }
+
+    /// Puts an entry on the shelf that keeps the item at the place alone, where that refutes a problem: it states what the item states, whatever the
+    /// problem is. It takes the same time whatever the shelf has. The one error is want of memory.
+    pub fn add_kept(&mut self, place: Kept) -> Result<(), AllocError>
+        requires { (points : ℕ) × (clauses : List (List Bound)) × AreRight self.old points clauses (Keep place ∷ []) }
+        ensures ok { OnOk result ((clauses : List (List Bound))
+            → self.new ≡ self.old ++ facts_of self.old clauses (Keep place ∷ []) ∷ []) }
+        ensures err { OnErr result (self.new ≡ self.old) }
+    {
+        let alloc = *self.entries.allocator();
+        let number = find(self.entries.as_slice(), place).unwrap();
+        let mut numbers = Vec::with_capacity(alloc, 1)?;
+        numbers.push(number)?;
+        self.entries.push(numbers)?;
+        Ok(())
     }
 
     /// An entry without items, of which nothing can be kept.

@@ -1,6 +1,6 @@
 -- Items in the place of a found entry's lemmas, by version: in the first there are none, and nothing is kept.
 -- These are words of the code's inner contracts, and no part of the meaning.
-use Rattle.std.specs.Prelude.{◌≡◌, ◌≤◌, ◌⊎◌, ℕ, List, [], ◌∷◌, ◌++◌, All, Option, Some, None}
+use Rattle.std.specs.Prelude.{◌≡◌, ◌≤◌, ◌-◌, ◌⊎◌, ℕ, List, [], ◌∷◌, ◌++◌, length, All, Option, Some, None}
 use Rattle.std.specs.List.{AllZip}
 use Rattle.stn_core.specs.declared.literal.Literal.{Literal}
 use Rattle.refute_tree.specs.declared.lemma.Lemma.{Lemma}
@@ -72,6 +72,11 @@ IsEntered Two shelf points clauses entry items now = IsEnteredAnew shelf points 
 abbrev pub IsAgain : Shelf → ℕ → List (List Literal) → Shelf → Option (List Item) → Type 0
 IsAgain shelf points clauses now None = now ≡ shelf
 IsAgain shelf points clauses now (Some items) = IsOneKept shelf points clauses items now
+
+-- the place is that of the last of these items, where they stand in the last entry, in the second version
+abbrev pub IsLastOf : Version → Shelf → List Item → Option Kept → Type 0
+IsLastOf version now items None = Unit {0}
+IsLastOf version now items (Some place) = (version ≡ Two) × (place.entry ≡ length now) × (place.item ≡ length items - 1)
 
 -- ---- in the words of the assertions
 

@@ -1,12 +1,16 @@
 -- A session: what it writes next, and what it goes on to.
 -- These are words of the code's inner contracts, and no part of the meaning.
-use Rattle.std.specs.Prelude.{◌≡◌, ◌≢◌, ◌≤◌, ◌⊎◌, ℕ, ◌+◌, List, [], ◌++◌, length, Bool, Option, Some, None}
+use Rattle.std.specs.Prelude.{◌≡◌, ◌≢◌, ◌≤◌, ◌⊎◌, ℕ, ◌+◌, List, [], ◌∷◌, ◌++◌, length, Bool, Option, Some, None, IfSome}
 use Rattle.std.specs.List.{AllByRecursion}
 use Rattle.smt_sexpr.specs.Tree.{Sexpr}
 use Rattle.stn_core.specs.declared.named.NamedValue.{NamedValue}
 use Rattle.stn_core.specs.Named.{AreWithinLimit}
 use Rattle.refute_tree.specs.declared.lemma.Lemma.{Lemma}
 use Rattle.idl_node.specs.Truth.{point_values, AreTruths}
+use Rattle.kept_lemmas.specs.declared.item.Kept.{Kept}
+use Rattle.kept_lemmas.specs.declared.item.Item.TheVariants.{Keep}
+use Rattle.kept_lemmas.specs.Entries.{AreRight}
+use Rattle.kept_lemmas.specs.Facts.{Shelf}
 use Rattle.idl_term.specs.Contexts.{Context, scope_of, IsScheduleFor}
 use Rattle.cert_text.specs.declared.entry.Version.{Version}
 use Rattle.cert_text.specs.declared.entry.Entry.{Entry}
@@ -27,7 +31,7 @@ use Rattle.script_walk.specs.code.Events.{IsStart as IsWalkStart, IsReady as IsW
 use Rattle.dtp_entry.specs.Bests.{Satisfies}
 use Rattle.dtp_entry.specs.Cores.{cites_assertion}
 use Rattle.dtp_entry.specs.code.Asking.{IsAskedBy}
-use Rattle.dtp_entry.specs.Entries.{verdict_of}
+use Rattle.dtp_entry.specs.Entries.{verdict_of, points_of, problem_of}
 use Rattle.dtp_entry.specs.Reports.{version_of}
 use Rattle.script_walk.specs.code.Standing.{Stands}
 use Rattle.dtp_entry.specs.Transcripts.{Held, schedule_in, opening, closing, told, Decides, Output, IsWritten, IsLegal}
@@ -74,23 +78,28 @@ abbrev pub CitesAssumed : Context → Option Assumed → List Lemma → List Boo
 CitesAssumed c None lemmas cited = Unit {0}
 CitesAssumed c (Some assumed) lemmas cited = AreCitedBy c assumed lemmas cited
 
+-- where a place is noted, the item there refutes by itself what was asked of
+abbrev pub RefutesAgain : Shelf → Context → Option Kept → Type 0
+RefutesAgain shelf c last = IfSome last (λ (place : Kept). AreRight shelf (points_of c) (problem_of c) (Keep place ∷ []))
+
 -- a refutation is held, which answers each question of what was asked of
-pub record ShowsRefutation (version : Version) (c : Context) (assumed : Option Assumed) (kept : Held) (cited : List Bool) : Type 0 where
+pub record ShowsRefutation (version : Version) (c : Context) (assumed : Option Assumed) (kept : Held) (cited : List Bool) (shelf : Shelf) (last : Option Kept) : Type 0 where
   pub lemmas : List Lemma
   pub held : kept ≡ Some (Unsat lemmas)
   pub decides : (question : Question) (x : Sexpr) → Decides version question x (asked_by c assumed) (Unsat lemmas)
   pub cites : CitesAssumed c assumed lemmas cited
+  pub again : RefutesAgain shelf (asked_by c assumed) last
 
 -- what is held shows the verdict that the mode stands for
-abbrev pub ShowsVerdict : Version → Mode → Context → Option Assumed → Held → Option (List NamedValue) → List Bool → List Bool → Type 0
-ShowsVerdict version mode.Nothing c assumed held given marks cited = Unit {0}
-ShowsVerdict version mode.Sat c assumed held given marks cited = ShowsSchedule c (asked_by c assumed) held given marks
-ShowsVerdict version mode.Unsat c assumed held given marks cited = ShowsRefutation version c assumed held cited
+abbrev pub ShowsVerdict : Version → Mode → Context → Option Assumed → Held → Option (List NamedValue) → List Bool → List Bool → Shelf → Option Kept → Type 0
+ShowsVerdict version mode.Nothing c assumed held given marks cited shelf last = Unit {0}
+ShowsVerdict version mode.Sat c assumed held given marks cited shelf last = ShowsSchedule c (asked_by c assumed) held given marks
+ShowsVerdict version mode.Unsat c assumed held given marks cited shelf last = ShowsRefutation version c assumed held cited shelf last
 
 -- what is kept of the commands stands for the state, and what is held shows its verdict
 pub record Holds (p : Session) (s : State) : Type 0 where
   pub stands : Stands p.walk.state s
-  pub shows : ShowsVerdict (version_of p.report) s.mode s.context s.assumed p.held p.given p.marks.items p.cited.items
+  pub shows : ShowsVerdict (version_of p.report) s.mode s.context s.assumed p.held p.given p.marks.items p.cited.items p.earlier p.last
 
 -- command x asks the question of what is active, assumptions with the rest; where there are any there is no mode
 pub record IsAskedIn (question : Question) (x : Sexpr) (s : State) : Type 0 where
@@ -134,6 +143,7 @@ pub record KeepsVerdict (p q : Session) : Type 0 where
   pub held : q.held ≡ p.held
   pub given : q.given ≡ p.given
   pub cited : q.cited ≡ p.cited
+  pub last : q.last ≡ p.last
 
 -- nothing was changed but what is held, what the commands have led to and their count
 pub record KeepsPlace (p q : Session) : Type 0 where

@@ -1,5 +1,5 @@
 -- Of the code and not of the meaning: items in the place of a refutation's lemmas.
-use Rattle.std.specs.Prelude.{◌≡◌, ℕ, List, None}
+use Rattle.std.specs.Prelude.{◌≡◌, ℕ, List, Option, Some, None}
 use Rattle.stn_core.specs.declared.literal.Literal.{Literal}
 use Rattle.refute_tree.specs.declared.lemma.Lemma.{Lemma}
 use Rattle.kept_lemmas.specs.declared.item.Kept.{Kept}
@@ -17,3 +17,9 @@ States shelf points clauses clause kept =
 abbrev pub StandsFor : Shelf → ℕ → List (List Literal) → Lemma → Item → Type 0
 StandsFor shelf points clauses lemma (Own own) = own ≡ lemma
 StandsFor shelf points clauses lemma (Keep kept) = States shelf points clauses lemma.clause kept
+
+-- the place that is named for the lemma exactly where it states the lemma's clause in the problem, and else the lemma
+abbrev pub IsPickedBy : Shelf → ℕ → List (List Literal) → Lemma → Option Kept → Item → Type 0
+IsPickedBy shelf points clauses lemma None item = item ≡ Own lemma
+IsPickedBy shelf points clauses lemma (Some kept) item =
+    (States shelf points clauses lemma.clause kept → item ≡ Keep kept) × ((States shelf points clauses lemma.clause kept → ⊥) → item ≡ Own lemma)

@@ -10,6 +10,7 @@ use Rattle.cert_text.specs.declared.entry.Version.{Version}
 use Rattle.dtp_session.specs.code.Forms.{version_wanted}
 use Rattle.dtp_session.specs.code.Keeping.{IsShownIn}
 use Rattle.dtp_session.proofs.Answering.{decided_anew}
+use Rattle.dtp_session.proofs.Keeping.{refutes_again}
 use Rattle.dtp_session.proofs.session.Session.decide_anew.Goals as goal
 
 pub cited_by-requires : goal.cited_by-requires
@@ -36,6 +37,8 @@ returns-clause-checked g c = λ s x holds asked taken.
     let shows = subst (λ (v : Version). IsShownIn v c.wanted-wanted.new.self.earlier c.args.question s.context c.in_ok-shown.field-0.shown.found c.in_ok-shown.field-0.shown.items c.decide.new.earlier) refl decided.shows in
     let shows_now = subst (λ (k : Shelf). IsShownIn (version_wanted c.wanted-wanted.result) c.args.self.now.earlier c.args.question s.context c.in_ok-shown.field-0.shown.found c.in_ok-shown.field-0.shown.items k) (sym behind)
     (subst (λ (k : Shelf). IsShownIn (version_wanted c.wanted-wanted.result) k c.args.question s.context c.in_ok-shown.field-0.shown.found c.in_ok-shown.field-0.shown.items c.decide.new.earlier) before shows) in
+    let again = λ lemmas is. refutes_again _ c.args.self.now.earlier c.keep_schedule.new.self.earlier c.args.question s.context c.in_ok-shown.field-0.shown.found lemmas c.in_ok-shown.field-0.shown.items c.last_item.result is c.last_item.ensures
+    (subst (λ (v : Version). IsShownIn v c.args.self.now.earlier c.args.question s.context c.in_ok-shown.field-0.shown.found c.in_ok-shown.field-0.shown.items c.keep_schedule.new.self.earlier) version shows_now) in
     decided_anew c.keep_schedule.new.self.walk.state _ s (version_wanted c.wanted-wanted.result) c.args.question x c.in_ok-shown.field-0.shown.found c.in_ok-shown.field-0.given there_later asked decided.decides
-    (λ lemmas some is. c.in_ok-cited.ensures.cites s lemmas there_later some is) (sym version) refl refl marks c.args.self.now stands
+    (λ lemmas some is. c.in_ok-cited.ensures.cites s lemmas there_later some is) again (sym version) refl refl marks c.args.self.now stands
     (ap (λ (w : Walk). w.number) c.settle.ensures.rest ∙ ap (λ (w : Walk). w.number + 1) later) shows_now
