@@ -19,7 +19,7 @@ use cert_stream::{write_entry, write_shown};
 use cert_text::{Entry, Version};
 use dtp_entry::SessionError;
 use dtp_io::Sink;
-use kept_lemmas::Items;
+use kept_lemmas::Item;
 use refute_tree::Refutation;
 use smt_answer::{minimum_text, unbounded_text, verdict_text};
 use smt_script::Satisfiability;
@@ -160,13 +160,13 @@ impl Found {
     pub fn write_with<K: Sink>(
         &self,
         alloc: Global,
-        items: &Items,
+        items: &[Item],
         sink: &mut K,
     ) -> Result<(), SessionError>
         ensures { WritesOne (λ text. text ≡ line_of (file_entry_sexpr (shown_by self.now items.now))) (K.holds sink.old) (K.holds sink.new)
             (K.faults sink.old) (K.faults sink.new) result }
     {
-        write_shown(alloc, &self.entry, items.as_slice(), sink)
+        write_shown(alloc, &self.entry, items, sink)
     }
 
     /// Writes the entry's line, lemma by lemma.

@@ -23,7 +23,9 @@ mod options;
 mod piece;
 mod session;
 mod shown;
+mod shown_items;
 mod solve;
+mod waiting;
 mod wanted;
 
 pub use dtp_entry::{Report, SessionError};

@@ -12,7 +12,7 @@ use crate::session::Session;
 use cert_text::{Version, write_end, write_header};
 use dtp_entry::{Report, SessionError, write_text};
 use dtp_io::Sink;
-use kept_lemmas::Items;
+use kept_lemmas::Item;
 use smt_answer::{Kind, error_text};
 use std::alloc::{AllocError, Global};
 
@@ -48,7 +48,7 @@ fn write_line<K: Sink>(
     alloc: Global,
     report: Report,
     found: &Found,
-    items: &Items,
+    items: &[Item],
     sink: &mut K,
 ) -> Result<(), SessionError>
     ensures { WritesOne (λ text. text ≡ line_shown report found.now items.now) (K.holds sink.old) (K.holds sink.new)
@@ -112,7 +112,7 @@ impl<'a> Session<'a> {
             (K.faults sink.old) (K.faults sink.new) result }
     {
         match &self.held {
-            Some(found) => write_line(self.alloc, self.report, found, &self.items, sink),
+            Some(found) => write_line(self.alloc, self.report, found, self.items.as_slice(), sink),
             None => Ok(()),
         }
     }

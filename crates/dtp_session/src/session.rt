@@ -28,12 +28,13 @@ use crate::found::Found;
 use crate::options::SearchOptions;
 use crate::piece::Piece;
 use crate::shown::Shown;
+use crate::shown_items::ShownItems;
 use crate::wanted::{Wanted, last_proof};
 use cert_text::{Entry, Version};
 use dtp_entry::{Report, SessionError, problem};
 use dtp_io::Sink;
 use idl_term::context_law;
-use kept_lemmas::{Items, Kept};
+use kept_lemmas::Kept;
 use kept_schedule::KeptSchedule;
 use script_walk::{Event, Walk, refusal_of};
 use smt_script::{Mode, Question, Satisfiability};
@@ -68,7 +69,7 @@ pub struct Session<'a> {
     /// What the entries of earlier questions leave to later ones.
     pub earlier: Earlier,
     /// In a certificate of the second version: what stands in the place of the lemmas of the entry that is held.
-    pub items: Items,
+    pub items: ShownItems,
     /// There, where these are a refutation: the last of them, which is kept where nothing is changed before the next question.
     pub last: Option<Kept>,
     /// Where the last question had assumptions and was answered `unsat`: for each assertion, and behind the active ones for
@@ -105,7 +106,7 @@ impl<'a> Session<'a> {
             marks: Vec::new(alloc),
             kept: KeptSchedule::new(alloc),
             earlier: Earlier::new(alloc),
-            items: Items::new(Vec::new(alloc)),
+            items: ShownItems::none(),
             last: None,
             cited: Vec::new(alloc),
             text: Vec::new(alloc),
@@ -256,7 +257,7 @@ impl<'a> Session<'a> {
             unreachable!()
         };
         self.held = Some(found.satisfying(self.given.take()));
-        self.earlier.pass(self.report.version())?;
+        self.earlier.pass(self.alloc, self.report.version())?;
         self.walk.settle(Satisfiability::Sat);
         Ok(())
     }
@@ -288,7 +289,7 @@ impl<'a> Session<'a> {
         self.held = Some(Found::shown(Entry::Sat(values)));
         self.given = None;
         self.marks.clear();
-        self.earlier.pass(self.report.version())?;
+        self.earlier.pass(self.alloc, self.report.version())?;
         self.walk.settle(Satisfiability::Sat);
         Ok(())
     }
@@ -338,7 +339,7 @@ impl<'a> Session<'a> {
     }
 
     /// The place of the last of these items, which stand in the last entry of a certificate of the second version.
-    fn last_item(&self, items: &Items) -> Option<Kept>
+    fn last_item(&self, items: &ShownItems) -> Option<Kept>
         ensures { IsLastOf (version_of self.now.report) self.now.earlier items.now result }
     {
         match self.report.version() {

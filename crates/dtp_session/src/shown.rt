@@ -10,9 +10,9 @@ ghost use Rattle.trim_lemmas.specs.Trimming.{StaysRefutation, StaysOver};
 use crate::earlier::Earlier;
 use crate::form::entry_in_form;
 use crate::found::Found;
+use crate::shown_items::ShownItems;
 use crate::wanted::Wanted;
 use cert_text::{Entry, NUMBER_LIMIT};
-use kept_lemmas::Items;
 use refute_tree::Refutation;
 use std::alloc::{AllocError, Global};
 use stn_core::Problem;
@@ -50,7 +50,7 @@ pub fn kept(
 #[derive(Drop)]
 pub struct Shown {
     pub found: Found,
-    pub items: Items,
+    pub items: ShownItems,
 }
 
 /// What is held of an entry without lemmas.
@@ -63,10 +63,10 @@ pub fn without_lemmas(
     ensures found { IfOk result (λ shown. shown.found ≡ entry) }
     ensures passed { IfOk result (λ shown. earlier.new ≡ passed (version_wanted wanted) earlier.old) }
 {
-    earlier.pass(wanted.version())?;
+    earlier.pass(alloc, wanted.version())?;
     Ok(Shown {
         found: Found::shown(entry),
-        items: Items::new(Vec::new(alloc)),
+        items: ShownItems::none(),
     })
 }
 
@@ -87,11 +87,11 @@ pub fn with_lemmas(
     match wanted {
         Wanted::Verdict => Ok(Shown {
             found: Found::unformed(problem, entry),
-            items: Items::new(Vec::new(alloc)),
+            items: ShownItems::none(),
         }),
         Wanted::Entry(version) => {
             let formed = entry_in_form(alloc, version, &problem, entry)?;
-            let items = earlier.enter(alloc, version, &problem, &formed)?;
+            let items = earlier.enter(alloc, version, problem, &formed)?;
             Ok(Shown {
                 found: Found::shown(formed),
                 items,
