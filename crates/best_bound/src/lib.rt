@@ -11,6 +11,7 @@ mod answer;
 mod asking;
 mod hearing;
 mod one;
+mod questions;
 mod shared;
 
 pub use answer::{Best, best_law};

@@ -1,8 +1,17 @@
 use Rattle.std.proofs.Common.{subst}
+use Rattle.book_core.specs.Verdicts.{IsRight}
 use Rattle.best_bound.specs.code.Hearings.{IsHeard}
-use Rattle.best_bound.proofs.Replies.{heard_at_once, heard_later}
-use Rattle.best_bound.proofs.shared.descend.Goals.{in-Heard, in-Open+in_ok-verdict-in-Open+in_ok-heard-in-Open}
-use Rattle.best_bound.proofs.shared.descend.Goals as goal
+use Rattle.best_bound.proofs.Replies.{heard_at_once, heard_later, known_at_once, known_later}
+use Rattle.best_bound.proofs.questions.best_by.Goals.{in-Some, in-None+in_ok-verdict-in-None, in-Heard, in-Open+in_ok-verdict-in-Open+in_ok-heard-in-Open}
+use Rattle.best_bound.proofs.questions.best_by.Goals as goal
+
+pub returns-in-Unsat : goal.returns-in-Unsat
+returns-in-Unsat g c =
+    let right : IsRight c.args.problem.now c.match-verdict.verdict = elim c.match-verdict.branch [
+      | in-Some w ↦ known_at_once c.args.problem.now c.in_ok-begun.begun.verdict w.in-Some.verdict c.match-verdict.verdict c.in_ok-begun.ensures.verdict w.in-Some.is w.verdict-is
+      | in-None+in_ok-verdict-in-None w ↦ known_later c.args.problem.now w.in_ok-verdict-in-None.verdict c.match-verdict.verdict w.in_ok-verdict-in-None.ensures w.verdict-is
+    ] in
+    subst (IsRight c.args.problem.now) c.in-Unsat.is right
 
 pub questions-preserved : goal.questions-preserved
 questions-preserved g c =
