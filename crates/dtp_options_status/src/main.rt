@@ -1,4 +1,4 @@
-//! `dtp`, run once with options behind its command.
+//! `dtp`, run once with options behind its command, to a status that is not 0.
 #![tactic(auto)]
 
 use std::process::ExitCode;
