@@ -1,6 +1,7 @@
 -- The lines that are made of what is held.
 use Rattle.std.proofs.Common.{arith, inl, inr, refl, sym, ap, subst, ◌∙◌, ◌≡◌, ℕ, List, [], Option, Some, None, Result, Ok}
 use Rattle.std.proofs.lemmas.Result.{on_ok_weaker, on_err_weaker}
+use Rattle.kept_lemmas.specs.declared.item.Item.{Item}
 use Rattle.cert_text.specs.declared.entry.Entry.{Entry}
 use Rattle.cert_text.specs.Form.{entry_sexpr, line_of}
 use Rattle.dtp_entry.specs.declared.error.SessionError.{SessionError}
@@ -25,11 +26,12 @@ module _ (P Q : List ℕ → Type 0) (f : (text : List ℕ) → P text → Q tex
     fault = h.fault;
   }
 
-pub decision_told : (p : Session) (entry : Entry) (before now : Option (List ℕ)) (faults_before faults_now : ℕ) (r : Result (Unit {0}) SessionError) → p.held ≡ Some entry
-    → WritesOne (λ text. text ≡ line_shown p.report entry p.items) before now faults_before faults_now r → WritesOne (IsText p Decision) before now faults_before faults_now r
-decision_told p entry before now faults_before faults_now r held h =
-    writes_too (λ text. text ≡ line_shown p.report entry p.items) (IsText p Decision)
-    (λ text is other e. (let same : entry ≡ other = (let both : Some entry ≡ Some other = sym held ∙ e in cc) in is ∙ ap (λ (found : Entry). line_shown p.report found p.items) same))
+pub decision_told : (p : Session) (entry : Entry) (items : List Item) (before now : Option (List ℕ)) (faults_before faults_now : ℕ) (r : Result (Unit {0}) SessionError) → items ≡ p.items → p.held ≡ Some entry
+    → WritesOne (λ text. text ≡ line_shown p.report entry items) before now faults_before faults_now r → WritesOne (IsText p Decision) before now faults_before faults_now r
+decision_told p entry items before now faults_before faults_now r shown held h =
+    writes_too (λ text. text ≡ line_shown p.report entry items) (IsText p Decision)
+    (λ text is other e. (let same : entry ≡ other = (let both : Some entry ≡ Some other = sym held ∙ e in cc) in
+        is ∙ ap (λ (found : Entry). line_shown p.report found items) same ∙ ap (λ (made : List Item). line_shown p.report other made) shown))
     before now faults_before faults_now r h
 
 pub proof_told : (p : Session) (entry : Entry) (before now : Option (List ℕ)) (faults_before faults_now : ℕ) (r : Result (Unit {0}) SessionError) → p.held ≡ Some entry

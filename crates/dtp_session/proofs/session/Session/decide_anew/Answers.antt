@@ -1,4 +1,7 @@
-use Rattle.std.proofs.Common.{refl, sym, ap, subst, ◌∙◌, ◌≡◌, ◌+◌, []}
+use Rattle.std.proofs.Common.{refl, sym, ap, subst, ◌∙◌, ◌≡◌, ◌+◌, List, []}
+use Rattle.refute_tree.specs.declared.lemma.Lemma.{Lemma}
+use Rattle.cert_text.specs.declared.entry.Entry.TheVariants.{Unsat}
+use Rattle.dtp_session.specs.code.Sessions.{RefutesAgain}
 use Rattle.smt_script.specs.States.{settled}
 use Rattle.smt_script.specs.declared.state.Satisfiability.{Satisfiability}
 use Rattle.script_walk.specs.code.Standing.{Stands}
@@ -37,7 +40,7 @@ returns-clause-checked g c = λ s x holds asked taken.
     let shows = subst (λ (v : Version). IsShownIn v c.wanted-wanted.new.self.earlier c.args.question s.context c.in_ok-shown.field-0.shown.found c.in_ok-shown.field-0.shown.items c.decide.new.earlier) refl decided.shows in
     let shows_now = subst (λ (k : Shelf). IsShownIn (version_wanted c.wanted-wanted.result) c.args.self.now.earlier c.args.question s.context c.in_ok-shown.field-0.shown.found c.in_ok-shown.field-0.shown.items k) (sym behind)
     (subst (λ (k : Shelf). IsShownIn (version_wanted c.wanted-wanted.result) k c.args.question s.context c.in_ok-shown.field-0.shown.found c.in_ok-shown.field-0.shown.items c.decide.new.earlier) before shows) in
-    let again = λ lemmas is. refutes_again _ c.args.self.now.earlier c.keep_schedule.new.self.earlier c.args.question s.context c.in_ok-shown.field-0.shown.found lemmas c.in_ok-shown.field-0.shown.items c.last_item.result is c.last_item.ensures
+    let again : (lemmas : List Lemma) → c.in_ok-shown.field-0.shown.found ≡ Unsat lemmas → RefutesAgain c.keep_schedule.new.self.earlier s.context c.last_item-self.result = λ lemmas is. refutes_again _ c.args.self.now.earlier c.keep_schedule.new.self.earlier c.args.question s.context c.in_ok-shown.field-0.shown.found lemmas c.in_ok-shown.field-0.shown.items c.last_item-self.result is c.last_item-self.ensures
     (subst (λ (v : Version). IsShownIn v c.args.self.now.earlier c.args.question s.context c.in_ok-shown.field-0.shown.found c.in_ok-shown.field-0.shown.items c.keep_schedule.new.self.earlier) version shows_now) in
     decided_anew c.keep_schedule.new.self.walk.state _ s (version_wanted c.wanted-wanted.result) c.args.question x c.in_ok-shown.field-0.shown.found c.in_ok-shown.field-0.given there_later asked decided.decides
     (λ lemmas some is. c.in_ok-cited.ensures.cites s lemmas there_later some is) again (sym version) refl refl marks c.args.self.now stands
