@@ -9,11 +9,11 @@ use Rattle.idl_node.specs.Limits.{nodes_limit}
 use Rattle.idl_node.specs.Nodes.{NodeValue}
 use Rattle.idl_cases.specs.Guarded.{plain}
 use Rattle.idl_scope.specs.Scopes.{Scope, linear_term}
-use Rattle.idl_term.specs.Applied.{applied, as_number}
+use Rattle.idl_apply.specs.Applied.{applied, as_number}
 use Rattle.idl_term.specs.Lowered.{operator, head_of}
-use Rattle.idl_term.specs.Operators.{connective_of, order_of, sign_of, equality_of, operator_of}
-use Rattle.idl_term.specs.declared.operator.Operator.TheVariants as op
-use Rattle.idl_term.specs.declared.operator.Sign.TheVariants as sign
+use Rattle.idl_apply.specs.Operators.{connective_of, order_of, sign_of, equality_of, operator_of}
+use Rattle.idl_apply.specs.declared.operator.Operator.TheVariants as op
+use Rattle.idl_apply.specs.declared.operator.Sign.TheVariants as sign
 use Rattle.script_law.proofs.Lowering.{IsShort, IsPoint, IsNumber, IsFormula, binary, digits, near_constant, near_pos, binary_made, summed_number, most_formula, point_number, digits_number}
 
 later_short : (k n : ℕ) → n ≤ 99 → IsShort (sum_of (point_alone k ∷ number_alone (pos n) ∷ []))

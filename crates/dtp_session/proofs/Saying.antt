@@ -11,13 +11,13 @@ use Rattle.cert_text.specs.declared.entry.Entry.{Entry}
 use Rattle.cert_text.specs.declared.entry.Entry.TheVariants.{Unsat}
 use Rattle.idl_node.specs.Nodes.{NodeValue}
 use Rattle.idl_node.specs.Truth.{point_values, AreTruths}
-use Rattle.idl_term.specs.Applied.{Made}
+use Rattle.idl_apply.specs.Applied.{Made}
 use Rattle.idl_term.specs.Contexts.{Context, IsScheduleFor, environment}
 use Rattle.idl_term.specs.Lowered.{lowered}
 use Rattle.idl_term.specs.Scopes.{Scope}
 use Rattle.idl_term.specs.Values.{Value, value}
-use Rattle.idl_term.specs.declared.error.TermRefusal.{TermRefusal}
-use Rattle.idl_term.proofs.Evaluating.{values_count}
+use Rattle.idl_apply.specs.declared.error.TermRefusal.{TermRefusal}
+use Rattle.idl_value.proofs.Evaluating.{values_count}
 use Rattle.smt_answer.specs.code.Answers.{AreAnswers, is_marked}
 use Rattle.smt_answer.specs.Texts.{information_line, values_line, cited_names, core_line, with_item, cited_items, assumptions_line}
 use Rattle.smt_answer.proofs.Cores.{names_same}

@@ -10,11 +10,12 @@ use Rattle.smt_sexpr.specs.Tree.{Sexpr}
 use Rattle.stn_core.specs.declared.named.NamedValue.{NamedValue}
 use Rattle.idl_node.specs.declared.sort.Sort.{Sort}
 use Rattle.idl_node.specs.Nodes.{NodeValue}
-use Rattle.idl_term.specs.Applied.{Made}
+use Rattle.idl_apply.specs.Applied.{Made}
 use Rattle.idl_term.specs.Contexts.{Definition, Context, start_context, binding_of, scope_of, declared_values, defined_values, environment, IsScheduleFor, with_declaration, with_definition, with_assertion, IsFree, IsContext, start, declares, defines, asserts, names}
 use Rattle.idl_scope.specs.Limits.{names_limit}
 use Rattle.idl_term.specs.Lowered.{lowered}
-use Rattle.idl_term.specs.Meanings.{lowered_value, IsTermIn, IsScopeOver, Agrees, AreRoots}
+use Rattle.idl_value.specs.CaseValues.{IsTermIn}
+use Rattle.idl_term.specs.Meanings.{lowered_value, IsScopeOver, Agrees, AreRoots}
 use Rattle.idl_scope.specs.Scopes.{LoweredTerm, formula, Declaration, Binding, Scope, unknown, found, found_bound, sorts_of}
 use Rattle.idl_term.specs.Values.{Named, value}
 use Rattle.idl_term.proofs.MeaningNames.{FitsSorts, fits_sorts, IsGrown, term_later, value_later, scope_later, agrees_before}

@@ -14,7 +14,8 @@ use Rattle.idl_node.specs.Sorts.{IsIntPoint, IsBoolPoint, IsAtomFor, AreOfSorts}
 use Rattle.idl_term.specs.Contexts.{value_of_named, declared_values}
 use Rattle.idl_scope.specs.Limits.{names_limit}
 use Rattle.idl_cases.specs.Guarded.{CaseValue}
-use Rattle.idl_term.specs.Meanings.{lowered_value, IsCaseIn, IsTermIn, IsScopeOver, found_value, Agrees}
+use Rattle.idl_value.specs.CaseValues.{IsCaseIn, IsTermIn}
+use Rattle.idl_term.specs.Meanings.{lowered_value, IsScopeOver, found_value, Agrees}
 use Rattle.idl_scope.specs.Scopes.{LoweredTerm, formula, numeric, Declaration, Binding, Scope, Found, declared_at, stands_for, unknown, found_declared, found_bound, is_found, sorts_of}
 use Rattle.idl_term.specs.Values.{Value, Named, looked_up}
 use Rattle.idl_term.proofs.BelowLinear.{points_weaker}

@@ -3,12 +3,12 @@ use Rattle.std.proofs.Common.{◌≡◌, ℕ, zero, suc, ◌≤◌, List, [], �
 use Rattle.std.specs.Prelude.{Result, Ok, Err}
 use Rattle.std.proofs.lemmas.List.{append_assoc}
 use Rattle.idl_node.specs.Nodes.{NodeValue}
-use Rattle.idl_term.specs.Applied.{Made}
-use Rattle.idl_term.specs.Comparing.{follows}
+use Rattle.idl_apply.specs.Applied.{Made}
+use Rattle.idl_apply.specs.Comparing.{follows}
 use Rattle.idl_term.specs.Lowered.{MadeEach, put_first}
 use Rattle.idl_scope.specs.Scopes.{LoweredTerm}
 use Rattle.idl_term.specs.code.Walks.{gathered}
-use Rattle.idl_term.specs.declared.error.TermRefusal.{TermRefusal}
+use Rattle.idl_apply.specs.declared.error.TermRefusal.{TermRefusal}
 
 pub follows_same : {A B : Type 0} (a : Result A TermRefusal) (f g : A → Result B TermRefusal) → ((x : A) → f x ≡ g x) → follows a f ≡ follows a g
 follows_same (Ok x) f g h = h x

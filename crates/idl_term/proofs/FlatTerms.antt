@@ -6,17 +6,17 @@ use Rattle.smt_sexpr.specs.Tree.{Sexpr, leaf, more, none}
 use Rattle.idl_node.specs.Nodes.{NodeValue}
 use Rattle.idl_scope.specs.Scopes.{LoweredTerm, Scope}
 use Rattle.idl_scope.specs.declared.lowered.Lowered.{Lowered}
-use Rattle.idl_term.specs.Applied.{Made, applied}
-use Rattle.idl_term.specs.Comparing.{follows}
+use Rattle.idl_apply.specs.Applied.{Made, applied}
+use Rattle.idl_apply.specs.Comparing.{follows}
 use Rattle.idl_term.specs.Lowered.{MadeEach, operator, head_of, lowered, lowered_each, lowered_leaf, lowered_list, put_first}
-use Rattle.idl_term.specs.Operators.{takes_count}
+use Rattle.idl_apply.specs.Operators.{takes_count}
 use Rattle.idl_term.specs.code.Flat.{MayLower, made_of_one, made_of_two}
-use Rattle.idl_term.specs.code.Shapes.{Lowers}
+use Rattle.idl_apply.specs.code.Shapes.{Lowers}
 use Rattle.idl_term.specs.code.Walks.{application_made}
-use Rattle.idl_term.specs.declared.error.TermError.{TermError}
-use Rattle.idl_term.specs.declared.error.TermError.TheVariants.{Refused, OutOfMemory}
-use Rattle.idl_term.specs.declared.error.TermRefusal.{TermRefusal}
-use Rattle.idl_term.specs.declared.operator.Operator.{Operator}
+use Rattle.idl_apply.specs.declared.error.TermError.{TermError}
+use Rattle.idl_apply.specs.declared.error.TermError.TheVariants.{Refused, OutOfMemory}
+use Rattle.idl_apply.specs.declared.error.TermRefusal.{TermRefusal}
+use Rattle.idl_apply.specs.declared.operator.Operator.{Operator}
 use Rattle.idl_term.proofs.FirstRefusals.{follows_err, follows_ok}
 use Rattle.idl_term.proofs.ListSteps.{headed, by_head, lowered_of_leaf}
 use Rattle.idl_term.proofs.MachineSteps.{error_is}

@@ -1,29 +1,27 @@
 -- How frames go on, and the whole run.
 use Rattle.std.proofs.Common.{◌≡◌, ℕ, ◌+◌, ◌-◌, ◌<◌, ◌≤◌, List, [], ◌∷◌, ◌++◌, length, take, drop, true, Bor, refl, sym, ap, subst, ◌∙◌, arith}
 use Rattle.std.specs.Prelude.{Result, Ok, Err, IsErr, IsErrAnd, ◌&&◌, reverse}
-use Rattle.std.proofs.lemmas.List.{append_assoc, length-append, length-take, length-drop, map-append, nil_from_length, take-append-drop, reverse-append}
-use Rattle.smt_sexpr.specs.Table.{Table, Means}
-use Rattle.smt_sexpr.specs.Tree.{Sexpr, none, more}
+use Rattle.std.proofs.lemmas.List.{append_assoc, length-append, length-take, length-drop, map-append, nil_from_length, take-append-drop}
+use Rattle.smt_sexpr.specs.Table.{Table}
+use Rattle.smt_sexpr.specs.Tree.{none, more}
 use Rattle.idl_node.specs.Nodes.{NodeValue}
-use Rattle.idl_term.specs.Applied.{Made}
-use Rattle.idl_term.specs.Comparing.{follows}
+use Rattle.idl_apply.specs.Applied.{Made}
+use Rattle.idl_apply.specs.Comparing.{follows}
 use Rattle.idl_term.specs.Lowered.{lowered, is_binding, are_bindings, variable_in}
 use Rattle.idl_scope.specs.Scopes.{LoweredTerm, Scope, Binding, bindings_of, shown_term, shown_terms}
-use Rattle.idl_term.specs.code.Shapes.{Lowers}
+use Rattle.idl_apply.specs.code.Shapes.{Lowers}
 use Rattle.idl_term.specs.code.Trees.{tree_of, trees_of, IsTree, AreTrees, size_of, sizes_of}
 use Rattle.idl_scope.specs.code.LocalNames.{Inner, without}
-use Rattle.idl_term.specs.code.Walks.{Walk, scope_at, ended, finished, outcome, outcome_from, outcome_of, AreFrames, IsReady, IsWaiting, weight, Goes, Steps, with_frame, bound_to}
-use Rattle.idl_term.specs.declared.error.TermError.{TermError}
-use Rattle.idl_term.specs.declared.error.TermError.TheVariants.{Refused, OutOfMemory}
-use Rattle.idl_term.specs.declared.error.TermRefusal.{TermRefusal}
+use Rattle.idl_term.specs.code.Walks.{Walk, scope_at, ended, finished, outcome, outcome_from, outcome_of, AreFrames, IsReady, weight, Goes, Steps, with_frame, bound_to}
+use Rattle.idl_apply.specs.declared.error.TermError.{TermError}
+use Rattle.idl_apply.specs.declared.error.TermError.TheVariants.{Refused, OutOfMemory}
+use Rattle.idl_apply.specs.declared.error.TermRefusal.{TermRefusal}
 use Rattle.idl_scope.specs.declared.lowered.Lowered.{Lowered}
-use Rattle.idl_term.specs.declared.operator.Operator.{Operator}
+use Rattle.idl_apply.specs.declared.operator.Operator.{Operator}
 use Rattle.idl_term.specs.declared.machine.Frame.{Frame}
 use Rattle.idl_term.specs.declared.machine.Frame.TheVariants.{Apply, Bind, Unbind}
-use Rattle.idl_term.proofs.TreesOfIds.{tree_is}
-use Rattle.idl_term.proofs.FirstRefusals.{drop_within, take_within, take_all}
+use Rattle.idl_term.proofs.FirstRefusals.{drop_within, take_within}
 use Rattle.idl_term.proofs.MachineSteps.{error_is, steps_from, seen, next_argument, last_argument}
-use Rattle.idl_scope.specs.Limits.{names_limit}
 use Rattle.idl_term.proofs.LetSteps.{both, both_right, IsTermOf, next_binding, IsBody, unbinds}
 use Rattle.idl_term.proofs.BindingNames.{variables, all_bind, variables_count, variables_append, bind_append}
 

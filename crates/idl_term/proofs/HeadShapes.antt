@@ -1,14 +1,12 @@
 -- What lists begin with, and what bindings are.
-use Rattle.std.proofs.Common.{◌≡◌, ℕ, List, [], ◌∷◌, length, Option, Some, None, Bool, true, false, refl, sym, ap, ◌∙◌}
+use Rattle.std.proofs.Common.{◌≡◌, ℕ, List, Option, Some, None, Bool, true, false, refl, sym, ap, ◌∙◌}
 use Rattle.std.specs.Prelude.{if◌then◌else◌, not}
 use Rattle.smt_lex.specs.declared.token.TokenKind.{TokenKind}
-use Rattle.smt_sexpr.specs.Table.{Table}
-use Rattle.smt_sexpr.specs.Tree.{Sexpr, Items, leaf, list, none, more, symbol_of}
+use Rattle.smt_sexpr.specs.Tree.{Sexpr, Items, leaf, list, symbol_of}
 use Rattle.idl_term.specs.Lowered.{refused, head_of, head_by, symbol_head, list_head, is_binding, may_be_bound, variable_in, name_in}
-use Rattle.idl_term.specs.Operators.{is_reserved}
+use Rattle.idl_apply.specs.Operators.{is_reserved}
 use Rattle.idl_scope.specs.Scopes.{Scope}
-use Rattle.idl_term.specs.code.Trees.{tree_of, trees_of}
-use Rattle.idl_term.specs.declared.error.TermRefusal.TheVariants.{IllFormedTerm}
+use Rattle.idl_apply.specs.declared.error.TermRefusal.TheVariants.{IllFormedTerm}
 
 pub head_symbol : (scope : Scope) (x : Sexpr) (name : List ℕ) → Some name ≡ symbol_of x → head_of scope x ≡ symbol_head scope name
 unfolding head_of

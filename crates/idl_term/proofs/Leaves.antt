@@ -8,13 +8,13 @@ use Rattle.idl_node.specs.declared.sort.Sort.{Sort}
 use Rattle.idl_node.specs.declared.sort.Sort.TheVariants as sort
 use Rattle.idl_node.specs.Making.{constant, falsehood}
 use Rattle.idl_node.specs.Nodes.{NodeValue, atom, placed}
-use Rattle.idl_term.specs.Applied.{as_formula}
+use Rattle.idl_apply.specs.Applied.{as_formula}
 use Rattle.idl_term.specs.Lowered.{lowered_name, lowered_found, lowered_leaf, lowered_numeral}
-use Rattle.idl_term.specs.Operators.{is_reserved}
+use Rattle.idl_apply.specs.Operators.{is_reserved}
 use Rattle.idl_scope.specs.Scopes.{Scope, Found, declared_at, stands_for, unknown, found}
 use Rattle.idl_scope.specs.code.Kept.{FoundIs}
 use Rattle.idl_scope.specs.declared.scope.FoundName.TheVariants as name
-use Rattle.idl_term.specs.declared.error.TermRefusal.TheVariants.{IllFormedTerm}
+use Rattle.idl_apply.specs.declared.error.TermRefusal.TheVariants.{IllFormedTerm}
 
 -- a declared Bool name
 pub found_bool : (nodes : List NodeValue) (f : Found) (k : ℕ) → FoundIs f (name.Declared k sort.Bool) → lowered_found nodes f ≡ as_formula (placed nodes (atom (record { x = k + 1; y = 0; c = pos 0 })))

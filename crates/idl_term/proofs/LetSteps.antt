@@ -1,20 +1,19 @@
 -- The steps of a `let`.
 use Rattle.std.proofs.Common.{◌≡◌, ℕ, zero, suc, ◌+◌, ◌-◌, ◌≤◌, List, [], ◌∷◌, ◌++◌, length, take, drop, Bool, true, false, Bor, Some, refl, sym, ap, subst, ◌∙◌, arith}
-use Rattle.std.specs.Prelude.{Result, Err, ◌&&◌}
+use Rattle.std.specs.Prelude.{Result, ◌&&◌}
 use Rattle.std.proofs.lemmas.List.{append_assoc, append-nil, length-append, length-take, length-drop}
 use Rattle.smt_sexpr.specs.Tree.{Sexpr, Items, leaf, list, none, more, symbol_of, item_of}
 use Rattle.smt_sexpr.specs.Table.{Table, Means, HasItem}
 use Rattle.idl_node.specs.Nodes.{NodeValue}
-use Rattle.idl_term.specs.Applied.{Made}
-use Rattle.idl_term.specs.Comparing.{follows}
+use Rattle.idl_apply.specs.Applied.{Made}
+use Rattle.idl_apply.specs.Comparing.{follows}
 use Rattle.idl_term.specs.code.Heads.{AreParts}
 use Rattle.idl_term.specs.Lowered.{lowered, lowered_let, lowered_first, lowered_bindings, lowered_bound, lowered_binding, lowered_second, is_let, is_binding, are_bindings, are_different, may_be_bound, variables_in, with_bound}
 use Rattle.idl_scope.specs.Scopes.{LoweredTerm, Scope, Binding, bindings_of}
 use Rattle.idl_term.specs.code.Trees.{tree_of, trees_of, IsTree, size_of, sizes_of}
 use Rattle.idl_scope.specs.code.LocalNames.{Inner, without}
 use Rattle.idl_term.specs.code.Walks.{Walk, scope_at, gathered, finished, outcome, outcome_behind, outcome_from, AreFrames, IsReady, IsWaiting, weight, Goes, with_frame, let_made, bound_to}
-use Rattle.idl_term.specs.declared.error.TermRefusal.TheVariants.{IllFormedTerm}
-use Rattle.idl_term.specs.declared.error.TermRefusal.{TermRefusal}
+use Rattle.idl_apply.specs.declared.error.TermRefusal.{TermRefusal}
 use Rattle.idl_term.specs.declared.machine.Frame.{Frame}
 use Rattle.idl_term.specs.declared.machine.Frame.TheVariants.{Bind, Unbind}
 use Rattle.idl_term.proofs.FirstRefusals.{follows_same, first_then, starts}

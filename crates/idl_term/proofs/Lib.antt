@@ -8,17 +8,7 @@ pub mod MeaningLeaves
 pub mod MeaningTerms
 pub mod ContextNames
 pub mod ContextMeanings
-pub mod Arguments
-pub mod ComparisonNodes
-pub mod ComparedAgain
-pub mod PairsCompared
-pub mod CaseSteps
-pub mod SumsBehind
-pub mod CasesRelated
-pub mod ChoiceSums
-pub mod SumsOfTerms
 pub mod Leaves
-pub mod Looking
 pub mod TreesOfIds
 pub mod FirstRefusals
 pub mod FlatTerms
@@ -28,8 +18,5 @@ pub mod FrameSteps
 pub mod ListSteps
 pub mod BindingNames
 pub mod HeadShapes
-pub mod Evaluating
-pub mod RepeatedTerms
 pub mod ReservedWords
-pub mod FewTerms
 pub mod NameSteps

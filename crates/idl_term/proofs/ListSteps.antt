@@ -9,12 +9,12 @@ use Rattle.idl_term.specs.Lowered.{Head, operator, binder, refused, head_of, low
 use Rattle.idl_scope.specs.Scopes.{Scope}
 use Rattle.idl_term.specs.code.Trees.{tree_of, trees_of, size_of, sizes_of}
 use Rattle.idl_term.specs.code.Walks.{Walk, scope_at, outcome_behind, outcome_from, weight, Steps, let_made, application_made}
-use Rattle.idl_term.specs.Applied.{Made}
-use Rattle.idl_term.specs.declared.error.TermError.{TermError}
-use Rattle.idl_term.specs.declared.error.TermError.TheVariants.{Refused}
-use Rattle.idl_term.specs.declared.error.TermRefusal.{TermRefusal}
-use Rattle.idl_term.specs.declared.error.TermRefusal.TheVariants.{IllFormedTerm}
-use Rattle.idl_term.specs.declared.operator.Operator.{Operator}
+use Rattle.idl_apply.specs.Applied.{Made}
+use Rattle.idl_apply.specs.declared.error.TermError.{TermError}
+use Rattle.idl_apply.specs.declared.error.TermError.TheVariants.{Refused}
+use Rattle.idl_apply.specs.declared.error.TermRefusal.{TermRefusal}
+use Rattle.idl_apply.specs.declared.error.TermRefusal.TheVariants.{IllFormedTerm}
+use Rattle.idl_apply.specs.declared.operator.Operator.{Operator}
 use Rattle.idl_term.proofs.MachineSteps.{steps_from}
 
 pub nothing_refused : (w : Walk) (nodes : List NodeValue) (items : List ℕ) → items ≡ [] → outcome_behind w (lowered_list (scope_at w) nodes (trees_of w.table items)) ≡ Err IllFormedTerm

@@ -4,21 +4,21 @@ use Rattle.std.specs.Prelude.{Result, Ok, Err, IsErr, IsErrAnd, reverse}
 use Rattle.std.proofs.lemmas.List.{append-nil, length-append, reverse-append, length-take, map-append, take-map, drop-map, take_rest}
 use Rattle.smt_sexpr.specs.Table.{Table}
 use Rattle.idl_node.specs.Nodes.{NodeValue}
-use Rattle.idl_term.specs.Applied.{Made, applied}
-use Rattle.idl_term.specs.Comparing.{follows}
+use Rattle.idl_apply.specs.Applied.{Made, applied}
+use Rattle.idl_apply.specs.Comparing.{follows}
 use Rattle.idl_term.specs.Lowered.{lowered, lowered_each}
-use Rattle.idl_term.specs.Operators.{takes_count}
+use Rattle.idl_apply.specs.Operators.{takes_count}
 use Rattle.idl_scope.specs.Scopes.{LoweredTerm, shown_term, shown_terms}
-use Rattle.idl_term.specs.code.Shapes.{Lowers}
+use Rattle.idl_apply.specs.code.Shapes.{Lowers}
 use Rattle.idl_term.specs.code.Trees.{tree_of, trees_of, IsTree, AreTrees, sizes_of}
 use Rattle.idl_scope.specs.code.LocalNames.{Inner}
-use Rattle.idl_term.specs.code.Walks.{Walk, scope_at, gathered, finished, outcome, outcome_behind, outcome_from, outcome_of, AreFrames, IsReady, IsReadyWith, IsWaiting, weight, Goes, Steps, with_frame, application_made}
-use Rattle.idl_term.specs.declared.error.TermError.{TermError}
-use Rattle.idl_term.specs.declared.error.TermError.TheVariants.{OutOfMemory, Refused}
-use Rattle.idl_term.specs.declared.error.TermRefusal.{TermRefusal}
-use Rattle.idl_term.specs.declared.error.TermRefusal.TheVariants.{WrongCount}
+use Rattle.idl_term.specs.code.Walks.{Walk, scope_at, gathered, finished, outcome, outcome_behind, outcome_from, outcome_of, AreFrames, IsReadyWith, IsWaiting, weight, Goes, Steps, with_frame, application_made}
+use Rattle.idl_apply.specs.declared.error.TermError.{TermError}
+use Rattle.idl_apply.specs.declared.error.TermError.TheVariants.{OutOfMemory, Refused}
+use Rattle.idl_apply.specs.declared.error.TermRefusal.{TermRefusal}
+use Rattle.idl_apply.specs.declared.error.TermRefusal.TheVariants.{WrongCount}
 use Rattle.idl_scope.specs.declared.lowered.Lowered.{Lowered}
-use Rattle.idl_term.specs.declared.operator.Operator.{Operator}
+use Rattle.idl_apply.specs.declared.operator.Operator.{Operator}
 use Rattle.idl_term.specs.declared.machine.Frame.{Frame}
 use Rattle.idl_term.specs.declared.machine.Frame.TheVariants.{Apply}
 use Rattle.idl_term.proofs.FirstRefusals.{follows_err, follows_ok, first_then, starts}

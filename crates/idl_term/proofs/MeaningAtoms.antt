@@ -17,15 +17,15 @@ use Rattle.idl_node.specs.declared.sort.Sort.TheVariants as sort
 use Rattle.idl_node.specs.Nodes.{NodeValue, atom, conjunction, disjunction, Placed, placed}
 use Rattle.idl_node.specs.Making.{then}
 use Rattle.idl_node.specs.Meaning.{IsMade}
-use Rattle.idl_node.specs.Sorts.{IsIntPoint, IsBoolPoint, IsAtomFor}
+use Rattle.idl_node.specs.Sorts.{IsIntPoint, IsAtomFor}
 use Rattle.idl_node.specs.Tables.{IsTableOf}
 use Rattle.idl_node.proofs.Growing.{then-is, placed-made}
 use Rattle.idl_node.proofs.Makers.{both-made, either-made}
-use Rattle.idl_term.specs.declared.comparing.Relation.{Relation}
-use Rattle.idl_term.specs.declared.comparing.Relation.TheVariants.{AtMost, Less, AtLeast, Greater, Equal, Distinct}
-use Rattle.idl_term.specs.declared.error.TermRefusal.{TermRefusal}
-use Rattle.idl_term.specs.Comparing.{follows, or_too_large, at_most, below, at_least, above, related, related_by, compared}
-use Rattle.idl_term.specs.Meanings.{IsLinearFor}
+use Rattle.idl_apply.specs.declared.comparing.Relation.{Relation}
+use Rattle.idl_apply.specs.declared.comparing.Relation.TheVariants.{AtMost, Less, AtLeast, Greater, Equal, Distinct}
+use Rattle.idl_apply.specs.declared.error.TermRefusal.{TermRefusal}
+use Rattle.idl_apply.specs.Comparing.{follows, or_too_large, at_most, below, at_least, above, related, related_by, compared}
+use Rattle.idl_value.specs.CaseValues.{IsLinearFor}
 
 -- ---- one step and another
 

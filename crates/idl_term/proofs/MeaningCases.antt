@@ -18,11 +18,11 @@ use Rattle.idl_node.proofs.Pairs.{neighbours-chain, pairs-all_pairs, neighbours-
 use Rattle.idl_node.proofs.Truths.{list_all-agree, list_any-agree}
 use Rattle.idl_node.specs.Meaning.{IsMade}
 use Rattle.idl_cases.specs.Guarded.{CaseValue, guarded, branched}
-use Rattle.idl_term.specs.Choices.{are_few}
-use Rattle.idl_term.specs.declared.comparing.Relation.{Relation}
-use Rattle.idl_term.specs.declared.error.TermRefusal.TheVariants.{TooManyCases}
-use Rattle.idl_term.specs.Comparing.{or_too_large, compared, case_compared, both_cases, case_pairs, each_case_compared, cases_compared, each_compared}
-use Rattle.idl_term.specs.Meanings.{holds, holding, cases_value, IsLinearFor, IsCaseIn, AreCasesIn}
+use Rattle.idl_apply.specs.Choices.{are_few}
+use Rattle.idl_apply.specs.declared.comparing.Relation.{Relation}
+use Rattle.idl_apply.specs.declared.error.TermRefusal.TheVariants.{TooManyCases}
+use Rattle.idl_apply.specs.Comparing.{or_too_large, compared, case_compared, both_cases, case_pairs, each_case_compared, cases_compared, each_compared}
+use Rattle.idl_value.specs.CaseValues.{holds, holding, cases_value, IsLinearFor, IsCaseIn, AreCasesIn}
 use Rattle.idl_term.proofs.MeaningAtoms.{follows-is, placed_is, atom_negates, relation_test, IsTested, compared_made}
 
 -- ---- a longer table

@@ -21,16 +21,17 @@ use Rattle.idl_node.specs.Sorts.{IsBoolPoint, IsIntPoint, IsAtomFor}
 use Rattle.idl_node.specs.Truth.{literal_truth, point_value, point_values}
 use Rattle.idl_node.proofs.Growing.{placed-made}
 use Rattle.idl_node.proofs.Makers.{constant-made, falsehood-made}
-use Rattle.idl_term.specs.declared.error.LeftOutTerm.{LeftOutTerm}
-use Rattle.idl_term.specs.declared.error.LeftOutTerm.TheVariants as left_out
-use Rattle.idl_term.specs.declared.error.TermRefusal.{TermRefusal}
-use Rattle.idl_term.specs.declared.error.TermRefusal.TheVariants.{UnknownSymbol, IllFormedTerm, BoundTooLarge, LeftOut}
-use Rattle.idl_term.specs.declared.operator.Operator.{Operator}
-use Rattle.idl_term.specs.Applied.{Made, as_formula}
+use Rattle.idl_apply.specs.declared.error.LeftOutTerm.{LeftOutTerm}
+use Rattle.idl_apply.specs.declared.error.LeftOutTerm.TheVariants as left_out
+use Rattle.idl_apply.specs.declared.error.TermRefusal.{TermRefusal}
+use Rattle.idl_apply.specs.declared.error.TermRefusal.TheVariants.{UnknownSymbol, IllFormedTerm, BoundTooLarge, LeftOut}
+use Rattle.idl_apply.specs.declared.operator.Operator.{Operator}
+use Rattle.idl_apply.specs.Applied.{Made, as_formula}
 use Rattle.idl_term.specs.Lowered.{lowered_found, lowered_leaf, Head, operator, binder, refused, other_head, no_operator, symbol_head, head_of}
-use Rattle.idl_term.specs.Meanings.{lowered_value, IsLinearFor, IsScopeOver, IsMadeIn, found_value, Agrees}
+use Rattle.idl_value.specs.CaseValues.{IsLinearFor}
+use Rattle.idl_term.specs.Meanings.{lowered_value, IsScopeOver, IsMadeIn, found_value, Agrees}
 use Rattle.smt_sexpr.specs.Shapes.{is_symbol}
-use Rattle.idl_term.specs.Operators.{is_reserved, left_out_of, operator_of}
+use Rattle.idl_apply.specs.Operators.{is_reserved, left_out_of, operator_of}
 use Rattle.idl_scope.specs.Scopes.{linear_term, Declaration, Scope, Found, declared_at, stands_for, unknown, found, is_known, sorts_of}
 use Rattle.idl_term.specs.Values.{Value, whole, truth, Named, looked_up, leaf_value, operator_at}
 use Rattle.idl_term.proofs.MeaningAtoms.{points_below, atom_negates}

@@ -17,7 +17,8 @@ use Rattle.idl_node.proofs.Growing.{there_longer, IsLonger}
 use Rattle.idl_node.proofs.Truths.{truth-longer}
 use Rattle.idl_term.specs.Contexts.{value_of_named}
 use Rattle.idl_term.specs.Lowered.{with_bound}
-use Rattle.idl_term.specs.Meanings.{lowered_value, IsTermIn, IsScopeOver, found_value, Agrees}
+use Rattle.idl_value.specs.CaseValues.{IsTermIn}
+use Rattle.idl_term.specs.Meanings.{lowered_value, IsScopeOver, found_value, Agrees}
 use Rattle.idl_scope.specs.Scopes.{LoweredTerm, formula, numeric, Declaration, Binding, Scope, Found, declared_at, stands_for, unknown, found_declared, found_bound, found, sorts_of, bindings_of}
 use Rattle.idl_term.specs.Values.{Value, whole, truth, Named, looked_up}
 use Rattle.idl_term.proofs.MeaningCases.{cases_later, cases_value-later}

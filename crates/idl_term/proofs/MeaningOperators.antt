@@ -20,25 +20,26 @@ use Rattle.idl_node.specs.Truth as node
 use Rattle.idl_node.proofs.Growing.{AreThere}
 use Rattle.idl_node.proofs.Makers.{denied-made, conjoined-made, disjoined-made, chosen-made, exclusive-made, implied-made}
 use Rattle.idl_node.proofs.Pairs.{all_equal-made, all_different-made}
-use Rattle.idl_term.specs.declared.operator.Connective.{Connective}
-use Rattle.idl_term.specs.declared.operator.Connective.TheVariants as connective
-use Rattle.idl_term.specs.declared.operator.Order.{Order}
-use Rattle.idl_term.specs.declared.operator.Order.TheVariants as order
-use Rattle.idl_term.specs.declared.operator.Sign.{Sign}
-use Rattle.idl_term.specs.declared.operator.Sign.TheVariants as sign
-use Rattle.idl_term.specs.declared.operator.Equality.{Equality}
-use Rattle.idl_term.specs.declared.operator.Equality.TheVariants as equality
-use Rattle.idl_term.specs.declared.operator.Operator.{Operator}
-use Rattle.idl_term.specs.declared.operator.Operator.TheVariants as op
-use Rattle.idl_term.specs.declared.comparing.Relation.{Relation}
-use Rattle.idl_term.specs.declared.comparing.Relation.TheVariants as relation
-use Rattle.idl_term.specs.declared.error.TermRefusal.{TermRefusal}
-use Rattle.idl_term.specs.declared.error.TermRefusal.TheVariants.{BoundTooLarge, TooManyCases}
-use Rattle.idl_term.specs.Applied.{Made, a_formula, a_number, are_limited, as_formula, as_number, branches_made, formula_before, number_before, formulas_in, numbers_in, linear_sum, sum_cases, connected, equal_formulas, summed, related_numbers, relation_of_order, relation_of_equality, of_sort, of_first_sort, of_branches, applied}
-use Rattle.idl_term.specs.Choices.{choices, no_choice, count_from, are_few}
-use Rattle.idl_term.specs.Comparing.{follows, or_too_large, each_compared}
-use Rattle.idl_term.specs.Meanings.{lowered_value, cases_value, IsLinearFor, IsCaseIn, AreCasesIn, IsTermIn}
-use Rattle.idl_term.specs.Operators.{takes_count}
+use Rattle.idl_apply.specs.declared.operator.Connective.{Connective}
+use Rattle.idl_apply.specs.declared.operator.Connective.TheVariants as connective
+use Rattle.idl_apply.specs.declared.operator.Order.{Order}
+use Rattle.idl_apply.specs.declared.operator.Order.TheVariants as order
+use Rattle.idl_apply.specs.declared.operator.Sign.{Sign}
+use Rattle.idl_apply.specs.declared.operator.Sign.TheVariants as sign
+use Rattle.idl_apply.specs.declared.operator.Equality.{Equality}
+use Rattle.idl_apply.specs.declared.operator.Equality.TheVariants as equality
+use Rattle.idl_apply.specs.declared.operator.Operator.{Operator}
+use Rattle.idl_apply.specs.declared.operator.Operator.TheVariants as op
+use Rattle.idl_apply.specs.declared.comparing.Relation.{Relation}
+use Rattle.idl_apply.specs.declared.comparing.Relation.TheVariants as relation
+use Rattle.idl_apply.specs.declared.error.TermRefusal.{TermRefusal}
+use Rattle.idl_apply.specs.declared.error.TermRefusal.TheVariants.{BoundTooLarge, TooManyCases}
+use Rattle.idl_apply.specs.Applied.{Made, a_formula, a_number, are_limited, as_formula, as_number, branches_made, formula_before, number_before, formulas_in, numbers_in, linear_sum, sum_cases, connected, equal_formulas, summed, related_numbers, relation_of_order, relation_of_equality, of_sort, of_first_sort, of_branches, applied}
+use Rattle.idl_apply.specs.Choices.{choices, no_choice, count_from, are_few}
+use Rattle.idl_apply.specs.Comparing.{follows, or_too_large, each_compared}
+use Rattle.idl_value.specs.CaseValues.{cases_value, IsLinearFor, IsCaseIn, AreCasesIn, IsTermIn}
+use Rattle.idl_term.specs.Meanings.{lowered_value}
+use Rattle.idl_apply.specs.Operators.{takes_count}
 use Rattle.idl_cases.specs.Guarded.{CaseValue, plain, branched}
 use Rattle.idl_scope.specs.Scopes.{LoweredTerm, formula, numeric, linear_term}
 use Rattle.idl_term.specs.Values.{Value, whole, truth, any_true, all_true, connective_value, total, remainder, sum_value, order_value, equal_truths, equal_numbers, truth_before, whole_before, truths_in, wholes_in, of_all, equality_value, operator_value}

@@ -9,10 +9,10 @@ use Rattle.idl_node.specs.Nodes.{NodeValue}
 use Rattle.idl_node.specs.Truth.{truth}
 use Rattle.idl_node.proofs.Growing.{AreThere}
 use Rattle.idl_cases.specs.Guarded.{CaseValue}
-use Rattle.idl_term.specs.declared.operator.Sign.{Sign}
-use Rattle.idl_term.specs.Applied.{linear_sum, sum_case, are_limited}
-use Rattle.idl_term.specs.Choices.{Choice, with_case, with_term, choices_from}
-use Rattle.idl_term.specs.Meanings.{holds, holding, cases_value, IsLinearFor, IsCaseIn}
+use Rattle.idl_apply.specs.declared.operator.Sign.{Sign}
+use Rattle.idl_apply.specs.Applied.{linear_sum, sum_case, are_limited}
+use Rattle.idl_apply.specs.Choices.{Choice, with_case, with_term, choices_from}
+use Rattle.idl_value.specs.CaseValues.{holds, holding, cases_value, IsLinearFor, IsCaseIn}
 
 -- ---- truth values and counts
 

@@ -7,15 +7,16 @@ use Rattle.smt_sexpr.specs.Tree.{Sexpr, Items, leaf, list, none, more, symbol_of
 use Rattle.stn_core.specs.declared.named.NamedValue.{NamedValue}
 use Rattle.idl_node.specs.declared.sort.Sort.{Sort}
 use Rattle.idl_node.specs.Nodes.{NodeValue}
-use Rattle.idl_term.specs.declared.error.TermRefusal.{TermRefusal}
-use Rattle.idl_term.specs.declared.error.TermRefusal.TheVariants.{IllFormedTerm, WrongCount}
-use Rattle.idl_term.specs.declared.operator.Operator.{Operator}
-use Rattle.idl_term.specs.Applied.{Made, applied}
-use Rattle.idl_term.specs.Comparing.{follows}
+use Rattle.idl_apply.specs.declared.error.TermRefusal.{TermRefusal}
+use Rattle.idl_apply.specs.declared.error.TermRefusal.TheVariants.{IllFormedTerm, WrongCount}
+use Rattle.idl_apply.specs.declared.operator.Operator.{Operator}
+use Rattle.idl_apply.specs.Applied.{Made, applied}
+use Rattle.idl_apply.specs.Comparing.{follows}
 use Rattle.idl_term.specs.Lowered.{Head, operator, binder, refused, head_of, count_of, is_let, name_in, variable_in, variables_in, variables_of, MadeEach, put_first, with_bound, lowered, lowered_list, lowered_each, lowered_let, lowered_first, lowered_bindings, lowered_bound, lowered_binding, lowered_second}
-use Rattle.idl_term.specs.Meanings.{lowered_value, IsTermIn, IsScopeOver, IsMadeIn, Agrees}
+use Rattle.idl_value.specs.CaseValues.{IsTermIn}
+use Rattle.idl_term.specs.Meanings.{lowered_value, IsScopeOver, IsMadeIn, Agrees}
 use Rattle.smt_sexpr.specs.Shapes.{is_symbol}
-use Rattle.idl_term.specs.Operators.{takes_count}
+use Rattle.idl_apply.specs.Operators.{takes_count}
 use Rattle.idl_scope.specs.Scopes.{Scope, sorts_of}
 use Rattle.idl_term.specs.Values.{Value, Named, operator_value, value_by, operator_at, variable_of, value, list_value, values, let_value, first_value, bound, bound_each, bound_one, bound_pair}
 use Rattle.idl_term.proofs.MeaningAtoms.{follows-is}

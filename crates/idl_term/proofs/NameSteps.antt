@@ -5,16 +5,16 @@ use Rattle.std.proofs.lemmas.List.{length-append}
 use Rattle.smt_lex.specs.declared.token.TokenKind.TheVariants.{Symbol}
 use Rattle.smt_sexpr.specs.Tree.{Sexpr, leaf, list, symbol_of}
 use Rattle.idl_node.specs.Nodes.{NodeValue}
-use Rattle.idl_term.specs.Applied.{Made}
+use Rattle.idl_apply.specs.Applied.{Made}
 use Rattle.idl_term.specs.Lowered.{lowered, lowered_leaf}
 use Rattle.idl_scope.specs.Scopes.{LoweredTerm, Scope}
 use Rattle.idl_scope.specs.declared.lowered.Lowered.{Lowered}
-use Rattle.idl_term.specs.code.Shapes.{Lowers}
+use Rattle.idl_apply.specs.code.Shapes.{Lowers}
 use Rattle.idl_term.specs.code.Trees.{tree_of, trees_of, size_of, sizes_of}
 use Rattle.idl_term.specs.code.Walks.{Walk, AreNamesBefore, LowersNames, scope_at, finished, outcome, outcome_behind, outcome_behind_names, IsReady, weight, Steps, with_frame}
-use Rattle.idl_term.specs.declared.error.TermError.{TermError}
-use Rattle.idl_term.specs.declared.error.TermError.TheVariants.{Refused, OutOfMemory}
-use Rattle.idl_term.specs.declared.operator.Operator.{Operator}
+use Rattle.idl_apply.specs.declared.error.TermError.{TermError}
+use Rattle.idl_apply.specs.declared.error.TermError.TheVariants.{Refused, OutOfMemory}
+use Rattle.idl_apply.specs.declared.operator.Operator.{Operator}
 use Rattle.idl_term.specs.declared.machine.Frame.TheVariants.{Apply}
 use Rattle.idl_term.proofs.FirstRefusals.{follows_err, follows_ok, follows_same}
 use Rattle.idl_term.proofs.MachineSteps.{error_is, next_argument, steps_from, with_value}

@@ -5,7 +5,7 @@ use Rattle.std.specs.List.{AllByRecursion, list_any}
 use Rattle.std.specs.Str.{bytes_eq}
 use Rattle.std.proofs.lemmas.Bool.Decides.{nat_tests}
 use Rattle.std.proofs.lemmas.Slice.Eq.{bytes_eq-Decides}
-use Rattle.idl_term.specs.Operators.{theory_symbols, reserved_words, is_reserved}
+use Rattle.idl_apply.specs.Operators.{theory_symbols, reserved_words, is_reserved}
 use Rattle.idl_term.specs.code.Reserved.{of_length, words_of_length}
 
 -- equal texts are as long as one another

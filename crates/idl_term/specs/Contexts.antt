@@ -8,10 +8,10 @@ use Rattle.stn_core.specs.declared.named.NamedValue.TheVariants as named
 use Rattle.idl_node.specs.declared.sort.Sort.{Sort}
 use Rattle.idl_node.specs.Nodes.{NodeValue}
 use Rattle.idl_node.specs.Sorts.{AreOfSorts}
-use Rattle.idl_term.specs.Applied.{Made}
+use Rattle.idl_apply.specs.Applied.{Made}
 use Rattle.idl_scope.specs.Limits.{names_limit}
 use Rattle.idl_term.specs.Lowered.{lowered}
-use Rattle.idl_term.specs.Operators.{is_reserved}
+use Rattle.idl_apply.specs.Operators.{is_reserved}
 use Rattle.idl_scope.specs.Scopes.{LoweredTerm, formula, Declaration, Binding, Scope, is_known, sorts_of}
 use Rattle.idl_term.specs.Values.{Value, whole, truth, Named, value}
 

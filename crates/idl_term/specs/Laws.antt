@@ -5,14 +5,14 @@ use Rattle.smt_sexpr.specs.Tree.{Sexpr}
 use Rattle.stn_core.specs.declared.named.NamedValue.{NamedValue}
 use Rattle.idl_node.specs.Nodes.{NodeValue}
 use Rattle.idl_node.specs.Sorts.{AreOfSorts}
-use Rattle.idl_term.specs.Applied.{Made}
+use Rattle.idl_apply.specs.Applied.{Made}
 use Rattle.idl_term.specs.Contexts.{Context, IsContext, IsScheduleFor, environment, scope_of}
 use Rattle.idl_term.specs.Lowered.{lowered}
 use Rattle.idl_term.specs.Meanings.{IsScopeOver, IsMadeIn, Agrees, AreRoots, lowered_value}
 use Rattle.idl_cases.specs.Guarded.{CaseValue}
 use Rattle.idl_scope.specs.Scopes.{Scope, sorts_of}
-use Rattle.idl_term.specs.Choices.{choices, count_from}
-use Rattle.idl_term.specs.Comparing.{case_pairs}
+use Rattle.idl_apply.specs.Choices.{choices, count_from}
+use Rattle.idl_apply.specs.Comparing.{case_pairs}
 use Rattle.idl_term.specs.Values.{Named, value}
 
 abbrev pub LoweredIsMade : Type 0

@@ -14,15 +14,15 @@ use Rattle.idl_node.specs.declared.sort.Sort.{Sort}
 use Rattle.idl_node.specs.declared.sort.Sort.TheVariants as sort
 use Rattle.idl_node.specs.Making.{constant, falsehood}
 use Rattle.idl_node.specs.Nodes.{NodeValue, atom, placed}
-use Rattle.idl_term.specs.Applied.{Made, as_formula, applied}
-use Rattle.idl_term.specs.Comparing.{follows}
+use Rattle.idl_apply.specs.Applied.{Made, as_formula, applied}
+use Rattle.idl_apply.specs.Comparing.{follows}
 use Rattle.smt_sexpr.specs.Shapes.{is_symbol}
-use Rattle.idl_term.specs.Operators.{is_reserved, left_out_of, operator_of, takes_count}
+use Rattle.idl_apply.specs.Operators.{is_reserved, left_out_of, operator_of, takes_count}
 use Rattle.idl_scope.specs.Scopes.{LoweredTerm, linear_term, bindings_of, Scope, Found, declared_at, stands_for, unknown, found, is_known}
-use Rattle.idl_term.specs.declared.error.LeftOutTerm.TheVariants as left_out
-use Rattle.idl_term.specs.declared.error.TermRefusal.{TermRefusal}
-use Rattle.idl_term.specs.declared.error.TermRefusal.TheVariants.{UnknownSymbol, IllFormedTerm, WrongCount, BoundTooLarge, LeftOut}
-use Rattle.idl_term.specs.declared.operator.Operator.{Operator}
+use Rattle.idl_apply.specs.declared.error.LeftOutTerm.TheVariants as left_out
+use Rattle.idl_apply.specs.declared.error.TermRefusal.{TermRefusal}
+use Rattle.idl_apply.specs.declared.error.TermRefusal.TheVariants.{UnknownSymbol, IllFormedTerm, WrongCount, BoundTooLarge, LeftOut}
+use Rattle.idl_apply.specs.declared.operator.Operator.{Operator}
 
 -- ---- leaves
 

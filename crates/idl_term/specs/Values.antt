@@ -7,18 +7,18 @@ use Rattle.smt_lex.specs.declared.token.TokenKind.TheVariants.{Left, Right, Nume
 use Rattle.smt_lex.specs.Numbers.{value_of}
 use Rattle.smt_sexpr.specs.Tree.{Sexpr, Items, leaf, list, none, more, symbol_of}
 use Rattle.idl_node.specs.Truth.{equal_truth, different_truth, exclusive_truth, implied_truth, chain, all_pairs}
-use Rattle.idl_term.specs.declared.operator.Connective.{Connective}
-use Rattle.idl_term.specs.declared.operator.Connective.TheVariants as connective
-use Rattle.idl_term.specs.declared.operator.Order.{Order}
-use Rattle.idl_term.specs.declared.operator.Order.TheVariants as order
-use Rattle.idl_term.specs.declared.operator.Sign.{Sign}
-use Rattle.idl_term.specs.declared.operator.Sign.TheVariants as sign
-use Rattle.idl_term.specs.declared.operator.Equality.{Equality}
-use Rattle.idl_term.specs.declared.operator.Equality.TheVariants as equality
-use Rattle.idl_term.specs.declared.operator.Operator.{Operator}
-use Rattle.idl_term.specs.declared.operator.Operator.TheVariants as op
+use Rattle.idl_apply.specs.declared.operator.Connective.{Connective}
+use Rattle.idl_apply.specs.declared.operator.Connective.TheVariants as connective
+use Rattle.idl_apply.specs.declared.operator.Order.{Order}
+use Rattle.idl_apply.specs.declared.operator.Order.TheVariants as order
+use Rattle.idl_apply.specs.declared.operator.Sign.{Sign}
+use Rattle.idl_apply.specs.declared.operator.Sign.TheVariants as sign
+use Rattle.idl_apply.specs.declared.operator.Equality.{Equality}
+use Rattle.idl_apply.specs.declared.operator.Equality.TheVariants as equality
+use Rattle.idl_apply.specs.declared.operator.Operator.{Operator}
+use Rattle.idl_apply.specs.declared.operator.Operator.TheVariants as op
 use Rattle.smt_sexpr.specs.Shapes.{is_symbol}
-use Rattle.idl_term.specs.Operators.{operator_of}
+use Rattle.idl_apply.specs.Operators.{operator_of}
 
 -- what a term stands for: a whole number, a truth value, or nothing where there is no such value, as where the term is
 -- ill-sorted. A term that is refused may have one: `(and)` is true.

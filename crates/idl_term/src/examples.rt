@@ -2,8 +2,8 @@
 ghost use Rattle.std.specs.Prelude.{◌≡◌, ◌∷◌, [], codes, true, false, Ok, Err, pos, negsuc};
 ghost use Rattle.smt_sexpr.specs.Shapes.{symbol, form};
 ghost use Rattle.idl_node.specs.Nodes.{always, atom, denial, conjunction, disjunction};
-ghost use Rattle.idl_term.specs.declared.error.LeftOutTerm.TheVariants.{Times, As};
-ghost use Rattle.idl_term.specs.declared.error.TermRefusal.TheVariants.{UnknownSymbol, IllFormedTerm, WrongCount, WrongSort, NotADifference, BoundTooLarge, LeftOut};
+ghost use Rattle.idl_apply.specs.declared.error.LeftOutTerm.TheVariants.{Times, As};
+ghost use Rattle.idl_apply.specs.declared.error.TermRefusal.TheVariants.{UnknownSymbol, IllFormedTerm, WrongCount, WrongSort, NotADifference, BoundTooLarge, LeftOut};
 ghost use Rattle.idl_term.specs.Examples.{numeral, x, y, p, q, z, one, two, choice, binding, let_of, names, scope, literal, p_atom, no_p_atom, q_atom, no_q_atom, case, with_number};
 ghost use Rattle.idl_term.specs.Lowered.{lowered};
 ghost use Rattle.idl_linear.specs.Linear.{point_alone};
@@ -11,7 +11,7 @@ ghost use Rattle.idl_scope.specs.Scopes.{formula, numeric};
 ghost use Rattle.idl_term.specs.Values.{whole, truth, nothing, value};
 
 /// Values where x is 4, y is 7 and p is true.
-#[tactic(auto, unfolding(crate::specs::Operators::operator_of, crate::specs::Operators::connective_of, crate::specs::Operators::order_of, crate::specs::Operators::sign_of, crate::specs::Operators::equality_of, smt_lex::specs::Numbers::value_from))]
+#[tactic(auto, unfolding(idl_apply::specs::Operators::operator_of, idl_apply::specs::Operators::connective_of, idl_apply::specs::Operators::order_of, idl_apply::specs::Operators::sign_of, idl_apply::specs::Operators::equality_of, smt_lex::specs::Numbers::value_from))]
 pub fn worked_values()
     ensures name { value names x ≡ whole (pos 4) }
     ensures unknown { value names z ≡ nothing }
@@ -37,7 +37,7 @@ pub fn worked_values()
 {}
 
 /// What terms are made into, where the time points of x, y, p and q are 1, 2, 3 and 4.
-#[tactic(auto, unfolding(crate::specs::Operators::operator_of, crate::specs::Operators::connective_of, crate::specs::Operators::order_of, crate::specs::Operators::sign_of, crate::specs::Operators::equality_of, crate::specs::Operators::left_out_of, crate::specs::Operators::theory_symbols, crate::specs::Operators::reserved_words, crate::specs::Lowered::lowered, crate::specs::Lowered::lowered_leaf, crate::specs::Lowered::head_of, crate::specs::Lowered::is_let, crate::specs::Applied::applied, idl_linear::specs::Differences::difference_of, idl_linear::specs::Linear::sum_of, smt_lex::specs::Numbers::value_from))]
+#[tactic(auto, unfolding(idl_apply::specs::Operators::operator_of, idl_apply::specs::Operators::connective_of, idl_apply::specs::Operators::order_of, idl_apply::specs::Operators::sign_of, idl_apply::specs::Operators::equality_of, idl_apply::specs::Operators::left_out_of, idl_apply::specs::Operators::theory_symbols, idl_apply::specs::Operators::reserved_words, crate::specs::Lowered::lowered, crate::specs::Lowered::lowered_leaf, crate::specs::Lowered::head_of, crate::specs::Lowered::is_let, idl_apply::specs::Applied::applied, idl_linear::specs::Differences::difference_of, idl_linear::specs::Linear::sum_of, smt_lex::specs::Numbers::value_from))]
 pub fn worked_terms()
     ensures less { lowered scope [] (form (codes "<") (x ∷ y ∷ []))
         ≡ Ok (record { nodes = atom (literal 1 2 (negsuc 0)) ∷ []; is = formula 0 }) }

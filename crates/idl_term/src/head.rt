@@ -6,10 +6,9 @@ ghost use Rattle.idl_term.specs.Lowered.{head_of, symbol_head, list_head, no_ope
 ghost use Rattle.idl_term.specs.code.Trees.{tree_of, trees_of, IsTree, AreTrees};
 ghost use Rattle.idl_scope.specs.code.LocalNames.{scope_in};
 
-use crate::error::{LeftOutTerm, TermRefusal};
-use crate::operator::Operator;
 use crate::reserved::is_reserved;
 use crate::symbol::{left_out_of, operator_of};
+use idl_apply::{LeftOutTerm, Operator, TermRefusal};
 use idl_scope::{FoundName, Locals};
 use smt_sexpr::{SexprId, Sexprs};
 

@@ -4,12 +4,12 @@ ghost use Rattle.smt_sexpr.specs.Table.{Means, HasMeaning};
 ghost use Rattle.smt_sexpr.specs.Tree.{Sexpr};
 ghost use Rattle.idl_scope.specs.Limits.{names_limit};
 ghost use Rattle.idl_term.specs.Lowered.{lowered};
-ghost use Rattle.idl_term.specs.code.Shapes.{Lowers};
+ghost use Rattle.idl_apply.specs.code.Shapes.{Lowers};
 ghost use Rattle.idl_term.specs.code.Trees.{tree_of, IsTree};
 
-use crate::error::TermError;
 use crate::flat::lower_flat;
 use crate::machine::Machine;
+use idl_apply::TermError;
 use idl_node::Nodes;
 use idl_scope::{Locals, Lowered, Scope};
 use smt_sexpr::{SexprId, Sexprs};

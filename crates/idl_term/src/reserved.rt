@@ -2,10 +2,10 @@
 ghost use Rattle.std.specs.Prelude.{◌≡◌};
 ghost use Rattle.std.specs.List.{list_any};
 ghost use Rattle.std.specs.Str.{bytes_eq};
-ghost use Rattle.idl_term.specs.Operators.{is_reserved};
+ghost use Rattle.idl_apply.specs.Operators.{is_reserved};
 ghost use Rattle.idl_term.specs.code.Reserved.{words_of_length};
 
-#[tactic(auto, unfolding(crate::specs::Operators::theory_symbols, crate::specs::Operators::reserved_words))]
+#[tactic(auto, unfolding(idl_apply::specs::Operators::theory_symbols, idl_apply::specs::Operators::reserved_words))]
 fn is_word_of_one(name: &[u8]) -> bool
     ensures { result ≡ list_any (bytes_eq name.now) (words_of_length 1) }
 {
@@ -19,7 +19,7 @@ fn is_word_of_one(name: &[u8]) -> bool
         || name == b"_".as_slice()
 }
 
-#[tactic(auto, unfolding(crate::specs::Operators::theory_symbols, crate::specs::Operators::reserved_words))]
+#[tactic(auto, unfolding(idl_apply::specs::Operators::theory_symbols, idl_apply::specs::Operators::reserved_words))]
 fn is_word_of_two(name: &[u8]) -> bool
     ensures { result ≡ list_any (bytes_eq name.now) (words_of_length 2) }
 {
@@ -30,7 +30,7 @@ fn is_word_of_two(name: &[u8]) -> bool
         || name == b"as".as_slice()
 }
 
-#[tactic(auto, unfolding(crate::specs::Operators::theory_symbols, crate::specs::Operators::reserved_words))]
+#[tactic(auto, unfolding(idl_apply::specs::Operators::theory_symbols, idl_apply::specs::Operators::reserved_words))]
 fn is_word_of_three(name: &[u8]) -> bool
     ensures { result ≡ list_any (bytes_eq name.now) (words_of_length 3) }
 {
@@ -45,28 +45,28 @@ fn is_word_of_three(name: &[u8]) -> bool
         || name == b"par".as_slice()
 }
 
-#[tactic(auto, unfolding(crate::specs::Operators::theory_symbols, crate::specs::Operators::reserved_words))]
+#[tactic(auto, unfolding(idl_apply::specs::Operators::theory_symbols, idl_apply::specs::Operators::reserved_words))]
 fn is_word_of_four(name: &[u8]) -> bool
     ensures { result ≡ list_any (bytes_eq name.now) (words_of_length 4) }
 {
     name == b"true".as_slice()
 }
 
-#[tactic(auto, unfolding(crate::specs::Operators::theory_symbols, crate::specs::Operators::reserved_words))]
+#[tactic(auto, unfolding(idl_apply::specs::Operators::theory_symbols, idl_apply::specs::Operators::reserved_words))]
 fn is_word_of_five(name: &[u8]) -> bool
     ensures { result ≡ list_any (bytes_eq name.now) (words_of_length 5) }
 {
     name == b"false".as_slice() || name == b"match".as_slice()
 }
 
-#[tactic(auto, unfolding(crate::specs::Operators::theory_symbols, crate::specs::Operators::reserved_words))]
+#[tactic(auto, unfolding(idl_apply::specs::Operators::theory_symbols, idl_apply::specs::Operators::reserved_words))]
 fn is_word_of_six(name: &[u8]) -> bool
     ensures { result ≡ list_any (bytes_eq name.now) (words_of_length 6) }
 {
     name == b"forall".as_slice() || name == b"exists".as_slice()
 }
 
-#[tactic(auto, unfolding(crate::specs::Operators::theory_symbols, crate::specs::Operators::reserved_words))]
+#[tactic(auto, unfolding(idl_apply::specs::Operators::theory_symbols, idl_apply::specs::Operators::reserved_words))]
 fn is_word_of_eight(name: &[u8]) -> bool
     ensures { result ≡ list_any (bytes_eq name.now) (words_of_length 8) }
 {

@@ -1,12 +1,11 @@
 //! What symbols name at the head of a term.
 ghost use Rattle.std.specs.Prelude.{◌≡◌};
-ghost use Rattle.idl_term.specs.Operators.{connective_of, order_of, sign_of, equality_of, operator_of, left_out_of};
+ghost use Rattle.idl_apply.specs.Operators.{connective_of, order_of, sign_of, equality_of, operator_of, left_out_of};
 
-use crate::error::LeftOutTerm;
-use crate::operator::{Connective, Equality, Operator, Order, Sign};
+use idl_apply::{Connective, Equality, LeftOutTerm, Operator, Order, Sign};
 
 /// The connective that a symbol names.
-#[tactic(auto, unfolding(crate::specs::Operators::connective_of))]
+#[tactic(auto, unfolding(idl_apply::specs::Operators::connective_of))]
 fn connective_of(name: &[u8]) -> Option<Connective>
     ensures { result ≡ connective_of name.now }
 {
@@ -26,7 +25,7 @@ fn connective_of(name: &[u8]) -> Option<Connective>
 }
 
 /// The order that a symbol names.
-#[tactic(auto, unfolding(crate::specs::Operators::order_of))]
+#[tactic(auto, unfolding(idl_apply::specs::Operators::order_of))]
 fn order_of(name: &[u8]) -> Option<Order>
     ensures { result ≡ order_of name.now }
 {
@@ -44,7 +43,7 @@ fn order_of(name: &[u8]) -> Option<Order>
 }
 
 /// `+` and `-`.
-#[tactic(auto, unfolding(crate::specs::Operators::sign_of))]
+#[tactic(auto, unfolding(idl_apply::specs::Operators::sign_of))]
 fn sign_of(name: &[u8]) -> Option<Sign>
     ensures { result ≡ sign_of name.now }
 {
@@ -58,7 +57,7 @@ fn sign_of(name: &[u8]) -> Option<Sign>
 }
 
 /// `=` and `distinct`.
-#[tactic(auto, unfolding(crate::specs::Operators::equality_of))]
+#[tactic(auto, unfolding(idl_apply::specs::Operators::equality_of))]
 fn equality_of(name: &[u8]) -> Option<Equality>
     ensures { result ≡ equality_of name.now }
 {
@@ -72,7 +71,7 @@ fn equality_of(name: &[u8]) -> Option<Equality>
 }
 
 /// The operator that a symbol names. `let` is none, and neither is what is left out.
-#[tactic(auto, unfolding(crate::specs::Operators::operator_of))]
+#[tactic(auto, unfolding(idl_apply::specs::Operators::operator_of))]
 pub fn operator_of(name: &[u8]) -> Option<Operator>
     ensures { result ≡ operator_of name.now }
 {
@@ -95,7 +94,7 @@ pub fn operator_of(name: &[u8]) -> Option<Operator>
 }
 
 /// What is left out, by the symbol at the head of a term.
-#[tactic(auto, unfolding(crate::specs::Operators::left_out_of))]
+#[tactic(auto, unfolding(idl_apply::specs::Operators::left_out_of))]
 pub fn left_out_of(name: &[u8]) -> Option<LeftOutTerm>
     ensures { result ≡ left_out_of name.now }
 {

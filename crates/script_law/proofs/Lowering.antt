@@ -18,20 +18,20 @@ use Rattle.idl_node.specs.Nodes.{NodeValue, atom, disjunction, Placed, placed, p
 use Rattle.idl_node.specs.declared.sort.Sort.TheVariants as sort
 use Rattle.idl_cases.specs.Guarded.{plain}
 use Rattle.idl_scope.specs.Scopes.{LoweredTerm, formula, linear_term, Scope, found, declared_at}
-use Rattle.idl_term.specs.Applied.{Made, applied, as_number, a_formula}
-use Rattle.idl_term.specs.Comparing.{follows, or_too_large, compared, related_by, each_case_compared, each_compared, at_most, at_least}
+use Rattle.idl_apply.specs.Applied.{Made, applied, as_number, a_formula}
+use Rattle.idl_apply.specs.Comparing.{follows, or_too_large, compared, related_by, each_case_compared, each_compared, at_most, at_least}
 use Rattle.idl_term.specs.code.Walks.{application_made, let_made}
-use Rattle.idl_term.specs.declared.error.TermRefusal.{TermRefusal}
-use Rattle.idl_term.specs.declared.error.TermRefusal.TheVariants.{WrongCount, BoundTooLarge}
+use Rattle.idl_apply.specs.declared.error.TermRefusal.{TermRefusal}
+use Rattle.idl_apply.specs.declared.error.TermRefusal.TheVariants.{WrongCount, BoundTooLarge}
 use Rattle.idl_term.specs.Lowered.{Head, operator, binder, refused, head_of, count_of, lowered, lowered_list, lowered_each, lowered_leaf, MadeEach, put_first}
-use Rattle.idl_term.specs.Operators.{connective_of, order_of, sign_of, equality_of, operator_of, is_reserved, takes_count}
-use Rattle.idl_term.specs.declared.comparing.Relation.{Relation}
-use Rattle.idl_term.specs.declared.comparing.Relation.TheVariants as relation
-use Rattle.idl_term.specs.declared.operator.Connective.TheVariants as connective
-use Rattle.idl_term.specs.declared.operator.Operator.{Operator}
-use Rattle.idl_term.specs.declared.operator.Operator.TheVariants as op
-use Rattle.idl_term.specs.declared.operator.Order.TheVariants as order
-use Rattle.idl_term.specs.declared.operator.Sign.TheVariants as sign
+use Rattle.idl_apply.specs.Operators.{connective_of, order_of, sign_of, equality_of, operator_of, is_reserved, takes_count}
+use Rattle.idl_apply.specs.declared.comparing.Relation.{Relation}
+use Rattle.idl_apply.specs.declared.comparing.Relation.TheVariants as relation
+use Rattle.idl_apply.specs.declared.operator.Connective.TheVariants as connective
+use Rattle.idl_apply.specs.declared.operator.Operator.{Operator}
+use Rattle.idl_apply.specs.declared.operator.Operator.TheVariants as op
+use Rattle.idl_apply.specs.declared.operator.Order.TheVariants as order
+use Rattle.idl_apply.specs.declared.operator.Sign.TheVariants as sign
 use Rattle.script_law.proofs.Near.{IsNear, IsNearNode, AreNear, near_push}
 
 -- ---- how terms are made

@@ -2,7 +2,7 @@
 use Rattle.std.proofs.Common.{◌≡◌, refl, arith, ℕ, zero, suc, ◌*◌, ◌<◌, ◌≤◌, true, false, List, ◌++◌, length}
 use Rattle.std.specs.List.{list_any}
 use Rattle.std.specs.Str.{bytes_eq}
-use Rattle.idl_term.specs.Operators.{theory_symbols, reserved_words}
+use Rattle.idl_apply.specs.Operators.{theory_symbols, reserved_words}
 use Rattle.job_shop.specs.Scripts.{each, name, one_name}
 use Rattle.job_shop.proofs.Names.{same_job, same_place, other_name, own_name}
 use Rattle.script_law.proofs.Lists.{all_append, all_each, long_each, length_each}

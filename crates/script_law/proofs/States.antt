@@ -11,7 +11,7 @@ use Rattle.idl_scope.specs.Limits.{names_limit}
 use Rattle.idl_scope.specs.Scopes.{Declaration, Scope, found_declared, declared_at, unknown, is_found, is_known, formula}
 use Rattle.idl_term.specs.Contexts.{Definition, binding_of, scope_of, with_declaration, with_assertion}
 use Rattle.idl_term.specs.Lowered.{lowered}
-use Rattle.idl_term.specs.Operators.{is_reserved}
+use Rattle.idl_apply.specs.Operators.{is_reserved}
 use Rattle.smt_script.specs.Commands.{command_of, naming_command, changing_command, asking_command, assertion_by}
 use Rattle.smt_script.specs.declared.state.Effect.TheVariants.{Tell}
 use Rattle.smt_script.specs.declared.state.Mode.TheVariants as mode

@@ -3,7 +3,7 @@ use Rattle.std.proofs.Common.{◌≡◌, refl, arith, ℕ, ◌+◌, ◌-◌, ◌
 use Rattle.std.specs.Prelude.{codes}
 use Rattle.std.specs.List.{list_any, AllByRecursion}
 use Rattle.std.specs.Str.{bytes_eq}
-use Rattle.idl_term.specs.Operators.{theory_symbols, reserved_words}
+use Rattle.idl_apply.specs.Operators.{theory_symbols, reserved_words}
 use Rattle.smt_script.specs.Commands.{command_of, naming_command, changing_command, asking_command}
 use Rattle.smt_script.specs.States.{start_state, after}
 use Rattle.job_shop.specs.Shops.{Shop, IsShop, Has, duration}

@@ -5,10 +5,10 @@ use Rattle.idl_linear.specs.declared.difference.Difference.{Difference}
 use Rattle.idl_linear.specs.declared.error.DifferenceRefusal.{DifferenceRefusal}
 use Rattle.idl_linear.specs.Linear.{point_alone}
 use Rattle.idl_scope.specs.Scopes.{Declaration, Scope, linear_term}
-use Rattle.idl_term.specs.Applied.{Made}
+use Rattle.idl_apply.specs.Applied.{Made}
 use Rattle.idl_term.specs.Contexts.{scope_of}
 use Rattle.idl_term.specs.Lowered.{lowered}
-use Rattle.idl_term.specs.declared.error.TermRefusal.{TermRefusal}
+use Rattle.idl_apply.specs.declared.error.TermRefusal.{TermRefusal}
 use Rattle.smt_script.specs.Commands.{command_of, naming_command, changing_command, asking_command}
 use Rattle.smt_script.specs.Objectives.{objective, objective_by, minimized_by}
 use Rattle.smt_script.specs.declared.objective.Objective.{Objective}

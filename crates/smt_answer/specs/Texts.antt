@@ -12,14 +12,14 @@ use Rattle.idl_term.specs.Scopes.{Declaration}
 use Rattle.idl_term.specs.Values.{Value, whole, truth, nothing}
 use Rattle.smt_script.specs.declared.information.Information.{Information}
 use Rattle.smt_script.specs.declared.information.Information.TheVariants.{Name, Version, Authors, ErrorBehavior, AssertionStackLevels}
-use Rattle.idl_term.specs.declared.error.LeftOutTerm.{LeftOutTerm}
-use Rattle.idl_term.specs.declared.error.LeftOutTerm.TheVariants as term
+use Rattle.idl_apply.specs.declared.error.LeftOutTerm.{LeftOutTerm}
+use Rattle.idl_apply.specs.declared.error.LeftOutTerm.TheVariants as term
 use Rattle.smt_script.specs.declared.error.LeftOutCommand.{LeftOutCommand}
 use Rattle.smt_script.specs.declared.error.LeftOutCommand.TheVariants as command
 use Rattle.smt_answer.specs.declared.kind.Kind.{Kind}
 use Rattle.smt_answer.specs.declared.kind.Kind.TheVariants.{BadByte, UnclosedString, UnclosedQuotedSymbol, LeadingZero, UnclosedList, StrayClose, Command}
-use Rattle.idl_term.specs.declared.error.TermRefusal.{TermRefusal}
-use Rattle.idl_term.specs.declared.error.TermRefusal.TheVariants as refused_term
+use Rattle.idl_apply.specs.declared.error.TermRefusal.{TermRefusal}
+use Rattle.idl_apply.specs.declared.error.TermRefusal.TheVariants as refused_term
 use Rattle.smt_script.specs.declared.error.Refusal.{Refusal}
 use Rattle.smt_script.specs.declared.error.Refusal.TheVariants as refused
 

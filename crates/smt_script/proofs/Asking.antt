@@ -1,23 +1,20 @@
 -- What a `minimize` asks, by what is kept.
-use Rattle.std.proofs.Common.{refl, ap, sym, subst, ◌∙◌, ◌≡◌, List, Option, Some, Result, Ok, Err, pos}
+use Rattle.std.proofs.Common.{refl, ap, sym, subst, ◌∙◌, ◌≡◌, Option, Some, Result, Ok, Err, pos}
 use Rattle.smt_sexpr.specs.Tree.{Sexpr}
 use Rattle.idl_linear.specs.Differences.{difference_of}
 use Rattle.idl_linear.specs.Linear.{LinearValue, number_alone}
 use Rattle.idl_linear.specs.declared.difference.Difference.{Difference}
 use Rattle.idl_linear.specs.declared.error.DifferenceRefusal.{DifferenceRefusal}
-use Rattle.idl_node.specs.Nodes.{NodeValue}
-use Rattle.idl_term.specs.Applied.{Made}
-use Rattle.idl_term.specs.Comparing.{refusal_of}
+use Rattle.idl_apply.specs.Applied.{Made}
+use Rattle.idl_apply.specs.Comparing.{refusal_of}
 use Rattle.idl_term.specs.Lowered.{lowered}
-use Rattle.idl_term.specs.code.Shapes.{Lowers}
-use Rattle.idl_term.specs.declared.error.TermError.{TermError}
-use Rattle.idl_term.specs.declared.error.TermError.TheVariants as term
-use Rattle.idl_term.specs.declared.error.TermRefusal.{TermRefusal}
+use Rattle.idl_apply.specs.declared.error.TermError.{TermError}
+use Rattle.idl_apply.specs.declared.error.TermRefusal.{TermRefusal}
 use Rattle.smt_script.specs.Commands.{checking}
 use Rattle.smt_script.specs.Objectives.{objective, objective_by, objective_of_linear, minimized_by}
 use Rattle.smt_script.specs.States.{State, unassumed, asking_for, after_minimizing, after_command}
 use Rattle.smt_script.specs.code.Kept.{Kept, StandsFor}
-use Rattle.smt_script.specs.code.Shapes.{Agrees, ObjectiveIs, error_of_term}
+use Rattle.smt_script.specs.code.Shapes.{Agrees, ObjectiveIs}
 use Rattle.smt_script.specs.declared.error.Refusal.{Refusal}
 use Rattle.smt_script.specs.declared.error.Refusal.TheVariants.{Term}
 use Rattle.smt_script.specs.declared.error.ScriptError.{ScriptError}

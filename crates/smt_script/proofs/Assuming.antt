@@ -4,12 +4,12 @@ use Rattle.smt_sexpr.specs.Tree.{Sexpr, Items, none, more}
 use Rattle.smt_sexpr.specs.Table.{Table, Means, MeansEach}
 use Rattle.smt_sexpr.proofs.Shapes.{next_of, none_of}
 use Rattle.idl_node.specs.Nodes.{NodeValue}
-use Rattle.idl_term.specs.Applied.{Made}
+use Rattle.idl_apply.specs.Applied.{Made}
 use Rattle.idl_term.specs.Contexts.{Context, scope_of, with_assertion}
 use Rattle.idl_term.specs.Lowered.{lowered}
 use Rattle.idl_term.specs.Scopes.{LoweredTerm, formula, numeric, Scope}
-use Rattle.idl_term.specs.declared.error.TermRefusal.{TermRefusal}
-use Rattle.idl_term.specs.declared.error.TermRefusal.TheVariants.{WrongSort}
+use Rattle.idl_apply.specs.declared.error.TermRefusal.{TermRefusal}
+use Rattle.idl_apply.specs.declared.error.TermRefusal.TheVariants.{WrongSort}
 use Rattle.smt_script.specs.States.{assumed_by, with_assumptions}
 use Rattle.smt_script.specs.code.Shapes.{only_formula, IsAsked, AreAssumed, IsAssumedOne}
 use Rattle.smt_script.specs.declared.error.Refusal.{Refusal}

@@ -5,7 +5,7 @@ use Rattle.std.proofs.lemmas.Option.{slice_get-get_or}
 use Rattle.idl_node.specs.Nodes.{NodeValue}
 use Rattle.idl_node.specs.declared.sort.Sort.{Sort}
 use Rattle.smt_sexpr.specs.Tree.{Sexpr}
-use Rattle.idl_term.specs.Applied.{Made}
+use Rattle.idl_apply.specs.Applied.{Made}
 use Rattle.idl_term.specs.Contexts.{Context, Definition, binding_of, scope_of, with_declaration, with_definition, with_assertion}
 use Rattle.idl_term.specs.Limits.{names_limit}
 use Rattle.idl_term.specs.Scopes.{LoweredTerm, formula, Scope, Binding}

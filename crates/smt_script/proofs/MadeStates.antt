@@ -6,13 +6,13 @@ use Rattle.std.proofs.lemmas.Bool.Decides.{nat_tests}
 use Rattle.idl_node.specs.Nodes.{NodeValue}
 use Rattle.idl_node.specs.declared.sort.Sort.{Sort}
 use Rattle.smt_sexpr.specs.Tree.{Sexpr, Items, none, more}
-use Rattle.idl_term.specs.Applied.{Made}
+use Rattle.idl_apply.specs.Applied.{Made}
 use Rattle.idl_term.specs.Contexts.{Context, scope_of, with_assertion, IsFree, IsContext, start, declares, defines, asserts, names}
 use Rattle.idl_term.specs.Limits.{names_limit}
 use Rattle.idl_term.specs.Lowered.{lowered}
-use Rattle.idl_term.specs.Operators.{is_reserved}
+use Rattle.idl_apply.specs.Operators.{is_reserved}
 use Rattle.idl_term.specs.Scopes.{LoweredTerm, formula, numeric, is_known}
-use Rattle.idl_term.specs.declared.error.TermRefusal.{TermRefusal}
+use Rattle.idl_apply.specs.declared.error.TermRefusal.{TermRefusal}
 use Rattle.smt_script.specs.Commands
 use Rattle.smt_script.specs.Commands.{Command, command_of}
 use Rattle.smt_script.specs.Limits.{levels_limit}

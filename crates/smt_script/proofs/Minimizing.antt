@@ -18,15 +18,16 @@ use Rattle.idl_node.specs.declared.sort.Sort.TheVariants as sort
 use Rattle.idl_node.specs.Sorts.{IsIntPoint}
 use Rattle.idl_node.specs.Truth.{point_values}
 use Rattle.idl_cases.specs.Guarded.{CaseValue, plain, plain_linear, unguarded}
-use Rattle.idl_term.proofs.ComparisonNodes.{difference_low, difference_high}
-use Rattle.idl_term.specs.Applied.{Made}
+use Rattle.idl_apply.proofs.ComparisonNodes.{difference_low, difference_high}
+use Rattle.idl_apply.specs.Applied.{Made}
 use Rattle.idl_term.specs.Contexts.{Context, IsContext, IsScheduleFor, environment, scope_of}
 use Rattle.idl_term.specs.Laws.{LoweredIsMade, LoweredIsWorth, ContextsHaveScopes, NamesAgree}
 use Rattle.idl_term.specs.Lowered.{lowered}
-use Rattle.idl_term.specs.Meanings.{IsLinearFor, IsTermIn, lowered_value}
+use Rattle.idl_value.specs.CaseValues.{IsLinearFor, IsTermIn}
+use Rattle.idl_term.specs.Meanings.{lowered_value}
 use Rattle.idl_term.specs.Scopes.{LoweredTerm, formula, numeric, Declaration, sorts_of}
 use Rattle.idl_term.specs.Values.{whole, value}
-use Rattle.idl_term.specs.declared.error.TermRefusal.{TermRefusal}
+use Rattle.idl_apply.specs.declared.error.TermRefusal.{TermRefusal}
 use Rattle.smt_script.specs.Objectives.{objective, objective_by, objective_of_linear, objective_of, minimized_by, objective_value, IsObjectiveOf}
 use Rattle.smt_script.specs.declared.objective.Objective.{Objective}
 

@@ -5,14 +5,14 @@ use Rattle.std.specs.Prelude.{if◌then◌else◌, nat_le, nat_lt, codes}
 use Rattle.smt_sexpr.specs.Tree.{Sexpr, Items, none, more}
 use Rattle.smt_sexpr.specs.Shapes.{is_symbol}
 use Rattle.idl_node.specs.declared.sort.Sort.{Sort}
-use Rattle.idl_term.specs.Applied.{Made}
+use Rattle.idl_apply.specs.Applied.{Made}
 use Rattle.idl_term.specs.Contexts.{Context, scope_of}
 use Rattle.idl_term.specs.Limits.{names_limit}
 use Rattle.idl_term.specs.Lowered.{lowered}
 use Rattle.idl_term.specs.Scopes.{LoweredTerm, formula, numeric}
-use Rattle.idl_term.specs.declared.error.TermRefusal.{TermRefusal}
+use Rattle.idl_apply.specs.declared.error.TermRefusal.{TermRefusal}
 use Rattle.smt_script.specs.Commands
-use Rattle.smt_script.specs.Commands.{Command, command_of, is_exiting, is_exit, terms_in, is_asking, asked_terms, asks_verdict, minimized_in, minimized}
+use Rattle.smt_script.specs.Commands.{Command, command_of, is_exiting, terms_in, is_asking, asks_verdict, minimized_in, minimized}
 use Rattle.smt_script.specs.Informing.{information_of}
 use Rattle.smt_script.specs.Laws.{OnlyExitEnds, ExitIsCarriedOut, ModeIsKept, ModelNeedsSat, ValuesNeedSat, ProofNeedsUnsat, CoreNeedsUnsat, AssumptionsNeedUnsat, QuestionsOfActive, AskedIsTold}
 use Rattle.smt_script.specs.Limits.{levels_limit}

@@ -6,14 +6,14 @@ use Rattle.idl_node.specs.Nodes.{NodeValue}
 use Rattle.idl_node.specs.declared.sort.Sort.{Sort}
 use Rattle.smt_sexpr.specs.Tree.{Sexpr, Items, none, more}
 use Rattle.idl_scope.specs.code.Kept.{Declares}
-use Rattle.idl_term.specs.Applied.{Made}
+use Rattle.idl_apply.specs.Applied.{Made}
 use Rattle.idl_term.specs.Contexts.{scope_of, with_declaration, with_definition, with_assertion}
 use Rattle.idl_term.specs.Limits.{names_limit}
 use Rattle.idl_term.specs.Lowered.{lowered}
-use Rattle.idl_term.specs.Operators.{is_reserved}
+use Rattle.idl_apply.specs.Operators.{is_reserved}
 use Rattle.idl_term.specs.Scopes.{LoweredTerm, formula, numeric, Scope, is_known}
-use Rattle.idl_term.specs.declared.error.TermRefusal.{TermRefusal}
-use Rattle.idl_term.specs.declared.error.TermRefusal.TheVariants.{WrongSort}
+use Rattle.idl_apply.specs.declared.error.TermRefusal.{TermRefusal}
+use Rattle.idl_apply.specs.declared.error.TermRefusal.TheVariants.{WrongSort}
 use Rattle.smt_script.specs.Commands.{command_of}
 use Rattle.smt_script.specs.code.Kept.{Kept, StandsFor, IsKept, Steps, cut_to}
 use Rattle.smt_script.specs.Limits.{levels_limit}

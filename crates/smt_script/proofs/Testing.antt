@@ -9,13 +9,13 @@ use Rattle.idl_node.specs.Laws.{TruthStays}
 use Rattle.idl_node.specs.Nodes.{NodeValue}
 use Rattle.idl_node.specs.Tables.{IsTableOver}
 use Rattle.idl_node.specs.Truth.{truth, AreTruths}
-use Rattle.idl_term.specs.Applied.{Made}
+use Rattle.idl_apply.specs.Applied.{Made}
 use Rattle.idl_term.specs.Lowered.{lowered}
 use Rattle.idl_term.specs.Scopes.{Scope}
-use Rattle.idl_term.specs.declared.error.TermRefusal.{TermRefusal}
-use Rattle.idl_term.specs.code.Shapes.{Lowers}
-use Rattle.idl_term.specs.declared.error.TermError.{TermError}
-use Rattle.idl_term.specs.declared.error.TermError.TheVariants.{OutOfMemory, Refused}
+use Rattle.idl_apply.specs.declared.error.TermRefusal.{TermRefusal}
+use Rattle.idl_apply.specs.code.Shapes.{Lowers}
+use Rattle.idl_apply.specs.declared.error.TermError.{TermError}
+use Rattle.idl_apply.specs.declared.error.TermError.TheVariants.{OutOfMemory, Refused}
 use Rattle.smt_script.specs.code.Shapes.{Agrees, IsTested, error_of_term}
 use Rattle.smt_script.specs.declared.error.ScriptError.{ScriptError}
 use Rattle.smt_script.specs.declared.error.ScriptError.TheVariants as script

@@ -12,13 +12,13 @@ use Rattle.idl_linear.specs.declared.error.DifferenceRefusal.{DifferenceRefusal}
 use Rattle.idl_node.specs.Sorts.{IsIntPoint}
 use Rattle.idl_node.specs.Truth.{point_values}
 use Rattle.idl_cases.specs.Guarded.{plain_linear}
-use Rattle.idl_term.specs.Applied.{Made}
-use Rattle.idl_term.specs.Comparing.{refusal_of}
+use Rattle.idl_apply.specs.Applied.{Made}
+use Rattle.idl_apply.specs.Comparing.{refusal_of}
 use Rattle.idl_term.specs.Contexts.{Context, IsScheduleFor, environment}
 use Rattle.idl_term.specs.Scopes.{LoweredTerm, formula, numeric, sorts_of}
 use Rattle.idl_term.specs.Values.{whole, value}
-use Rattle.idl_term.specs.declared.error.TermRefusal.{TermRefusal}
-use Rattle.idl_term.specs.declared.error.TermRefusal.TheVariants.{WrongSort}
+use Rattle.idl_apply.specs.declared.error.TermRefusal.{TermRefusal}
+use Rattle.idl_apply.specs.declared.error.TermRefusal.TheVariants.{WrongSort}
 use Rattle.smt_script.specs.declared.error.LeftOutCommand.TheVariants.{Ite}
 use Rattle.smt_script.specs.declared.error.Refusal.{Refusal}
 use Rattle.smt_script.specs.declared.error.Refusal.TheVariants.{LeftOut, Term}

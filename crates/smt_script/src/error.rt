@@ -92,7 +92,7 @@ impl From<TermError> for ScriptError {
 
 impl From<DifferenceRefusal> for ScriptError {
     ghost use Rattle.std.specs.Prelude.{◌≡◌};
-    ghost use Rattle.idl_term.specs.Comparing.{refusal_of};
+    ghost use Rattle.idl_apply.specs.Comparing.{refusal_of};
     ghost use Rattle.smt_script.specs.declared.error.Refusal.TheVariants.{Term};
     ghost use Rattle.smt_script.specs.declared.error.ScriptError.TheVariants.{Refused};
 

@@ -3,7 +3,7 @@ ghost use Rattle.std.specs.Prelude.{◌≡◌, ◌∷◌, [], codes, true, Ok, E
 ghost use Rattle.idl_term.specs.Contexts.{scope_of};
 ghost use Rattle.idl_term.specs.Examples.{numeral, x, p, z};
 ghost use Rattle.idl_term.specs.Scopes.{is_known};
-ghost use Rattle.idl_term.specs.declared.error.TermRefusal.TheVariants.{UnknownSymbol, WrongSort, NotADifference, BoundTooLarge};
+ghost use Rattle.idl_apply.specs.declared.error.TermRefusal.TheVariants.{UnknownSymbol, WrongSort, NotADifference, BoundTooLarge};
 ghost use Rattle.smt_sexpr.specs.Shapes.{symbol, list_of, form};
 ghost use Rattle.smt_script.specs.Examples.{keyword, written, no_parameters, declares, asserts_p, named, with_x, with_p, context_p, context_n, with_n, with_levels, with_n_on_top, minimizes, minimizing, assumes, assuming_p, answered_p};
 ghost use Rattle.smt_script.specs.States.{start_state, after, carried_out, settled};
@@ -15,7 +15,7 @@ ghost use Rattle.smt_script.specs.declared.state.Notice.TheVariants.{Success, Un
 ghost use Rattle.smt_script.specs.declared.state.Satisfiability.TheVariants as verdict;
 
 /// Names and assertions. `with_x` is the state behind `(declare-const x Int)`, `with_p` that behind `(declare-const p Bool)`.
-#[tactic(auto, unfolding(crate::specs::States::after, crate::specs::Commands::command_of, crate::specs::Commands::naming_command, crate::specs::Commands::changing_command, crate::specs::Commands::asking_command, crate::specs::Commands::is_unsupported, crate::specs::Commands::left_out_of, idl_term::specs::Operators::operator_of, idl_term::specs::Operators::connective_of, idl_term::specs::Operators::order_of, idl_term::specs::Operators::sign_of, idl_term::specs::Operators::equality_of, idl_term::specs::Operators::left_out_of, idl_term::specs::Operators::theory_symbols, idl_term::specs::Operators::reserved_words, idl_term::specs::Lowered::lowered, idl_term::specs::Lowered::lowered_leaf, idl_term::specs::Lowered::head_of, idl_term::specs::Lowered::is_let, smt_lex::specs::Numbers::value_from, smt_lex::specs::Symbols::symbol_content))]
+#[tactic(auto, unfolding(crate::specs::States::after, crate::specs::Commands::command_of, crate::specs::Commands::naming_command, crate::specs::Commands::changing_command, crate::specs::Commands::asking_command, crate::specs::Commands::is_unsupported, crate::specs::Commands::left_out_of, idl_apply::specs::Operators::operator_of, idl_apply::specs::Operators::connective_of, idl_apply::specs::Operators::order_of, idl_apply::specs::Operators::sign_of, idl_apply::specs::Operators::equality_of, idl_apply::specs::Operators::left_out_of, idl_apply::specs::Operators::theory_symbols, idl_apply::specs::Operators::reserved_words, idl_term::specs::Lowered::lowered, idl_term::specs::Lowered::lowered_leaf, idl_term::specs::Lowered::head_of, idl_term::specs::Lowered::is_let, smt_lex::specs::Numbers::value_from, smt_lex::specs::Symbols::symbol_content))]
 pub fn worked_names()
     ensures declares { after start_state (declares x (codes "Int")) ≡ carried_out with_x }
     ensures function { after start_state
@@ -53,7 +53,7 @@ pub fn worked_names()
 {}
 
 /// What a `minimize` asks, where x is the one declared name.
-#[tactic(auto, unfolding(crate::specs::States::after, crate::specs::Commands::command_of, crate::specs::Commands::naming_command, crate::specs::Commands::changing_command, crate::specs::Commands::asking_command, idl_term::specs::Operators::operator_of, idl_term::specs::Operators::connective_of, idl_term::specs::Operators::order_of, idl_term::specs::Operators::sign_of, idl_term::specs::Operators::equality_of, idl_term::specs::Operators::left_out_of, idl_term::specs::Operators::theory_symbols, idl_term::specs::Operators::reserved_words, idl_term::specs::Lowered::lowered, idl_term::specs::Lowered::lowered_leaf, idl_term::specs::Lowered::head_of, idl_term::specs::Lowered::is_let, idl_term::specs::Applied::applied, idl_linear::specs::Differences::difference_of, idl_linear::specs::Linear::sum_of, smt_lex::specs::Numbers::value_from))]
+#[tactic(auto, unfolding(crate::specs::States::after, crate::specs::Commands::command_of, crate::specs::Commands::naming_command, crate::specs::Commands::changing_command, crate::specs::Commands::asking_command, idl_apply::specs::Operators::operator_of, idl_apply::specs::Operators::connective_of, idl_apply::specs::Operators::order_of, idl_apply::specs::Operators::sign_of, idl_apply::specs::Operators::equality_of, idl_apply::specs::Operators::left_out_of, idl_apply::specs::Operators::theory_symbols, idl_apply::specs::Operators::reserved_words, idl_term::specs::Lowered::lowered, idl_term::specs::Lowered::lowered_leaf, idl_term::specs::Lowered::head_of, idl_term::specs::Lowered::is_let, idl_apply::specs::Applied::applied, idl_linear::specs::Differences::difference_of, idl_linear::specs::Linear::sum_of, smt_lex::specs::Numbers::value_from))]
 pub fn worked_objectives()
     ensures name { after with_x (minimizes (x ∷ [])) ≡ minimizing 1 0 (pos 0) }
     ensures negative { after with_x (minimizes (form (codes "-") (numeral (codes "3") ∷ x ∷ []) ∷ []))
@@ -74,7 +74,7 @@ pub fn worked_objectives()
 {}
 
 /// Assumptions: asked, answered and forgotten, or refused.
-#[tactic(auto, unfolding(crate::specs::States::after, crate::specs::Commands::command_of, crate::specs::Commands::naming_command, crate::specs::Commands::changing_command, crate::specs::Commands::asking_command, crate::specs::Commands::is_unsupported, crate::specs::Commands::left_out_of, idl_term::specs::Operators::operator_of, idl_term::specs::Operators::connective_of, idl_term::specs::Operators::order_of, idl_term::specs::Operators::sign_of, idl_term::specs::Operators::equality_of, idl_term::specs::Operators::left_out_of, idl_term::specs::Operators::theory_symbols, idl_term::specs::Operators::reserved_words, idl_term::specs::Lowered::lowered, idl_term::specs::Lowered::lowered_leaf, idl_term::specs::Lowered::head_of, idl_term::specs::Lowered::is_let, smt_lex::specs::Numbers::value_from, smt_lex::specs::Symbols::symbol_content))]
+#[tactic(auto, unfolding(crate::specs::States::after, crate::specs::Commands::command_of, crate::specs::Commands::naming_command, crate::specs::Commands::changing_command, crate::specs::Commands::asking_command, crate::specs::Commands::is_unsupported, crate::specs::Commands::left_out_of, idl_apply::specs::Operators::operator_of, idl_apply::specs::Operators::connective_of, idl_apply::specs::Operators::order_of, idl_apply::specs::Operators::sign_of, idl_apply::specs::Operators::equality_of, idl_apply::specs::Operators::left_out_of, idl_apply::specs::Operators::theory_symbols, idl_apply::specs::Operators::reserved_words, idl_term::specs::Lowered::lowered, idl_term::specs::Lowered::lowered_leaf, idl_term::specs::Lowered::head_of, idl_term::specs::Lowered::is_let, smt_lex::specs::Numbers::value_from, smt_lex::specs::Symbols::symbol_content))]
 pub fn worked_assumptions()
     ensures asked { after with_p (assumes (p ∷ [])) ≡ Ok (record { state = assuming_p; effect = Ask CheckSat }) }
     ensures answered { settled verdict.Unsat assuming_p ≡ answered_p }

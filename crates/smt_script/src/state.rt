@@ -7,7 +7,7 @@ ghost use Rattle.idl_node.specs.Truth.{point_values, AreTruths};
 ghost use Rattle.idl_term.specs.Contexts.{IsScheduleFor, environment, scope_of};
 ghost use Rattle.idl_term.specs.Limits.{names_limit};
 ghost use Rattle.idl_term.specs.Lowered.{lowered};
-ghost use Rattle.idl_term.specs.declared.error.TermRefusal.{TermRefusal};
+ghost use Rattle.idl_apply.specs.declared.error.TermRefusal.{TermRefusal};
 ghost use Rattle.smt_script.specs.Commands.{Command, are_literals};
 ghost use Rattle.smt_script.specs.code.Kept.{StandsFor, Steps, nothing_kept, cut_to, cut_off};
 ghost use Rattle.smt_script.specs.Options.{option_effect};

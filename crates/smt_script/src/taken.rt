@@ -1,6 +1,6 @@
 //! Names that can't be declared or defined again.
 ghost use Rattle.std.specs.Prelude.{◌≡◌, ◌||◌, if◌then◌else◌};
-ghost use Rattle.idl_term.specs.Operators.{is_reserved};
+ghost use Rattle.idl_apply.specs.Operators.{is_reserved};
 ghost use Rattle.idl_term.specs.Scopes.{is_known};
 ghost use Rattle.smt_script.specs.declared.error.Refusal.TheVariants.{AlreadyDeclared, TooManyNames};
 

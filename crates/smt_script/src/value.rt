@@ -5,7 +5,8 @@ ghost use Rattle.idl_node.specs.Sorts.{IsAtomFor, AreOfSorts};
 ghost use Rattle.idl_node.specs.Tables.{IsTableOf};
 ghost use Rattle.idl_node.specs.Truth.{point_values, AreTruths};
 ghost use Rattle.idl_node.specs.declared.sort.Sort.{Sort};
-ghost use Rattle.idl_term.specs.Meanings.{IsTermIn, lowered_value};
+ghost use Rattle.idl_value.specs.CaseValues.{IsTermIn};
+ghost use Rattle.idl_term.specs.Meanings.{lowered_value};
 ghost use Rattle.idl_term.specs.Scopes.{shown_term};
 ghost use Rattle.smt_script.specs.code.TermValues.{value_shown};
 

@@ -3,12 +3,12 @@ use Rattle.std.specs.Prelude.{◌≡◌, List, [], ◌∷◌, Option, Some, None
 use Rattle.idl_node.specs.Nodes.{NodeValue}
 use Rattle.idl_scope.specs.Scopes.{shown_term}
 use Rattle.idl_scope.specs.declared.lowered.Lowered.{Lowered}
-use Rattle.idl_term.specs.Applied.{Made, applied}
-use Rattle.idl_term.specs.Comparing.{follows}
-use Rattle.idl_term.specs.declared.error.TermError.{TermError}
-use Rattle.idl_term.specs.declared.error.TermError.TheVariants.{OutOfMemory, Refused}
-use Rattle.idl_term.specs.declared.error.TermRefusal.{TermRefusal}
-use Rattle.idl_term.specs.declared.operator.Operator.{Operator}
+use Rattle.idl_apply.specs.Applied.{Made, applied}
+use Rattle.idl_apply.specs.Comparing.{follows}
+use Rattle.idl_apply.specs.declared.error.TermError.{TermError}
+use Rattle.idl_apply.specs.declared.error.TermError.TheVariants.{OutOfMemory, Refused}
+use Rattle.idl_apply.specs.declared.error.TermRefusal.{TermRefusal}
+use Rattle.idl_apply.specs.declared.operator.Operator.{Operator}
 
 -- what an operator makes of one term, and of two of which the second is made over the table that the first leaves
 abbrev pub made_of_one : Operator → Result Made TermRefusal → Result Made TermRefusal

@@ -5,20 +5,20 @@ use Rattle.smt_sexpr.specs.Table.{Table}
 use Rattle.smt_lex.specs.declared.token.TokenKind.TheVariants.{Symbol}
 use Rattle.smt_sexpr.specs.Tree.{Items, symbol_of}
 use Rattle.idl_node.specs.Nodes.{NodeValue}
-use Rattle.idl_term.specs.Applied.{Made, applied}
-use Rattle.idl_term.specs.Comparing.{follows}
+use Rattle.idl_apply.specs.Applied.{Made, applied}
+use Rattle.idl_apply.specs.Comparing.{follows}
 use Rattle.idl_scope.specs.Limits.{names_limit}
 use Rattle.idl_scope.specs.code.LocalNames.{Inner, scope_in, without}
 use Rattle.idl_term.specs.Lowered.{lowered, lowered_leaf, lowered_each, lowered_bound, lowered_let, is_let, with_bound, variables_in, are_bindings, count_of}
-use Rattle.idl_term.specs.Operators.{takes_count}
+use Rattle.idl_apply.specs.Operators.{takes_count}
 use Rattle.idl_scope.specs.Scopes.{LoweredTerm, bindings_of, Scope, shown_term}
 use Rattle.idl_scope.specs.declared.lowered.Lowered.{Lowered}
 use Rattle.idl_term.specs.code.Trees.{tree_of, trees_of, IsTree, AreTrees, size_of, sizes_of}
-use Rattle.idl_term.specs.declared.error.TermError.{TermError}
-use Rattle.idl_term.specs.declared.error.TermError.TheVariants.{OutOfMemory, Refused}
-use Rattle.idl_term.specs.declared.error.TermRefusal.{TermRefusal}
-use Rattle.idl_term.specs.declared.error.TermRefusal.TheVariants.{IllFormedTerm, WrongCount}
-use Rattle.idl_term.specs.declared.operator.Operator.{Operator}
+use Rattle.idl_apply.specs.declared.error.TermError.{TermError}
+use Rattle.idl_apply.specs.declared.error.TermError.TheVariants.{OutOfMemory, Refused}
+use Rattle.idl_apply.specs.declared.error.TermRefusal.{TermRefusal}
+use Rattle.idl_apply.specs.declared.error.TermRefusal.TheVariants.{IllFormedTerm, WrongCount}
+use Rattle.idl_apply.specs.declared.operator.Operator.{Operator}
 use Rattle.idl_term.specs.declared.machine.Frame.{Frame}
 use Rattle.idl_term.specs.declared.machine.Frame.TheVariants.{Apply, Bind, Unbind}
 

@@ -7,13 +7,13 @@ use Rattle.smt_sexpr.specs.Tree.{Sexpr, Items, list, none, more, symbol_of, keyw
 use Rattle.smt_sexpr.specs.Table.{Table, Means, MeansEach}
 use Rattle.idl_node.specs.Nodes.{NodeValue}
 use Rattle.idl_node.specs.declared.sort.Sort.{Sort}
-use Rattle.idl_term.specs.Applied.{Made}
+use Rattle.idl_apply.specs.Applied.{Made}
 use Rattle.idl_term.specs.Scopes.{Scope, formula, numeric, shown_term}
 use Rattle.idl_scope.specs.declared.lowered.Lowered.{Lowered}
-use Rattle.idl_term.specs.declared.error.TermRefusal.{TermRefusal}
-use Rattle.idl_term.specs.declared.error.TermRefusal.TheVariants.{WrongSort}
-use Rattle.idl_term.specs.declared.error.TermError.{TermError}
-use Rattle.idl_term.specs.declared.error.TermError.TheVariants as term
+use Rattle.idl_apply.specs.declared.error.TermRefusal.{TermRefusal}
+use Rattle.idl_apply.specs.declared.error.TermRefusal.TheVariants.{WrongSort}
+use Rattle.idl_apply.specs.declared.error.TermError.{TermError}
+use Rattle.idl_apply.specs.declared.error.TermError.TheVariants as term
 use Rattle.smt_script.specs.Attributes.{Named, unnamed, named}
 use Rattle.smt_script.specs.Commands.{Command, setting_logic, setting_option, informing, declaring, defining, asserting, naming, pushing, popping, checking, assuming, minimizing, asking_model, asking_values, asking_proof, asking_core, asking_assumptions, asking_information, echoing, resetting_assertions, resetting, exiting, unsupported, is_literal, are_literals, function_command, definition_command}
 use Rattle.smt_script.specs.code.Kept.{Kept, StandsFor, literal_sexpr}

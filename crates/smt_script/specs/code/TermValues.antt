@@ -2,11 +2,11 @@
 use Rattle.std.specs.Prelude.{◌≡◌, List, Ok, Err}
 use Rattle.smt_sexpr.specs.Tree.{Sexpr}
 use Rattle.stn_core.specs.declared.named.NamedValue.{NamedValue}
-use Rattle.idl_term.specs.Applied.{Made}
+use Rattle.idl_apply.specs.Applied.{Made}
 use Rattle.idl_term.specs.Contexts.{environment, scope_of}
 use Rattle.idl_term.specs.Lowered.{lowered}
 use Rattle.idl_term.specs.Values.{Value, whole, truth, value}
-use Rattle.idl_term.specs.declared.error.TermRefusal.{TermRefusal}
+use Rattle.idl_apply.specs.declared.error.TermRefusal.{TermRefusal}
 use Rattle.smt_script.specs.States.{State}
 use Rattle.smt_script.specs.declared.value.TermValue.{TermValue}
 use Rattle.smt_script.specs.declared.value.TermValue.TheVariants.{Int, Truth}

@@ -1,10 +1,10 @@
 use Rattle.std.proofs.Common.{arith, sym, ap, subst, ◌∙◌, ◌≡◌, Result, Ok, Err}
 use Rattle.std.proofs.lemmas.Grind.{common_steps}
 use Rattle.smt_script.specs.code.Kept.{Kept}
-use Rattle.idl_term.specs.Applied.{Made}
+use Rattle.idl_apply.specs.Applied.{Made}
 use Rattle.idl_term.specs.Contexts.{environment, scope_of}
 use Rattle.idl_term.specs.Values.{value}
-use Rattle.idl_term.specs.declared.error.TermRefusal.{TermRefusal}
+use Rattle.idl_apply.specs.declared.error.TermRefusal.{TermRefusal}
 use Rattle.script_walk.specs.code.Standing.{Stands}
 use Rattle.dtp_session.proofs.Saying.{AreTestedFrom, tested_next, answered_more, answered_all}
 use Rattle.dtp_session.proofs.notices.values_of.Goals as goal

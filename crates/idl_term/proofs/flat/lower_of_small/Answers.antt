@@ -4,11 +4,11 @@ use Rattle.idl_node.specs.Nodes.{NodeValue}
 use Rattle.idl_scope.specs.Scopes.{shown_term}
 use Rattle.idl_scope.specs.code.LocalNames.{scope_in}
 use Rattle.idl_scope.specs.declared.lowered.Lowered.{Lowered}
-use Rattle.idl_term.specs.Applied.{Made}
+use Rattle.idl_apply.specs.Applied.{Made}
 use Rattle.idl_term.specs.Lowered.{lowered}
 use Rattle.idl_term.specs.code.Flat.{MayLower}
 use Rattle.idl_term.specs.code.Trees.{tree_of}
-use Rattle.idl_term.specs.declared.error.TermRefusal.{TermRefusal}
+use Rattle.idl_apply.specs.declared.error.TermRefusal.{TermRefusal}
 use Rattle.idl_term.proofs.FlatTerms.{list_of_two, two_made, refused_first, refused_second, may_refuse, as_lowers}
 use Rattle.idl_term.proofs.flat.lower_of_small.Goals as goal
 

@@ -1,6 +1,6 @@
-use Rattle.idl_term.specs.Choices.{no_choice}
+use Rattle.idl_apply.specs.Choices.{no_choice}
 use Rattle.std.proofs.Common.{[], ◌∷◌}
-use Rattle.idl_term.proofs.CaseSteps.{choices_counted, pairs_counted}
+use Rattle.idl_apply.proofs.CaseSteps.{choices_counted, pairs_counted}
 use Rattle.idl_term.proofs.laws.cases_law.Goals as goal
 
 pub returns-clause-choices : goal.returns-clause-choices

@@ -1,9 +1,9 @@
 use Rattle.std.proofs.Common.{sym, ap, subst, ◌∙◌}
 use Rattle.std.specs.Prelude.{Result}
-use Rattle.idl_term.specs.Applied.{Made}
+use Rattle.idl_apply.specs.Applied.{Made}
 use Rattle.idl_scope.specs.code.Kept.{FoundIs}
-use Rattle.idl_term.specs.code.Shapes.{Lowers}
-use Rattle.idl_term.specs.declared.error.TermRefusal.{TermRefusal}
+use Rattle.idl_apply.specs.code.Shapes.{Lowers}
+use Rattle.idl_apply.specs.declared.error.TermRefusal.{TermRefusal}
 use Rattle.idl_scope.specs.declared.scope.FoundName.{FoundName}
 use Rattle.idl_scope.specs.declared.scope.FoundName.TheVariants.{Declared}
 use Rattle.idl_term.proofs.Leaves.{found_bool}

@@ -1,10 +1,10 @@
 use Rattle.std.proofs.Common.{sym, ap, subst, ◌∙◌}
 use Rattle.std.specs.Prelude.{Result}
 use Rattle.std.specs.Str.{bytes_eq}
-use Rattle.idl_term.specs.Applied.{Made}
+use Rattle.idl_apply.specs.Applied.{Made}
 use Rattle.idl_scope.specs.Scopes.{found}
-use Rattle.idl_term.specs.code.Shapes.{Lowers}
-use Rattle.idl_term.specs.declared.error.TermRefusal.{TermRefusal}
+use Rattle.idl_apply.specs.code.Shapes.{Lowers}
+use Rattle.idl_apply.specs.declared.error.TermRefusal.{TermRefusal}
 use Rattle.idl_term.proofs.Leaves.{true_leaf, false_leaf, reserved_leaf, found_leaf}
 use Rattle.idl_term.proofs.leaf.lower_symbol.Goals as goal
 

@@ -1,10 +1,10 @@
 use Rattle.std.proofs.Common.{sym, ap, subst, ◌∙◌}
 use Rattle.std.specs.Prelude.{Result}
 use Rattle.smt_lex.specs.declared.token.TokenKind.{TokenKind}
-use Rattle.idl_term.specs.Applied.{Made}
+use Rattle.idl_apply.specs.Applied.{Made}
 use Rattle.idl_term.specs.Lowered.{lowered_leaf}
-use Rattle.idl_term.specs.code.Shapes.{Lowers}
-use Rattle.idl_term.specs.declared.error.TermRefusal.{TermRefusal}
+use Rattle.idl_apply.specs.code.Shapes.{Lowers}
+use Rattle.idl_apply.specs.declared.error.TermRefusal.{TermRefusal}
 use Rattle.idl_term.proofs.Leaves.{numeral_leaf}
 use Rattle.idl_term.proofs.leaf.lower_token.Goals as goal
 

@@ -1,7 +1,7 @@
 use Rattle.std.proofs.Common.{ap, sym, subst, ◌∙◌, Err}
 use Rattle.smt_sexpr.specs.Tree.{Sexpr}
 use Rattle.idl_term.specs.Lowered.{lowered}
-use Rattle.idl_term.specs.code.Shapes.{Lowers}
+use Rattle.idl_apply.specs.code.Shapes.{Lowers}
 use Rattle.idl_term.proofs.FrameSteps.{refused_anyway}
 use Rattle.idl_term.proofs.TreesOfIds.{tree_is, tree_means}
 use Rattle.idl_term.proofs.lowering.lower.Goals as goal

@@ -1,7 +1,7 @@
 use Rattle.std.proofs.Common.{arith, rules, ap, ◌∙◌, ◌≡◌, Some, Ok, ℤ, pos, neg_ℤ, ◌-ℤ◌, w64, to_z, of_z}
 use Rattle.std.proofs.lemmas.Int.{ints}
 use Rattle.idl_cases.specs.Guarded.{plain_linear}
-use Rattle.idl_term.proofs.ComparisonNodes.{difference_low, difference_high}
+use Rattle.idl_apply.proofs.ComparisonNodes.{difference_low, difference_high}
 use Rattle.smt_script.proofs.Asking.{objective_found}
 use Rattle.smt_script.proofs.objective.objective_of.Goals as goal
 

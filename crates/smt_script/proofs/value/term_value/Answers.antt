@@ -1,8 +1,8 @@
 use Rattle.std.proofs.Common.{subst}
-use Rattle.idl_term.specs.Meanings.{IsTermIn}
+use Rattle.idl_value.specs.CaseValues.{IsTermIn}
 use Rattle.idl_term.specs.Scopes.{shown_term}
 use Rattle.idl_scope.specs.declared.lowered.Lowered.{Lowered}
-use Rattle.idl_term.proofs.Evaluating.{cases_valued, table_valued}
+use Rattle.idl_value.proofs.Evaluating.{cases_valued, table_valued}
 use Rattle.smt_script.proofs.value.term_value.Goals as goal
 
 pub eval_on-requires-clause-table : goal.eval_on-requires-clause-table

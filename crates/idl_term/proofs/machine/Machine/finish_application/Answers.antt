@@ -1,7 +1,7 @@
 use Rattle.std.proofs.Common.{ap, sym, ◌∙◌, List, Err, subst}
-use Rattle.idl_term.specs.Applied.{applied}
+use Rattle.idl_apply.specs.Applied.{applied}
 use Rattle.idl_scope.specs.Scopes.{LoweredTerm, shown_term}
-use Rattle.idl_term.specs.code.Shapes.{Lowers}
+use Rattle.idl_apply.specs.code.Shapes.{Lowers}
 use Rattle.idl_term.proofs.MachineSteps.{steps_error, application_ends, with_gathered, arguments_are}
 use Rattle.idl_term.proofs.machine.Machine.finish_application.Goals as goal
 

@@ -1,7 +1,7 @@
 use Rattle.std.proofs.Common.{sym, ap, subst, arith, ◌∙◌, ◌≡◌, ◌<◌, ◌≤◌, List, length, true, false}
 use Rattle.std.proofs.lemmas.Result.{err_from_is_err_and}
 use Rattle.idl_term.specs.Limits.{names_limit}
-use Rattle.idl_term.specs.Operators.{is_reserved}
+use Rattle.idl_apply.specs.Operators.{is_reserved}
 use Rattle.idl_term.specs.Scopes.{Declaration, is_known}
 use Rattle.smt_script.specs.code.Kept.{Kept, StandsFor}
 use Rattle.smt_script.specs.States.{sort_of}

@@ -1,8 +1,8 @@
 use Rattle.std.proofs.Common.{sym, ap, subst, ◌∙◌, ◌+◌, ℕ, length, take}
 use Rattle.idl_node.specs.Truth.{point_values, AreTruths}
-use Rattle.idl_term.proofs.Evaluating.{table_valued}
+use Rattle.idl_value.proofs.Evaluating.{table_valued}
 use Rattle.smt_script.proofs.Testing.{truths_grown, truths_cut}
-use Rattle.idl_term.specs.Applied.{Made}
+use Rattle.idl_apply.specs.Applied.{Made}
 use Rattle.idl_term.specs.Contexts.{scope_of, environment}
 use Rattle.idl_term.specs.Scopes.{shown_term, sorts_of}
 use Rattle.smt_script.specs.code.Kept.{Kept, StandsFor}

@@ -1,0 +1,11 @@
+pub mod Arguments
+pub mod ComparisonNodes
+pub mod ComparedAgain
+pub mod PairsCompared
+pub mod CaseSteps
+pub mod SumsBehind
+pub mod CasesRelated
+pub mod ChoiceSums
+pub mod SumsOfTerms
+pub mod RepeatedTerms
+pub mod FewTerms

@@ -1,0 +1,5 @@
+-- Words of the code alone, which contracts of the code's own calls cite: no part of the meaning.
+pub mod Applying
+pub mod Pairing
+pub mod Repeats
+pub mod Shapes

@@ -1,0 +1,2 @@
+pub mod CaseValues
+pub mod code
