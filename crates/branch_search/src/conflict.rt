@@ -6,7 +6,9 @@ ghost use Rattle.branch_search.specs.code.Search.{IsStuck, IsLearned, IsSettled,
 use crate::both::Both;
 use crate::state::State;
 use crate::task::Task;
-use conflict_analysis::{Conflict, Level, Source, analyze, number_of, numbers_of, open_place};
+use conflict_analysis::{
+    Conflict, ImplicationGraph, Level, Source, analyze, number_of, numbers_of, open_place,
+};
 use refute_tree::{Earlier, Lemma};
 use std::alloc::{AllocError, Global};
 use stn_core::{Literal, Net};
@@ -46,11 +48,10 @@ impl State {
             task,
             own: self.own.as_slice(),
         };
+        let graph = ImplicationGraph::new(task.problem(), &both, self.entries.as_slice());
         let lemma = analyze(
             alloc,
-            task.problem(),
-            &both,
-            self.entries.as_slice(),
+            &graph,
             self.levels.as_slice(),
             &mut self.guide,
             &mut self.tables,

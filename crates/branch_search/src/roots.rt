@@ -7,7 +7,9 @@ ghost use Rattle.branch_search.specs.code.Search.{IsState};
 use crate::both::Both;
 use crate::state::State;
 use crate::task::Task;
-use conflict_analysis::{Conflict, Entry, Reason, Source, analyze, is_same, literal_on, unit_of};
+use conflict_analysis::{
+    Conflict, Entry, ImplicationGraph, Reason, Source, analyze, is_same, literal_on, unit_of,
+};
 use refute_tree::{Earlier, Lemma};
 use search_guide::Guide;
 use std::alloc::{AllocError, Global};
@@ -76,11 +78,10 @@ impl State {
             own: self.own.as_slice(),
         };
         let mut wanted = Vec::new(alloc);
+        let graph = ImplicationGraph::new(task.problem(), &both, &self.entries[..k + 1]);
         let lemma = analyze(
             alloc,
-            task.problem(),
-            &both,
-            &self.entries[..k + 1],
+            &graph,
             [].as_slice(),
             &mut self.guide,
             &mut self.tables,

@@ -1,8 +1,7 @@
 //! From a conflict to a learned clause with its tree.
-ghost use Rattle.std.specs.Prelude.{◌≡◌, ◌≤◌, ℕ, List, [], length, All, IfOk, false};
-ghost use Rattle.stn_core.specs.declared.literal.Literal.{Literal as Bound};
+ghost use Rattle.std.specs.Prelude.{◌≡◌, ◌≤◌, ℕ, [], length, All, IfOk, false};
 ghost use Rattle.conflict_analysis.specs.declared.entry.Role.TheVariants.{Unused};
-ghost use Rattle.conflict_analysis.specs.code.Trails.{IsTrail, IsConflict, Stands, IsDenial, AreOver, KeepsAll};
+ghost use Rattle.conflict_analysis.specs.code.Trails.{IsGrounded, IsConflict, Stands, IsDenial, AreOver, KeepsAll};
 ghost use Rattle.conflict_analysis.specs.code.Trails.{DeniesKept};
 ghost use Rattle.conflict_analysis.specs.code.Trails.{role_at};
 ghost use Rattle.conflict_analysis.specs.code.Places.{ArePassed};
@@ -11,84 +10,90 @@ ghost use Rattle.conflict_analysis.specs.Proved.{IsProved};
 
 use crate::citing::is_cited;
 use crate::entry::{Conflict, Entry, Level, Reason, Role};
+use crate::graph::ImplicationGraph;
 use crate::leaves::choose_leaves;
 use crate::marking::{Marks, mark_back, need_conflict};
 use crate::places::Places;
 use crate::reading::named;
 use crate::redundancy::Redundancy;
-use crate::spine::steps_for;
+use crate::spine::{Outline, steps_for};
 use crate::tables::{NoLeaves, Tables, Unmarked, clear, unmark};
 use refute_tree::{Earlier, Lemma};
 use search_guide::Guide;
 use std::alloc::{AllocError, Global};
 use std::mem;
-use stn_core::{Clause, Literal, Problem, negate};
+use stn_core::{Clause, Literal, negate};
 
 // The negations of the literals that are kept.
-fn kept_clause(
+fn kept_clause<E: Earlier>(
     alloc: Global,
-    trail: &[Entry],
+    graph: &ImplicationGraph<'_, E>,
     roles: &[Role],
     passed: &[usize],
 ) -> Result<Vec<Literal>, AllocError>
-    requires roles { length trail.now ≤ length roles.now }
-    requires passed { ArePassed 0 (length trail.now) roles.now passed.now }
-    ensures kept { IfOk result (λ clause. KeepsAll trail.now roles.now (length trail.now) clause.items) }
-    ensures denied { IfOk result (λ clause. All (DeniesKept trail.now roles.now) clause.items) }
+    requires roles { length graph.now.trail ≤ length roles.now }
+    requires passed { ArePassed 0 (length graph.now.trail) roles.now passed.now }
+    ensures kept { IfOk result (λ clause. KeepsAll graph.now.trail roles.now (length graph.now.trail) clause.items) }
+    ensures denied { IfOk result (λ clause. All (DeniesKept graph.now.trail roles.now) clause.items) }
 {
     let mut clause = Vec::new(alloc);
     for i in 0..passed.len() {
         let k = passed[i];
         if let Role::Kept = roles[k] {
-            clause.push(negate(trail[k].literal))?;
+            clause.push(negate(graph.literal(k)))?;
         }
     }
     Ok(clause)
 }
 
-// Below which place the root's literals stand.
-fn root_end(trail: &[Entry], levels: &[Level]) -> usize {
+// Below which place the root's literals stand, of so many.
+fn root_end(count: usize, levels: &[Level]) -> usize {
     match levels.first() {
         Some(level) => level.start,
-        None => trail.len(),
+        None => count,
     }
 }
 
 // Before a way back: no literal is used.
-fn begin(
+fn begin<E: Earlier>(
     alloc: Global,
-    trail: &[Entry],
+    graph: &ImplicationGraph<'_, E>,
     levels: &[Level],
     tables: &mut Tables,
 ) -> Result<Marks, AllocError>
-    ensures count { IfOk result (λ marks. length trail.now ≤ length marks.roles.items) }
+    ensures count { IfOk result (λ marks. length graph.now.trail ≤ length marks.roles.items) }
     ensures clean { IfOk result (λ marks. (j : ℕ) → role_at marks.roles.items j ≡ Unused) }
     ensures waiting { IfOk result (λ marks. marks.waiting ≡ []) }
     ensures passed { IfOk result (λ marks. marks.passed.items ≡ []) }
 {
+    let count = graph.count();
     let unmarked = mem::replace(&mut tables.unmarked, Unmarked::new(alloc));
     let mut redundancy = mem::replace(&mut tables.redundancy, Redundancy::new(alloc));
-    redundancy.begin(trail.len())?;
+    redundancy.begin(count)?;
     let mut passed = mem::replace(&mut tables.passed, Vec::new(alloc));
     passed.truncate(0);
     Ok(Marks {
-        roles: unmarked.into_roles(trail.len())?,
+        roles: unmarked.into_roles(count)?,
         waiting: Places::new(alloc),
         passed,
-        start: trail.len(),
+        start: count,
         open: 0,
-        root: root_end(trail, levels),
+        root: root_end(count, levels),
         redundancy,
     })
 }
 
 // A table in which no place of the trail stands at leaves.
-fn lend_leaves(alloc: Global, trail: &[Entry], tables: &mut Tables) -> Result<Vec<bool>, AllocError>
-    ensures count { IfOk result (λ leaves. length trail.now ≤ length leaves.items) }
+fn lend_leaves<E: Earlier>(
+    alloc: Global,
+    graph: &ImplicationGraph<'_, E>,
+    tables: &mut Tables,
+) -> Result<Vec<bool>, AllocError>
+    ensures count { IfOk result (λ leaves. length graph.now.trail ≤ length leaves.items) }
     ensures clean { IfOk result (λ leaves. (k : ℕ) → at_leaves leaves.items k ≡ false) }
 {
     let none = mem::replace(&mut tables.no_leaves, NoLeaves::new(alloc));
-    none.into_leaves(trail.len())
+    none.into_leaves(graph.count())
 }
 
 fn is_resolved(marks: &Marks, k: usize) -> bool {
@@ -123,9 +128,7 @@ fn bump_used(trail: &[Entry], marks: &Marks, guide: &mut Guide, conflict: &Confl
 // Where the root's literals stand on which the conflict rests, and which no lemma states: the first place
 // first.
 fn wanted_roots<E: Earlier>(
-    problem: &Problem,
-    earlier: &E,
-    trail: &[Entry],
+    graph: &ImplicationGraph<'_, E>,
     marks: &Marks,
     guide: &Guide,
     wanted: &mut Vec<usize>,
@@ -134,7 +137,7 @@ fn wanted_roots<E: Earlier>(
         if marks.root <= *k {
             return Ok(());
         }
-        if !is_cited(problem, earlier, guide, trail, *k) {
+        if !is_cited(graph, guide, *k) {
             wanted.push(*k)?;
         }
     }
@@ -149,9 +152,7 @@ fn wanted_roots<E: Earlier>(
 /// places of the root's literals whose reasons are in the steps and could be cited.
 pub fn analyze<E: Earlier>(
     alloc: Global,
-    problem: &Problem,
-    earlier: &E,
-    trail: &[Entry],
+    graph: &ImplicationGraph<'_, E>,
     levels: &[Level],
     guide: &mut Guide,
     tables: &mut Tables,
@@ -159,42 +160,40 @@ pub fn analyze<E: Earlier>(
     conflict: &Conflict,
     wanted: &mut Vec<usize>,
 ) -> Result<Lemma, AllocError>
-    requires trail { (cube : List Bound)
-        × IsTrail problem.now.clauses (E.clauses earlier.now) cube trail.now }
-    requires over { AreOver problem.now.points trail.now }
-    requires conflict { IsConflict problem.now.clauses (E.clauses earlier.now)
-        (Stands trail.now (length trail.now)) conflict.now }
-    ensures proved { IfOk result (IsProved problem.now.points problem.now.clauses (E.clauses earlier.now)) }
-    ensures denials { IfOk result (λ lemma. All (IsDenial trail.now whole) lemma.clause) }
+    requires trail { IsGrounded graph.now }
+    requires over { AreOver graph.now.points graph.now.trail }
+    requires conflict { IsConflict graph.now.inputs graph.now.lemmas
+        (Stands graph.now.trail (length graph.now.trail)) conflict.now }
+    ensures proved { IfOk result (IsProved graph.now.points graph.now.inputs graph.now.lemmas) }
+    ensures denials { IfOk result (λ lemma. All (IsDenial graph.now.trail whole) lemma.clause) }
 {
-    let mut marks = begin(alloc, trail, levels, tables)?;
-    need_conflict(problem, earlier, trail, &mut marks, guide, conflict)?;
-    mark_back(problem, earlier, trail, levels, &mut marks, guide, whole)?;
+    let mut marks = begin(alloc, graph, levels, tables)?;
+    need_conflict(graph, &mut marks, guide, conflict)?;
+    mark_back(graph, levels, &mut marks, guide, whole)?;
     if !whole {
-        bump_used(trail, &marks, guide, conflict);
-        wanted_roots(problem, earlier, trail, &marks, guide, wanted)?;
+        bump_used(graph.trail(), &marks, guide, conflict);
+        wanted_roots(graph, &marks, guide, wanted)?;
     }
-    let clause = kept_clause(alloc, trail, &marks.roles, &marks.passed)?;
-    let mut leaves = lend_leaves(alloc, trail, tables)?;
+    let clause = kept_clause(alloc, graph, &marks.roles, &marks.passed)?;
+    let mut leaves = lend_leaves(alloc, graph, tables)?;
     choose_leaves(
-        problem,
-        earlier,
-        trail,
+        graph,
         &marks.roles,
         &marks.passed,
         guide,
         conflict,
         &mut leaves,
     );
+    let outline = Outline {
+        roles: &marks.roles,
+        leaves: &leaves,
+        guide,
+    };
     let steps = steps_for(
         alloc,
-        problem,
-        earlier,
-        trail,
-        &marks.roles,
+        graph,
+        &outline,
         &marks.passed,
-        &leaves,
-        guide,
         conflict,
         &mut tables.steps,
     )?;

@@ -1,9 +1,9 @@
 //! Which literals of the trail a lemma cites, in place of their reasons. Any answer is right.
 use crate::entry::{Entry, Reason, Source};
-use crate::reading::{clause_of, denial_place, is_known, numbers_of};
+use crate::graph::ImplicationGraph;
+use crate::reading::{denial_place, numbers_of};
 use refute_tree::Earlier;
 use search_guide::Guide;
-use stn_core::Problem;
 
 // Whether the cube's literal stands at the place, if there is one.
 fn is_given(entries: &[Entry], place: Option<usize>) -> bool {
@@ -25,9 +25,9 @@ fn are_given(guide: &Guide, entries: &[Entry], source: Source, count: usize, pla
 }
 
 // How many literals the clause has.
-fn count_of<E: Earlier>(problem: &Problem, earlier: &E, source: Source) -> usize {
-    if is_known(problem, earlier, source) {
-        clause_of(problem, earlier, source).len()
+fn count_of<E: Earlier>(graph: &ImplicationGraph<'_, E>, source: Source) -> usize {
+    if graph.is_known(source) {
+        graph.clause(source).len()
     } else {
         0
     }
@@ -35,22 +35,16 @@ fn count_of<E: Earlier>(problem: &Problem, earlier: &E, source: Source) -> usize
 
 /// Whether the literal at the place follows from none, from the cube's literals by one clause, or from a
 /// tighter one, which has a lemma of its own.
-pub fn is_cited<E: Earlier>(
-    problem: &Problem,
-    earlier: &E,
-    guide: &Guide,
-    entries: &[Entry],
-    k: usize,
-) -> bool {
-    if k >= entries.len() {
+pub fn is_cited<E: Earlier>(graph: &ImplicationGraph<'_, E>, guide: &Guide, k: usize) -> bool {
+    if k >= graph.count() {
         return true;
     }
-    match &entries[k].reason {
+    match graph.reason(k) {
         Reason::Given => true,
         Reason::Decision => true,
         Reason::Clause(source, place) => {
-            let count = count_of(problem, earlier, *source);
-            are_given(guide, entries, *source, count, *place)
+            let count = count_of(graph, *source);
+            are_given(guide, graph.trail(), *source, count, *place)
         }
         Reason::Pair(_) => true,
         Reason::Cycle(_) => false,

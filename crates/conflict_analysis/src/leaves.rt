@@ -3,16 +3,16 @@
 ghost use Rattle.std.specs.Prelude.{◌≡◌, ◌≢◌, ◌<◌, ◌≤◌, ◌+◌, ◌⊎◌, ℕ, length, slice_index, true, false};
 ghost use Rattle.stn_core.specs.Literal.{negation_of, literal_at};
 ghost use Rattle.conflict_analysis.specs.declared.entry.Role.TheVariants.{Resolved};
-ghost use Rattle.conflict_analysis.specs.code.Trails.{on_trail, role_at, IsUsed, StandsUsed, IsClosed};
-ghost use Rattle.conflict_analysis.specs.code.Trails.{entry_at, Follows, IsConflict};
+ghost use Rattle.conflict_analysis.specs.code.Trails.{on_trail, role_at, IsUsed, StandsUsed, IsClosed, IsUsedConflict};
 ghost use Rattle.conflict_analysis.specs.code.Places.{ArePassed};
 ghost use Rattle.conflict_analysis.specs.code.Leaves.{at_leaves, IsFewer, StandsAssumed, IsChosen, IsAssumedConflict};
 
-use crate::entry::{Conflict, Entry, Reason, Role, Source};
-use crate::reading::{clause_of, denial_guess, is_same, literal_place, numbers_of};
+use crate::entry::{Conflict, Reason, Role, Source};
+use crate::graph::ImplicationGraph;
+use crate::reading::{denial_guess, is_same, literal_place, numbers_of};
 use refute_tree::Earlier;
 use search_guide::Guide;
-use stn_core::{Literal, Problem, negate};
+use stn_core::{Literal, negate};
 
 /// The most literals of a clause at leaves. Where the leaves are written out, each has a step for each of them.
 const LONGEST: usize = 4;
@@ -29,43 +29,48 @@ fn is_used(role: Role) -> bool
 }
 
 // Whether the literal stands at this place, used.
-fn is_used_at(trail: &[Entry], roles: &[Role], literal: Literal, k: usize) -> bool
-    requires trail { k < length trail.now }
+fn is_used_at<E: Earlier>(
+    graph: &ImplicationGraph<'_, E>,
+    roles: &[Role],
+    literal: Literal,
+    k: usize,
+) -> bool
+    requires trail { k < length graph.now.trail }
     requires roles { k < length roles.now }
     ensures used { result ≡ true → IsUsed (role_at roles.now k) }
-    ensures is { result ≡ true → on_trail trail.now k ≡ literal }
-    ensures other { IsUsed (role_at roles.now k) → on_trail trail.now k ≡ literal → result ≡ true }
+    ensures is { result ≡ true → on_trail graph.now.trail k ≡ literal }
+    ensures other { IsUsed (role_at roles.now k) → on_trail graph.now.trail k ≡ literal → result ≡ true }
 {
-    is_used(roles[k]) && is_same(trail[k].literal, literal)
+    is_used(roles[k]) && is_same(graph.literal(k), literal)
 }
 
 /// A place below another one at which the literal stands, used: the last one, or the one that was guessed, or else
 /// the first.
-pub fn used_place(
-    trail: &[Entry],
+pub fn used_place<E: Earlier>(
+    graph: &ImplicationGraph<'_, E>,
     roles: &[Role],
     literal: Literal,
     below: usize,
     guess: Option<usize>,
 ) -> usize
-    requires within { below ≤ length trail.now }
-    requires roles { length trail.now ≤ length roles.now }
-    requires stands { StandsUsed trail.now roles.now below literal }
+    requires within { below ≤ length graph.now.trail }
+    requires roles { length graph.now.trail ≤ length roles.now }
+    requires stands { StandsUsed graph.now.trail roles.now below literal }
     ensures below { result < below }
-    ensures is { on_trail trail.now result ≡ literal }
+    ensures is { on_trail graph.now.trail result ≡ literal }
     ensures used { IsUsed (role_at roles.now result) }
 {
     let last = below.wrapping_sub(1);
-    if last < below && is_used_at(trail, roles, literal, last) {
+    if last < below && is_used_at(graph, roles, literal, last) {
         return last;
     }
     if let Some(k) = guess {
-        if k < below && is_used_at(trail, roles, literal, k) {
+        if k < below && is_used_at(graph, roles, literal, k) {
             return k;
         }
     }
     for k in 0..below {
-        if is_used_at(trail, roles, literal, k) {
+        if is_used_at(graph, roles, literal, k) {
             return k;
         }
     }
@@ -73,28 +78,28 @@ pub fn used_place(
 }
 
 // Whether the guess says where the literal stands, assumed.
-fn is_assumed(
-    trail: &[Entry],
+fn is_assumed<E: Earlier>(
+    graph: &ImplicationGraph<'_, E>,
     roles: &[Role],
     leaves: &[bool],
     literal: Literal,
     below: usize,
     guess: Option<usize>,
 ) -> bool
-    requires within { below ≤ length trail.now }
-    requires roles { length trail.now ≤ length roles.now }
-    requires leaves { length trail.now ≤ length leaves.now }
-    ensures { result ≡ true → StandsAssumed trail.now roles.now leaves.now below literal }
+    requires within { below ≤ length graph.now.trail }
+    requires roles { length graph.now.trail ≤ length roles.now }
+    requires leaves { length graph.now.trail ≤ length leaves.now }
+    ensures { result ≡ true → StandsAssumed graph.now.trail roles.now leaves.now below literal }
 {
     match guess {
-        Some(k) => k < below && !leaves[k] && is_used_at(trail, roles, literal, k),
+        Some(k) => k < below && !leaves[k] && is_used_at(graph, roles, literal, k),
         None => false,
     }
 }
 
 // Whether the negations of the clause's literals but the one at the place are assumed.
-fn are_denied(
-    trail: &[Entry],
+fn are_denied<E: Earlier>(
+    graph: &ImplicationGraph<'_, E>,
     roles: &[Role],
     leaves: &[bool],
     guide: &Guide,
@@ -103,17 +108,17 @@ fn are_denied(
     place: usize,
     below: usize,
 ) -> bool
-    requires within { below ≤ length trail.now }
-    requires roles { length trail.now ≤ length roles.now }
-    requires leaves { length trail.now ≤ length leaves.now }
+    requires within { below ≤ length graph.now.trail }
+    requires roles { length graph.now.trail ≤ length roles.now }
+    requires leaves { length graph.now.trail ≤ length leaves.now }
     ensures { result ≡ true → (q : ℕ) → q < length clause.now → q ≢ place
-        → StandsAssumed trail.now roles.now leaves.now below (negation_of (literal_at clause.now q)) }
+        → StandsAssumed graph.now.trail roles.now leaves.now below (negation_of (literal_at clause.now q)) }
 {
     let numbers = numbers_of(guide, source);
     for q in 0..clause.len() {
         if q != place {
             let guess = denial_guess(guide, numbers, q, clause[q]);
-            if !is_assumed(trail, roles, leaves, negate(clause[q]), below, guess) {
+            if !is_assumed(graph, roles, leaves, negate(clause[q]), below, guess) {
                 return false;
             }
         }
@@ -122,28 +127,28 @@ fn are_denied(
 }
 
 // The literal's reason is in the steps.
-fn assume(
-    trail: &[Entry],
+fn assume<E: Earlier>(
+    graph: &ImplicationGraph<'_, E>,
     roles: &[Role],
     leaves: &mut Vec<bool>,
     literal: Literal,
     below: usize,
     guess: Option<usize>,
 )
-    requires within { below ≤ length trail.now }
-    requires roles { length trail.now ≤ length roles.now }
-    requires leaves { length trail.now ≤ length leaves.old.items }
-    requires stands { StandsUsed trail.now roles.now below literal }
+    requires within { below ≤ length graph.now.trail }
+    requires roles { length graph.now.trail ≤ length roles.now }
+    requires leaves { length graph.now.trail ≤ length leaves.old.items }
+    requires stands { StandsUsed graph.now.trail roles.now below literal }
     ensures fewer { IsFewer leaves.old.items leaves.new.items }
-    ensures assumed { StandsAssumed trail.now roles.now leaves.new.items below literal }
+    ensures assumed { StandsAssumed graph.now.trail roles.now leaves.new.items below literal }
 {
-    let k = used_place(trail, roles, literal, below, guess);
+    let k = used_place(graph, roles, literal, below, guess);
     leaves[k] = false;
 }
 
 // So are those of the cycle's literals but the negation of this one.
-fn assume_others(
-    trail: &[Entry],
+fn assume_others<E: Earlier>(
+    graph: &ImplicationGraph<'_, E>,
     roles: &[Role],
     leaves: &mut Vec<bool>,
     guide: &Guide,
@@ -151,53 +156,51 @@ fn assume_others(
     literal: Literal,
     below: usize,
 )
-    requires within { below ≤ length trail.now }
-    requires roles { length trail.now ≤ length roles.now }
-    requires leaves { length trail.now ≤ length leaves.old.items }
+    requires within { below ≤ length graph.now.trail }
+    requires roles { length graph.now.trail ≤ length roles.now }
+    requires leaves { length graph.now.trail ≤ length leaves.old.items }
     requires stand { (q : ℕ) → q < length cycle.now → (literal_at cycle.now q ≡ negation_of literal)
-        ⊎ StandsUsed trail.now roles.now below (literal_at cycle.now q) }
+        ⊎ StandsUsed graph.now.trail roles.now below (literal_at cycle.now q) }
     ensures fewer { IsFewer leaves.old.items leaves.new.items }
     ensures assumed { (q : ℕ) → q < length cycle.now → (literal_at cycle.now q ≡ negation_of literal)
-        ⊎ StandsAssumed trail.now roles.now leaves.new.items below (literal_at cycle.now q) }
+        ⊎ StandsAssumed graph.now.trail roles.now leaves.new.items below (literal_at cycle.now q) }
 {
     let denied = negate(literal);
     for q in 0..cycle.len() {
         if !is_same(cycle[q], denied) {
             let guess = literal_place(guide, cycle[q]);
-            assume(trail, roles, leaves, cycle[q], below, guess);
+            assume(graph, roles, leaves, cycle[q], below, guess);
         }
     }
 }
 
 // So are those of all of the cycle's literals.
-fn assume_all(
-    trail: &[Entry],
+fn assume_all<E: Earlier>(
+    graph: &ImplicationGraph<'_, E>,
     roles: &[Role],
     leaves: &mut Vec<bool>,
     guide: &Guide,
     cycle: &[Literal],
     below: usize,
 )
-    requires within { below ≤ length trail.now }
-    requires roles { length trail.now ≤ length roles.now }
-    requires leaves { length trail.now ≤ length leaves.old.items }
+    requires within { below ≤ length graph.now.trail }
+    requires roles { length graph.now.trail ≤ length roles.now }
+    requires leaves { length graph.now.trail ≤ length leaves.old.items }
     requires stand { (q : ℕ) → q < length cycle.now
-        → StandsUsed trail.now roles.now below (literal_at cycle.now q) }
+        → StandsUsed graph.now.trail roles.now below (literal_at cycle.now q) }
     ensures fewer { IsFewer leaves.old.items leaves.new.items }
     ensures assumed { (q : ℕ) → q < length cycle.now
-        → StandsAssumed trail.now roles.now leaves.new.items below (literal_at cycle.now q) }
+        → StandsAssumed graph.now.trail roles.now leaves.new.items below (literal_at cycle.now q) }
 {
     for q in 0..cycle.len() {
         let guess = literal_place(guide, cycle[q]);
-        assume(trail, roles, leaves, cycle[q], below, guess);
+        assume(graph, roles, leaves, cycle[q], below, guess);
     }
 }
 
 // What becomes of the resolved literal at the place that was passed behind so many others.
 fn choose<E: Earlier>(
-    problem: &Problem,
-    earlier: &E,
-    trail: &[Entry],
+    graph: &ImplicationGraph<'_, E>,
     roles: &[Role],
     passed: &[usize],
     guide: &Guide,
@@ -205,27 +208,27 @@ fn choose<E: Earlier>(
     leaves: &mut Vec<bool>,
 )
     requires index { i < length passed.now }
-    requires roles { length trail.now ≤ length roles.now }
-    requires passed { ArePassed 0 (length trail.now) roles.now passed.now }
-    requires closed { IsClosed problem.now.clauses (E.clauses earlier.now) trail.now roles.now }
+    requires roles { length graph.now.trail ≤ length roles.now }
+    requires passed { ArePassed 0 (length graph.now.trail) roles.now passed.now }
+    requires closed { IsClosed graph.now.inputs graph.now.lemmas graph.now.trail roles.now }
     requires resolved { role_at roles.now (slice_index passed.now i) ≡ Resolved }
-    requires chosen { IsChosen problem.now.clauses (E.clauses earlier.now) trail.now roles.now passed.now
+    requires chosen { IsChosen graph.now.inputs graph.now.lemmas graph.now.trail roles.now passed.now
         (i + 1) leaves.old.items }
-    ensures chosen { IsChosen problem.now.clauses (E.clauses earlier.now) trail.now roles.now passed.now
+    ensures chosen { IsChosen graph.now.inputs graph.now.lemmas graph.now.trail roles.now passed.now
         i leaves.new.items }
 {
     let k = passed[i];
-    let literal = trail[k].literal;
-    match &trail[k].reason {
+    let literal = graph.literal(k);
+    match graph.reason(k) {
         Reason::Given => {}
         Reason::Decision => {}
         Reason::Clause(source, place) => match *source {
             Source::Lemma(_) => {}
             Source::Input(_) => {
-                let clause = clause_of(problem, earlier, *source);
+                let clause = graph.clause(*source);
                 let chosen = leaves.as_slice();
                 if clause.len() <= LONGEST
-                    && are_denied(trail, roles, chosen, guide, *source, clause, *place, k)
+                    && are_denied(graph, roles, chosen, guide, *source, clause, *place, k)
                 {
                     leaves[k] = true;
                 }
@@ -234,11 +237,11 @@ fn choose<E: Earlier>(
         Reason::Pair(tighter) => {
             let cycle = [*tighter, negate(literal)];
             let others = cycle.as_slice();
-            assume_others(trail, roles, leaves, guide, others, literal, k);
+            assume_others(graph, roles, leaves, guide, others, literal, k);
         }
         Reason::Cycle(cycle) => {
             let others = cycle.as_slice();
-            assume_others(trail, roles, leaves, guide, others, literal, k);
+            assume_others(graph, roles, leaves, guide, others, literal, k);
         }
     }
 }
@@ -246,34 +249,31 @@ fn choose<E: Earlier>(
 /// Which literals stand at leaves alone, the first place first. No literal of a cycle does, and none that the
 /// clause of another one at leaves has.
 pub fn choose_leaves<E: Earlier>(
-    problem: &Problem,
-    earlier: &E,
-    trail: &[Entry],
+    graph: &ImplicationGraph<'_, E>,
     roles: &[Role],
     passed: &[usize],
     guide: &Guide,
     conflict: &Conflict,
     leaves: &mut Vec<bool>,
 )
-    requires roles { length trail.now ≤ length roles.now }
-    requires passed { ArePassed 0 (length trail.now) roles.now passed.now }
-    requires closed { IsClosed problem.now.clauses (E.clauses earlier.now) trail.now roles.now }
-    requires conflict { IsConflict problem.now.clauses (E.clauses earlier.now)
-        (StandsUsed trail.now roles.now (length trail.now)) conflict.now }
-    requires count { length trail.now ≤ length leaves.old.items }
+    requires roles { length graph.now.trail ≤ length roles.now }
+    requires passed { ArePassed 0 (length graph.now.trail) roles.now passed.now }
+    requires closed { IsClosed graph.now.inputs graph.now.lemmas graph.now.trail roles.now }
+    requires conflict { IsUsedConflict graph.now roles.now conflict.now }
+    requires count { length graph.now.trail ≤ length leaves.old.items }
     requires clean { (k : ℕ) → at_leaves leaves.old.items k ≡ false }
-    ensures chosen { IsChosen problem.now.clauses (E.clauses earlier.now) trail.now roles.now passed.now
+    ensures chosen { IsChosen graph.now.inputs graph.now.lemmas graph.now.trail roles.now passed.now
         0 leaves.new.items }
-    ensures conflict { IsAssumedConflict trail.now roles.now leaves.new.items conflict.now }
+    ensures conflict { IsAssumedConflict graph.now.trail roles.now leaves.new.items conflict.now }
 {
     let mut left = passed.len();
     'forth: while 0 < left {
         left -= 1;
         if let Role::Resolved = roles[passed[left]] {
-            choose(problem, earlier, trail, roles, passed, guide, left, leaves);
+            choose(graph, roles, passed, guide, left, leaves);
         }
     }
     if let Conflict::Cycle(cycle) = conflict {
-        assume_all(trail, roles, leaves, guide, cycle.as_slice(), trail.len());
+        assume_all(graph, roles, leaves, guide, cycle.as_slice(), graph.count());
     }
 }

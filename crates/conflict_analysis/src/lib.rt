@@ -12,6 +12,7 @@ mod analysis;
 mod citing;
 mod denial;
 mod entry;
+mod graph;
 mod leaves;
 mod marking;
 mod places;
@@ -21,9 +22,9 @@ mod spine;
 mod tables;
 
 pub use analysis::analyze;
-pub use citing::is_cited;
 pub use denial::{is_conflict, open_place, unit_of};
 pub use entry::{Conflict, Entry, Level, Reason, Source};
+pub use graph::ImplicationGraph;
 pub use reading::{
     clause_of, is_over, is_same, is_standing, literal_on, number_of, numbers_of, source_of,
 };

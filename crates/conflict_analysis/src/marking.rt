@@ -1,19 +1,19 @@
 //! Which literals of the trail a conflict rests on.
-ghost use Rattle.std.specs.Prelude.{◌≡◌, ◌≢◌, ◌<◌, ◌≤◌, ◌⊎◌, ℕ, List, length, OnOk};
-ghost use Rattle.stn_core.specs.declared.literal.Literal.{Literal as Bound};
+ghost use Rattle.std.specs.Prelude.{◌≡◌, ◌≢◌, ◌<◌, ◌≤◌, ◌⊎◌, ℕ, length, OnOk};
 ghost use Rattle.stn_core.specs.Literal.{negation_of, literal_at};
-ghost use Rattle.conflict_analysis.specs.code.Trails.{Stands, StandsUsed, IsMarkedMore, IsTrail, IsClosed};
+ghost use Rattle.conflict_analysis.specs.code.Trails.{Stands, StandsUsed, IsMarkedMore, IsGrounded, IsClosed, on_trail};
 ghost use Rattle.conflict_analysis.specs.code.Trails.{role_at, IsUsed, IsConflict, IsTurned, IsMarked};
 ghost use Rattle.conflict_analysis.specs.code.Places.{AreWaiting, KeepsWaiting, ArePassed};
 
 use crate::entry::{Conflict, Entry, Level, Reason, Role, Source};
+use crate::graph::ImplicationGraph;
 use crate::places::Places;
-use crate::reading::{clause_of, denial_guess, is_same, literal_place, numbers_of, place_of};
+use crate::reading::{denial_guess, is_same, literal_place, numbers_of};
 use crate::redundancy::Redundancy;
 use refute_tree::Earlier;
 use search_guide::Guide;
 use std::alloc::AllocError;
-use stn_core::{Literal, Problem, negate};
+use stn_core::{Literal, negate};
 
 /// The roles of the trail's literals, and what the way back over them keeps in mind.
 #[derive(Drop)]
@@ -33,24 +33,54 @@ pub struct Marks {
     pub redundancy: Redundancy,
 }
 
+// A place at which the literal stands, which stands below another place: the last one, or the one that was
+// guessed, or else the first.
+fn place_of<E: Earlier>(
+    graph: &ImplicationGraph<'_, E>,
+    literal: Literal,
+    below: usize,
+    guess: Option<usize>,
+) -> usize
+    requires within { below ≤ length graph.now.trail }
+    requires stands { Stands graph.now.trail below literal }
+    ensures below { result < below }
+    ensures is { on_trail graph.now.trail result ≡ literal }
+{
+    let last = below.wrapping_sub(1);
+    if last < below && is_same(graph.literal(last), literal) {
+        return last;
+    }
+    if let Some(k) = guess {
+        if k < below && is_same(graph.literal(k), literal) {
+            return k;
+        }
+    }
+    for k in 0..below {
+        if is_same(graph.literal(k), literal) {
+            return k;
+        }
+    }
+    unreachable!()
+}
+
 // The conflict rests on a literal that stands below the place.
-fn need(
-    trail: &[Entry],
+fn need<E: Earlier>(
+    graph: &ImplicationGraph<'_, E>,
     marks: &mut Marks,
     literal: Literal,
     below: usize,
     guess: Option<usize>,
 ) -> Result<(), AllocError>
-    requires count { length trail.now ≤ length marks.old.roles.items }
-    requires within { below ≤ length trail.now }
-    requires stands { Stands trail.now below literal }
+    requires count { length graph.now.trail ≤ length marks.old.roles.items }
+    requires within { below ≤ length graph.now.trail }
+    requires stands { Stands graph.now.trail below literal }
     ensures more { OnOk result (IsMarkedMore below marks.old.roles.items marks.new.roles.items) }
     ensures waiting { OnOk result (KeepsWaiting marks.old.roles.items marks.old.waiting
         marks.new.roles.items marks.new.waiting) }
     ensures passed { OnOk result (marks.new.passed.items ≡ marks.old.passed.items) }
-    ensures used { OnOk result (StandsUsed trail.now marks.new.roles.items below literal) }
+    ensures used { OnOk result (StandsUsed graph.now.trail marks.new.roles.items below literal) }
 {
-    let k = place_of(trail, literal, below, guess);
+    let k = place_of(graph, literal, below, guess);
     if let Role::Unused = marks.roles[k] {
         marks.waiting.push(k)?;
         marks.roles[k] = Role::Kept;
@@ -62,8 +92,8 @@ fn need(
 }
 
 // It rests on the negations of the clause's literals but the one at the place.
-fn need_denials(
-    trail: &[Entry],
+fn need_denials<E: Earlier>(
+    graph: &ImplicationGraph<'_, E>,
     marks: &mut Marks,
     guide: &Guide,
     source: Source,
@@ -71,151 +101,146 @@ fn need_denials(
     place: usize,
     below: usize,
 ) -> Result<(), AllocError>
-    requires count { length trail.now ≤ length marks.old.roles.items }
-    requires within { below ≤ length trail.now }
+    requires count { length graph.now.trail ≤ length marks.old.roles.items }
+    requires within { below ≤ length graph.now.trail }
     requires stand { (q : ℕ) → q < length clause.now → q ≢ place
-        → Stands trail.now below (negation_of (literal_at clause.now q)) }
+        → Stands graph.now.trail below (negation_of (literal_at clause.now q)) }
     ensures more { OnOk result (IsMarkedMore below marks.old.roles.items marks.new.roles.items) }
     ensures waiting { OnOk result (KeepsWaiting marks.old.roles.items marks.old.waiting
         marks.new.roles.items marks.new.waiting) }
     ensures passed { OnOk result (marks.new.passed.items ≡ marks.old.passed.items) }
     ensures used { OnOk result ((q : ℕ) → q < length clause.now → q ≢ place
-        → StandsUsed trail.now marks.new.roles.items below (negation_of (literal_at clause.now q))) }
+        → StandsUsed graph.now.trail marks.new.roles.items below (negation_of (literal_at clause.now q))) }
 {
     let numbers = numbers_of(guide, source);
     for q in 0..clause.len() {
         if q != place {
             let guess = denial_guess(guide, numbers, q, clause[q]);
-            need(trail, marks, negate(clause[q]), below, guess)?;
+            need(graph, marks, negate(clause[q]), below, guess)?;
         }
     }
     Ok(())
 }
 
 // It rests on the cycle's literals but the negation of this one.
-fn need_cycle(
-    trail: &[Entry],
+fn need_cycle<E: Earlier>(
+    graph: &ImplicationGraph<'_, E>,
     marks: &mut Marks,
     guide: &Guide,
     cycle: &[Literal],
     literal: Literal,
     below: usize,
 ) -> Result<(), AllocError>
-    requires count { length trail.now ≤ length marks.old.roles.items }
-    requires within { below ≤ length trail.now }
+    requires count { length graph.now.trail ≤ length marks.old.roles.items }
+    requires within { below ≤ length graph.now.trail }
     requires stand { (q : ℕ) → q < length cycle.now
-        → (literal_at cycle.now q ≡ negation_of literal) ⊎ Stands trail.now below (literal_at cycle.now q) }
+        → (literal_at cycle.now q ≡ negation_of literal) ⊎ Stands graph.now.trail below (literal_at cycle.now q) }
     ensures more { OnOk result (IsMarkedMore below marks.old.roles.items marks.new.roles.items) }
     ensures waiting { OnOk result (KeepsWaiting marks.old.roles.items marks.old.waiting
         marks.new.roles.items marks.new.waiting) }
     ensures passed { OnOk result (marks.new.passed.items ≡ marks.old.passed.items) }
     ensures used { OnOk result ((q : ℕ) → q < length cycle.now
         → (literal_at cycle.now q ≡ negation_of literal)
-        ⊎ StandsUsed trail.now marks.new.roles.items below (literal_at cycle.now q)) }
+        ⊎ StandsUsed graph.now.trail marks.new.roles.items below (literal_at cycle.now q)) }
 {
     let denied = negate(literal);
     for q in 0..cycle.len() {
         if !is_same(cycle[q], denied) {
             let guess = literal_place(guide, cycle[q]);
-            need(trail, marks, cycle[q], below, guess)?;
+            need(graph, marks, cycle[q], below, guess)?;
         }
     }
     Ok(())
 }
 
 // It rests on all of the cycle's literals.
-fn need_all(
-    trail: &[Entry],
+fn need_all<E: Earlier>(
+    graph: &ImplicationGraph<'_, E>,
     marks: &mut Marks,
     guide: &Guide,
     cycle: &[Literal],
     below: usize,
 ) -> Result<(), AllocError>
-    requires count { length trail.now ≤ length marks.old.roles.items }
-    requires within { below ≤ length trail.now }
-    requires stand { (q : ℕ) → q < length cycle.now → Stands trail.now below (literal_at cycle.now q) }
+    requires count { length graph.now.trail ≤ length marks.old.roles.items }
+    requires within { below ≤ length graph.now.trail }
+    requires stand { (q : ℕ) → q < length cycle.now → Stands graph.now.trail below (literal_at cycle.now q) }
     ensures more { OnOk result (IsMarkedMore below marks.old.roles.items marks.new.roles.items) }
     ensures waiting { OnOk result (KeepsWaiting marks.old.roles.items marks.old.waiting
         marks.new.roles.items marks.new.waiting) }
     ensures passed { OnOk result (marks.new.passed.items ≡ marks.old.passed.items) }
     ensures used { OnOk result ((q : ℕ) → q < length cycle.now
-        → StandsUsed trail.now marks.new.roles.items below (literal_at cycle.now q)) }
+        → StandsUsed graph.now.trail marks.new.roles.items below (literal_at cycle.now q)) }
 {
     for q in 0..cycle.len() {
         let guess = literal_place(guide, cycle[q]);
-        need(trail, marks, cycle[q], below, guess)?;
+        need(graph, marks, cycle[q], below, guess)?;
     }
     Ok(())
 }
 
 /// The literals on which a conflict rests at once.
 pub fn need_conflict<E: Earlier>(
-    problem: &Problem,
-    earlier: &E,
-    trail: &[Entry],
+    graph: &ImplicationGraph<'_, E>,
     marks: &mut Marks,
     guide: &Guide,
     conflict: &Conflict,
 ) -> Result<(), AllocError>
-    requires count { length trail.now ≤ length marks.old.roles.items }
-    requires conflict { IsConflict problem.now.clauses (E.clauses earlier.now)
-        (Stands trail.now (length trail.now)) conflict.now }
-    ensures more { OnOk result (IsMarkedMore (length trail.now) marks.old.roles.items marks.new.roles.items) }
+    requires count { length graph.now.trail ≤ length marks.old.roles.items }
+    requires conflict { IsConflict graph.now.inputs graph.now.lemmas
+        (Stands graph.now.trail (length graph.now.trail)) conflict.now }
+    ensures more { OnOk result (IsMarkedMore (length graph.now.trail) marks.old.roles.items marks.new.roles.items) }
     ensures waiting { OnOk result (KeepsWaiting marks.old.roles.items marks.old.waiting
         marks.new.roles.items marks.new.waiting) }
     ensures passed { OnOk result (marks.new.passed.items ≡ marks.old.passed.items) }
-    ensures used { OnOk result (IsConflict problem.now.clauses (E.clauses earlier.now)
-        (StandsUsed trail.now marks.new.roles.items (length trail.now)) conflict.now) }
+    ensures used { OnOk result (IsConflict graph.now.inputs graph.now.lemmas
+        (StandsUsed graph.now.trail marks.new.roles.items (length graph.now.trail)) conflict.now) }
 {
-    let below = trail.len();
+    let below = graph.count();
     match conflict {
         Conflict::Clause(source) => {
-            let clause = clause_of(problem, earlier, *source);
-            need_denials(trail, marks, guide, *source, clause, clause.len(), below)?;
+            let clause = graph.clause(*source);
+            need_denials(graph, marks, guide, *source, clause, clause.len(), below)?;
         }
-        Conflict::Cycle(cycle) => need_all(trail, marks, guide, cycle.as_slice(), below)?,
+        Conflict::Cycle(cycle) => need_all(graph, marks, guide, cycle.as_slice(), below)?,
     }
     Ok(())
 }
 
 // Instead of the literal at the place the conflict rests on what that follows from, if it does.
 fn resolve<E: Earlier>(
-    problem: &Problem,
-    earlier: &E,
-    trail: &[Entry],
+    graph: &ImplicationGraph<'_, E>,
     marks: &mut Marks,
     guide: &Guide,
     k: usize,
     whole: bool,
 ) -> Result<(), AllocError>
-    requires count { length trail.now ≤ length marks.old.roles.items }
-    requires within { k < length trail.now }
-    requires trail { (cube : List Bound)
-        × IsTrail problem.now.clauses (E.clauses earlier.now) cube trail.now }
-    requires closed { IsClosed problem.now.clauses (E.clauses earlier.now) trail.now marks.old.roles.items }
+    requires count { length graph.now.trail ≤ length marks.old.roles.items }
+    requires within { k < length graph.now.trail }
+    requires trail { IsGrounded graph.now }
+    requires closed { IsClosed graph.now.inputs graph.now.lemmas graph.now.trail marks.old.roles.items }
     requires used { IsUsed (role_at marks.old.roles.items k) }
-    ensures turned { OnOk result (IsTurned problem.now.clauses (E.clauses earlier.now) trail.now whole k
+    ensures turned { OnOk result (IsTurned graph.now.inputs graph.now.lemmas graph.now.trail whole k
         marks.old.roles.items marks.new.roles.items) }
     ensures waiting { OnOk result (KeepsWaiting marks.old.roles.items marks.old.waiting
         marks.new.roles.items marks.new.waiting) }
     ensures passed { OnOk result (marks.new.passed.items ≡ marks.old.passed.items) }
 {
-    match &trail[k].reason {
+    match graph.reason(k) {
         Reason::Given => {}
         Reason::Decision => {}
         Reason::Clause(source, place) => {
-            let clause = clause_of(problem, earlier, *source);
-            need_denials(trail, marks, guide, *source, clause, *place, k)?;
+            let clause = graph.clause(*source);
+            need_denials(graph, marks, guide, *source, clause, *place, k)?;
             marks.roles[k] = Role::Resolved;
         }
         Reason::Pair(tighter) => {
-            let literal = trail[k].literal;
+            let literal = graph.literal(k);
             let cycle = [*tighter, negate(literal)];
-            need_cycle(trail, marks, guide, cycle.as_slice(), literal, k)?;
+            need_cycle(graph, marks, guide, cycle.as_slice(), literal, k)?;
             marks.roles[k] = Role::Resolved;
         }
         Reason::Cycle(cycle) => {
-            need_cycle(trail, marks, guide, cycle.as_slice(), trail[k].literal, k)?;
+            need_cycle(graph, marks, guide, cycle.as_slice(), graph.literal(k), k)?;
             marks.roles[k] = Role::Resolved;
         }
     }
@@ -301,30 +326,27 @@ fn is_to_resolve(
 
 // A turn of the way back over the trail.
 fn turn<E: Earlier>(
-    problem: &Problem,
-    earlier: &E,
-    trail: &[Entry],
+    graph: &ImplicationGraph<'_, E>,
     levels: &[Level],
     marks: &mut Marks,
     guide: &Guide,
     k: usize,
     whole: bool,
 ) -> Result<(), AllocError>
-    requires count { length trail.now ≤ length marks.old.roles.items }
-    requires within { k < length trail.now }
-    requires trail { (cube : List Bound)
-        × IsTrail problem.now.clauses (E.clauses earlier.now) cube trail.now }
-    requires closed { IsClosed problem.now.clauses (E.clauses earlier.now) trail.now marks.old.roles.items }
-    ensures turned { OnOk result (IsTurned problem.now.clauses (E.clauses earlier.now) trail.now whole k
+    requires count { length graph.now.trail ≤ length marks.old.roles.items }
+    requires within { k < length graph.now.trail }
+    requires trail { IsGrounded graph.now }
+    requires closed { IsClosed graph.now.inputs graph.now.lemmas graph.now.trail marks.old.roles.items }
+    ensures turned { OnOk result (IsTurned graph.now.inputs graph.now.lemmas graph.now.trail whole k
         marks.old.roles.items marks.new.roles.items) }
     ensures waiting { OnOk result (KeepsWaiting marks.old.roles.items marks.old.waiting
         marks.new.roles.items marks.new.waiting) }
     ensures passed { OnOk result (marks.new.passed.items ≡ marks.old.passed.items) }
 {
     if let Role::Kept = marks.roles[k] {
-        let resolves = is_to_resolve(trail, levels, marks, guide, k)?;
+        let resolves = is_to_resolve(graph.trail(), levels, marks, guide, k)?;
         if whole || resolves {
-            resolve(problem, earlier, trail, marks, guide, k, whole)?;
+            resolve(graph, marks, guide, k, whole)?;
         }
     }
     Ok(())
@@ -332,30 +354,27 @@ fn turn<E: Earlier>(
 
 /// Goes back over the places on which the conflict rests.
 pub fn mark_back<E: Earlier>(
-    problem: &Problem,
-    earlier: &E,
-    trail: &[Entry],
+    graph: &ImplicationGraph<'_, E>,
     levels: &[Level],
     marks: &mut Marks,
     guide: &Guide,
     whole: bool,
 ) -> Result<(), AllocError>
-    requires count { length trail.now ≤ length marks.old.roles.items }
-    requires trail { (cube : List Bound)
-        × IsTrail problem.now.clauses (E.clauses earlier.now) cube trail.now }
-    requires closed { IsClosed problem.now.clauses (E.clauses earlier.now) trail.now marks.old.roles.items }
-    requires waiting { AreWaiting (length trail.now) marks.old.roles.items marks.old.waiting }
-    requires passed { ArePassed (length trail.now) (length trail.now) marks.old.roles.items
+    requires count { length graph.now.trail ≤ length marks.old.roles.items }
+    requires trail { IsGrounded graph.now }
+    requires closed { IsClosed graph.now.inputs graph.now.lemmas graph.now.trail marks.old.roles.items }
+    requires waiting { AreWaiting (length graph.now.trail) marks.old.roles.items marks.old.waiting }
+    requires passed { ArePassed (length graph.now.trail) (length graph.now.trail) marks.old.roles.items
         marks.old.passed.items }
-    ensures marked { OnOk result (IsMarked problem.now.clauses (E.clauses earlier.now) trail.now whole 0
+    ensures marked { OnOk result (IsMarked graph.now.inputs graph.now.lemmas graph.now.trail whole 0
         marks.old.roles.items marks.new.roles.items) }
-    ensures passed { OnOk result (ArePassed 0 (length trail.now) marks.new.roles.items
+    ensures passed { OnOk result (ArePassed 0 (length graph.now.trail) marks.new.roles.items
         marks.new.passed.items) }
 {
-    let mut low = trail.len();
+    let mut low = graph.count();
     'back: while let Some(k) = marks.waiting.next_below(low) {
         low = k;
-        turn(problem, earlier, trail, levels, marks, guide, k, whole)?;
+        turn(graph, levels, marks, guide, k, whole)?;
         marks.passed.push(k)?;
     }
     Ok(())

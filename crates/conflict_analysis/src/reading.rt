@@ -1,9 +1,9 @@
 //! Clauses by their names, and literals by their places.
-ghost use Rattle.std.specs.Prelude.{◌≡◌, ◌<◌, ◌≤◌, ◌↔◌, length, true};
+ghost use Rattle.std.specs.Prelude.{◌≡◌, ◌<◌, ◌↔◌, length, true};
 ghost use Rattle.stn_core.specs.Literal.{IsOver};
-ghost use Rattle.conflict_analysis.specs.code.Trails.{source_clause, IsKnown, Stands, on_trail};
+ghost use Rattle.conflict_analysis.specs.code.Trails.{source_clause, entry_at, IsKnown, Stands, on_trail};
 
-use crate::entry::{Entry, Source};
+use crate::entry::{Entry, Reason, Source};
 use refute_tree::Earlier;
 use search_guide::{Guide, LiteralNumber};
 use stn_core::{BOUND_LIMIT, Literal, Problem, negate};
@@ -113,6 +113,14 @@ pub fn literal_on(entries: &[Entry], k: usize) -> Literal
     entries[k].literal
 }
 
+/// Why it stands there.
+pub fn reason_on(entries: &[Entry], k: usize) -> &Reason
+    requires { k < length entries.now }
+    ensures { result.now ≡ (entry_at entries.now k).reason }
+{
+    &entries[k].reason
+}
+
 /// Where the guide has the negation of this literal, which stands at a place of a clause: by the numbers of the
 /// clause's literals, or else, where the guide has forgotten those, by the literal.
 pub fn denial_guess(
@@ -125,29 +133,4 @@ pub fn denial_guess(
         Some(k) => Some(k),
         None => literal_place(guide, negate(literal)),
     }
-}
-
-/// A place at which the literal stands, which stands below another place: the last one, or the one that was
-/// guessed, or else the first.
-pub fn place_of(trail: &[Entry], literal: Literal, below: usize, guess: Option<usize>) -> usize
-    requires within { below ≤ length trail.now }
-    requires stands { Stands trail.now below literal }
-    ensures below { result < below }
-    ensures is { on_trail trail.now result ≡ literal }
-{
-    let last = below.wrapping_sub(1);
-    if last < below && is_same(trail[last].literal, literal) {
-        return last;
-    }
-    if let Some(k) = guess {
-        if k < below && is_same(trail[k].literal, literal) {
-            return k;
-        }
-    }
-    for k in 0..below {
-        if is_same(trail[k].literal, literal) {
-            return k;
-        }
-    }
-    unreachable!()
 }

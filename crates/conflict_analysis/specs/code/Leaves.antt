@@ -10,6 +10,7 @@ use Rattle.conflict_analysis.specs.declared.entry.Conflict.{Conflict}
 use Rattle.conflict_analysis.specs.declared.entry.Conflict.TheVariants.{Clause as OfClause, Cycle as OfCycle}
 use Rattle.conflict_analysis.specs.declared.entry.Role.{Role}
 use Rattle.conflict_analysis.specs.declared.entry.Role.TheVariants.{Resolved}
+use Rattle.conflict_analysis.specs.code.Graphs.{Graph}
 use Rattle.conflict_analysis.specs.code.Trails.{entry_at, on_trail, pair_cycle, role_at, IsUsed, IsByClause, IsByCycle}
 use Rattle.stn_core.specs.Literal.{literal_at}
 
@@ -41,6 +42,12 @@ abbrev pub AreLeaves : List (List Literal) → List (List Literal) → List Entr
 AreLeaves inputs lemmas trail roles leaves =
     (k : ℕ) → at_leaves leaves k ≡ true
     → IsLeafReason inputs lemmas trail roles leaves k (on_trail trail k) (entry_at trail k).reason
+
+-- roles and leaves for all of the trail, and what stands at leaves follows from what is assumed
+abbrev pub IsOutline : Graph → List Role → List Bool → Type 0
+IsOutline graph roles leaves =
+    (length graph.trail ≤ length roles) × (length graph.trail ≤ length leaves)
+    × AreLeaves graph.inputs graph.lemmas graph.trail roles leaves
 
 -- what closes a cycle with the literal's negation is assumed
 abbrev pub IsAssuming : List Entry → List Role → List Bool → ℕ → Literal → Reason → Type 0

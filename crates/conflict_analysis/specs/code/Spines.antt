@@ -14,6 +14,7 @@ use Rattle.conflict_analysis.specs.declared.entry.Reason.TheVariants.{Pair as By
 use Rattle.conflict_analysis.specs.declared.entry.Entry.{Entry}
 use Rattle.conflict_analysis.specs.declared.entry.Role.{Role}
 use Rattle.conflict_analysis.specs.declared.entry.Role.TheVariants.{Resolved}
+use Rattle.conflict_analysis.specs.code.Graphs.{Graph}
 use Rattle.conflict_analysis.specs.code.Trails.{source_clause, entry_at, on_trail, role_at, pair_cycle, KeepsAll}
 use Rattle.conflict_analysis.specs.code.Leaves.{at_leaves, StandsAssumed}
 
@@ -76,6 +77,11 @@ IsClosing inputs lemmas Has l (ByCycle cycle) added = added ≡ Cycle cycle ∷ 
 pub record Closes (inputs lemmas : List (List Literal)) (Has : List Literal → Type 0) (added : List Step) : Type 0 where
   pub names : All NamesNone added
   pub tree : (assumed : List Literal) (rest : List Step) → Has assumed → Tree inputs lemmas assumed (added ++ rest) rest
+
+-- they are one where all of the trail's literals are assumed that don't stand at leaves
+abbrev pub ClosesAll : Graph → List Role → List Bool → List Step → Type 0
+ClosesAll graph roles leaves added =
+    Closes graph.inputs graph.lemmas (Assumes graph.trail roles leaves (length graph.trail)) added
 
 -- a resolved literal that doesn't stand at leaves has its reason in the steps
 abbrev pub IsOpen : List Role → List Bool → ℕ → Type 0

@@ -15,6 +15,7 @@ use Rattle.conflict_analysis.specs.declared.entry.Conflict.{Conflict}
 use Rattle.conflict_analysis.specs.declared.entry.Conflict.TheVariants.{Clause as OfClause, Cycle as OfCycle}
 use Rattle.conflict_analysis.specs.declared.entry.Role.{Role}
 use Rattle.conflict_analysis.specs.declared.entry.Role.TheVariants.{Unused, Kept, Resolved}
+use Rattle.conflict_analysis.specs.code.Graphs.{Graph}
 
 abbrev pub no_literal : Literal
 no_literal = record { x = 0; y = 0; c = pos 0 }
@@ -82,6 +83,10 @@ IsTrail inputs lemmas cube trail =
     (k : ℕ) → k < length trail
     → IsReason inputs lemmas cube trail k (on_trail trail k) (entry_at trail k).reason
 
+-- the graph's trail is a good one, for some cube
+abbrev pub IsGrounded : Graph → Type 0
+IsGrounded graph = (cube : List Literal) × IsTrail graph.inputs graph.lemmas cube graph.trail
+
 -- literals that Good holds of can't all hold
 abbrev pub IsConflict : List (List Literal) → List (List Literal) → (Literal → Type 0) → Conflict → Type 0
 IsConflict inputs lemmas Good (OfClause source) =
@@ -102,6 +107,17 @@ IsUsed Resolved = Unit {0}
 -- the literal stands below a place, where it is used
 abbrev pub StandsUsed : List Entry → List Role → ℕ → Literal → Type 0
 StandsUsed trail roles below l = (j : ℕ) × (j < below) × IsUsed (role_at roles j) × (on_trail trail j ≡ l)
+
+-- used literals are in conflict
+abbrev pub IsUsedConflict : Graph → List Role → Conflict → Type 0
+IsUsedConflict graph roles conflict =
+    IsConflict graph.inputs graph.lemmas (StandsUsed graph.trail roles (length graph.trail)) conflict
+
+-- the literal at a place follows from used ones before it
+abbrev pub FollowsUsed : Graph → List Role → ℕ → Type 0
+FollowsUsed graph roles k =
+    Follows graph.inputs graph.lemmas (StandsUsed graph.trail roles k) (on_trail graph.trail k)
+    (entry_at graph.trail k).reason
 
 -- what a resolved literal follows from is used
 abbrev pub IsClosed : List (List Literal) → List (List Literal) → List Entry → List Role → Type 0

@@ -4,7 +4,7 @@ use Rattle.conflict_analysis.proofs.Marks.{KeepsPassed}
 use Rattle.conflict_analysis.proofs.analysis.kept_clause.Given as goal
 
 abbrev pub invariant-loop-i : goal.invariant-loop-i
-invariant-loop-i l = record {
-  kept : KeepsPassed l.trail l.roles l.passed l.i l.clause.items;
-  denied : All (DeniesKept l.trail l.roles) l.clause.items;
+invariant-loop-i g l = record {
+  kept : KeepsPassed l.graph.trail l.roles l.passed l.i l.clause.items;
+  denied : All (DeniesKept l.graph.trail l.roles) l.clause.items;
 }

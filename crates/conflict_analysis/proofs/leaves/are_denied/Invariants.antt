@@ -4,6 +4,6 @@ use Rattle.conflict_analysis.specs.code.Leaves.{StandsAssumed}
 use Rattle.conflict_analysis.proofs.leaves.are_denied.Given as goal
 
 abbrev pub invariant-loop-q : goal.invariant-loop-q
-invariant-loop-q l = record {
-  denied : (i : ℕ) → i < l.q → i ≢ l.place → StandsAssumed l.trail l.roles l.leaves l.below (negation_of (literal_at l.clause i));
+invariant-loop-q g l = record {
+  denied : (i : ℕ) → i < l.q → i ≢ l.place → StandsAssumed l.graph.trail l.roles l.leaves l.below (negation_of (literal_at l.clause i));
 }

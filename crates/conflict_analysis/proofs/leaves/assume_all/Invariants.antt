@@ -4,7 +4,7 @@ use Rattle.conflict_analysis.specs.code.Leaves.{IsFewer, StandsAssumed}
 use Rattle.conflict_analysis.proofs.leaves.assume_all.Given as goal
 
 abbrev pub invariant-loop-q : goal.invariant-loop-q
-invariant-loop-q l = record {
+invariant-loop-q g l = record {
   fewer : IsFewer l.fn.leaves.items l.leaves.items;
-  assumed : (i : ℕ) → i < l.q → StandsAssumed l.trail l.roles l.leaves.items l.below (literal_at l.cycle i);
+  assumed : (i : ℕ) → i < l.q → StandsAssumed l.graph.trail l.roles l.leaves.items l.below (literal_at l.cycle i);
 }

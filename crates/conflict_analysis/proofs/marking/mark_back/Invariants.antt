@@ -5,10 +5,10 @@ use Rattle.conflict_analysis.proofs.marking.mark_back.Given as goal
 
 abbrev pub invariant-back : goal.invariant-back
 invariant-back g l = record {
-  within : l.low ≤ length l.trail;
-  marked : IsMarked l.problem.clauses (g.E.Earlier.clauses l.earlier) l.trail l.whole l.low l.fn.marks.roles.items l.marks.roles.items;
+  within : l.low ≤ length l.graph.trail;
+  marked : IsMarked l.graph.inputs l.graph.lemmas l.graph.trail l.whole l.low l.fn.marks.roles.items l.marks.roles.items;
   waiting : AreWaiting l.low l.marks.roles.items l.marks.waiting;
-  passed : ArePassed l.low (length l.trail) l.marks.roles.items l.marks.passed.items;
+  passed : ArePassed l.low (length l.graph.trail) l.marks.roles.items l.marks.passed.items;
 }
 
 abbrev pub decreases-back : goal.decreases-back

@@ -4,10 +4,10 @@ use Rattle.conflict_analysis.proofs.Passing.{waiting_twice}
 use Rattle.conflict_analysis.proofs.marking.need_all.Goals as goal
 
 pub loop-q-preserved : goal.loop-q-preserved
-loop-q-preserved c =
+loop-q-preserved g c =
     let after = c.in_ok-need.ensures in record {
       more = marked_twice c.args.below _ _ _ c.loop-q.invariant.more after.more;
       waiting = waiting_twice _ _ _ _ _ _ c.loop-q.invariant.waiting after.waiting;
       passed = after.passed ∙ c.loop-q.invariant.passed;
-      used = all_more c.args.trail.now c.loop-q.marks.roles.items c.need.new.marks.roles.items c.args.below c.args.cycle.now c.loop-q.q c.loop-q.invariant.used after.more after.used;
+      used = all_more c.args.graph.now.trail c.loop-q.marks.roles.items c.need.new.marks.roles.items c.args.below c.args.cycle.now c.loop-q.q c.loop-q.invariant.used after.more after.used;
     }

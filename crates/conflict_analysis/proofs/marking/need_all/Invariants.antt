@@ -5,9 +5,9 @@ use Rattle.conflict_analysis.specs.code.Places.{KeepsWaiting}
 use Rattle.conflict_analysis.proofs.marking.need_all.Given as goal
 
 abbrev pub invariant-loop-q : goal.invariant-loop-q
-invariant-loop-q l = record {
+invariant-loop-q g l = record {
   more : IsMarkedMore l.below l.fn.marks.roles.items l.marks.roles.items;
   waiting : KeepsWaiting l.fn.marks.roles.items l.fn.marks.waiting l.marks.roles.items l.marks.waiting;
   passed : l.marks.passed.items ≡ l.fn.marks.passed.items;
-  used : (i : ℕ) → i < l.q → StandsUsed l.trail l.marks.roles.items l.below (literal_at l.cycle i);
+  used : (i : ℕ) → i < l.q → StandsUsed l.graph.trail l.marks.roles.items l.below (literal_at l.cycle i);
 }

@@ -5,17 +5,17 @@ use Rattle.conflict_analysis.proofs.marking.need_cycle.Goals as goal
 use Rattle.conflict_analysis.proofs.marking.need_cycle.Goals.{then-not-is_same+in_ok-need, else-not-is_same}
 
 pub loop-q-preserved : goal.loop-q-preserved
-loop-q-preserved c = elim c.if-not-is_same.branch [
+loop-q-preserved g c = elim c.if-not-is_same.branch [
   | then-not-is_same+in_ok-need w ↦ rw w.marks-is (let after = w.in_ok-need.ensures in record {
     more = marked_twice c.args.below _ _ _ c.loop-q.invariant.more after.more;
     waiting = waiting_twice _ _ _ _ _ _ c.loop-q.invariant.waiting after.waiting;
     passed = after.passed ∙ c.loop-q.invariant.passed;
-    used = cycle_more c.args.trail.now c.loop-q.marks.roles.items w.need.new.marks.roles.items c.args.below c.args.cycle.now c.args.literal c.loop-q.q c.loop-q.invariant.used after.more (inr after.used);
+    used = cycle_more c.args.graph.now.trail c.loop-q.marks.roles.items w.need.new.marks.roles.items c.args.below c.args.cycle.now c.args.literal c.loop-q.q c.loop-q.invariant.used after.more (inr after.used);
   })
   | else-not-is_same w ↦ rw w.marks-is (record {
     more = c.loop-q.invariant.more;
     waiting = c.loop-q.invariant.waiting;
     passed = c.loop-q.invariant.passed;
-    used = cycle_more c.args.trail.now c.loop-q.marks.roles.items c.loop-q.marks.roles.items c.args.below c.args.cycle.now c.args.literal c.loop-q.q c.loop-q.invariant.used (marked_none c.args.below c.loop-q.marks.roles.items) (inl (c.is_same.ensures.0 w.if-not-is_same.false ∙ c.negate-denied.ensures));
+    used = cycle_more c.args.graph.now.trail c.loop-q.marks.roles.items c.loop-q.marks.roles.items c.args.below c.args.cycle.now c.args.literal c.loop-q.q c.loop-q.invariant.used (marked_none c.args.below c.loop-q.marks.roles.items) (inl (c.is_same.ensures.0 w.if-not-is_same.false ∙ c.negate-denied.ensures));
   })
 ]

@@ -6,20 +6,20 @@ use Rattle.conflict_analysis.proofs.marking.need_denials.Goals as goal
 use Rattle.conflict_analysis.proofs.marking.need_denials.Goals.{then-q-place+in_ok-need, else-q-place}
 
 pub need-requires-clause-stands : goal.need-requires-clause-stands
-need-requires-clause-stands c = subst (Stands c.args.trail.now c.args.below) (sym c.negate.ensures) (c.requires.stand c.loop-q.q (omega (arith, c.loop-q-test.true)) c.if-q-place.true)
+need-requires-clause-stands g c = subst (Stands c.args.graph.now.trail c.args.below) (sym c.negate.ensures) (c.requires.stand c.loop-q.q (omega (arith, c.loop-q-test.true)) c.if-q-place.true)
 
 pub loop-q-preserved : goal.loop-q-preserved
-loop-q-preserved c = elim c.if-q-place.branch [
+loop-q-preserved g c = elim c.if-q-place.branch [
   | then-q-place+in_ok-need w ↦ rw w.marks-is (let after = w.in_ok-need.ensures in record {
     more = marked_twice c.args.below _ _ _ c.loop-q.invariant.more after.more;
     waiting = waiting_twice _ _ _ _ _ _ c.loop-q.invariant.waiting after.waiting;
     passed = after.passed ∙ c.loop-q.invariant.passed;
-    used = denials_more c.args.trail.now c.args.marks.now.roles.items c.loop-q.marks.roles.items w.need.new.marks.roles.items c.args.below c.args.clause.now c.args.place c.loop-q.q c.loop-q.invariant.more c.loop-q.invariant.used after.more (subst (StandsUsed c.args.trail.now w.need.new.marks.roles.items c.args.below) w.negate.ensures after.used);
+    used = denials_more c.args.graph.now.trail c.args.marks.now.roles.items c.loop-q.marks.roles.items w.need.new.marks.roles.items c.args.below c.args.clause.now c.args.place c.loop-q.q c.loop-q.invariant.more c.loop-q.invariant.used after.more (subst (StandsUsed c.args.graph.now.trail w.need.new.marks.roles.items c.args.below) w.negate.ensures after.used);
   })
   | else-q-place w ↦ rw w.marks-is (record {
     more = c.loop-q.invariant.more;
     waiting = c.loop-q.invariant.waiting;
     passed = c.loop-q.invariant.passed;
-    used = denials_past c.args.trail.now c.loop-q.marks.roles.items c.args.below c.args.clause.now c.args.place c.loop-q.q w.if-q-place.false c.loop-q.invariant.used;
+    used = denials_past c.args.graph.now.trail c.loop-q.marks.roles.items c.args.below c.args.clause.now c.args.place c.loop-q.q w.if-q-place.false c.loop-q.invariant.used;
   })
 ]

@@ -1,53 +1,53 @@
-use Rattle.std.proofs.Common.{refl, ◌∙◌, ap, [], ◌∷◌}
+use Rattle.std.proofs.Common.{refl, sym, ◌∙◌, ap, [], ◌∷◌}
 use Rattle.stn_core.specs.declared.literal.Literal.{Literal}
-use Rattle.conflict_analysis.proofs.Marks.{clause_stands, pair_others, turned_by_clause, turned_by_pair, turned_by_cycle, reason_is, literal_is}
+use Rattle.conflict_analysis.proofs.Marks.{clause_stands, pair_others, turned_by_clause, turned_by_pair, turned_by_cycle}
 use Rattle.conflict_analysis.proofs.Passing.{waiting_resolved}
 use Rattle.conflict_analysis.proofs.marking.resolve.Goals as goal
 
 pub need_denials-requires-clause-stand : goal.need_denials-requires-clause-stand
 need_denials-requires-clause-stand g c =
-    clause_stands c.args.problem.now.clauses (g.E.Earlier.clauses c.args.earlier.now) c.requires.trail.0
-    c.args.trail.now c.args.k c.in-Clause.source c.in-Clause.place _ c.requires.trail.1 c.requires.within
-    (reason_is c.args.trail.now c.args.k c.index-trail-k.result _ c.requires.within c.in-Clause.is)
-    c.clause_of-clause.ensures
+    clause_stands c.args.graph.now.inputs c.args.graph.now.lemmas c.requires.trail.0
+    c.args.graph.now.trail c.args.k c.in-Clause.source c.in-Clause.place _ c.requires.trail.1 c.requires.within
+    (sym c.reason.ensures ∙ c.in-Clause.is)
+    c.clause-clause.ensures
 
 pub need_cycle-requires-clause-stand : goal.need_cycle-requires-clause-stand
 need_cycle-requires-clause-stand g c =
-    pair_others c.args.problem.now.clauses (g.E.Earlier.clauses c.args.earlier.now) c.requires.trail.0
-    c.args.trail.now c.args.k c.in-Pair.tighter _ _ c.requires.trail.1 c.requires.within
-    (reason_is c.args.trail.now c.args.k c.index-trail-k.result _ c.requires.within c.in-Pair.is)
+    pair_others c.args.graph.now.inputs c.args.graph.now.lemmas c.requires.trail.0
+    c.args.graph.now.trail c.args.k c.in-Pair.tighter _ _ c.requires.trail.1 c.requires.within
+    (sym c.reason.ensures ∙ c.in-Pair.is)
     (c.as_slice.ensures ∙ ap (λ (m : Literal). c.in-Pair.tighter ∷ m ∷ []) c.negate.ensures)
-    (literal_is c.args.trail.now c.args.k c.index-trail-k-in-Pair.result c.requires.within)
+    c.literal-literal.ensures
 
 pub returns-in_ok-need_denials-in-Clause-clause-turned : goal.returns-in_ok-need_denials-in-Clause-clause-turned
 returns-in_ok-need_denials-in-Clause-clause-turned g c =
-    turned_by_clause c.args.problem.now.clauses (g.E.Earlier.clauses c.args.earlier.now) c.requires.trail.0
-    c.args.trail.now c.args.whole c.args.marks.now.roles.items c.need_denials.new.marks.roles.items _ c.args.k
-    c.in-Clause.source c.in-Clause.place c.clause_of-clause.result.now c.requires.within c.requires.count
+    turned_by_clause c.args.graph.now.inputs c.args.graph.now.lemmas c.requires.trail.0
+    c.args.graph.now.trail c.args.whole c.args.marks.now.roles.items c.need_denials.new.marks.roles.items _ c.args.k
+    c.in-Clause.source c.in-Clause.place c.clause-clause.result.now c.requires.within c.requires.count
     c.requires.trail.1
-    (reason_is c.args.trail.now c.args.k c.index-trail-k.result _ c.requires.within c.in-Clause.is)
-    c.clause_of-clause.ensures c.requires.closed c.in_ok-need_denials-in-Clause.ensures.more
+    (sym c.reason.ensures ∙ c.in-Clause.is)
+    c.clause-clause.ensures c.requires.closed c.in_ok-need_denials-in-Clause.ensures.more
     c.in_ok-need_denials-in-Clause.ensures.used refl
 
 pub returns-in_ok-need_cycle-in-Pair-clause-turned : goal.returns-in_ok-need_cycle-in-Pair-clause-turned
 returns-in_ok-need_cycle-in-Pair-clause-turned g c =
-    turned_by_pair c.args.problem.now.clauses (g.E.Earlier.clauses c.args.earlier.now) c.requires.trail.0
-    c.args.trail.now c.args.whole c.args.marks.now.roles.items c.need_cycle.new.marks.roles.items _ c.args.k
+    turned_by_pair c.args.graph.now.inputs c.args.graph.now.lemmas c.requires.trail.0
+    c.args.graph.now.trail c.args.whole c.args.marks.now.roles.items c.need_cycle.new.marks.roles.items _ c.args.k
     c.in-Pair.tighter c.as_slice.result.now _ c.requires.within c.requires.count c.requires.trail.1
-    (reason_is c.args.trail.now c.args.k c.index-trail-k.result _ c.requires.within c.in-Pair.is)
+    (sym c.reason.ensures ∙ c.in-Pair.is)
     (c.as_slice.ensures ∙ ap (λ (m : Literal). c.in-Pair.tighter ∷ m ∷ []) c.negate.ensures)
-    (literal_is c.args.trail.now c.args.k c.index-trail-k-in-Pair.result c.requires.within) c.requires.closed
+    c.literal-literal.ensures c.requires.closed
     c.in_ok-need_cycle-in-Pair.ensures.more c.in_ok-need_cycle-in-Pair.ensures.used refl
 
 pub returns-in_ok-need_cycle-in-Cycle-clause-turned : goal.returns-in_ok-need_cycle-in-Cycle-clause-turned
 returns-in_ok-need_cycle-in-Cycle-clause-turned g c =
-    turned_by_cycle c.args.problem.now.clauses (g.E.Earlier.clauses c.args.earlier.now) c.requires.trail.0
-    c.args.trail.now c.args.whole c.args.marks.now.roles.items c.need_cycle-in-Cycle.new.marks.roles.items _
+    turned_by_cycle c.args.graph.now.inputs c.args.graph.now.lemmas c.requires.trail.0
+    c.args.graph.now.trail c.args.whole c.args.marks.now.roles.items c.need_cycle-in-Cycle.new.marks.roles.items _
     c.args.k c.in-Cycle.cycle c.as_slice-in-Cycle.result.now _ c.requires.within c.requires.count
     c.requires.trail.1
-    (reason_is c.args.trail.now c.args.k c.index-trail-k.result _ c.requires.within c.in-Cycle.is)
+    (sym c.reason.ensures ∙ c.in-Cycle.is)
     c.as_slice-in-Cycle.ensures
-    (literal_is c.args.trail.now c.args.k c.index-trail-k-in-Cycle.result c.requires.within) c.requires.closed
+    c.literal.ensures c.requires.closed
     c.in_ok-need_cycle-in-Cycle.ensures.more
     c.in_ok-need_cycle-in-Cycle.ensures.used refl
 

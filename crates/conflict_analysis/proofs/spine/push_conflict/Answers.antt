@@ -5,4 +5,4 @@ use Rattle.conflict_analysis.proofs.spine.push_conflict.Goals as goal
 
 pub returns-in_ok-push_cycle-in-Cycle : goal.returns-in_ok-push_cycle-in-Cycle
 returns-in_ok-push_cycle-in-Cycle g c =
-    (Cycle c.as_slice.result.now ∷ [], c.in_ok-push_cycle-in-Cycle.ensures.ok, conflict_cycle_closes c.args.problem.now.clauses (g.E.Earlier.clauses c.args.earlier.now) c.args.trail.now c.args.roles.now c.args.leaves.now c.args.conflict.now c.in-Cycle.cycle c.as_slice.result.now c.requires.conflict c.requires.assumed c.in-Cycle.is c.as_slice.ensures)
+    (Cycle c.as_slice.result.now ∷ [], c.in_ok-push_cycle-in-Cycle.ensures.ok, conflict_cycle_closes c.args.graph.now.inputs c.args.graph.now.lemmas c.args.graph.now.trail c.args.outline.now.roles.now c.args.outline.now.leaves.now c.args.conflict.now c.in-Cycle.cycle c.as_slice.result.now c.requires.conflict c.requires.assumed c.in-Cycle.is c.as_slice.ensures)

@@ -10,23 +10,23 @@ use Rattle.conflict_analysis.proofs.spine.push_denied.Goals.{in-Lemma, in-Input+
 
 pub is_clash-requires-clause-used : goal.is_clash-requires-clause-used
 is_clash-requires-clause-used g c =
-    let inputs = c.args.problem.now.clauses in
-    let lemmas = g.E.Earlier.clauses c.args.earlier.now in
-    let Good = StandsUsed c.args.trail.now c.args.roles.now (length c.args.trail.now) in
-    denied_used inputs lemmas c.args.trail.now c.args.roles.now (OfInput c.in-Input.i) c.clause_of-clause.result.now (subst (λ (s : Source). IsConflict inputs lemmas Good (OfClause s)) c.in-Input.is c.requires.conflict) c.clause_of-clause.ensures
+    let inputs = c.args.graph.now.inputs in
+    let lemmas = c.args.graph.now.lemmas in
+    let Good = StandsUsed c.args.graph.now.trail c.args.outline.now.roles.now (length c.args.graph.now.trail) in
+    denied_used inputs lemmas c.args.graph.now.trail c.args.outline.now.roles.now (OfInput c.in-Input.i) c.clause-clause.result.now (subst (λ (s : Source). IsConflict inputs lemmas Good (OfClause s)) c.in-Input.is c.requires.conflict) c.clause-clause.ensures
 
 pub returns-then-is_clash : goal.returns-then-is_clash
 returns-then-is_clash g c =
-    let inputs = c.args.problem.now.clauses in
-    let lemmas = g.E.Earlier.clauses c.args.earlier.now in
+    let inputs = c.args.graph.now.inputs in
+    let lemmas = c.args.graph.now.lemmas in
     let known = subst (λ (s : Source). IsKnown inputs lemmas s) c.in-Input.is c.requires.conflict.0 in
-    (Clash c.in-Input.i ∷ [], c.in_ok-push_clash-in-Input.ensures.ok, clash_closes inputs lemmas c.args.trail.now c.args.roles.now c.args.leaves.now (length c.args.trail.now) c.in-Input.i c.clause_of-clause.result.now known c.clause_of-clause.ensures (c.is_clash.ensures c.if-is_clash.true))
+    (Clash c.in-Input.i ∷ [], c.in_ok-push_clash-in-Input.ensures.ok, clash_closes inputs lemmas c.args.graph.now.trail c.args.outline.now.roles.now c.args.outline.now.leaves.now (length c.args.graph.now.trail) c.in-Input.i c.clause-clause.result.now known c.clause-clause.ensures (c.is_clash.ensures c.if-is_clash.true))
 
 pub push_cases-requires-clause-conflict : goal.push_cases-requires-clause-conflict
 push_cases-requires-clause-conflict g c =
-    let inputs = c.args.problem.now.clauses in
-    let lemmas = g.E.Earlier.clauses c.args.earlier.now in
-    let Good = StandsUsed c.args.trail.now c.args.roles.now (length c.args.trail.now) in
+    let inputs = c.args.graph.now.inputs in
+    let lemmas = c.args.graph.now.lemmas in
+    let Good = StandsUsed c.args.graph.now.trail c.args.outline.now.roles.now (length c.args.graph.now.trail) in
     elim c.match-source.branch [
       | in-Lemma w ↦ rw w.source-is c.requires.conflict
       | in-Input+else-is_clash w ↦ rw w.source-is (subst (λ (s : Source). IsConflict inputs lemmas Good (OfClause s)) w.in-Input.is c.requires.conflict)

@@ -6,5 +6,5 @@ abbrev pub invariant-loop-q : goal.invariant-loop-q
 invariant-loop-q g l = record {
   high : l.q ≤ l.high;
   low : l.low ≤ l.q;
-  grows : Grows l.fn.steps l.steps (AreShut l.problem.clauses (g.E.Earlier.clauses l.earlier) (Assumes l.trail l.roles l.leaves l.below) l.clause l.low l.q);
+  grows : Grows l.fn.steps l.steps (AreShut l.graph.inputs l.graph.lemmas (Assumes l.graph.trail l.outline.roles.now l.outline.leaves.now l.below) l.clause l.low l.q);
 }

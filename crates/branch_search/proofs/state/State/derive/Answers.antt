@@ -17,7 +17,7 @@ analyze-requires-clause-trail g c =
     let es = c.args.self.now.entries.items in
     let k = c.args.k in
     let made = c.replace-entry.ensures.after ∙ ap (λ (m : Literal). record { literal = m; number = c.negated.result; reason = Decision }) c.negate.ensures in
-    let is = ap (take (k + 1)) (c.deref-2.ensures.value ∙ ap (λ (d : Entry). set es k d) made) in (
+    let is = ap (take (k + 1)) (c.deref-2.ensures.value ∙ ap (λ (d : Entry). set es k d) made) in rw c.new-graph.ensures (
       q.cube,
       subst (λ (p : Problem). IsTrail p.clauses (all_lemmas q.handed c.as_slice.result.now) q.cube (take (k + 1) c.deref-2.result.now)) (sym c.problem.ensures)
           (prefix_trail es _ k c.negated.result c.literal_on.result c.requires.within is q.problem.clauses (all_lemmas q.handed c.as_slice.result.now) q.cube
@@ -30,9 +30,9 @@ analyze-requires-clause-over g c =
     let k = c.args.k in
     let made = c.replace-entry.ensures.after ∙ ap (λ (m : Literal). record { literal = m; number = c.negated.result; reason = Decision }) c.negate.ensures in
     let is = ap (take (k + 1)) (c.deref-2.ensures.value ∙ ap (λ (d : Entry). set es k d) made) in
-    subst (λ (p : Problem). AreOver p.points (take (k + 1) c.deref-2.result.now)) (sym c.problem.ensures)
+    rw c.new-graph.ensures (subst (λ (p : Problem). AreOver p.points (take (k + 1) c.deref-2.result.now)) (sym c.problem.ensures)
     (prefix_over es _ k c.negated.result c.literal_on.result c.requires.within is c.args.task.now.problem.points
-    (c.literal_on.ensures ∙ ap (λ (fs : List Entry). on_trail fs k) c.deref.ensures.value) c.requires.state.over)
+    (c.literal_on.ensures ∙ ap (λ (fs : List Entry). on_trail fs k) c.deref.ensures.value) c.requires.state.over))
 
 pub analyze-requires-clause-conflict : goal.analyze-requires-clause-conflict
 analyze-requires-clause-conflict g c =
@@ -43,13 +43,13 @@ analyze-requires-clause-conflict g c =
     let is = ap (take (k + 1)) (c.deref-2.ensures.value ∙ ap (λ (d : Entry). set es k d) made) in
     let at = c.index.ensures ∙ entry_is es k c.index.result.now c.requires.within in
     let part = take (k + 1) c.deref-2.result.now in
-    subst (λ (p : Problem). IsConflict p.clauses (all_lemmas q.handed c.as_slice.result.now) (Stands part (length part)) c.in-Some.conflict) (sym c.problem.ensures)
+    rw c.new-graph.ensures (subst (λ (p : Problem). IsConflict p.clauses (all_lemmas q.handed c.as_slice.result.now) (Stands part (length part)) c.in-Some.conflict) (sym c.problem.ensures)
     (prefix_conflict es _ k c.negated.result c.literal_on.result c.requires.within is q.problem.clauses
     (all_lemmas q.handed c.as_slice.result.now) q.cube c.index.result.now c.in_ok-conflict.field-0 c.in-Some.conflict
     (trail_seen q c.args.self.now.own.items c.as_slice.result.now es es c.as_slice.ensures.value refl c.requires.state.trail)
     at
     (c.literal_on.ensures ∙ ap (λ (fs : List Entry). on_trail fs k) c.deref.ensures.value ∙ sym (ap (λ (f : Entry). f.literal) at))
-    c.in_ok-conflict.ensures c.in-Some.is)
+    c.in_ok-conflict.ensures c.in-Some.is))
 
 pub returns-clause-entries : goal.returns-clause-entries
 returns-clause-entries g c =
@@ -64,5 +64,5 @@ returns-clause-state g c =
     (put_back c.args.self.now.entries.items c.args.k c.replace-entry.new.dest c.replace-entry.result
     c.index_mut.result.now c.requires.within (sym c.index_mut.ensures.value ∙ sym c.replace-entry.ensures.value))
     c.as_slice.ensures.value
-    (subst (λ (p : Problem). IsProved p.points p.clauses (all_lemmas q.handed c.as_slice.result.now) c.in_ok-lemma.lemma) c.problem.ensures c.in_ok-lemma.ensures.proved)
+    (subst (λ (p : Problem). IsProved p.points p.clauses (all_lemmas q.handed c.as_slice.result.now) c.in_ok-lemma.lemma) c.problem.ensures (rw c.new-graph.ensures at c.in_ok-lemma.ensures.proved))
     c.in_ok-push.ensures.items
