@@ -784,14 +784,63 @@ pub mod bstr {
     }
 }
 pub mod itoa {
-    pub struct Buffer(std::string::String);
+    /// Digits in a buffer on the stack, as the crate has it: four at a time up to 64 bits.
+    pub struct Buffer([u8; 40]);
+    pub trait Integer {
+        fn parts(self) -> (bool, u128);
+    }
+    macro_rules! integers {
+        ($($unsigned:ty, $signed:ty;)*) => {$(
+            impl Integer for $unsigned {
+                #[inline(always)]
+                fn parts(self) -> (bool, u128) {
+                    (false, self as u128)
+                }
+            }
+            impl Integer for $signed {
+                #[inline(always)]
+                fn parts(self) -> (bool, u128) {
+                    (self < 0, self.unsigned_abs() as u128)
+                }
+            }
+        )*};
+    }
+    integers! { u8, i8; u16, i16; u32, i32; u64, i64; u128, i128; usize, isize; }
+    static PAIRS: &[u8; 200] = b"00010203040506070809101112131415161718192021222324252627282930313233343536373839404142434445464748495051525354555657585960616263646566676869707172737475767778798081828384858687888990919293949596979899";
     impl Buffer {
+        #[inline(always)]
         pub fn new() -> Self {
-            Buffer(std::string::String::new())
+            Buffer([0; 40])
         }
-        pub fn format<I: std::fmt::Display>(&mut self, i: I) -> &str {
-            self.0 = i.to_string();
-            &self.0
+        #[inline]
+        pub fn format<I: Integer>(&mut self, i: I) -> &str {
+            let (negative, mut wide) = i.parts();
+            let mut at = 40;
+            while wide > u64::MAX as u128 {
+                at -= 1;
+                self.0[at] = b'0' + (wide % 10) as u8;
+                wide /= 10;
+            }
+            let mut left = wide as u64;
+            while left >= 100 {
+                let pair = (left % 100) as usize * 2;
+                left /= 100;
+                at -= 2;
+                self.0[at..at + 2].copy_from_slice(&PAIRS[pair..pair + 2]);
+            }
+            if left >= 10 {
+                let pair = left as usize * 2;
+                at -= 2;
+                self.0[at..at + 2].copy_from_slice(&PAIRS[pair..pair + 2]);
+            } else {
+                at -= 1;
+                self.0[at] = b'0' + left as u8;
+            }
+            if negative {
+                at -= 1;
+                self.0[at] = b'-';
+            }
+            unsafe { std::str::from_utf8_unchecked(&self.0[at..]) }
         }
     }
 }
