@@ -16,6 +16,7 @@ use Rattle.refute_tree.specs.declared.lemma.Lemma.{Lemma}
 use Rattle.refute_tree.specs.Trees.{stated}
 use Rattle.refute_tree.specs.Batches.{LemmaIsOver}
 use Rattle.conflict_analysis.specs.declared.entry.Entry.{Entry}
+use Rattle.conflict_analysis.specs.declared.entry.Conflict.{Conflict}
 use Rattle.conflict_analysis.specs.declared.entry.Level.{Level}
 use Rattle.conflict_analysis.specs.declared.entry.Reason.TheVariants.{Cycle as ByCycle}
 use Rattle.conflict_analysis.specs.declared.entry.Source.TheVariants.{Input as OfInput}
@@ -26,7 +27,7 @@ use Rattle.conflict_analysis.specs.code.Trails.{no_literal, IsByCycle, Stands}
 use Rattle.conflict_analysis.specs.code.Denials.{AreDenied}
 use Rattle.branch_search.specs.code.Clauses.{IsFalseAt}
 use Rattle.conflict_analysis.specs.Proved.{IsClauseOver}
-use Rattle.branch_search.specs.code.Search.{all_lemmas, IsSearch, IsStuckSearch, IsSearchSettled}
+use Rattle.branch_search.specs.code.Search.{all_lemmas, IsSearch, IsStuckSearch, IsSearchSettled, IsSearchAfter}
 use Rattle.branch_search.specs.Slices.{Question, AreProved, IsSplit}
 use Rattle.stn_core.specs.Solution.{IsSolution}
 use Rattle.branch_search.specs.code.Divisions.{IsLive, IsLiveAt, IsSearchLiveness, HasLive, AreSearchLive, Divides}
@@ -164,3 +165,7 @@ lemmas_over points handed own these e over all = subst (λ (ls : List Lemma). Al
 pub settled_goes : (q : Question) (count : ℕ) (own : List Lemma) (es : List Entry) (levels : List Level) (literals : List Literal) (found : Option ℕ) → IsSearchSettled q count own es levels literals found → ((j : ℕ) → found ≡ Some j → ⊥) → (length levels < count) × IsSearch q own es levels literals
 settled_goes q count own es levels literals (Some j) h none = absurd (none j refl)
 settled_goes q count own es levels literals None h none = h
+
+pub quiet_search : (q : Question) (own : List Lemma) (es : List Entry) (levels : List Level) (literals : List Literal) (found : Option Conflict) → IsSearchAfter q own es levels literals found → ((conflict : Conflict) → found ≡ Some conflict → ⊥) → IsSearch q own es levels literals
+quiet_search q own es levels literals (Some conflict) h none = absurd (none conflict refl)
+quiet_search q own es levels literals None h none = h

@@ -1,6 +1,6 @@
 //! The turns of a search.
 ghost use Rattle.std.specs.Prelude.{◌≡◌, ◌<◌, ◌≤◌, length, min, IfOk, IfSome, OnOk};
-ghost use Rattle.branch_search.specs.code.Search.{IsState, IsStuck};
+ghost use Rattle.branch_search.specs.code.Search.{IsAfter, IsState, IsStuck};
 ghost use Rattle.stn_core.specs.Limits.{adds_limit};
 ghost use Rattle.branch_search.specs.code.Turns.{IsTurn, IsFound};
 ghost use Rattle.stn_core.specs.Solution.{IsSolution};
@@ -174,21 +174,25 @@ impl State {
         try_model(alloc, problem, &self.guide, net)
     }
 
-    // Without a conflict: a model, or the next decision.
-    fn go_on<E: Earlier, N: Net>(
+    // Behind what follows from the trail: reacts to a conflict, or else finds a model or decides.
+    fn turn<E: Earlier, N: Net>(
         &mut self,
         alloc: Global,
         task: &Task<'_, E>,
         net: &mut N,
         rest: Rest,
+        found: Option<Conflict>,
     ) -> Result<Turn, AllocError>
         requires points { N.points_of net.old ≡ task.now.problem.points }
-        requires state { IsState task.now self.old (N.literals_of net.old) }
+        requires after { IsAfter task.now self.old (N.literals_of net.old) found }
         ensures points { N.points_of net.new ≡ N.points_of net.old }
         ensures turn { IfOk result (IsTurn task.now
             rest.decisions (length self.old.levels.items) self.new (N.literals_of net.new)) }
         ensures counts { OnOk result (min (N.adds_of net.old) adds_limit ≤ N.adds_of net.new) }
     {
+        if let Some(conflict) = found {
+            return self.settle(alloc, task, net, rest, &conflict);
+        }
         let chosen = self.guide.choose(net.schedule());
         if let Some(schedule) = self.find_model(alloc, task.problem(), net, chosen.is_none())? {
             return Ok(Turn::Ended(Found::Model(schedule)));
@@ -199,27 +203,6 @@ impl State {
         match chosen {
             Some(number) => self.decide(task, net, rest, number),
             None => Ok(Turn::Ended(Found::Spent)),
-        }
-    }
-
-    // Propagates, and then reacts to a conflict or decides.
-    fn turn<E: Earlier, N: Net>(
-        &mut self,
-        alloc: Global,
-        task: &Task<'_, E>,
-        net: &mut N,
-        rest: Rest,
-    ) -> Result<Turn, AllocError>
-        requires points { N.points_of net.old ≡ task.now.problem.points }
-        requires state { IsState task.now self.old (N.literals_of net.old) }
-        ensures points { N.points_of net.new ≡ N.points_of net.old }
-        ensures turn { IfOk result (IsTurn task.now
-            rest.decisions (length self.old.levels.items) self.new (N.literals_of net.new)) }
-        ensures counts { OnOk result (min (N.adds_of net.old) adds_limit ≤ N.adds_of net.new) }
-    {
-        match self.propagate(alloc, task, net)? {
-            Some(conflict) => self.settle(alloc, task, net, rest, &conflict),
-            None => self.go_on(alloc, task, net, rest),
         }
     }
 
@@ -239,7 +222,8 @@ impl State {
     {
         let mut left = rest;
         'turns: loop {
-            match self.turn(alloc, task, net, left)? {
+            let found = self.propagate(alloc, task, net)?;
+            match self.turn(alloc, task, net, left, found)? {
                 Turn::Decided => left.decisions -= 1,
                 Turn::Jumped => {}
                 Turn::Ended(found) => return Ok(found),
