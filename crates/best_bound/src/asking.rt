@@ -4,6 +4,7 @@ ghost use Rattle.stn_core.specs.Literal.{IsOver};
 ghost use Rattle.best_values.specs.Questions.{below};
 ghost use Rattle.best_values.specs.Widths.{Fits, IsWithinLimit};
 ghost use Rattle.better_schedules.specs.code.Descents.{IsDescent, IsQuestion};
+ghost use Rattle.book_core.specs.Books.{IsOpening};
 ghost use Rattle.kept_search.specs.Kept.{IsSearchOf};
 ghost use Rattle.best_bound.specs.code.Askings.{IsTurn, IsBegun};
 
@@ -13,8 +14,9 @@ use better_schedules::{Descent, Question};
 use book_core::Verdict;
 use book_search::decide_units;
 use kept_search::{KeptSearch, Reply};
+use refute_tree::Batch;
 use std::alloc::{AllocError, Global};
-use stn_core::{Literal, Problem};
+use stn_core::{Literal, Problem, Value};
 
 /// How many slices a question gets whose bound lies below the best schedule's value. Then it is asked for anything better at
 /// all: to refute far below that value can be as hard as at the least one.
@@ -43,13 +45,16 @@ pub struct Begun {
     pub search: Option<KeptSearch>,
 }
 
-/// Whether the problem has a schedule, by its clauses of one literal, or by up to so many slices of a search.
+/// Whether the problem has a schedule, by its clauses of one literal, or by up to so many slices of a search, which has these lemmas from the start.
 pub(crate) fn begin(
     alloc: Global,
     problem: &Problem,
+    opening: Batch,
+    phases: &[Value],
     budget: u64,
     slices: u64,
 ) -> Result<Begun, AllocError>
+    requires { IsOpening problem.now opening.lemmas }
     ensures { IfOk result (IsBegun problem.now) }
 {
     let units = decide_units(alloc, problem)?;
@@ -59,7 +64,7 @@ pub(crate) fn begin(
             search: None,
         });
     }
-    let mut search = KeptSearch::new(alloc, problem, budget)?;
+    let mut search = KeptSearch::new(alloc, problem, opening, phases, budget)?;
     match search.under(alloc, problem, &[], slices)? {
         Reply::Holds(schedule) => Ok(Begun {
             verdict: Some(Verdict::Sat(schedule)),
@@ -91,7 +96,11 @@ fn ready(
 {
     match search {
         Some(search) => Ok(search),
-        None => KeptSearch::new(alloc, problem, budget),
+        None => {
+            let nothing = Batch::new(0, Vec::new(alloc));
+            let search = KeptSearch::new(alloc, problem, nothing, &[], budget)?;
+            Ok(search)
+        }
     }
 }
 

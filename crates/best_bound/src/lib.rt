@@ -15,5 +15,5 @@ mod questions;
 mod shared;
 
 pub use answer::{Best, best_law};
-pub use one::best_one;
-pub use shared::best_shared;
+pub use one::{best_one, best_one_with};
+pub use shared::{best_shared, best_shared_with};

@@ -1,6 +1,7 @@
 //! From question to question, to the best value.
 ghost use Rattle.std.specs.Prelude.{◌<◌, IfOk};
 ghost use Rattle.std.specs.Fn.{FnReturnsAt};
+ghost use Rattle.book_core.specs.Books.{IsOpening};
 ghost use Rattle.book_core.specs.Verdicts.{IsRight};
 ghost use Rattle.best_values.specs.Widths.{Fits};
 ghost use Rattle.best_bound.specs.Answers.{IsBestAnswer};
@@ -11,8 +12,9 @@ use crate::asking::{Asked, Begun, Turn, ask, begin};
 use crate::hearing::{Heard, hear, unbounded};
 use better_schedules::Descent;
 use book_core::Verdict;
+use refute_tree::Batch;
 use std::alloc::{AllocError, Global};
-use stn_core::Problem;
+use stn_core::{Problem, Value};
 
 // What the caller's function says of a problem.
 fn decided<D: Fn(&Problem) -> Result<Verdict, AllocError>>(
@@ -31,12 +33,15 @@ fn decided<D: Fn(&Problem) -> Result<Verdict, AllocError>>(
 pub(crate) fn best_by<D: Fn(&Problem) -> Result<Verdict, AllocError>>(
     alloc: Global,
     problem: &Problem,
+    opening: Batch,
+    phases: &[Value],
     x: u32,
     y: u32,
     budget: u64,
     slices: u64,
     decide: &D,
 ) -> Result<Best, AllocError>
+    requires opening { IsOpening problem.now opening.lemmas }
     requires fits { Fits problem.now }
     requires x_in { x < problem.now.points }
     requires y_in { y < problem.now.points }
@@ -44,7 +49,7 @@ pub(crate) fn best_by<D: Fn(&Problem) -> Result<Verdict, AllocError>>(
     requires decides { IsDecider (FnReturnsAt D.Fn decide.now) }
     ensures { IfOk result (IsBestAnswer problem.now x y) }
 {
-    let begun = begin(alloc, problem, budget, slices)?;
+    let begun = begin(alloc, problem, opening, phases, budget, slices)?;
     let Begun { verdict, search } = begun;
     let verdict = match verdict {
         Some(verdict) => verdict,

@@ -37,7 +37,7 @@ pub struct Decision {
 }
 
 /// The values that are kept, as those of time points: the names' points come first.
-fn phases_of(alloc: Global, kept: &KeptSchedule) -> Result<Vec<Value>, AllocError> {
+pub fn phases_of(alloc: Global, kept: &KeptSchedule) -> Result<Vec<Value>, AllocError> {
     let values = kept.values();
     let mut phases = Vec::with_capacity(alloc, values.len())?;
     for value in values {
@@ -161,7 +161,7 @@ pub fn decide<R: Threads + Wait + Sync, G: Gate>(
             rt, alloc, state, problem, kept, earlier, wanted, options, gate,
         ),
         Question::Minimize(objective) => minimize(
-            rt, alloc, state, objective, problem, earlier, wanted, options, gate,
+            rt, alloc, state, objective, problem, kept, earlier, wanted, options, gate,
         ),
     }
 }

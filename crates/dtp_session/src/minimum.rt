@@ -1,7 +1,9 @@
 //! What decides a minimize.
-ghost use Rattle.std.specs.Prelude.{◌<◌, IfOk};
+ghost use Rattle.std.specs.Prelude.{◌<◌, All, IfOk};
+ghost use Rattle.refute_tree.specs.Batches.{LemmaIsOver};
 ghost use Rattle.smt_sexpr.specs.Tree.{Sexpr};
 ghost use Rattle.best_values.specs.Widths.{Fits, IsWithinLimit};
+ghost use Rattle.book_core.specs.Books.{IsOpening};
 ghost use Rattle.best_bound.specs.Answers.{IsBestAnswer};
 ghost use Rattle.smt_script.specs.States.{State as Meaning};
 ghost use Rattle.smt_script.specs.declared.state.Question.TheVariants as asked;
@@ -9,16 +11,18 @@ ghost use Rattle.script_walk.specs.code.Standing.{Stands};
 ghost use Rattle.dtp_session.specs.code.Forms.{version_wanted};
 ghost use Rattle.dtp_session.specs.code.Decisions.{IsTaken, IsDecidedBy, RefutesLess, IsLeastShown};
 
-use crate::decision::Decision;
+use crate::decision::{Decision, phases_of};
 use crate::earlier::Earlier;
 use crate::options::SearchOptions;
 use crate::shown::{Shown, kept, refuted, with_lemmas, without_lemmas};
 use crate::wanted::Wanted;
-use best_bound::{Best, best_one, best_shared};
+use best_bound::{Best, best_one_with, best_shared_with};
 use best_values::question;
 use cert_text::Entry;
 use clause_form::restrict;
-use refute_tree::Refutation;
+use kept_schedule::KeptSchedule;
+use learned_lemmas::Taken;
+use refute_tree::{Batch, Refutation};
 use smt_script::{Objective, State};
 use std::alloc::{AllocError, Global};
 use std::sync::Wait;
@@ -26,12 +30,45 @@ use std::thread::Threads;
 use steal_search::Gate;
 use stn_core::{NamedValues, Problem, Value};
 
-/// The least value by as many workers as are asked for; one is the caller itself.
+/// The least value by as many workers as are asked for; one is the caller itself. The search has these lemmas of the problem from the start.
+fn search_from<R: Threads + Wait + Sync, G: Gate>(
+    rt: &R,
+    alloc: Global,
+    problem: &Problem,
+    objective: Objective,
+    opening: Batch,
+    phases: &[Value],
+    options: SearchOptions,
+    gate: &G,
+) -> Result<Best, AllocError>
+    requires opens { IsOpening problem.now opening.lemmas }
+    requires fits { Fits problem.now }
+    requires x_in { objective.x < problem.now.points }
+    requires y_in { objective.y < problem.now.points }
+    ensures { IfOk result (IsBestAnswer problem.now objective.x objective.y) }
+{
+    let (x, y) = (objective.x, objective.y);
+    let slice = u64::from(options.slice);
+    let workers = options.workers;
+    if workers == 1 {
+        best_one_with(alloc, problem, opening, phases, x, y, slice)
+    } else {
+        best_shared_with(
+            rt, alloc, problem, opening, phases, x, y, workers, slice, gate,
+        )
+    }
+}
+
+/// The least value: by an earlier refutation, where that stands, and else by a search, which may open with what an earlier one learned, and decides literals
+/// as these hold on the values that are kept.
 fn search<R: Threads + Wait + Sync, G: Gate>(
     rt: &R,
     alloc: Global,
     problem: &Problem,
     objective: Objective,
+    kept: &KeptSchedule,
+    earlier: &Earlier,
+    wanted: Wanted,
     options: SearchOptions,
     gate: &G,
 ) -> Result<Best, AllocError>
@@ -40,12 +77,14 @@ fn search<R: Threads + Wait + Sync, G: Gate>(
     requires y_in { objective.y < problem.now.points }
     ensures { IfOk result (IsBestAnswer problem.now objective.x objective.y) }
 {
-    let (x, y) = (objective.x, objective.y);
-    let slice = u64::from(options.slice);
-    if options.workers == 1 {
-        best_one(alloc, problem, x, y, slice)
-    } else {
-        best_shared(rt, alloc, problem, x, y, options.workers, slice, gate)
+    match earlier.taken(alloc, problem, wanted)? {
+        Taken::Refutes(refutation) => Ok(Best::Nothing(refutation)),
+        Taken::Opens(opening) => {
+            let phases = phases_of(alloc, kept)?;
+            search_from(
+                rt, alloc, problem, objective, opening, &phases, options, gate,
+            )
+        }
     }
 }
 
@@ -64,6 +103,7 @@ fn least(
     requires y_in { objective.y < problem.now.points }
     requires within { IsWithinLimit difference }
     requires refutes { RefutesLess problem.now objective difference refutation }
+    requires over { All (LemmaIsOver problem.now.points) refutation }
     ensures { IfOk result (λ shown. IsLeastShown (version_wanted wanted) earlier.old problem.now objective schedule difference refutation shown earlier.new) }
 {
     let asked = question(
@@ -73,6 +113,7 @@ fn least(
         objective.y,
         Value::from(difference),
     )?;
+    earlier.learn(alloc, &asked, refutation.as_slice(), wanted)?;
     let lemmas = kept(alloc, wanted, &asked, refutation)?;
     let minimum = Value::from(difference) + Value::from(objective.k);
     let entry = Entry::Best(minimum, schedule, lemmas);
@@ -88,6 +129,7 @@ pub fn minimize<R: Threads + Wait + Sync, G: Gate>(
     state: &State,
     objective: Objective,
     problem: Problem,
+    kept: &KeptSchedule,
     earlier: &mut Earlier,
     wanted: Wanted,
     options: SearchOptions,
@@ -105,7 +147,10 @@ pub fn minimize<R: Threads + Wait + Sync, G: Gate>(
     stn_core::negation_kept();
     best_values::unbounded_law();
     unsat_cores::core_law();
-    match search(rt, alloc, &problem, objective, options, gate)? {
+    let best = search(
+        rt, alloc, &problem, objective, kept, earlier, wanted, options, gate,
+    )?;
+    match best {
         Best::Nothing(refutation) => {
             let shown = refuted(alloc, wanted, problem, refutation, earlier)?;
             Ok(Decision { shown, given: None })

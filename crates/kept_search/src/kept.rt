@@ -3,7 +3,7 @@ ghost use Rattle.std.specs.Prelude.{◌≡◌, ◌≤◌, ◌<◌, ◌+◌, ◌�
 ghost use Rattle.stn_core.specs.Literal.{Holds, IsOver};
 ghost use Rattle.refute_tree.specs.Trees.{stated};
 ghost use Rattle.refute_tree.specs.Batches.{AreRefuted, LemmaIsOver};
-ghost use Rattle.book_core.specs.Books.{IsShutBy};
+ghost use Rattle.book_core.specs.Books.{IsOpening, IsShutBy};
 ghost use Rattle.book_core.specs.Verdicts.{IsRight};
 ghost use Rattle.book_core.specs.declared.verdict.Verdict.TheVariants.{Unsat};
 ghost use Rattle.kept_search.specs.Kept.{IsSearchOf, IsReply, IsNext, HasClauseMore};
@@ -77,14 +77,24 @@ fn all_hold(cube: &[Literal], values: &[Value]) -> bool
 }
 
 impl KeptSearch {
-    /// A search before its first question, whose first slice has this budget of literals that it adds to its net.
-    pub fn new(alloc: Global, problem: &Problem, budget: u64) -> Result<Self, AllocError>
+    /// A search before its first question, whose first slice has this budget of literals that it adds to its net. It has these lemmas of the problem
+    /// from the start. Literals that were never decided are decided as they hold on these values of the first time points, perhaps none: a hint.
+    pub fn new(
+        alloc: Global,
+        problem: &Problem,
+        opening: Batch,
+        phases: &[Value],
+        budget: u64,
+    ) -> Result<Self, AllocError>
+        requires { IsOpening problem.now opening.lemmas }
         ensures { IfOk result (IsSearchOf problem.now) }
     {
+        let mut searcher = Searcher::alone(alloc, problem)?;
+        searcher.follow(phases);
         Ok(KeptSearch {
-            searcher: Searcher::alone(alloc, problem)?,
+            searcher,
             net: Network::new(alloc, problem.points)?,
-            lemmas: Vec::new(alloc),
+            lemmas: opening.into_lemmas(),
             pacing: Pacing::alone(budget),
         })
     }
