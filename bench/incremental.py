@@ -5,7 +5,8 @@
 
 Each script asks some hundred check-sats, of which each differs from the one before by a few bounds: what-if questions of a network of bounds and of
 a problem with alternatives, a job shop whose deadline goes down, levels that are pushed one by one and popped again, a plan whose deadline
-shrinks by one until it fails, and a network of which one constraint is replaced each time; all drawn from the seeds in this file. Of each
+shrinks by one until it fails, a network of which one constraint is replaced each time, and a job shop whose least makespan is asked again and again,
+without the peers, whose answers to that have another form; all drawn from the seeds in this file. Of each
 it prints the number of check-sats, the processor seconds of `dtp solve` with one worker and of the peers that are there (`apt-get install z3
 cvc5`), `-` where the limit came first, and dtp's time over the best peer's; at the end the geometric mean of these for each family. With
 `--certify` also the seconds and bytes of `dtp certify` in both versions and the seconds of `dtp check`. It fails where two differ in a verdict.
@@ -79,8 +80,8 @@ def alternatives(points, clauses, questions, seed):
     return lines
 
 
-def shop(jobs, machines, seed):
-    """A job shop, and deadlines from a loose one down to the longest job's length."""
+def operations_of(jobs, machines, seed):
+    """The assertions of a job shop: its lines, the last operation of each job with its duration, the longest job's length, and the sum of all."""
     draw = random.Random(seed)
     lines, ends, users, longest, total = [], [], {}, 0, 0
     for job in range(jobs):
@@ -97,8 +98,25 @@ def shop(jobs, machines, seed):
     for operations in users.values():
         for i, (a, d) in enumerate(operations):
             lines += asserted(*(f"(or {bound(a, b, -d)} {bound(b, a, -e)})" for b, e in operations[:i]))
+    return lines, ends, longest, total
+
+
+def shop(jobs, machines, seed):
+    """A job shop, and deadlines from a loose one down to the longest job's length."""
+    lines, ends, longest, total = operations_of(jobs, machines, seed)
     for deadline in range(total // 2, longest - 1, -max(1, (total // 2 - longest) // 40)):
         lines += what_if([f"(<= {end} {deadline - duration})" for end, duration in ends])
+    return lines
+
+
+def least(jobs, machines, questions, seed):
+    """A job shop's least makespan, each time with one operation that isn't to start before some time."""
+    draw = random.Random(seed)
+    lines, ends, longest, _ = operations_of(jobs, machines, seed)
+    lines += ["(declare-const end Int)", *asserted(*(bound(last, "end", -duration) for last, duration in ends))]
+    for _ in range(questions):
+        late = f"(>= j{draw.randrange(jobs)}o{draw.randrange(machines)} {draw.randrange(longest)})"
+        lines += ["(push 1)", *asserted(late), "(minimize end)", "(pop 1)"]
     return lines
 
 
@@ -168,6 +186,8 @@ def scripts():
         yield "shrinking", f"{events}-{requirements}", shrinking(events, requirements, 4)
     for points, questions in [(100, 300), (500, 500), (2000, 500)]:
         yield "replaced", f"{points}", replaced(points, questions, 5)
+    for jobs, machines, questions in [(5, 5, 40), (8, 5, 20), (10, 5, 10)]:
+        yield "least", f"{jobs}-{machines}", least(jobs, machines, questions, 6)
 
 
 def run(words, text, limit):
@@ -209,7 +229,7 @@ def main():
             continue
         text = "\n".join(["(set-logic QF_IDL)", *lines, ""]).encode()
         done = run([program, "solve", "--workers", "1"], text, limit)
-        others = [run(PEERS[peer], text, limit) for peer in peers]
+        others = [None if family == "least" else run(PEERS[peer], text, limit) for peer in peers]
         for peer, other in zip(peers, others):
             if done and other and other[0] != done[0]:
                 wrong = True
@@ -218,7 +238,7 @@ def main():
         share = done[1] / min(times) if done and times else None
         shown = [f"{one[1]:.2f}" if one else "-" for one in [done, *others]]
         more = certified(program, text, limit) if columns else []
-        print("\t".join([f"{family}-{size}", str(lines.count("(check-sat)")), *shown, f"{share:.2f}" if share else "-", *more]), flush=True)
+        print("\t".join([f"{family}-{size}", str(lines.count("(check-sat)") + lines.count("(minimize end)")), *shown, f"{share:.2f}" if share else "-", *more]), flush=True)
         if share:
             shares.setdefault(family, []).append(share)
     for family, found in shares.items():
