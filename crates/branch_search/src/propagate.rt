@@ -238,33 +238,6 @@ impl State {
         Ok(found)
     }
 
-    // All waiting literals into the net, or the next one into it, or else, where all are in it, into the
-    // distances.
-    fn advance<E: Earlier, N: Net>(
-        &mut self,
-        alloc: Global,
-        task: &Task<'_, E>,
-        net: &mut N,
-    ) -> Result<Option<Conflict>, AllocError>
-        requires points { N.points_of net.old ≡ task.now.problem.points }
-        requires state { IsState task.now self.old (N.literals_of net.old) }
-        ensures points { N.points_of net.new ≡ N.points_of net.old }
-        ensures levels { self.new.levels.items ≡ self.old.levels.items }
-        ensures after { IfOk result (IsAfter task.now self.new (N.literals_of net.new)) }
-        ensures counts { OnOk result (min (N.adds_of net.old) adds_limit ≤ N.adds_of net.new) }
-    {
-        if self.has_many_waiting() {
-            let found = self.net_waiting(alloc, task, net)?;
-            return Ok(found);
-        }
-        if self.netted < self.entries.len() {
-            let found = self.net_next(task, net)?;
-            return Ok(found);
-        }
-        self.measure_next(alloc, task, net)?;
-        Ok(None)
-    }
-
     /// All that follows from the trail's literals, by ladders, clauses, the net and distances, or a conflict.
     /// All literals go into the net before the next one goes into the distances, since what clauses and
     /// ladders alone lead to costs less.
@@ -290,8 +263,17 @@ impl State {
             if self.netted >= self.entries.len() && self.is_measured() {
                 return Ok(None);
             }
-            if let Some(conflict) = self.advance(alloc, task, net)? {
-                return Ok(Some(conflict));
+            if self.has_many_waiting() {
+                let literals = self.take_waiting(alloc)?;
+                if let Some(conflict) = self.net_all(alloc, task, net, &literals)? {
+                    return Ok(Some(conflict));
+                }
+            } else if self.netted < self.entries.len() {
+                if let Some(conflict) = self.net_next(task, net)? {
+                    return Ok(Some(conflict));
+                }
+            } else {
+                self.measure_next(alloc, task, net)?;
             }
         }
         Ok(None)

@@ -35,23 +35,35 @@ impl State {
         Ok(literals)
     }
 
-    /// All literals that wait for the net.
-    pub fn net_waiting<E: Earlier, N: Net>(
-        &mut self,
-        alloc: Global,
-        task: &Task<'_, E>,
-        net: &mut N,
-    ) -> Result<Option<Conflict>, AllocError>
-        requires points { N.points_of net.old ≡ task.now.problem.points }
-        requires state { IsState task.now self.old (N.literals_of net.old) }
-        ensures points { N.points_of net.new ≡ N.points_of net.old }
+    /// All literals that wait for the net, which wait no longer.
+    pub fn take_waiting(&mut self, alloc: Global) -> Result<Vec<Literal>, AllocError>
+        ensures entries { self.new.entries.items ≡ self.old.entries.items }
         ensures levels { self.new.levels.items ≡ self.old.levels.items }
-        ensures after { IfOk result (IsAfter task.now self.new (N.literals_of net.new)) }
-        ensures counts { OnOk result (min (N.adds_of net.old) adds_limit ≤ N.adds_of net.new) }
+        ensures own { self.new.own.items ≡ self.old.own.items }
+        ensures stand { IfOk result (λ literals. AllStand self.old.entries.items (length self.old.entries.items)
+            literals.items) }
     {
         let literals = self.literals_waiting(alloc, self.netted)?;
         self.netted = self.entries.len();
-        match add_all(alloc, net, &literals)? {
+        Ok(literals)
+    }
+
+    /// Literals that stand on the trail into the net.
+    pub fn net_all<E: Earlier, N: Net>(
+        &self,
+        alloc: Global,
+        task: &Task<'_, E>,
+        net: &mut N,
+        literals: &[Literal],
+    ) -> Result<Option<Conflict>, AllocError>
+        requires points { N.points_of net.old ≡ task.now.problem.points }
+        requires state { IsState task.now self.now (N.literals_of net.old) }
+        requires stand { AllStand self.now.entries.items (length self.now.entries.items) literals.now }
+        ensures points { N.points_of net.new ≡ N.points_of net.old }
+        ensures after { IfOk result (IsAfter task.now self.now (N.literals_of net.new)) }
+        ensures counts { OnOk result (min (N.adds_of net.old) adds_limit ≤ N.adds_of net.new) }
+    {
+        match add_all(alloc, net, literals)? {
             None => Ok(None),
             Some(cycle) => Ok(Some(Conflict::Cycle(cycle))),
         }
