@@ -38,7 +38,16 @@ pub fn best_shared<R: Threads + Wait + Sync, G: Gate>(
 {
     let nothing = Batch::new(0, Vec::new(alloc));
     let best = best_shared_with(
-        rt, alloc, problem, nothing, &[], x, y, workers, budget, gate,
+        rt,
+        alloc,
+        problem,
+        nothing,
+        &[],
+        x,
+        y,
+        workers,
+        budget,
+        gate,
     )?;
     Ok(best)
 }

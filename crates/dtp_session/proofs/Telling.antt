@@ -31,7 +31,7 @@ pub decision_told : (p : Session) (entry : Entry) (items : List Item) (before no
 decision_told p entry items before now faults_before faults_now r shown held h =
     writes_too (λ text. text ≡ line_shown p.report entry items) (IsText p Decision)
     (λ text is other e. (let same : entry ≡ other = (let both : Some entry ≡ Some other = sym held ∙ e in cc) in
-        is ∙ ap (λ (found : Entry). line_shown p.report found items) same ∙ ap (λ (made : List Item). line_shown p.report other made) shown))
+    is ∙ ap (λ (found : Entry). line_shown p.report found items) same ∙ ap (λ (made : List Item). line_shown p.report other made) shown))
     before now faults_before faults_now r h
 
 pub proof_told : (p : Session) (entry : Entry) (before now : Option (List ℕ)) (faults_before faults_now : ℕ) (r : Result (Unit {0}) SessionError) → p.held ≡ Some entry

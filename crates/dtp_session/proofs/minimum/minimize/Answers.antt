@@ -36,7 +36,7 @@ restrict-requires-clause-some g c =
     let s = c.requires.0 in
     let stands = c.requires.2 in
     let taken = c.requires.3 in
-    let found : IsLeast c.args.problem c.args.objective.x c.args.objective.y c.in-Least.values c.in-Least.difference c.in-Least.refutation = as_answered _ _ _ _ _ c.in-Least.is c.in_ok-refutation.ensures in
+    let found : IsLeast c.args.problem c.args.objective.x c.args.objective.y c.in-Least.values c.in-Least.difference c.in-Least.refutation = as_answered _ _ _ _ _ c.in-Least.is c.in_ok-best.ensures in
     let count : length c.as_slice.result.now ≡ c.args.problem.points = ap (λ (values : List ℤ). length values) c.as_slice.ensures ∙ found.solution.count in
     let names : length c.sorts.result.now ≡ length s.context.declared =
     ap (λ (sorts : List Sort). length sorts) (c.sorts.ensures ∙ ap sorts_of (c.names.ensures.names ∙ ap (λ (t : Scope). t.declared) stands.stands.scope)) ∙ sorts_count s.context.declared in
@@ -46,7 +46,7 @@ restrict-requires-clause-some g c =
 
 pub restrict-requires-clause-range : goal.restrict-requires-clause-range
 restrict-requires-clause-range g c =
-    let found : IsLeast c.args.problem c.args.objective.x c.args.objective.y c.in-Least.values c.in-Least.difference c.in-Least.refutation = as_answered _ _ _ _ _ c.in-Least.is c.in_ok-refutation.ensures in
+    let found : IsLeast c.args.problem c.args.objective.x c.args.objective.y c.in-Least.values c.in-Least.difference c.in-Least.refutation = as_answered _ _ _ _ _ c.in-Least.is c.in_ok-best.ensures in
     subst (λ (values : List ℤ). All IsInRange values) (sym c.as_slice.ensures) found.solution.range
 
 pub restrict-requires-in-Unbounded-clause-some : goal.restrict-requires-in-Unbounded-clause-some
@@ -54,7 +54,7 @@ restrict-requires-in-Unbounded-clause-some g c =
     let s = c.requires.0 in
     let stands = c.requires.2 in
     let taken = c.requires.3 in
-    let found : IsUnbounded c.args.problem c.args.objective.x c.args.objective.y c.in-Unbounded.values c.in-Unbounded.set = as_answered _ _ _ _ _ c.in-Unbounded.is c.in_ok-refutation.ensures in
+    let found : IsUnbounded c.args.problem c.args.objective.x c.args.objective.y c.in-Unbounded.values c.in-Unbounded.set = as_answered _ _ _ _ _ c.in-Unbounded.is c.in_ok-best.ensures in
     let count : length c.as_slice-in-Unbounded.result.now ≡ c.args.problem.points = ap (λ (values : List ℤ). length values) c.as_slice-in-Unbounded.ensures ∙ found.solution.count in
     let names : length c.sorts-in-Unbounded.result.now ≡ length s.context.declared =
     ap (λ (sorts : List Sort). length sorts) (c.sorts-in-Unbounded.ensures ∙ ap sorts_of (c.names-in-Unbounded.ensures.names ∙ ap (λ (t : Scope). t.declared) stands.stands.scope)) ∙ sorts_count s.context.declared in
@@ -64,30 +64,35 @@ restrict-requires-in-Unbounded-clause-some g c =
 
 pub restrict-requires-in-Unbounded-clause-range : goal.restrict-requires-in-Unbounded-clause-range
 restrict-requires-in-Unbounded-clause-range g c =
-    let found : IsUnbounded c.args.problem c.args.objective.x c.args.objective.y c.in-Unbounded.values c.in-Unbounded.set = as_answered _ _ _ _ _ c.in-Unbounded.is c.in_ok-refutation.ensures in
+    let found : IsUnbounded c.args.problem c.args.objective.x c.args.objective.y c.in-Unbounded.values c.in-Unbounded.set = as_answered _ _ _ _ _ c.in-Unbounded.is c.in_ok-best.ensures in
     subst (λ (values : List ℤ). All IsInRange values) (sym c.as_slice-in-Unbounded.ensures) found.solution.range
 
 pub refuted-requires-clause-refutes : goal.refuted-requires-clause-refutes
 refuted-requires-clause-refutes g c =
-    let found : IsNothing c.args.problem c.in-Nothing.refutation = as_answered _ _ _ _ _ c.in-Nothing.is c.in_ok-refutation.ensures in
+    let found : IsNothing c.args.problem c.in-Nothing.refutation = as_answered _ _ _ _ _ c.in-Nothing.is c.in_ok-best.ensures in
     found.0
 
 pub refuted-requires-clause-over : goal.refuted-requires-clause-over
 refuted-requires-clause-over g c =
-    let found : IsNothing c.args.problem c.in-Nothing.refutation = as_answered _ _ _ _ _ c.in-Nothing.is c.in_ok-refutation.ensures in
+    let found : IsNothing c.args.problem c.in-Nothing.refutation = as_answered _ _ _ _ _ c.in-Nothing.is c.in_ok-best.ensures in
     found.1
 
 pub least-requires-clause-refutes : goal.least-requires-clause-refutes
 least-requires-clause-refutes g c =
-    let found : IsLeast c.args.problem c.args.objective.x c.args.objective.y c.in-Least.values c.in-Least.difference c.in-Least.refutation = as_answered _ _ _ _ _ c.in-Least.is c.in_ok-refutation.ensures in
+    let found : IsLeast c.args.problem c.args.objective.x c.args.objective.y c.in-Least.values c.in-Least.difference c.in-Least.refutation = as_answered _ _ _ _ _ c.in-Least.is c.in_ok-best.ensures in
     let low = found.within.low in
     let high = found.within.high in
     let same : to_z w64 (of_z w64 c.in-Least.difference) ≡ c.in-Least.difference = omega (arith, ints, low, high) in
     subst (λ (d : ℤ). RefutesLess c.args.problem c.args.objective d c.in-Least.refutation) (sym same) found.refuted
 
+pub least-requires-clause-over : goal.least-requires-clause-over
+least-requires-clause-over g c =
+    let found : IsLeast c.args.problem c.args.objective.x c.args.objective.y c.in-Least.values c.in-Least.difference c.in-Least.refutation = as_answered _ _ _ _ _ c.in-Least.is c.in_ok-best.ensures in
+    found.over
+
 pub returns-in_ok-shown-in-Nothing : goal.returns-in_ok-shown-in-Nothing
 returns-in_ok-shown-in-Nothing g c = λ s x stands taken.
-    let found : IsNothing c.args.problem c.in-Nothing.refutation = as_answered _ _ _ _ _ c.in-Nothing.is c.in_ok-refutation.ensures in
+    let found : IsNothing c.args.problem c.in-Nothing.refutation = as_answered _ _ _ _ _ c.in-Nothing.is c.in_ok-best.ensures in
     let of_context = c.context_law.ensures in
     let of_form = c.clause_form_law.ensures in
     let laws : Laws = record {
@@ -115,7 +120,7 @@ returns-in_ok-shown-in-Nothing g c = λ s x stands taken.
 
 pub returns-in_ok-shown-in-Least : goal.returns-in_ok-shown-in-Least
 returns-in_ok-shown-in-Least g c = λ s x stands taken.
-    let found : IsLeast c.args.problem c.args.objective.x c.args.objective.y c.in-Least.values c.in-Least.difference c.in-Least.refutation = as_answered _ _ _ _ _ c.in-Least.is c.in_ok-refutation.ensures in
+    let found : IsLeast c.args.problem c.args.objective.x c.args.objective.y c.in-Least.values c.in-Least.difference c.in-Least.refutation = as_answered _ _ _ _ _ c.in-Least.is c.in_ok-best.ensures in
     let of_context = c.context_law.ensures in
     let of_form = c.clause_form_law.ensures in
     let laws : Laws = record {
@@ -153,7 +158,7 @@ returns-in_ok-shown-in-Least g c = λ s x stands taken.
 
 pub returns-in_ok-shown-in-Unbounded : goal.returns-in_ok-shown-in-Unbounded
 returns-in_ok-shown-in-Unbounded g c = λ s x stands taken.
-    let found : IsUnbounded c.args.problem c.args.objective.x c.args.objective.y c.in-Unbounded.values c.in-Unbounded.set = as_answered _ _ _ _ _ c.in-Unbounded.is c.in_ok-refutation.ensures in
+    let found : IsUnbounded c.args.problem c.args.objective.x c.args.objective.y c.in-Unbounded.values c.in-Unbounded.set = as_answered _ _ _ _ _ c.in-Unbounded.is c.in_ok-best.ensures in
     let of_context = c.context_law.ensures in
     let of_form = c.clause_form_law.ensures in
     let laws : Laws = record {
