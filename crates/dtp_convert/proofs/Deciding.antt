@@ -1,8 +1,6 @@
 -- A converted entry decides its question.
-use Rattle.std.proofs.Common.{arith, refl, sym, ap, subst, ◌∙◌, ◌≡◌, ◌+◌, ◌==◌, ◌^◌, ℕ, ◌<◌, List, [], ◌∷◌, ◌++◌, length, Bool, true, false, Option, Some, None, Result, Ok, Err, ℤ}
-use Rattle.std.specs.Prelude.{All, if◌then◌else◌, option_map}
-use Rattle.std.specs.List.{AllByRecursion}
-use Rattle.std.proofs.lemmas.Bool.{eqb-true}
+use Rattle.std.proofs.Common.{arith, refl, sym, ap, subst, ◌∙◌, ◌≡◌, ◌+◌, ◌==◌, ◌^◌, ℕ, ◌<◌, List, [], ◌∷◌, ◌++◌, length, Option, Some, None, Result, Ok, Err, ℤ}
+use Rattle.std.specs.Prelude.{All, option_map}
 use Rattle.smt_sexpr.specs.Tree.{Sexpr}
 use Rattle.stn_core.specs.declared.literal.Literal.{Literal}
 use Rattle.stn_core.specs.declared.named.NamedValue.{NamedValue}
@@ -20,9 +18,8 @@ use Rattle.cert_text.specs.Limits.{WholeFits, UnboundedWithin, EntryFits}
 use Rattle.kept_lemmas.specs.declared.item.Item.{Item}
 use Rattle.kept_lemmas.specs.Entries.{Placed}
 use Rattle.clause_form.specs.Laws.{PointsGrow}
-use Rattle.idl_term.specs.Contexts.{Context, IsScheduleFor, IsTrueOn, environment}
-use Rattle.idl_term.specs.Scopes.{sorts_of}
-use Rattle.idl_term.specs.Values.{Value, whole, truth, nothing, Named, value}
+use Rattle.idl_term.specs.Contexts.{Context}
+use Rattle.idl_term.specs.Values.{value}
 use Rattle.smt_script.specs.code.Kept.{Kept}
 use Rattle.smt_script.specs.declared.objective.Objective.{Objective}
 use Rattle.smt_script.specs.declared.state.Effect.TheVariants.{Ask}
@@ -33,52 +30,21 @@ use Rattle.smt_script.specs.States.{State}
 use Rattle.dtp_entry.specs.Entries.{points_of, problem_of, problem_below, IsProblemOf, IsLeast, IsRight}
 use Rattle.dtp_entry.specs.Laws.{RightIsSo}
 use Rattle.dtp_entry.specs.Transcripts.{Decides}
-use Rattle.dtp_entry.proofs.Verdicts.{sorts_count}
 use Rattle.dtp_check.specs.declared.judgement.EntryFlaw.{EntryFlaw}
-use Rattle.dtp_check.specs.declared.judgement.EntryFlaw.TheVariants.{WrongCount, WrongSort, FalseAssertion, Flawed}
-use Rattle.dtp_check.specs.Judged.{first_of_wrong_sort, is_true, first_false, first_of_two, values_flaw, refutation_flaw, least_flaw, at_check_sat, entry_flaw}
+use Rattle.dtp_check.specs.declared.judgement.EntryFlaw.TheVariants.{Flawed}
+use Rattle.dtp_check.specs.Judged.{first_of_two, values_flaw, refutation_flaw, least_flaw, at_check_sat, entry_flaw}
 use Rattle.dtp_check.specs.declared.earlier.Earlier.{Earlier}
 use Rattle.dtp_check.specs.code.Asked.{IsAsked, IsLeastFound, asked_clauses}
 use Rattle.dtp_check.specs.code.Earlier.{Holds}
 use Rattle.dtp_check.proofs.FreeSets.{set_right}
-use Rattle.dtp_check.proofs.Judging.{are_of_sorts}
 use Rattle.dtp_check.proofs.Leasts.{none_of_two, least_right}
+use Rattle.dtp_check.proofs.Truths.{values_right as satisfied}
 use Rattle.dtp_convert.specs.code.Shown.{AreItemsShown, IsAdded, IsShown}
 
 -- ---- values without a flaw
 
-is_true_of : (v : Value) → is_true v ≡ true → v ≡ truth true
-is_true_of (truth b) e = ap truth e
-is_true_of (whole n) e = absurd cc
-is_true_of nothing e = absurd cc
-
-abbrev AreTrueIn : List Named → List Sexpr → Type 0
-AreTrueIn env ts = AllByRecursion (λ (t : Sexpr). value env t ≡ truth true) ts
-
-none_false_by : (env : List Named) (k : ℕ) (t : Sexpr) (ts : List Sexpr) (b : Bool) → is_true (value env t) ≡ b → (if b then first_false env (k + 1) ts else Some k) ≡ None
-    → (first_false env (k + 1) ts ≡ None → AreTrueIn env ts) → AreTrueIn env (t ∷ ts)
-none_false_by env k t ts true e f rest = (is_true_of (value env t) e, rest f)
-none_false_by env k t ts false e f rest = absurd cc
-
-none_false : (env : List Named) (k : ℕ) (ts : List Sexpr) → first_false env k ts ≡ None → AreTrueIn env ts
-none_false env k [] e = tt
-none_false env k (t ∷ ts) e = none_false_by env k t ts (is_true (value env t)) refl e (λ f. none_false env (k + 1) ts f)
-
-no_flaws : (a b : Option ℕ) → first_of_two (option_map WrongSort a) (option_map FalseAssertion b) ≡ None → (a ≡ None) × (b ≡ None)
-no_flaws None None e = (refl, refl)
-no_flaws None (Some k) e = absurd cc
-no_flaws (Some k) b e = absurd cc
-
-values_right_by : (c : Context) (values : List NamedValue) (test : Bool) → (length values == length c.declared) ≡ test
-    → (if test then first_of_two (option_map WrongSort (first_of_wrong_sort 1 (sorts_of c.declared) values)) (option_map FalseAssertion (first_false (environment c values) 1 c.assertions)) else Some WrongCount) ≡ None
-    → IsScheduleFor c values × AllByRecursion (IsTrueOn c values) c.assertions
-values_right_by c values false e f = absurd cc
-values_right_by c values true e f =
-    let none = no_flaws (first_of_wrong_sort 1 (sorts_of c.declared) values) (first_false (environment c values) 1 c.assertions) f in
-    (are_of_sorts 1 (sorts_of c.declared) values (eqb-true _ _ e ∙ sym (sorts_count c.declared)) none.0, none_false (environment c values) 1 c.assertions none.1)
-
 values_right : (question : Question) (x : Sexpr) (c : Context) (values : List NamedValue) → at_check_sat question (values_flaw c values) ≡ None → IsRight question x c (Sat values)
-values_right CheckSat x c values e = values_right_by c values (length values == length c.declared) refl e
+values_right CheckSat x c values e = satisfied c values e
 values_right (Minimize o) x c values e = absurd cc
 
 -- ---- items over the problem that the code has
@@ -171,7 +137,7 @@ module _ (law : RightIsSo) (kept : Kept) (o : Objective) (x : Sexpr) (s : State)
         let none : entry_flaw before (Minimize o) x c (file.Best m values items) ≡ None = none_of_two (least_flaw x o c m values) (refutation_flaw before c (problem_below c o m) items) least.0 (ap (option_map Flawed) here.0) in
         let found = least_right x o c m values least.0 in
         let right : IsLeast c x o m values lemmas = record {
-          satisfies = values_right_by c values (length values == length c.declared) refl found.values_none;
+          satisfies = satisfied c values found.values_none;
           attained = found.attains;
           within = found.in_limit;
           refuted = here.1.refutes;
