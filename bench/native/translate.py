@@ -32,7 +32,7 @@ STAND_INS = [
     (r"use std::marker::(Model|Drop);", ""),
     (r"use std::sync::Arc;", "use shim::Arc;"),
     (r"use std::sync::\{Arc, Wait\};", "use shim::{Arc, sync::Wait};"),
-    (r"use std::(sync::Wait|thread|thread::\w+|snapshot::\w+);", r"use shim::\1;"),
+    (r"use std::(sync::Wait|thread|thread::\w+|thread::\{[\w, ]+\}|snapshot::\w+);", r"use shim::\1;"),
     (r"use (atomic_table|crossbeam_deque)::", r"use shim::\1::"),
     (r"\batomic_table::Seat", "shim::atomic_table::Seat"),
     (r"use indexmap::(\w+);", r"use shim::\1;"),

@@ -78,7 +78,6 @@ fn search<R: Threads + Wait + Sync, G: Gate>(
     problem: &Problem,
     kept: &KeptSchedule,
     earlier: &Earlier,
-    wanted: Wanted,
     options: SearchOptions,
     gate: &G,
 ) -> Result<Verdict, AllocError>
@@ -90,7 +89,7 @@ fn search<R: Threads + Wait + Sync, G: Gate>(
     if let Some(verdict) = decide_units(alloc, problem)? {
         return Ok(verdict);
     }
-    match earlier.taken(alloc, problem, wanted)? {
+    match earlier.taken(alloc, problem)? {
         Taken::Refutes(refutation) => Ok(Verdict::Unsat(refutation)),
         Taken::Opens(opening) => {
             let phases = phases_of(alloc, kept)?;
@@ -122,7 +121,7 @@ fn satisfy<R: Threads + Wait + Sync, G: Gate>(
     stn_core::negation_kept();
     best_values::unbounded_law();
     unsat_cores::core_law();
-    match search(rt, alloc, &problem, kept, earlier, wanted, options, gate)? {
+    match search(rt, alloc, &problem, kept, earlier, options, gate)? {
         Verdict::Sat(schedule) => {
             let values = restrict(alloc, schedule.as_slice(), state.names().sorts())?;
             let shown = without_lemmas(alloc, wanted, Entry::Sat(values), earlier)?;

@@ -13,16 +13,21 @@ ghost use Rattle.dtp_session.specs.code.Waiting.{IsRightOver, shelf_with};
 
 use crate::shown_items::ShownItems;
 use crate::waiting::Waiting;
-use crate::wanted::Wanted;
 use cert_text::{Entry, NUMBER_LIMIT, Version};
 use indexmap::IndexMap;
 use kept_lemmas::{Item, Items, Kept};
-use learned_lemmas::{Learned, Taken};
+use learned_lemmas::{Choice, Learned, Taken};
 use lemma_shelf::Shelf;
 use refute_tree::{Batch, Lemma};
 use std::alloc::{AllocError, Global};
 use std::marker::Model;
 use stn_core::{Literal, Problem};
+
+/// Few lemmas of a refutation, which cost a later search little where they don't help it.
+const CHOICE: Choice = Choice {
+    longest: 3,
+    most: 20,
+};
 
 /// Whether the format can name what is kept at the place.
 fn is_place_named(kept: Kept) -> bool
@@ -217,19 +222,13 @@ impl Earlier {
         }
     }
 
-    /// What the problem takes over of an earlier one's refutation. In the first version that is nothing, since an entry would have to show each lemma that was
-    /// taken over.
-    pub fn taken(
-        &self,
-        alloc: Global,
-        problem: &Problem,
-        wanted: Wanted,
-    ) -> Result<Taken, AllocError>
+    /// What the problem takes over of an earlier one's refutation.
+    pub fn taken(&self, alloc: Global, problem: &Problem) -> Result<Taken, AllocError>
         ensures { IfOk result (IsTakenOver problem.now) }
     {
-        match (wanted.choice(), &self.learned) {
-            (Some(choice), Some(learned)) => learned.taken(alloc, problem, choice),
-            _ => Ok(Taken::Opens(Batch::new(0, Vec::new(alloc)))),
+        match &self.learned {
+            Some(learned) => learned.taken(alloc, problem, CHOICE),
+            None => Ok(Taken::Opens(Batch::new(0, Vec::new(alloc)))),
         }
     }
 
@@ -239,16 +238,13 @@ impl Earlier {
         alloc: Global,
         problem: &Problem,
         refutation: &[Lemma],
-        wanted: Wanted,
     ) -> Result<(), AllocError>
         requires refutes { IsRefutation problem.now.points problem.now.clauses refutation.now }
         requires over { All (LemmaIsOver problem.now.points) refutation.now }
         ensures { self.new ≡ self.old }
     {
-        if let Some(choice) = wanted.choice() {
-            if let Some(learned) = Learned::of(alloc, problem, refutation, choice)? {
-                self.learned = Some(learned);
-            }
+        if let Some(learned) = Learned::of(alloc, problem, refutation, CHOICE)? {
+            self.learned = Some(learned);
         }
         Ok(())
     }

@@ -68,7 +68,6 @@ fn search<R: Threads + Wait + Sync, G: Gate>(
     objective: Objective,
     kept: &KeptSchedule,
     earlier: &Earlier,
-    wanted: Wanted,
     options: SearchOptions,
     gate: &G,
 ) -> Result<Best, AllocError>
@@ -77,7 +76,7 @@ fn search<R: Threads + Wait + Sync, G: Gate>(
     requires y_in { objective.y < problem.now.points }
     ensures { IfOk result (IsBestAnswer problem.now objective.x objective.y) }
 {
-    match earlier.taken(alloc, problem, wanted)? {
+    match earlier.taken(alloc, problem)? {
         Taken::Refutes(refutation) => Ok(Best::Nothing(refutation)),
         Taken::Opens(opening) => {
             let phases = phases_of(alloc, kept)?;
@@ -113,7 +112,7 @@ fn least(
         objective.y,
         Value::from(difference),
     )?;
-    earlier.learn(alloc, &asked, refutation.as_slice(), wanted)?;
+    earlier.learn(alloc, &asked, refutation.as_slice())?;
     let lemmas = kept(alloc, wanted, &asked, refutation)?;
     let minimum = Value::from(difference) + Value::from(objective.k);
     let entry = Entry::Best(minimum, schedule, lemmas);
@@ -147,9 +146,7 @@ pub fn minimize<R: Threads + Wait + Sync, G: Gate>(
     stn_core::negation_kept();
     best_values::unbounded_law();
     unsat_cores::core_law();
-    let best = search(
-        rt, alloc, &problem, objective, kept, earlier, wanted, options, gate,
-    )?;
+    let best = search(rt, alloc, &problem, objective, kept, earlier, options, gate)?;
     match best {
         Best::Nothing(refutation) => {
             let shown = refuted(alloc, wanted, problem, refutation, earlier)?;

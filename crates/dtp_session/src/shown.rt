@@ -114,7 +114,7 @@ pub fn refuted(
     ensures entered { IfOk result (λ shown.
         IsEntered (version_wanted wanted) earlier.old problem.points problem.clauses shown.found shown.items earlier.new) }
 {
-    earlier.learn(alloc, &problem, refutation.as_slice(), wanted)?;
+    earlier.learn(alloc, &problem, refutation.as_slice())?;
     let lemmas = kept(alloc, wanted, &problem, refutation)?;
     with_lemmas(alloc, wanted, problem, Entry::Unsat(lemmas), earlier)
 }

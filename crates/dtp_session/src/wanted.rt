@@ -4,19 +4,6 @@ ghost use Rattle.dtp_session.specs.code.Forms.{version_wanted};
 
 use bstr::ByteSlice;
 use cert_text::Version;
-use learned_lemmas::Choice;
-
-/// Few lemmas, which cost a search little where they don't help it.
-const FOR_VERDICTS: Choice = Choice {
-    longest: 3,
-    most: 20,
-};
-
-/// More of them where certificates are shorter by each that comes again.
-const FOR_ENTRIES: Choice = Choice {
-    longest: 5,
-    most: 100,
-};
 
 /// What a question is decided for.
 #[derive(Clone, Copy, Debug, PartialEq, Eq)]
@@ -35,15 +22,6 @@ impl Wanted {
         match self {
             Wanted::Verdict => Version::One,
             Wanted::Entry(version) => version,
-        }
-    }
-
-    /// Which lemmas of a refutation later searches may open with. An entry of the first version would have to show each of them.
-    pub fn choice(self) -> Option<Choice> {
-        match self {
-            Wanted::Verdict => Some(FOR_VERDICTS),
-            Wanted::Entry(Version::One) => None,
-            Wanted::Entry(Version::Two) => Some(FOR_ENTRIES),
         }
     }
 }
