@@ -45,6 +45,10 @@ use steal_search::Gate;
 use stn_core::{NamedValues, Problem};
 use unsat_cores::cited_roots;
 
+/// From so many nodes on the schedule of zeros is tried before a problem is made of them: this costs a walk over the nodes, and a problem takes more memory
+/// than they do.
+const LARGE_TABLE: usize = 1 << 14;
+
 /// A script that is being answered.
 #[derive(Drop)]
 pub struct Session<'a> {
@@ -262,7 +266,8 @@ impl<'a> Session<'a> {
         Ok(())
     }
 
-    /// The schedule of an earlier question, changed by a few steps, where these lead to one that satisfies the assertions.
+    /// The schedule of an earlier question, or where there is none and the table of nodes is large the one of zeros, changed by a few steps, where these
+    /// lead to one that satisfies the assertions.
     fn satisfying(&mut self) -> Result<Option<NamedValues>, AllocError>
         requires { (s : Meaning) × Stands self.old.walk.state s }
         ensures found { IfOk result (λ found. IfSome found (λ values. (s : Meaning) → Stands self.old.walk.state s
@@ -270,12 +275,13 @@ impl<'a> Session<'a> {
         ensures same { self.new ≡ record self.old { kept = self.new.kept } }
     {
         context_law();
-        if self.kept.is_empty() {
+        let state = &self.walk.state;
+        let table = state.nodes();
+        if self.kept.is_empty() && table.len() < LARGE_TABLE {
             return Ok(None);
         }
-        let state = &self.walk.state;
         let sorts = state.names().sorts();
-        self.kept.satisfying(state.nodes(), state.roots(), sorts)
+        self.kept.satisfying(table, state.roots(), sorts)
     }
 
     /// Answers a check-sat by this schedule.

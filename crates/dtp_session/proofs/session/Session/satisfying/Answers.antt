@@ -17,15 +17,15 @@ satisfying-requires c =
     let stands = c.requires.1 in
     let sorts = sorts_of s.context.declared in
     let names : c.sorts-sorts.result.now ≡ sorts = c.sorts-sorts.ensures ∙ ap sorts_of (c.names.ensures.names ∙ ap (λ (t : Scope). t.declared) stands.stands.scope) in
-    table_over (length c.sorts-sorts.result.now + 1) c.nodes.result.now s.context.nodes sorts (ap (λ (ss : List Sort). length ss + 1) names) (c.nodes.ensures ∙ stands.stands.nodes)
+    table_over (length c.sorts-sorts.result.now + 1) c.nodes-table.result.now s.context.nodes sorts (ap (λ (ss : List Sort). length ss + 1) names) (c.nodes-table.ensures ∙ stands.stands.nodes)
     (c.context_law.ensures.scope s.context stands.made.context).table
 
 pub returns-clause-found : goal.returns-clause-found
 returns-clause-found c =
     let kept = c.args.self.now.walk.state in
-    found_weaker (IsScheduleOf c.nodes.result.now c.roots.result.now c.sorts-sorts.result.now) (λ (values : List NamedValue). (s : State) → Stands kept s → Satisfies s.context values × AreWithinLimit values) c.satisfying.result
+    found_weaker (IsScheduleOf c.nodes-table.result.now c.roots.result.now c.sorts-sorts.result.now) (λ (values : List NamedValue). (s : State) → Stands kept s → Satisfies s.context values × AreWithinLimit values) c.satisfying.result
     (λ values h s stands. (
     let names : c.sorts-sorts.result.now ≡ sorts_of s.context.declared = c.sorts-sorts.ensures ∙ ap sorts_of (c.names.ensures.names ∙ ap (λ (t : Scope). t.declared) stands.stands.scope) in
-    schedule_satisfies c.context_law.ensures.exact kept s stands c.nodes.result.now c.roots.result.now c.sorts-sorts.result.now c.nodes.ensures c.roots.ensures names values h
+    schedule_satisfies c.context_law.ensures.exact kept s stands c.nodes-table.result.now c.roots.result.now c.sorts-sorts.result.now c.nodes-table.ensures c.roots.ensures names values h
     ))
     c.satisfying.ensures
