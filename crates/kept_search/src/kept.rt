@@ -14,6 +14,7 @@ use book_search::Pacing;
 use branch_search::{Searcher, Slice};
 use inc_paths::Network;
 use refute_tree::{Batch, Lemma, Refutation, Steps};
+use search_guide::Policy;
 use std::alloc::{AllocError, Global};
 use std::marker::Model;
 use std::mem;
@@ -79,6 +80,7 @@ fn all_hold(cube: &[Literal], values: &[Value]) -> bool
 impl KeptSearch {
     /// A search before its first question, whose first slice has this budget of literals that it adds to its net. It has these lemmas of the problem
     /// from the start. Literals that were never decided are decided as they hold on these values of the first time points, perhaps none: a hint.
+    /// A question's cube may bound a point that the problem has in one literal alone, so that none may stay out of the net.
     pub fn new(
         alloc: Global,
         problem: &Problem,
@@ -89,7 +91,12 @@ impl KeptSearch {
         requires { IsOpening problem.now opening.lemmas }
         ensures { IfOk result (IsSearchOf problem.now) }
     {
-        let mut searcher = Searcher::alone(alloc, problem)?;
+        let policy = Policy {
+            pure_apart: false,
+            shares: false,
+            ..Policy::default()
+        };
+        let mut searcher = Searcher::with_policy(alloc, problem, policy)?;
         searcher.follow(phases);
         Ok(KeptSearch {
             searcher,
