@@ -15,6 +15,9 @@ use stn_core::Literal;
 /// So many of the most active atoms are weighed.
 const WEIGHED: usize = 30;
 
+/// So many words of 64 bits each mark the atoms of those that are weighed.
+const MARKS: usize = 8;
+
 /// A clause of more literals weighs as much as one of so many.
 const MOST_LITERALS: usize = 60;
 
@@ -45,6 +48,8 @@ struct Candidates {
     found: [Option<Candidate>; WEIGHED],
     /// only a more active one has a place
     least: f64,
+    /// a bit for each remainder of an atom's number that a literal has or had: most literals of the clauses are told by it
+    marks: [u64; MARKS],
 }
 
 /// What a clause weighs of which so many literals are open: half as much with each one more.
@@ -56,12 +61,36 @@ fn weight(open: usize) -> f64 {
     weight
 }
 
+/// The word and the bit that mark the literal's atom.
+fn mark_of(literal: LiteralNumber) -> (usize, u64) {
+    let remainder = atom_of(literal) % (64 * MARKS);
+    (remainder / 64, 1 << (remainder % 64))
+}
+
 impl Candidates {
     /// None was offered.
     fn new() -> Self {
         Candidates {
             found: [None; WEIGHED],
             least: 0.0,
+            marks: [0; MARKS],
+        }
+    }
+
+    /// Notes that the literal's atom may be among those that were found.
+    fn mark(&mut self, literal: LiteralNumber) {
+        let (place, bit) = mark_of(literal);
+        if let Some(word) = self.marks.get_mut(place) {
+            *word |= bit;
+        }
+    }
+
+    /// Whether the literal's atom may be among those that were found.
+    fn is_marked(&self, literal: LiteralNumber) -> bool {
+        let (place, bit) = mark_of(literal);
+        match self.marks.get(place) {
+            Some(word) => word & bit != 0,
+            None => false,
         }
     }
 
@@ -87,6 +116,7 @@ impl Candidates {
         if !self.wants(candidate.activity) || self.has_atom(candidate.number) {
             return;
         }
+        self.mark(candidate.number);
         let least = self.least;
         let mut next = candidate.activity;
         let mut is_placed = false;
@@ -107,6 +137,9 @@ impl Candidates {
 
     /// A clause that weighs so much has this literal.
     fn weigh(&mut self, literal: LiteralNumber, weight: f64) {
+        if !self.is_marked(literal) {
+            return;
+        }
         for slot in self.found.iter_mut() {
             if let Some(candidate) = slot {
                 if candidate.number == literal {
@@ -137,12 +170,13 @@ impl Candidates {
 impl Guide {
     /// The place of a clause of the problem, by number and place, whose literal is the best to divide the cube by.
     pub fn dividing(&self, cube: &[Literal]) -> Option<(usize, usize)> {
-        let fixed = if self.policy().shares && !self.hall_set.is_under_way() {
-            None
-        } else {
-            self.fixed_place(cube)
-        };
-        fixed.or(self.balanced_place())
+        let is_alone = !self.policy().shares || self.hall_set.is_under_way();
+        if is_alone {
+            if let Some(place) = self.fixed_place(cube) {
+                return Some(place);
+            }
+        }
+        self.balanced_place()
     }
 
     /// Where the least active pure literal stands of those that are fixed at the root, but not by the cube. Lemmas under a

@@ -207,6 +207,9 @@ impl Watches {
             return;
         };
         self.literal = None;
+        if self.list.is_empty() {
+            return;
+        }
         if self.kept < self.seen {
             let mut kept = self.kept;
             let list = self.list.as_mut_slice();
@@ -226,7 +229,9 @@ impl Watches {
     pub fn begin(&mut self, literal: LiteralNumber, weaker: Option<LiteralNumber>) {
         self.end();
         if let Some(lists) = self.lists.get_mut(literal as usize) {
-            mem::swap(&mut lists.longer, &mut self.list);
+            if !lists.longer.is_empty() {
+                mem::swap(&mut lists.longer, &mut self.list);
+            }
             self.literal = Some(literal);
         }
         self.weaker = weaker;
