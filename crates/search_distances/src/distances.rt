@@ -1,10 +1,10 @@
 //! Which literals follow by the distances between points: by a table for as many points as the guide's policy says, else by
 //! a search for each literal.
 //!
-//! Of a large table each literal may lower many entries, and these are kept as they were for the way back. Where there are very many
-//! literals, a search mostly ends in a few long descents, and the table would be most of its time and memory. So it is
-//! made there only when the search has gone on for a while: what ends sooner does without. Else it is made at once, since random
-//! problems need it.
+//! Of a large table each literal may lower many entries, and these are kept as they were for the way back. A search that ends in
+//! a few descents is over sooner without it. So a large one is made only when the search has gone back some times, and the later where
+//! there are very many literals, where descents are long and the table would be most of the time and the memory. A small one is made at
+//! once: random problems need it from their first conflict on.
 use crate::later::Later;
 use crate::rows::Rows;
 use crate::searches::Searches;
@@ -55,10 +55,10 @@ impl Distances {
         }
         let way = if rows.count() > most {
             Way::Searches(Searches::new(alloc, guide, rows)?)
-        } else if rows.count() <= FEW_ROWS || !guide.is_vast() || guide.has_plan() {
+        } else if rows.count() <= FEW_ROWS || guide.has_plan() {
             Way::Table(Table::new(alloc, guide, rows)?)
         } else {
-            Way::Later(Later::new(alloc, rows.count()))
+            Way::Later(Later::new(alloc, rows.count(), guide.is_vast()))
         };
         Ok(Some(Distances { alloc, points, way }))
     }

@@ -7,8 +7,11 @@ use std::alloc::{AllocError, Global};
 /// A table is made after so many literals for each of its pairs, in all descents together,
 const LITERALS: u64 = 3;
 
-/// or once the search has gone back so often.
-const RETURNS: u64 = 100;
+/// or once the search has gone back so often from above the root,
+const RETURNS: u64 = 50;
+
+/// or, where there are very many literals, so often.
+const VAST_RETURNS: u64 = 100;
 
 /// A literal of the trail, and its place there.
 #[derive(Clone, Copy)]
@@ -37,13 +40,13 @@ impl Drop for Later {
 }
 
 impl Later {
-    /// Of a table of so many rows, where no literal is in the net.
-    pub fn new(alloc: Global, rows: usize) -> Self {
+    /// Of a table of so many rows, where no literal is in the net, and perhaps there are very many literals.
+    pub fn new(alloc: Global, rows: usize, is_vast: bool) -> Self {
         let rows = rows as u64;
         Later {
             added: Vec::new(alloc),
             adds: rows.saturating_mul(rows).saturating_mul(LITERALS),
-            returns: RETURNS,
+            returns: if is_vast { VAST_RETURNS } else { RETURNS },
         }
     }
 
@@ -65,9 +68,11 @@ impl Later {
         Ok(is_due)
     }
 
-    /// The literals from this place of the trail on leave the net.
+    /// The literals from this place of the trail on leave the net. All of them do where a slice begins.
     pub fn retract(&mut self, place: usize) {
-        self.returns = self.returns.saturating_sub(1);
+        if place > 0 {
+            self.returns = self.returns.saturating_sub(1);
+        }
         for _added in 0..self.added.len() {
             match self.added.last() {
                 Some(added) if added.place >= place => {
