@@ -72,6 +72,13 @@ fn wanted_numbers<'a>(
     }
 }
 
+// Whether the clause is of two literals, of which the other one is denied at the place `near` of the trail.
+fn is_denied_pair(entries: &[Entry], clause: &[Literal], place: usize, near: usize) -> bool
+    ensures { result ≡ true → AreDenied entries.now clause.now place }
+{
+    clause.len() == 2 && place < 2 && is_denied_at(entries, near, clause[1 - place])
+}
+
 // Whether the clause's literals but the one at the place are denied: one of them perhaps at the place `near` of the
 // trail.
 fn are_denied(
@@ -84,6 +91,9 @@ fn are_denied(
 ) -> bool
     ensures { result ≡ true → AreDenied entries.now clause.now place }
 {
+    if is_denied_pair(entries, clause, place, near) {
+        return true;
+    }
     let numbers = wanted_numbers(guide, entries, source, clause, place, near);
     for q in 0..clause.len() {
         if q != place && !is_denied_near(guide, entries, numbers, near, q, clause[q]) {
