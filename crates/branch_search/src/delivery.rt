@@ -11,6 +11,7 @@ use crate::task::Task;
 use refute_tree::{Batch, Earlier};
 use search_guide::{Guide, Source};
 use std::alloc::{AllocError, Global};
+use stn_core::Literal;
 use trim_lemmas::{TrimmedBatch, trimmed_batch};
 
 // The lemma that excludes the cube, if one does.
@@ -24,11 +25,16 @@ fn excluding(division: &Division) -> Option<usize>
     }
 }
 
+// Whether nothing is searched behind the slice: then who wants a short refutation trims it as a whole.
+fn ends_search(cube: &[Literal], division: &Division) -> bool {
+    cube.is_empty() && matches!(division, Division::Excluded(_))
+}
+
 // Whether the own lemma with the number j is wanted for itself.
-fn is_wanted(guide: &Guide, seen: usize, found: Option<usize>, j: usize) -> bool
+fn is_wanted(guide: &Guide, seen: usize, found: Option<usize>, all: bool, j: usize) -> bool
     ensures { found ≡ Some j → result ≡ true }
 {
-    if found == Some(j) {
+    if all || found == Some(j) {
         return true;
     }
     !guide
@@ -42,6 +48,7 @@ fn wanted_lemmas(
     guide: &Guide,
     seen: usize,
     found: Option<usize>,
+    all: bool,
     count: usize,
 ) -> Result<Vec<bool>, AllocError>
     ensures each { IfOk result (λ wanted. length wanted.items ≡ count) }
@@ -50,24 +57,25 @@ fn wanted_lemmas(
 {
     let mut wanted = Vec::with_capacity(alloc, count)?;
     for j in 0..count {
-        wanted.push(is_wanted(guide, seen, found, j))?;
+        wanted.push(is_wanted(guide, seen, found, all, j))?;
     }
     Ok(wanted)
 }
 
 impl State {
-    // The own lemmas, which leave the state, without those that nothing needs. So many were handed.
+    // The own lemmas, which leave the state, without those that nothing needs, unless all are wanted. So many were handed.
     fn take_wanted(
         &mut self,
         alloc: Global,
         seen: usize,
         found: Option<usize>,
+        all: bool,
     ) -> Result<TrimmedBatch, AllocError>
         requires fits { seen + length self.old.own.items < 2 ^ 64 }
         ensures left { IfOk result (IsLeft seen self.old.own.items found) }
     {
         let own = self.take_own(alloc);
-        let wanted = wanted_lemmas(alloc, &self.guide, seen, found, own.len())?;
+        let wanted = wanted_lemmas(alloc, &self.guide, seen, found, all, own.len())?;
         let left = trimmed_batch(alloc, Batch::new(seen, own), wanted)?;
         Ok(left)
     }
@@ -85,7 +93,8 @@ impl State {
         ensures kind { IfOk result (IsOfKind division) }
     {
         let seen = task.count();
-        let left = self.take_wanted(alloc, seen, excluding(&division))?;
+        let is_last = ends_search(task.cube(), &division);
+        let left = self.take_wanted(alloc, seen, excluding(&division), is_last)?;
         self.guide.close_up(seen, &left.needed)?;
         match division {
             Division::Model(schedule) => Ok(Slice::Model(schedule, left.batch)),

@@ -1,5 +1,5 @@
 -- The lemmas that are marked are the needed ones.
-use Rattle.std.proofs.Common.{arith, ◌≡◌, ◌<◌, ◌≤◌, ◌+◌, ◌-◌, ◌⊎◌, inl, inr, ℕ, zero, suc, Bool, true, false, List, [], ◌∷◌, length, Contains, refl, sym, ap, subst, ◌∙◌, get_or, set, replicate}
+use Rattle.std.proofs.Common.{arith, ◌≡◌, ◌<◌, ◌≤◌, ◌+◌, ◌-◌, ◌⊎◌, inl, inr, ℕ, zero, suc, Bool, true, false, List, [], ◌∷◌, length, All, Contains, refl, sym, ap, subst, ◌∙◌, get_or, set, replicate}
 use Rattle.std.specs.Prelude.{nat_lt, if◌then◌else◌}
 use Rattle.std.proofs.lemmas.Bool.{cases_lt}
 use Rattle.std.proofs.lemmas.Bool.Decides.{nat_tests}
@@ -260,3 +260,15 @@ module _ (lemmas : List Lemma) where
       λ n. h.1 (other_roots (IsLast lemmas) (IsWanted first_marks) 0 lemmas (λ k lt r. first_last k r) j n),
     ));
   }
+
+-- ---- where all are marked
+
+needed_within : (Root : ℕ → Type 0) (seen : ℕ) (lemmas : List Lemma) (j : ℕ) → IsNeeded Root seen lemmas j → j < length lemmas
+needed_within Root seen lemmas j (root within is) = within
+needed_within Root seen lemmas j (cited {k} needed cites) = let less = needed_within Root seen lemmas k needed in omega (arith, less, cites.before)
+
+pub all_needed : (seen : ℕ) (lemmas : List Lemma) (bs : List Bool) → length bs ≡ length lemmas → All (λ b. b ≡ true) bs → AreNeeded (IsWanted bs) seen lemmas bs
+all_needed seen lemmas bs long all = record {
+  one_each = long;
+  right = λ j. ((λ h. let less = marked_within bs j h in root (omega (arith, less, long)) h), λ n. let less = needed_within (IsWanted bs) seen lemmas j n in all j false (omega (arith, less, long)));
+}

@@ -1,5 +1,5 @@
 //! Which lemmas of a list the marked ones need.
-ghost use Rattle.std.specs.Prelude.{◌≡◌, ◌≤◌, length, IfOk};
+ghost use Rattle.std.specs.Prelude.{◌≡◌, ◌≤◌, length, All, true, IfOk};
 ghost use Rattle.refute_tree.specs.code.Views.{step_seen};
 ghost use Rattle.trim_lemmas.specs.Trimming.{AreNeeded, IsLast, IsWanted};
 ghost use Rattle.trim_lemmas.specs.code.Marks.{marked_step, marked, swept, with_last};
@@ -56,11 +56,21 @@ fn mark_last(needed: &mut [bool])
     }
 }
 
-/// For each lemma whether it is marked or a marked one needs it. It goes over the steps of the needed ones once.
+// Whether all are marked.
+fn are_all(marks: &[bool]) -> bool
+    ensures { result ≡ true → All (λ mark. mark ≡ true) marks.now }
+{
+    marks.iter().all(|is_marked| *is_marked)
+}
+
+/// For each lemma whether it is marked or a marked one needs it. It goes over the steps of the needed ones once, and over none where all are marked.
 pub fn needed_by(seen: usize, lemmas: &[Lemma], mut marks: Vec<bool>) -> Vec<bool>
     requires { length marks.items ≡ length lemmas.now }
     ensures { AreNeeded (IsWanted marks.items) seen lemmas.now result.items }
 {
+    if are_all(marks.as_slice()) {
+        return marks;
+    }
     mark_back(seen, lemmas, marks.as_mut_slice());
     marks
 }
