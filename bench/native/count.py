@@ -26,7 +26,7 @@ pub mod counted {
 """
 # a place in a file, which stands there once, and what is put behind it
 PLACES = [
-    ("conflict_analysis/src/analysis.rs", "    let mut marks = begin(alloc, trail, levels, tables)?;\n", "    shim::counted::conflict();\n"),
+    ("conflict_analysis/src/analysis.rs", "    let mut marks = begin(alloc, graph, levels, tables)?;\n", "    shim::counted::conflict();\n"),
     ("best_bound/src/questions.rs", "    'questions: while let Some(question) = descent.ask(alloc, problem, x, y)? {\n", "        shim::counted::question();\n"),
     ("dtp_main/src/main.rs", "    dtp_run::start()", "; shim::counted::told(); code"),
 ]
