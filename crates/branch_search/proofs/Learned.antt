@@ -1,28 +1,35 @@
 -- What is learned from a conflict, over plain lists.
-use Rattle.std.proofs.Common.{arith, ◌≡◌, ℕ, ◌<◌, ◌≤◌, List, [], ◌∷◌, ◌++◌, length, take, All, Contains, Bool, true, Option, Some, None, subst, sym, ap, ◌∙◌, refl}
+use Rattle.std.proofs.Common.{arith, ◌≡◌, ℕ, zero, suc, inl, inr, get_or, ◌+◌, ◌<◌, ◌≤◌, List, [], ◌∷◌, ◌++◌, length, take, All, Contains, Bool, true, Some, subst, sym, ap, ◌∙◌, refl}
+use Rattle.std.specs.Prelude.{slice_get}
+use Rattle.std.proofs.lemmas.Bool.{cases_eq}
+use Rattle.std.proofs.lemmas.Option.{slice_get_within}
 use Rattle.std.proofs.lemmas.List.{length_push, length-take-le}
+use Rattle.std.proofs.lemmas.List.Elements.{Contains-get_or}
+use Rattle.stn_core.specs.Literal.{negation_of, literal_at}
+use Rattle.conflict_analysis.proofs.Shut.{negation_twice}
 use Rattle.stn_core.specs.declared.literal.Literal.{Literal}
 use Rattle.refute_tree.specs.declared.lemma.Lemma.{Lemma}
 use Rattle.conflict_analysis.specs.declared.entry.Reason.{Reason}
 use Rattle.conflict_analysis.specs.declared.entry.Reason.TheVariants.{Given, Decision, Clause as ByClause, Pair as ByPair, Cycle as ByCycle}
 use Rattle.conflict_analysis.specs.declared.entry.Entry.{Entry}
 use Rattle.conflict_analysis.specs.declared.entry.Level.{Level}
-use Rattle.conflict_analysis.specs.declared.entry.Conflict.{Conflict}
+use Rattle.branch_search.specs.declared.conflict.Reaction.{Reaction}
+use Rattle.branch_search.specs.declared.conflict.Reaction.TheVariants.{Jumped}
 use Rattle.branch_search.specs.declared.propagate.Tried.{Tried}
 use Rattle.branch_search.specs.declared.propagate.Tried.TheVariants.{Pushed, Nothing, Stuck}
-use Rattle.conflict_analysis.specs.code.Trails.{IsReason, IsTrail, IsFirst, IsDenial, entry_at, on_trail}
-use Rattle.conflict_analysis.specs.Proved.{IsClauseOver, IsProved}
-use Rattle.branch_search.specs.code.Search.{all_lemmas, start_of, in_net_of, IsSearch, IsStuckSearch, IsSearchLearned, AreExcluding, IsSearchTried, IsSearchAfter}
-use Rattle.branch_search.specs.Slices.{Question}
+use Rattle.conflict_analysis.specs.code.Trails.{IsReason, IsTrail, MayStay, IsDenial, no_literal, entry_at, on_trail}
+use Rattle.conflict_analysis.specs.Proved.{IsProved}
+use Rattle.branch_search.specs.code.Search.{all_lemmas, start_of, in_net_of, IsSearch, IsSearchLearned, IsSearchSettled, AreExcluding, IsSearchTried, IsNoClause, HasNoClause}
+use Rattle.branch_search.specs.Slices.{Question, Excludes}
 use Rattle.branch_search.proofs.States.{lemma_last, state_learned, state_cut}
 
--- a literal without a reason before it is one of the cube's, where nothing was decided
-first_given : (inputs lemmas : List (List Literal)) (cube : List Literal) (es : List Entry) (k : ℕ) (l : Literal) (r : Reason) → (r ≡ Decision → ⊥) → IsFirst r → IsReason inputs lemmas cube es k l r → Contains cube l
-first_given inputs lemmas cube es k l Given not first h = h
-first_given inputs lemmas cube es k l Decision not first h = absurd (not refl)
-first_given inputs lemmas cube es k l (ByClause source place) not first h = absurd first
-first_given inputs lemmas cube es k l (ByPair tighter) not first h = absurd first
-first_given inputs lemmas cube es k l (ByCycle cycle) not first h = absurd first
+-- a literal that needs no reason is one of the cube's, where nothing was decided and it doesn't stand there by a clause
+first_given : (inputs lemmas : List (List Literal)) (cube : List Literal) (es : List Entry) (k : ℕ) (l : Literal) (r : Reason) → (r ≡ Decision → ⊥) → IsNoClause r → MayStay r → IsReason inputs lemmas cube es k l r → Contains cube l
+first_given inputs lemmas cube es k l Given not plain first h = h
+first_given inputs lemmas cube es k l Decision not plain first h = absurd (not refl)
+first_given inputs lemmas cube es k l (ByClause source place) not plain first h = absurd plain
+first_given inputs lemmas cube es k l (ByPair tighter) not plain first h = absurd first
+first_given inputs lemmas cube es k l (ByCycle cycle) not plain first h = absurd first
 
 pub trail_seen : (q : Question) (own lent : List Lemma) (es seen : List Entry) → lent ≡ own → seen ≡ es → IsTrail q.problem.clauses (all_lemmas q.handed own) q.cube es → IsTrail q.problem.clauses (all_lemmas q.handed lent) q.cube seen
 trail_seen q own lent es seen a b h =
@@ -35,19 +42,25 @@ learned_search q own new lent lemma es seen levels literals whole s is r same de
     subst (λ (ls : List Lemma). IsSearchLearned q ls es levels (length own) literals) (sym grown) (record {
       state = state_learned q own lemma es levels literals s proved;
       count = length_push own lemma;
-      excludes = λ none. (
+      excludes = λ none plain. (
         lemma,
         lemma_last own lemma,
         λ k d lt. (let h = denied k d lt in
-            (on_trail es h.0, first_given q.problem.clauses (all_lemmas q.handed own) q.cube es h.0 (on_trail es h.0) (entry_at es h.0).reason (λ chosen. let some = (s.rooted h.0 chosen).0 in absurd (omega arith)) (h.3 (root none)) (s.trail h.0 h.1), h.2)),
+            (on_trail es h.0, first_given q.problem.clauses (all_lemmas q.handed own) q.cube es h.0 (on_trail es h.0) (entry_at es h.0).reason (λ chosen. let some = (s.rooted h.0 chosen).0 in absurd (omega arith)) (plain h.0) (h.3 (root none)) (s.trail h.0 h.1), h.2)),
       );
     })
 
 -- where nothing was decided it excludes the cube
-pub excluding : (q : Question) (own : List Lemma) (es : List Entry) (levels : List Level) (j : ℕ) (literals : List Literal) → length levels ≡ 0 → IsSearchLearned q own es levels j literals → AreExcluding q own j
-excluding q own es levels j literals none learned =
+pub excluding : (q : Question) (own : List Lemma) (es : List Entry) (levels : List Level) (j : ℕ) (literals : List Literal) → length levels ≡ 0 → HasNoClause es → IsSearchLearned q own es levels j literals → AreExcluding q own j
+excluding q own es levels j literals none plain learned =
     let count = learned.count in
-    (omega arith, learned.excludes none, learned.state.proved)
+    (omega arith, learned.excludes none plain, learned.state.proved)
+
+-- so it was found to be
+pub found_excluding : (q : Question) (own seen : List Lemma) (cube : List Literal) (es : List Entry) (levels : List Level) (j k : ℕ) (literals : List Literal) → cube ≡ q.cube → seen ≡ own → Excludes cube seen j → IsSearchLearned q own es levels k literals → AreExcluding q own j
+found_excluding q own seen cube es levels j k literals a b h learned =
+    let there : Excludes q.cube own j = subst (λ (ls : List Literal). Excludes ls own j) a (subst (λ (ls : List Lemma). Excludes cube ls j) b h) in
+    (slice_get_within own j there.0 there.1, there, learned.state.proved)
 
 pub cut_back : (q : Question) (own kept mid : List Lemma) (es there now : List Entry) (levels these fewer : List Level) (literals left : List Literal) (level : ℕ) → level < length these → IsSearch q own es levels literals → there ≡ es → these ≡ levels → mid ≡ own → now ≡ take (start_of these level) there → fewer ≡ take level these → left ≡ take (in_net_of these level) literals → kept ≡ mid → IsSearch q kept now fewer left
 cut_back q own kept mid es there now levels these fewer literals left level lt s a b c is_now is_fewer is_left same =
@@ -73,9 +86,33 @@ taken_search q own es levels literals Nothing h = h
 taken_search q own es levels literals (Stuck conflict) h = h.state
 
 -- after the jump there are fewer levels
-pub settled : (q : Question) (own : List Lemma) (es : List Entry) (levels these fewer last : List Level) (literals : List Literal) (level : ℕ) (taken : Tried) → level < length these → these ≡ levels → fewer ≡ take level these → last ≡ fewer → IsSearchTried q own es last literals taken → (length last < length levels) × IsSearch q own es last literals
-settled q own es levels these fewer last literals level taken lt same is again h =
+pub settled : (q : Question) (own : List Lemma) (es : List Entry) (levels these fewer last : List Level) (literals : List Literal) (level : ℕ) → level < length these → these ≡ levels → fewer ≡ take level these → last ≡ fewer → IsSearch q own es last literals → (length last < length levels) × IsSearch q own es last literals
+settled q own es levels these fewer last literals level lt same is again h =
     let short : length fewer < length these = fewer_levels these fewer level lt is in
     let a : length last ≡ length fewer = ap (length {A = Level}) again in
     let b : length these ≡ length levels = ap (length {A = Level}) same in
-    (omega arith, taken_search q own es last literals taken h)
+    (omega arith, h)
+
+pub jumped_goes : (q : Question) (count : ℕ) (own : List Lemma) (es : List Entry) (levels : List Level) (literals : List Literal) (reaction : Reaction) → IsSearchSettled q count own es levels literals reaction → reaction ≡ Jumped → (length levels < count) × IsSearch q own es levels literals
+jumped_goes q count own es levels literals reaction h e = subst (IsSearchSettled q count own es levels literals) e h
+
+-- what the tests of a lemma's literals say: each is the negation of one of the cube's
+pub one_more_in : (cube clause : List Literal) (q place : ℕ) → place < length cube → literal_at cube place ≡ negation_of (literal_at clause q) → ((i : ℕ) → i < q → (k : ℕ) × (k < length cube) × (literal_at cube k ≡ negation_of (literal_at clause i))) → (i : ℕ) → i < q + 1 → (k : ℕ) × (k < length cube) × (literal_at cube k ≡ negation_of (literal_at clause i))
+one_more_in cube clause q place within is before i lt = elim (cases_eq i q) [
+  | inl same ↦ (place, within, is ∙ ap (λ (n : ℕ). negation_of (literal_at clause n)) (sym same))
+  | inr other ↦ before i (omega arith)
+]
+
+pub excluded_by : (cube clause : List Literal) (own : List Lemma) (lemma : Lemma) (j : ℕ) → slice_get own j ≡ Some lemma → clause ≡ lemma.clause → ((i : ℕ) → i < length clause → (k : ℕ) × (k < length cube) × (literal_at cube k ≡ negation_of (literal_at clause i))) → Excludes cube own j
+excluded_by cube clause own lemma j there same each =
+    let Denies : Literal → Type 0 = λ m. (l : Literal) × Contains cube l × (m ≡ negation_of l) in
+    let all : All Denies clause = λ i d lt. (let h = each i lt in
+    let m = literal_at clause i in
+    let one : Denies m = (literal_at cube h.0, Contains-get_or cube h.0 no_literal h.1, sym (negation_twice m) ∙ sym (ap negation_of h.2)) in
+    subst Denies (any_literal clause i no_literal d lt) one) in
+    (lemma, there, subst (All Denies) same all)
+  where
+    any_literal : (xs : List Literal) (i : ℕ) (x y : Literal) → i < length xs → get_or xs i x ≡ get_or xs i y
+    any_literal [] i x y lt = absurd (omega arith)
+    any_literal (z ∷ xs) zero x y lt = refl
+    any_literal (z ∷ xs) (suc i) x y lt = any_literal xs i x y (omega arith)

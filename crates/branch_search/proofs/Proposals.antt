@@ -1,5 +1,5 @@
 -- Literals that are pushed on the trail, each with its reason, over plain lists.
-use Rattle.std.proofs.Common.{arith, ◌≡◌, ℕ, zero, suc, ◌<◌, ◌≤◌, ◌+◌, inl, inr, ◌⊎◌, List, [], ◌∷◌, ◌++◌, length, take, get_or, Contains, subst, sym, ap, ◌∙◌, refl}
+use Rattle.std.proofs.Common.{arith, ◌≡◌, ℕ, zero, suc, ◌<◌, ◌≤◌, ◌+◌, inl, inr, ◌⊎◌, List, [], ◌∷◌, ◌++◌, length, take, get_or, Contains, Option, None, subst, sym, ap, ◌∙◌, refl}
 use Rattle.std.proofs.lemmas.Int.{ints}
 use Rattle.std.proofs.lemmas.List.{length_push, take_more}
 use Rattle.stn_core.specs.declared.literal.Literal.{Literal}
@@ -10,18 +10,17 @@ use Rattle.conflict_analysis.specs.declared.entry.Source.{Source}
 use Rattle.conflict_analysis.specs.declared.entry.Reason.TheVariants.{Given, Decision, Clause as ByClause, Pair as ByPair}
 use Rattle.conflict_analysis.specs.declared.entry.Entry.{Entry}
 use Rattle.conflict_analysis.specs.declared.entry.Level.{Level}
+use Rattle.conflict_analysis.specs.declared.entry.Conflict.{Conflict}
 use Rattle.conflict_analysis.specs.declared.entry.Conflict.TheVariants.{Clause as OfClause, Cycle as OfCycle}
-use Rattle.conflict_analysis.specs.code.Trails.{on_trail, pair_cycle, IsByClause, IsConflict, Stands}
-use Rattle.branch_search.specs.code.Search.{all_lemmas, IsSearch, IsStuckSearch, IsWeaker}
+use Rattle.conflict_analysis.specs.code.Trails.{no_literal, on_trail, pair_cycle, IsConflict, Stands}
+use Rattle.branch_search.specs.code.Search.{all_lemmas, IsSearch, IsStuckSearch, IsWeaker, IsNetAfter}
 use Rattle.branch_search.specs.Slices.{Question}
 use Rattle.branch_search.proofs.States.{state_pushed, state_begun, entry_last}
 
--- a clause's last literal
-pub unit_pushed : (q : Question) (own lent : List Lemma) (es seen now : List Entry) (levels : List Level) (literals : List Literal) (l : Literal) (number : ℕ) (source : Source) (place : ℕ) → IsSearch q own es levels literals → lent ≡ own → seen ≡ es → IsOver q.problem.points l → IsByClause q.problem.clauses (all_lemmas q.handed lent) (Stands seen (length seen)) l source place → now ≡ es ++ record { literal = l; number = number; reason = ByClause source place } ∷ [] → IsSearch q own now levels literals
-unit_pushed q own lent es seen now levels literals l number source place s a b over h grown =
-    let P : List Lemma → Type 0 = λ ls. IsByClause q.problem.clauses (all_lemmas q.handed ls) (Stands es (length es)) l source place in
-    let Q : List Entry → Type 0 = λ fs. IsByClause q.problem.clauses (all_lemmas q.handed lent) (Stands fs (length fs)) l source place in
-    state_pushed q own es now levels literals (record { literal = l; number = number; reason = ByClause source place }) grown s over (subst P a (subst Q b h)) (λ chosen. absurd cc)
+-- a literal of a clause
+pub unit_pushed : (q : Question) (own : List Lemma) (es now : List Entry) (levels : List Level) (literals : List Literal) (l : Literal) (number : ℕ) (source : Source) (place : ℕ) → IsSearch q own es levels literals → IsOver q.problem.points l → now ≡ es ++ record { literal = l; number = number; reason = ByClause source place } ∷ [] → IsSearch q own now levels literals
+unit_pushed q own es now levels literals l number source place s over grown =
+    state_pushed q own es now levels literals (record { literal = l; number = number; reason = ByClause source place }) grown s over tt (λ chosen. absurd cc)
 
 pub clause_stuck : (q : Question) (own lent : List Lemma) (es seen : List Entry) (levels : List Level) (literals : List Literal) (source : Source) → IsSearch q own es levels literals → lent ≡ own → seen ≡ es → IsConflict q.problem.clauses (all_lemmas q.handed lent) (Stands seen (length seen)) (OfClause source) → IsStuckSearch q own es levels literals (OfClause source)
 clause_stuck q own lent es seen levels literals source s a b h =
@@ -71,6 +70,14 @@ decision_pushed q own these es there now levels more last literals l number s a 
     let count = length_push levels (record { start = length es; in_net = length literals }) in
     let longer : length last ≡ length (levels ++ record { start = length es; in_net = length literals } ∷ []) = ap (length {A = Level}) (again ∙ is) in
     (omega arith, subst (λ (ls : List Lemma). IsSearch q ls now last literals) (sym a) (subst (λ (vs : List Level). IsSearch q own now vs literals) (sym again) search))
+
+-- the cube's next literal in the net
+pub net_taken : (es now : List Entry) (cube old new : List Literal) (place i number : ℕ) (l : Literal) (found : Option Conflict) → IsNetAfter old (on_trail now place) new found → found ≡ None → now ≡ es ++ record { literal = l; number = number; reason = Given } ∷ [] → place ≡ length es → l ≡ get_or cube i no_literal → i < length cube → old ≡ take i cube → new ≡ take (i + 1) cube
+net_taken es now cube old new place i number l found after none grown at is within before =
+    let e : Entry = record { literal = l; number = number; reason = Given } in
+    let there : IsNetAfter old (on_trail now place) new None = subst (IsNetAfter old (on_trail now place) new) none after in
+    let last : on_trail now place ≡ l = ap (λ (fs : List Entry). on_trail fs place) grown ∙ ap (λ (f : Entry). f.literal) (entry_last es e place at) in
+    there ∙ ap (λ (m : Literal). old ++ m ∷ []) (last ∙ is) ∙ ap (λ (ls : List Literal). ls ++ get_or cube i no_literal ∷ []) before ∙ sym (take_more cube i no_literal within)
 
 -- the same search, seen by other names
 pub same_parts : (q : Question) (own these : List Lemma) (es : List Entry) (levels more : List Level) (literals : List Literal) → these ≡ own → more ≡ levels → IsSearch q own es levels literals → IsSearch q these es more literals

@@ -1,5 +1,6 @@
 -- A literal that holds without a decision gets a lemma of its own, over plain lists.
 use Rattle.std.proofs.Common.{arith, ◌≡◌, ◌≢◌, ℕ, zero, suc, ◌<◌, ◌≤◌, ◌+◌, inl, inr, List, [], ◌∷◌, ◌++◌, length, take, get_or, set, Option, Some, subst, sym, ap, ◌∙◌, refl}
+use Rattle.std.specs.Prelude.{IfSome}
 use Rattle.std.proofs.lemmas.Bool.{cases_lt, cases_eq}
 use Rattle.std.proofs.lemmas.List.{get_or-take, get_or-set_same, get_or-set_other, length-set, length-take-le, ext_get_or}
 use Rattle.stn_core.specs.declared.literal.Literal.{Literal}
@@ -13,7 +14,7 @@ use Rattle.conflict_analysis.specs.declared.entry.Entry.{Entry}
 use Rattle.conflict_analysis.specs.declared.entry.Level.{Level}
 use Rattle.conflict_analysis.specs.declared.entry.Conflict.{Conflict}
 use Rattle.conflict_analysis.specs.declared.entry.Conflict.TheVariants.{Clause as OfClause, Cycle as OfCycle}
-use Rattle.conflict_analysis.specs.code.Trails.{no_literal, source_clause, IsByClause, IsByCycle, pair_cycle, entry_at, on_trail, Stands, IsReason, IsTrail, AreOver, IsConflict}
+use Rattle.conflict_analysis.specs.code.Trails.{no_literal, source_clause, IsByClause, IsByCycle, pair_cycle, entry_at, on_trail, Stands, Follows, IsReason, IsTrail, AreOver, IsConflict}
 use Rattle.conflict_analysis.specs.Proved.{IsProved}
 use Rattle.branch_search.specs.code.Roots.{denial_of}
 use Rattle.branch_search.specs.code.Search.{all_lemmas, AllStand, in_net_of, start_of, IsSearch}
@@ -84,10 +85,10 @@ module _ (es fs : List Entry) (k n : ℕ) (l : Literal) (within : k < length es)
     ],
   )
 
-  denied_by_reason : (inputs lemmas : List (List Literal)) (cube : List Literal) (r : Reason) (conflict : Conflict) → IsReason inputs lemmas cube es k l r → denial_of l r ≡ Some conflict → IsConflict inputs lemmas (Stands fs (length fs)) conflict
-  denied_by_reason inputs lemmas cube Given conflict h e = absurd cc
-  denied_by_reason inputs lemmas cube Decision conflict h e = absurd cc
-  denied_by_reason inputs lemmas cube (ByClause source place) conflict h e =
+  denied_by_reason : (inputs lemmas : List (List Literal)) (r : Reason) (conflict : Conflict) → Follows inputs lemmas (Stands es k) l r → denial_of l r ≡ Some conflict → IsConflict inputs lemmas (Stands fs (length fs)) conflict
+  denied_by_reason inputs lemmas Given conflict h e = absurd cc
+  denied_by_reason inputs lemmas Decision conflict h e = absurd cc
+  denied_by_reason inputs lemmas (ByClause source place) conflict h e =
       let same : OfClause source ≡ conflict = cc in
       subst (IsConflict inputs lemmas (Stands fs (length fs))) same (
         h.known,
@@ -97,18 +98,19 @@ module _ (es fs : List Entry) (k n : ℕ) (l : Literal) (within : k < length es)
           | inr other ↦ stands_all (negation_of (literal_at (source_clause inputs lemmas source) p)) (h.others p lt other)
         ],
       )
-  denied_by_reason inputs lemmas cube (ByPair tighter) conflict h e =
+  denied_by_reason inputs lemmas (ByPair tighter) conflict h e =
       let same : OfCycle (pair_cycle tighter l) ≡ conflict = cc in
       subst (IsConflict inputs lemmas (Stands fs (length fs))) same (cycle_conflict inputs lemmas (pair_cycle tighter l) h)
-  denied_by_reason inputs lemmas cube (ByCycle cycle) conflict h e =
+  denied_by_reason inputs lemmas (ByCycle cycle) conflict h e =
       let same : OfCycle cycle ≡ conflict = cc in
       subst (IsConflict inputs lemmas (Stands fs (length fs))) same (cycle_conflict inputs lemmas cycle h)
 
-  pub prefix_conflict : (inputs lemmas : List (List Literal)) (cube : List Literal) (e : Entry) (found : Option Conflict) (conflict : Conflict) → IsTrail inputs lemmas cube es → e ≡ entry_at es k → l ≡ e.literal → found ≡ denial_of e.literal e.reason → found ≡ Some conflict → IsConflict inputs lemmas (Stands fs (length fs)) conflict
-  prefix_conflict inputs lemmas cube e found conflict h at same made is_some =
-      let reason : IsReason inputs lemmas cube es k e.literal e.reason = subst (λ (f : Entry). IsReason inputs lemmas cube es k f.literal f.reason) (sym at) (h k within) in
-      denied_by_reason inputs lemmas cube e.reason conflict (subst (λ (m : Literal). IsReason inputs lemmas cube es k m e.reason) (sym same) reason)
-      (ap (λ (m : Literal). denial_of m e.reason) same ∙ sym made ∙ is_some)
+  pub prefix_conflict : (inputs lemmas : List (List Literal)) (found : Option Conflict) (conflict : Conflict) → l ≡ on_trail es k → IfSome found (λ c. denial_of (on_trail es k) (entry_at es k).reason ≡ Some c) → IfSome found (λ c. Follows inputs lemmas (Stands es k) (on_trail es k) (entry_at es k).reason) → found ≡ Some conflict → IsConflict inputs lemmas (Stands fs (length fs)) conflict
+  prefix_conflict inputs lemmas found conflict same denial follows is_some =
+      let made : denial_of (on_trail es k) (entry_at es k).reason ≡ Some conflict = subst (λ (o : Option Conflict). IfSome o (λ c. denial_of (on_trail es k) (entry_at es k).reason ≡ Some c)) is_some denial in
+      let there : Follows inputs lemmas (Stands es k) (on_trail es k) (entry_at es k).reason = subst (λ (o : Option Conflict). IfSome o (λ c. Follows inputs lemmas (Stands es k) (on_trail es k) (entry_at es k).reason)) is_some follows in
+      denied_by_reason inputs lemmas (entry_at es k).reason conflict (subst (λ (m : Literal). Follows inputs lemmas (Stands es k) m (entry_at es k).reason) (sym same) there)
+      (ap (λ (m : Literal). denial_of m (entry_at es k).reason) same ∙ made)
 
 -- an entry that was replaced and put back
 pub put_back : (es : List Entry) (k : ℕ) (d e f : Entry) → k < length es → get_or es k f ≡ e → set (set es k d) k e ≡ es

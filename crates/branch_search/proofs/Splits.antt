@@ -27,7 +27,7 @@ use Rattle.conflict_analysis.specs.code.Trails.{no_literal, IsByCycle, Stands}
 use Rattle.conflict_analysis.specs.code.Denials.{AreDenied}
 use Rattle.branch_search.specs.code.Clauses.{IsFalseAt}
 use Rattle.conflict_analysis.specs.Proved.{IsClauseOver}
-use Rattle.branch_search.specs.code.Search.{all_lemmas, IsSearch, IsStuckSearch, IsSearchSettled, IsSearchAfter}
+use Rattle.branch_search.specs.code.Search.{all_lemmas, IsSearch, IsStuckSearch, IsSearchAfter}
 use Rattle.branch_search.specs.Slices.{Question, AreProved, IsSplit}
 use Rattle.stn_core.specs.Solution.{IsSolution}
 use Rattle.branch_search.specs.code.Divisions.{IsLive, IsLiveAt, IsSearchLiveness, HasLive, AreSearchLive, Divides}
@@ -161,10 +161,6 @@ empty_search q own es levels literals a b c lemmas proved =
 -- all clauses of lemmas are within the limits
 pub lemmas_over : (points : ℕ) (handed : List (List Literal)) (own these : List Lemma) → these ≡ own → All (IsClauseOver points) handed → All (LemmaIsOver points) own → All (IsClauseOver points) (all_lemmas handed these)
 lemmas_over points handed own these e over all = subst (λ (ls : List Lemma). All (IsClauseOver points) (all_lemmas handed ls)) (sym e) (All-append (IsClauseOver points) handed (map stated own) over (All-map (IsClauseOver points) stated own (λ k d lt. (all k d lt).clause)))
-
-pub settled_goes : (q : Question) (count : ℕ) (own : List Lemma) (es : List Entry) (levels : List Level) (literals : List Literal) (found : Option ℕ) → IsSearchSettled q count own es levels literals found → ((j : ℕ) → found ≡ Some j → ⊥) → (length levels < count) × IsSearch q own es levels literals
-settled_goes q count own es levels literals (Some j) h none = absurd (none j refl)
-settled_goes q count own es levels literals None h none = h
 
 pub quiet_search : (q : Question) (own : List Lemma) (es : List Entry) (levels : List Level) (literals : List Literal) (found : Option Conflict) → IsSearchAfter q own es levels literals found → ((conflict : Conflict) → found ≡ Some conflict → ⊥) → IsSearch q own es levels literals
 quiet_search q own es levels literals (Some conflict) h none = absurd (none conflict refl)

@@ -1,11 +1,11 @@
 -- How a search's trail grows and is cut.
-use Rattle.std.proofs.Common.{arith, ◌≡◌, ◌≢◌, ℕ, zero, suc, ◌<◌, ◌≤◌, inl, inr, List, [], ◌∷◌, ◌++◌, length, map, take, get_or, All, Contains, Some, subst, sym, ap, ◌∙◌, refl, append_assoc}
+use Rattle.std.proofs.Common.{arith, ◌≡◌, ℕ, zero, suc, ◌<◌, ◌≤◌, inl, inr, List, [], ◌∷◌, ◌++◌, length, map, take, get_or, All, Contains, Some, subst, sym, ap, ◌∙◌, refl, append_assoc}
 use Rattle.std.specs.Prelude.{slice_get}
 use Rattle.std.proofs.lemmas.Bool.{cases_lt, cases_eq}
-use Rattle.std.proofs.lemmas.List.{get_or_append_left, get_or_push, get_or-take, length_push, length-append, length-take-le, map-append, take_all, take-take, take-append-le}
+use Rattle.std.proofs.lemmas.List.{get_or_append_left, get_or_push, get_or-take, length_push, length-take-le, map-append, take_all, take-take, take-append-le}
 use Rattle.std.proofs.lemmas.List.Elements.{All-push}
 use Rattle.stn_core.specs.declared.literal.Literal.{Literal}
-use Rattle.stn_core.specs.Literal.{negation_of, IsOver, literal_at}
+use Rattle.stn_core.specs.Literal.{IsOver, literal_at}
 use Rattle.stn_core.specs.Answer.{IsCycleAmong}
 use Rattle.stn_core.specs.Net.{IsAdded}
 use Rattle.stn_core.specs.declared.net.Added.{Added}
@@ -14,16 +14,14 @@ use Rattle.refute_tree.specs.declared.lemma.Lemma.{Lemma}
 use Rattle.refute_tree.specs.Trees.{stated}
 use Rattle.refute_tree.specs.Batches.{LemmaIsOver}
 use Rattle.refute_tree.proofs.Moved.{joined}
-use Rattle.conflict_analysis.specs.declared.entry.Source.{Source}
-use Rattle.conflict_analysis.specs.declared.entry.Source.TheVariants.{Input as OfInput, Lemma as OfLemma}
 use Rattle.conflict_analysis.specs.declared.entry.Reason.{Reason}
 use Rattle.conflict_analysis.specs.declared.entry.Reason.TheVariants.{Given, Decision, Clause as ByClause, Pair as ByPair, Cycle as ByCycle}
 use Rattle.conflict_analysis.specs.declared.entry.Entry.{Entry}
 use Rattle.conflict_analysis.specs.declared.entry.Level.{Level}
 use Rattle.conflict_analysis.specs.declared.entry.Conflict.TheVariants.{Cycle as OfCycle}
-use Rattle.conflict_analysis.specs.code.Trails.{no_literal, source_clause, IsKnown, IsByCycle, pair_cycle, entry_at, on_trail, Stands, IsReason, IsTrail, AreOver}
+use Rattle.conflict_analysis.specs.code.Trails.{no_literal, IsByCycle, pair_cycle, entry_at, on_trail, Stands, IsReason, IsTrail, AreOver}
 use Rattle.conflict_analysis.specs.Proved.{IsClauseOver, IsProved}
-use Rattle.branch_search.specs.code.Search.{all_lemmas, level_at, start_of, in_net_of, AllStand, IsLevel, IsSearch, IsStuckSearch}
+use Rattle.branch_search.specs.code.Search.{all_lemmas, level_at, start_of, in_net_of, AllStand, IsLevel, IsSearch, IsStuckSearch, IsNoClause, HasNoClause}
 use Rattle.branch_search.specs.Slices.{Question, AreProved}
 
 -- a list and its part agree on the entries of the part
@@ -45,14 +43,25 @@ cycle_moved es fs k l cycle move h = record {
 pub reason_moved : (inputs lemmas : List (List Literal)) (cube : List Literal) (es fs : List Entry) (k : ℕ) (l : Literal) (r : Reason) → ((m : Literal) → Stands es k m → Stands fs k m) → IsReason inputs lemmas cube es k l r → IsReason inputs lemmas cube fs k l r
 reason_moved inputs lemmas cube es fs k l Given move h = h
 reason_moved inputs lemmas cube es fs k l Decision move h = h
-reason_moved inputs lemmas cube es fs k l (ByClause source place) move h = record {
-  known = h.known;
-  within = h.within;
-  at = h.at;
-  others = λ q lt ne. move (negation_of (literal_at (source_clause inputs lemmas source) q)) (h.others q lt ne);
-}
+reason_moved inputs lemmas cube es fs k l (ByClause source place) move h = h
 reason_moved inputs lemmas cube es fs k l (ByPair tighter) move h = cycle_moved es fs k l (pair_cycle tighter l) move h
 reason_moved inputs lemmas cube es fs k l (ByCycle cycle) move h = cycle_moved es fs k l cycle move h
+
+-- a trail on which no literal stands by a clause
+pub plain_push : (es : List Entry) (e : Entry) → HasNoClause es → IsNoClause e.reason → HasNoClause (es ++ e ∷ [])
+plain_push [] e h new zero = new
+plain_push [] e h new (suc j) = h j
+plain_push (f ∷ es) e h new zero = h 0
+plain_push (f ∷ es) e h new (suc j) = plain_push es e (λ i. h (suc i)) new j
+
+pub plain_pushed : (es now : List Entry) (e : Entry) → now ≡ es ++ e ∷ [] → HasNoClause es → IsNoClause e.reason → HasNoClause now
+plain_pushed es now e grown h new = subst HasNoClause (sym grown) (plain_push es e h new)
+
+pub plain_same : (es now : List Entry) → now ≡ es → HasNoClause es → HasNoClause now
+plain_same es now is h = subst HasNoClause (sym is) h
+
+pub plain_none : (es : List Entry) → es ≡ [] → HasNoClause es
+plain_none es is = subst HasNoClause (sym is) (λ j. tt)
 
 pub entry_left : (es : List Entry) (e : Entry) (k : ℕ) → k < length es → entry_at (es ++ e ∷ []) k ≡ entry_at es k
 entry_left es e k lt = get_or_append_left es (e ∷ []) (record { literal = no_literal; number = 0; reason = Given }) k lt
@@ -116,25 +125,12 @@ module _ (inputs lemmas : List (List Literal)) (cube : List Literal) where
       subst P (sym (get_or-take n es k d below)) (reason_moved inputs lemmas cube es (take n es) k (on_trail es k) (entry_at es k).reason (λ m s. stands_take es n k m (omega arith) s) (h k part.1))
 
 -- more lemmas
-source_later : (inputs lemmas later : List (List Literal)) (source : Source) → IsKnown inputs lemmas source → source_clause inputs (lemmas ++ later) source ≡ source_clause inputs lemmas source
-source_later inputs lemmas later (OfInput i) known = refl
-source_later inputs lemmas later (OfLemma j) known = get_or_append_left lemmas later [] j known
-
-known_later : (inputs lemmas later : List (List Literal)) (source : Source) → IsKnown inputs lemmas source → IsKnown inputs (lemmas ++ later) source
-known_later inputs lemmas later (OfInput i) known = known
-known_later inputs lemmas later (OfLemma j) known = omega (arith, known, length-append lemmas later)
-
 reason_later : (inputs lemmas later : List (List Literal)) (cube : List Literal) (es : List Entry) (k : ℕ) (l : Literal) (r : Reason) → IsReason inputs lemmas cube es k l r → IsReason inputs (lemmas ++ later) cube es k l r
 reason_later inputs lemmas later cube es k l Given h = h
 reason_later inputs lemmas later cube es k l Decision h = h
 reason_later inputs lemmas later cube es k l (ByPair tighter) h = h
 reason_later inputs lemmas later cube es k l (ByCycle cycle) h = h
-reason_later inputs lemmas later cube es k l (ByClause source place) h =
-    let same = source_later inputs lemmas later source h.known in
-    let P : List Literal → Type 0 = λ c. place < length c in
-    let Q : List Literal → Type 0 = λ c. literal_at c place ≡ l in
-    let R : List Literal → Type 0 = λ c. (q : ℕ) → q < length c → q ≢ place → Stands es k (negation_of (literal_at c q)) in
-    record { known = known_later inputs lemmas later source h.known; within = subst P (sym same) h.within; at = subst Q (sym same) h.at; others = subst R (sym same) h.others }
+reason_later inputs lemmas later cube es k l (ByClause source place) h = h
 
 pub trail_later : (inputs lemmas later : List (List Literal)) (cube : List Literal) (es : List Entry) → IsTrail inputs lemmas cube es → IsTrail inputs (lemmas ++ later) cube es
 trail_later inputs lemmas later cube es h k lt = reason_later inputs lemmas later cube es k (on_trail es k) (entry_at es k).reason (h k lt)

@@ -1,17 +1,21 @@
 //! What a conflict leads to.
 ghost use Rattle.std.specs.Prelude.{◌≡◌, ◌<◌, ◌+◌, [], length, true, Some};
-ghost use Rattle.std.specs.Prelude.{IfOk, OnOk};
-ghost use Rattle.branch_search.specs.code.Search.{IsStuck, IsLearned, IsSettled, IsExcluded};
+ghost use Rattle.std.specs.Prelude.{IfOk, IfSome, OnOk};
+ghost use Rattle.stn_core.specs.Literal.{negation_of, literal_at};
+ghost use Rattle.branch_search.specs.Slices.{Excludes};
+ghost use Rattle.branch_search.specs.code.Search.{IsState, IsStuck, IsLearned, IsSettled, IsExcluded, HasNoClause};
 
 use crate::both::Both;
 use crate::state::State;
 use crate::task::Task;
 use conflict_analysis::{
-    Conflict, ImplicationGraph, Level, Source, analyze, number_of, numbers_of, open_place,
+    Conflict, ImplicationGraph, Level, Source, analyze, is_same, literal_place, number_of,
+    numbers_of, unit_place,
 };
 use refute_tree::{Earlier, Lemma};
+use search_guide::Guide;
 use std::alloc::{AllocError, Global};
-use stn_core::{Literal, Net};
+use stn_core::{Literal, Net, negate};
 
 // Whether nothing was decided.
 fn is_root(levels: &[Level]) -> bool
@@ -28,6 +32,53 @@ fn clause_at(own: &[Lemma], j: usize) -> &[Literal] {
     }
 }
 
+/// How a conflict is settled.
+#[derive(Clone, Copy, Debug, PartialEq, Eq)]
+pub enum Reaction {
+    /// The search goes on with fewer levels.
+    Jumped,
+    /// The lemma with this number excludes the cube.
+    Excluded(usize),
+    /// Nothing was decided, and what was learned doesn't exclude the cube: a clause failed its test as a reason.
+    Unsettled,
+}
+
+// At which place the cube has the literal's negation: the place where it stands on the trail, on which the cube's literals are
+// the first ones, or else the first one.
+fn denial_in(cube: &[Literal], guide: &Guide, literal: Literal) -> Option<usize>
+    ensures within { IfSome result (λ k. k < length cube.now) }
+    ensures is { IfSome result (λ k. literal_at cube.now k ≡ negation_of literal) }
+{
+    let denial = negate(literal);
+    if let Some(k) = literal_place(guide, denial) {
+        if k < cube.len() && is_same(cube[k], denial) {
+            return Some(k);
+        }
+    }
+    for k in 0..cube.len() {
+        if is_same(cube[k], denial) {
+            return Some(k);
+        }
+    }
+    None
+}
+
+// Whether the lemma with the number states that some literal of the cube fails.
+fn excludes(cube: &[Literal], guide: &Guide, own: &[Lemma], j: usize) -> bool
+    ensures { result ≡ true → Excludes cube.now own.now j }
+{
+    let Some(lemma) = own.get(j) else {
+        return false;
+    };
+    let clause = lemma.clause.as_slice();
+    for q in 0..clause.len() {
+        let Some(_place) = denial_in(cube, guide, clause[q]) else {
+            return false;
+        };
+    }
+    true
+}
+
 impl State {
     // Learns from a conflict.
     fn learn<E: Earlier, N: Net>(
@@ -39,6 +90,7 @@ impl State {
         wanted: &mut Vec<usize>,
     ) -> Result<(), AllocError>
         requires stuck { IsStuck task.now self.old (N.literals_of net.now) conflict.now }
+        ensures entries { self.new.entries.items ≡ self.old.entries.items }
         ensures levels { self.new.levels.items ≡ self.old.levels.items }
         ensures learned { OnOk result (IsLearned task.now
             self.new (length self.old.own.items) (N.literals_of net.now)) }
@@ -84,15 +136,35 @@ impl State {
         }
     }
 
-    /// Learns from a conflict, jumps back and takes what the lemma gives there. With a number: that lemma
-    /// excludes the cube.
+    // The literal that the own lemma with the number gives, if it gives one.
+    fn take_learned<E: Earlier, N: Net>(
+        &mut self,
+        task: &Task<'_, E>,
+        net: &N,
+        source: Source,
+        j: usize,
+    ) -> Result<(), AllocError>
+        requires state { IsState task.now self.old (N.literals_of net.now) }
+        ensures levels { self.new.levels.items ≡ self.old.levels.items }
+        ensures state { OnOk result (IsState task.now self.new (N.literals_of net.now)) }
+    {
+        let clause = clause_at(&self.own, j);
+        let Some(place) = unit_place(&self.guide, &self.entries, source, clause) else {
+            return Ok(());
+        };
+        let number = number_of(&self.guide, source, place);
+        self.take_unit(task, net, source, place, number)?;
+        Ok(())
+    }
+
+    /// Learns from a conflict, jumps back and takes what the lemma gives there.
     pub fn react<E: Earlier, N: Net>(
         &mut self,
         alloc: Global,
         task: &Task<'_, E>,
         net: &mut N,
         conflict: &Conflict,
-    ) -> Result<Option<usize>, AllocError>
+    ) -> Result<Reaction, AllocError>
         requires points { N.points_of net.old ≡ task.now.problem.points }
         requires stuck { IsStuck task.now self.old (N.literals_of net.old) conflict.now }
         ensures points { N.points_of net.new ≡ N.points_of net.old }
@@ -104,21 +176,21 @@ impl State {
         let mut wanted = Vec::new(alloc);
         self.learn(alloc, task, net, conflict, &mut wanted)?;
         if self.levels.is_empty() {
-            return Ok(Some(j));
+            if excludes(task.cube(), &self.guide, self.own.as_slice(), j) {
+                return Ok(Reaction::Excluded(j));
+            }
+            return Ok(Reaction::Unsettled);
         }
         self.cite_all(alloc, task, net, &wanted)?;
         let source = Source::Lemma(task.count() + j);
         let level = self.jump_level(alloc, source)?;
         self.cut(net, level);
-        let clause = clause_at(&self.own, j);
-        let place = open_place(&self.guide, &self.entries, source, clause);
-        let number = number_of(&self.guide, source, place);
-        let near = self.entries.len();
-        self.take_unit(task, net, source, place, number, near)?;
-        Ok(None)
+        self.take_learned(task, net, source, j)?;
+        Ok(Reaction::Jumped)
     }
 
-    /// Where nothing was decided, the lemma that a conflict teaches excludes the cube.
+    /// Where nothing was decided, and no literal stands on the trail by a clause, the lemma that a conflict teaches excludes
+    /// the cube.
     pub fn exclude<E: Earlier, N: Net>(
         &mut self,
         alloc: Global,
@@ -128,6 +200,8 @@ impl State {
     ) -> Result<usize, AllocError>
         requires stuck { IsStuck task.now self.old (N.literals_of net.now) conflict.now }
         requires root { self.old.levels.items ≡ [] }
+        requires plain { HasNoClause self.old.entries.items }
+        ensures entries { self.new.entries.items ≡ self.old.entries.items }
         ensures levels { self.new.levels.items ≡ self.old.levels.items }
         ensures excluded { IfOk result (IsExcluded task.now self.new) }
     {

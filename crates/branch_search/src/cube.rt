@@ -1,7 +1,7 @@
 //! How a slice begins: the cube, and the clauses of one literal.
 ghost use Rattle.std.specs.Prelude.{◌≡◌, ◌<◌, ◌≤◌, [], All, min, IfOk, OnOk};
 ghost use Rattle.stn_core.specs.Literal.{IsOver};
-ghost use Rattle.branch_search.specs.code.Search.{IsState, IsAfter, IsTried, IsEntered};
+ghost use Rattle.branch_search.specs.code.Search.{IsState, IsAfter, IsTried, IsEntered, HasNoClause};
 ghost use Rattle.stn_core.specs.Limits.{adds_limit};
 
 use crate::propagate::Tried;
@@ -23,9 +23,11 @@ impl State {
         requires points { N.points_of net.old ≡ task.now.problem.points }
         requires state { IsState task.now self.old (N.literals_of net.old) }
         requires root { self.old.levels.items ≡ [] }
+        requires plain { HasNoClause self.old.entries.items }
         requires empty { N.literals_of net.old ≡ [] }
         requires over { All (IsOver task.now.problem.points) task.now.cube }
         ensures points { N.points_of net.new ≡ N.points_of net.old }
+        ensures plain { OnOk result (HasNoClause self.new.entries.items) }
         ensures entered { IfOk result (IsEntered task.now self.new (N.literals_of net.new)) }
         ensures counts { OnOk result (min (N.adds_of net.old) adds_limit ≤ N.adds_of net.new) }
     {
@@ -63,7 +65,7 @@ impl State {
             Tried::Stuck(conflict) => Ok(Tried::Stuck(conflict)),
             _ => {
                 let number = number_of(&self.guide, source, 0);
-                self.take_unit(task, net, source, 0, number, near)
+                self.take_unit(task, net, source, 0, number)
             }
         }
     }

@@ -5,7 +5,7 @@ ghost use Rattle.std.specs.Prelude.{IfSome};
 ghost use Rattle.stn_core.specs.Literal.{IsOver, negation_of};
 ghost use Rattle.stn_core.specs.Net.{IsConsistent};
 ghost use Rattle.conflict_analysis.specs.declared.entry.Reason.TheVariants.{Cycle as ByCycle};
-ghost use Rattle.branch_search.specs.code.Search.{IsState};
+ghost use Rattle.branch_search.specs.code.Search.{IsState, HasNoClause};
 ghost use Rattle.stn_core.specs.Limits.{adds_limit};
 ghost use Rattle.branch_search.specs.code.Divisions.{IsLiveAt, IsLiveness, AreLive, IsDivision, Divides};
 ghost use Rattle.stn_core.specs.Solution.{IsAtom};
@@ -113,10 +113,12 @@ impl State {
         requires over { All (IsOver (N.points_of net.old)) clause.now }
         requires points { N.points_of net.old ≡ task.now.problem.points }
         requires state { IsState task.now self.old (N.literals_of net.old) }
+        requires plain { HasNoClause self.old.entries.items }
         ensures points { N.points_of net.new ≡ N.points_of net.old }
         ensures literals { N.literals_of net.new ≡ N.literals_of net.old }
         ensures levels { self.new.levels.items ≡ self.old.levels.items }
         ensures own { self.new.own.items ≡ self.old.own.items }
+        ensures plain { OnOk result (HasNoClause self.new.entries.items) }
         ensures state { IfOk result (λ _. IsState task.now self.new (N.literals_of net.new)) }
         ensures live { IfOk result (IsLiveAt (N.points_of net.old) (N.literals_of net.old)
             self.new.entries.items clause.now) }
@@ -146,10 +148,12 @@ impl State {
         requires points { N.points_of net.old ≡ task.now.problem.points }
         requires state { IsState task.now self.old (N.literals_of net.old) }
         requires root { self.old.levels.items ≡ [] }
+        requires plain { HasNoClause self.old.entries.items }
         requires within { i < length task.now.problem.clauses }
         ensures points { N.points_of net.new ≡ N.points_of net.old }
         ensures literals { N.literals_of net.new ≡ N.literals_of net.old }
         ensures levels { self.new.levels.items ≡ self.old.levels.items }
+        ensures plain { OnOk result (HasNoClause self.new.entries.items) }
         ensures live { IfOk result (IsLiveness task.now self.new (N.literals_of net.new) i) }
         ensures counts { OnOk result (min (N.adds_of net.old) adds_limit ≤ N.adds_of net.new) }
     {
@@ -174,9 +178,11 @@ impl State {
         requires points { N.points_of net.old ≡ task.now.problem.points }
         requires state { IsState task.now self.old (N.literals_of net.old) }
         requires root { self.old.levels.items ≡ [] }
+        requires plain { HasNoClause self.old.entries.items }
         ensures points { N.points_of net.new ≡ N.points_of net.old }
         ensures literals { N.literals_of net.new ≡ N.literals_of net.old }
         ensures levels { self.new.levels.items ≡ self.old.levels.items }
+        ensures plain { OnOk result (HasNoClause self.new.entries.items) }
         ensures live { IfOk result (AreLive task.now self.new (N.literals_of net.new)) }
         ensures counts { OnOk result (min (N.adds_of net.old) adds_limit ≤ N.adds_of net.new) }
     {
@@ -202,6 +208,7 @@ impl State {
         requires points { N.points_of net.old ≡ task.now.problem.points }
         requires state { IsState task.now self.old (N.literals_of net.old) }
         requires root { self.old.levels.items ≡ [] }
+        requires plain { HasNoClause self.old.entries.items }
         requires cube { N.literals_of net.old ≡ task.now.cube }
         ensures points { N.points_of net.new ≡ N.points_of net.old }
         ensures division { IfOk result (IsDivision task.now self.new.own.items) }

@@ -6,9 +6,7 @@ ghost use Rattle.stn_core.specs.Limits.{adds_limit};
 use crate::both::Both;
 use crate::state::State;
 use crate::task::Task;
-use conflict_analysis::{
-    Conflict, Reason, Source, is_conflict, is_over, literal_on, source_of, unit_of,
-};
+use conflict_analysis::{Conflict, Reason, Source, is_conflict, is_over, literal_on, source_of};
 use refute_tree::Earlier;
 use search_guide::{Guide, LiteralNumber, Proposal};
 use std::alloc::{AllocError, Global};
@@ -33,8 +31,8 @@ fn is_weaker(tighter: Literal, weaker: Literal) -> bool
 }
 
 impl State {
-    // The literal at a place of a clause, with its number, whose others are denied, one of them perhaps at the place
-    // `near` of the trail.
+    // The literal with the number, which stands at a place of a clause. That the clause's others are denied is tested where
+    // a conflict comes to rest on it.
     pub fn take_unit<E: Earlier, N: Net>(
         &mut self,
         task: &Task<'_, E>,
@@ -42,28 +40,18 @@ impl State {
         source: Source,
         place: usize,
         number: LiteralNumber,
-        near: usize,
     ) -> Result<Tried, AllocError>
         requires state { IsState task.now self.old (N.literals_of net.now) }
         ensures levels { self.new.levels.items ≡ self.old.levels.items }
         ensures taken { IfOk result (IsTried task.now self.new (N.literals_of net.now)) }
         ensures longer { OnOk result (length self.old.entries.items ≤ length self.new.entries.items) }
     {
-        let both = Both {
-            task,
-            own: self.own.as_slice(),
-        };
-        let Some(literal) = unit_of(
-            task.problem(),
-            &both,
-            &self.guide,
-            &self.entries,
-            source,
-            place,
-            near,
-        ) else {
+        let Some(literal) = self.guide.literal(number) else {
             return Ok(Tried::Nothing);
         };
+        if !is_over(literal, task.problem().points) {
+            return Ok(Tried::Nothing);
+        }
         self.push(literal, number, Reason::Clause(source, place))?;
         Ok(Tried::Pushed)
     }
@@ -146,7 +134,7 @@ impl State {
             Proposal::Nothing => Ok(Tried::Nothing),
             Proposal::Weaker(number) => self.take_weaker(alloc, task, net, k, number),
             Proposal::Unit(source, place, unit) => {
-                self.take_unit(task, net, source_of(source), place, unit, k)
+                self.take_unit(task, net, source_of(source), place, unit)
             }
             Proposal::Conflict(source) => Ok(self.take_conflict(task, net, source_of(source), k)),
         }

@@ -5,6 +5,7 @@ ghost use Rattle.stn_core.specs.Limits.{adds_limit};
 ghost use Rattle.branch_search.specs.code.Turns.{IsTurn, IsFound};
 ghost use Rattle.stn_core.specs.Solution.{IsSolution};
 
+use crate::conflict::Reaction;
 use crate::model::try_model;
 use crate::state::State;
 use crate::task::Task;
@@ -103,8 +104,10 @@ impl State {
             rest.decisions (length self.old.levels.items) self.new (N.literals_of net.new)) }
         ensures counts { OnOk result (min (N.adds_of net.old) adds_limit ≤ N.adds_of net.new) }
     {
-        if let Some(j) = self.react(alloc, task, net, conflict)? {
-            return Ok(Turn::Ended(Found::Excluded(j)));
+        match self.react(alloc, task, net, conflict)? {
+            Reaction::Jumped => {}
+            Reaction::Excluded(j) => return Ok(Turn::Ended(Found::Excluded(j))),
+            Reaction::Unsettled => return Ok(Turn::Ended(Found::Spent)),
         }
         self.guide.forget()?;
         let is_spent = self.conflicts % LOOK == 0 && rest.target <= net.adds();

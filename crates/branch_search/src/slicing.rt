@@ -2,13 +2,14 @@
 ghost use Rattle.std.specs.Prelude.{◌≡◌, ◌<◌, ◌≤◌, ◌^◌, [], All, length, min, IfOk, OnOk};
 ghost use Rattle.stn_core.specs.Literal.{IsOver};
 ghost use Rattle.conflict_analysis.specs.Proved.{IsClauseOver};
-ghost use Rattle.branch_search.specs.code.Search.{IsState};
+ghost use Rattle.branch_search.specs.code.Search.{IsState, HasNoClause};
 ghost use Rattle.branch_search.specs.Slices.{question_of, AreProved, IsSlice, HasSpent};
 ghost use Rattle.stn_core.specs.Limits.{adds_limit};
 ghost use Rattle.branch_search.specs.code.Turns.{IsFound};
 ghost use Rattle.branch_search.specs.code.Divisions.{IsDivision};
 
 use crate::answer::Slice;
+use crate::conflict::Reaction;
 use crate::divide::Division;
 use crate::hearing::Hearing;
 use crate::search::{Found, Rest};
@@ -34,6 +35,7 @@ impl State {
         requires points { N.points_of net.old ≡ task.now.problem.points }
         requires state { IsState task.now self.old (N.literals_of net.old) }
         requires root { self.old.levels.items ≡ [] }
+        requires plain { HasNoClause self.old.entries.items }
         requires empty { N.literals_of net.old ≡ [] }
         requires over { All (IsOver task.now.problem.points) task.now.cube }
         ensures points { N.points_of net.new ≡ N.points_of net.old }
@@ -44,8 +46,10 @@ impl State {
             return Ok(Found::Excluded(j));
         }
         if let Some(conflict) = self.take_units(task, net)? {
-            let j = self.exclude(alloc, task, net, &conflict)?;
-            return Ok(Found::Excluded(j));
+            return match self.react(alloc, task, net, &conflict)? {
+                Reaction::Excluded(j) => Ok(Found::Excluded(j)),
+                Reaction::Jumped | Reaction::Unsettled => Ok(Found::Spent),
+            };
         }
         let found = self.search(alloc, task, net, rest)?;
         Ok(found)
@@ -72,6 +76,7 @@ impl State {
         requires points { N.points_of net.old ≡ task.now.problem.points }
         requires state { IsState task.now self.old (N.literals_of net.old) }
         requires root { self.old.levels.items ≡ [] }
+        requires plain { HasNoClause self.old.entries.items }
         requires empty { N.literals_of net.old ≡ [] }
         requires over { All (IsOver task.now.problem.points) task.now.cube }
         ensures points { N.points_of net.new ≡ N.points_of net.old }

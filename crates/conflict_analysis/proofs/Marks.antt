@@ -13,9 +13,7 @@ use Rattle.conflict_analysis.specs.declared.entry.Conflict.{Conflict}
 use Rattle.conflict_analysis.specs.declared.entry.Conflict.TheVariants.{Clause as OfClause, Cycle as OfCycle}
 use Rattle.conflict_analysis.specs.declared.entry.Role.{Role}
 use Rattle.conflict_analysis.specs.declared.entry.Role.TheVariants.{Unused, Kept, Resolved}
-use Rattle.conflict_analysis.specs.code.Trails.{source_clause, pair_cycle, entry_at, on_trail, role_at, IsByClause, IsByCycle, Follows, Stands, IsReason, IsTrail, IsConflict, IsUsed, StandsUsed, IsClosed, IsMarkedMore, IsFirst, IsTurned, IsMarked, KeepsAll, DeniesKept, IsDenial}
-use Rattle.conflict_analysis.specs.code.Places.{ArePassed}
-use Rattle.conflict_analysis.proofs.Passing.{kept_used}
+use Rattle.conflict_analysis.specs.code.Trails.{source_clause, pair_cycle, entry_at, on_trail, role_at, IsByClause, IsByCycle, Follows, Stands, IsReason, IsTrail, IsConflict, IsUsed, StandsUsed, IsClosed, IsMarkedMore, MayStay, IsStatedAt, IsTurned, IsMarked, DeniesKept, IsDenial}
 use Rattle.std.specs.Prelude.{slice_index}
 
 pub marked_none : (below : ℕ) (roles : List Role) → IsMarkedMore below roles roles
@@ -58,14 +56,15 @@ conflict_still inputs lemmas trail old new k (OfClause source) used h = (h.0, λ
 conflict_still inputs lemmas trail old new k (OfCycle cycle) used h = (h.0, λ q lt. stands_still trail old new k (literal_at cycle q) used (h.1 q lt))
 
 -- the reasons of a trail
-pub clause_reason : (inputs lemmas : List (List Literal)) (cube : List Literal) (trail : List Entry) (k : ℕ) (source : Source) (place : ℕ) → IsTrail inputs lemmas cube trail → k < length trail → (entry_at trail k).reason ≡ ByClause source place → IsByClause inputs lemmas (Stands trail k) (on_trail trail k) source place
-clause_reason inputs lemmas cube trail k source place h lt e = subst (IsReason inputs lemmas cube trail k (on_trail trail k)) e (h k lt)
-
 pub cycle_reason : (inputs lemmas : List (List Literal)) (cube : List Literal) (trail : List Entry) (k : ℕ) (cycle : List Literal) → IsTrail inputs lemmas cube trail → k < length trail → (entry_at trail k).reason ≡ ByCycle cycle → IsByCycle (Stands trail k) (on_trail trail k) cycle
 cycle_reason inputs lemmas cube trail k cycle h lt e = subst (IsReason inputs lemmas cube trail k (on_trail trail k)) e (h k lt)
 
 pub pair_reason : (inputs lemmas : List (List Literal)) (cube : List Literal) (trail : List Entry) (k : ℕ) (tighter : Literal) → IsTrail inputs lemmas cube trail → k < length trail → (entry_at trail k).reason ≡ ByPair tighter → IsByCycle (Stands trail k) (on_trail trail k) (pair_cycle tighter (on_trail trail k))
 pair_reason inputs lemmas cube trail k tighter h lt e = subst (IsReason inputs lemmas cube trail k (on_trail trail k)) e (h k lt)
+
+pub closed_more : (inputs lemmas : List (List Literal)) (trail : List Entry) (old new : List Role) (below : ℕ) → IsMarkedMore below old new → IsClosed inputs lemmas trail old → IsClosed inputs lemmas trail new
+closed_more inputs lemmas trail old new below more closed k is =
+    follows_still inputs lemmas trail old new k (on_trail trail k) (entry_at trail k).reason more.used (closed k (more.resolved k is))
 
 -- a literal is resolved, when all is used that it follows from
 pub turned_resolved : (inputs lemmas : List (List Literal)) (trail : List Entry) (whole : Bool) (old mid new : List Role) (k : ℕ) → k < length old → IsClosed inputs lemmas trail old → IsMarkedMore k old mid → Follows inputs lemmas (StandsUsed trail mid k) (on_trail trail k) (entry_at trail k).reason → new ≡ set mid k Resolved → IsTurned inputs lemmas trail whole k old new
@@ -90,12 +89,21 @@ turned_resolved inputs lemmas trail whole old mid new k within closed more follo
       first = λ w is. (let no : Resolved ≡ Kept = sym here ∙ is in absurd cc);
     })
 
-pub turned_by_clause : (inputs lemmas : List (List Literal)) (cube : List Literal) (trail : List Entry) (whole : Bool) (old mid new : List Role) (k : ℕ) (source : Source) (place : ℕ) (clause : List Literal) → k < length trail → length trail ≤ length old → IsTrail inputs lemmas cube trail → (entry_at trail k).reason ≡ ByClause source place → clause ≡ source_clause inputs lemmas source → IsClosed inputs lemmas trail old → IsMarkedMore k old mid → ((q : ℕ) → q < length clause → q ≢ place → StandsUsed trail mid k (negation_of (literal_at clause q))) → new ≡ set mid k Resolved → IsTurned inputs lemmas trail whole k old new
-turned_by_clause inputs lemmas cube trail whole old mid new k source place clause within count h e c closed more used is =
-    let r = clause_reason inputs lemmas cube trail k source place h within e in
+pub turned_by_clause : (inputs lemmas : List (List Literal)) (trail : List Entry) (whole : Bool) (old mid new : List Role) (k : ℕ) (source : Source) (place : ℕ) (clause : List Literal) → k < length trail → length trail ≤ length old → IsStatedAt inputs lemmas (on_trail trail k) source place → (entry_at trail k).reason ≡ ByClause source place → clause ≡ source_clause inputs lemmas source → IsClosed inputs lemmas trail old → IsMarkedMore k old mid → ((q : ℕ) → q < length clause → q ≢ place → StandsUsed trail mid k (negation_of (literal_at clause q))) → new ≡ set mid k Resolved → IsTurned inputs lemmas trail whole k old new
+turned_by_clause inputs lemmas trail whole old mid new k source place clause within count r e c closed more used is =
     let P : List Literal → Type 0 = λ ls. (q : ℕ) → q < length ls → q ≢ place → StandsUsed trail mid k (negation_of (literal_at ls q)) in
     let follows : IsByClause inputs lemmas (StandsUsed trail mid k) (on_trail trail k) source place = record { known = r.known; within = r.within; at = r.at; others = subst P c used } in
     turned_resolved inputs lemmas trail whole old mid new k (omega arith) closed more (subst (Follows inputs lemmas (StandsUsed trail mid k) (on_trail trail k)) (sym e) follows) is
+
+-- the clause isn't its reason, and so it stays
+pub turned_by_none : (inputs lemmas : List (List Literal)) (trail : List Entry) (whole : Bool) (old new : List Role) (k : ℕ) (source : Source) (place : ℕ) → (entry_at trail k).reason ≡ ByClause source place → IsClosed inputs lemmas trail old → IsMarkedMore k old new → IsTurned inputs lemmas trail whole k old new
+turned_by_none inputs lemmas trail whole old new k source place e closed more = record {
+  count = more.count;
+  closed = closed_more inputs lemmas trail old new k more closed;
+  used = more.used;
+  above = λ j lt. more.above j (omega arith);
+  first = λ w is. subst MayStay (sym e) tt;
+}
 
 pub turned_by_cycle : (inputs lemmas : List (List Literal)) (cube : List Literal) (trail : List Entry) (whole : Bool) (old mid new : List Role) (k : ℕ) (cycle given : List Literal) (l : Literal) → k < length trail → length trail ≤ length old → IsTrail inputs lemmas cube trail → (entry_at trail k).reason ≡ ByCycle cycle → given ≡ cycle → l ≡ on_trail trail k → IsClosed inputs lemmas trail old → IsMarkedMore k old mid → ((q : ℕ) → q < length given → (literal_at given q ≡ negation_of l) ⊎ StandsUsed trail mid k (literal_at given q)) → new ≡ set mid k Resolved → IsTurned inputs lemmas trail whole k old new
 turned_by_cycle inputs lemmas cube trail whole old mid new k cycle given l within count h e g a closed more used is =
@@ -115,10 +123,6 @@ turned_by_pair inputs lemmas cube trail whole old mid new k tighter given l with
 
 pub marked_start : (inputs lemmas : List (List Literal)) (trail : List Entry) (whole : Bool) (roles : List Role) (k : ℕ) → length trail ≤ k → length trail ≤ length roles → IsClosed inputs lemmas trail roles → IsMarked inputs lemmas trail whole k roles roles
 marked_start inputs lemmas trail whole roles k past count closed = record { count = count; closed = closed; used = λ j u. u; first = λ w j le lt is. absurd (omega arith) }
-
-pub closed_more : (inputs lemmas : List (List Literal)) (trail : List Entry) (old new : List Role) (below : ℕ) → IsMarkedMore below old new → IsClosed inputs lemmas trail old → IsClosed inputs lemmas trail new
-closed_more inputs lemmas trail old new below more closed k is =
-    follows_still inputs lemmas trail old new k (on_trail trail k) (entry_at trail k).reason more.used (closed k (more.resolved k is))
 
 -- a loop that marks the negations of a clause's literals: one more of them
 pub denials_more : (trail : List Entry) (first mid new : List Role) (below : ℕ) (clause : List Literal) (place q : ℕ) → IsMarkedMore below first mid → ((i : ℕ) → i < q → i ≢ place → StandsUsed trail mid below (negation_of (literal_at clause i))) → IsMarkedMore below mid new → StandsUsed trail new below (negation_of (literal_at clause q)) → (i : ℕ) → i < q + 1 → i ≢ place → StandsUsed trail new below (negation_of (literal_at clause i))
@@ -191,12 +195,6 @@ reason_is trail k d r within is = sym (ap (λ (f : Entry). f.reason) (entry_is t
 
 pub literal_is : (trail : List Entry) (k : ℕ) (d : Entry) → k < length trail → (get_or trail k d).literal ≡ on_trail trail k
 literal_is trail k d within = ap (λ (f : Entry). f.literal) (entry_is trail k d within)
-
-pub clause_stands : (inputs lemmas : List (List Literal)) (cube : List Literal) (trail : List Entry) (k : ℕ) (source : Source) (place : ℕ) (clause : List Literal) → IsTrail inputs lemmas cube trail → k < length trail → (entry_at trail k).reason ≡ ByClause source place → clause ≡ source_clause inputs lemmas source → (q : ℕ) → q < length clause → q ≢ place → Stands trail k (negation_of (literal_at clause q))
-clause_stands inputs lemmas cube trail k source place clause h within e is =
-    let r = clause_reason inputs lemmas cube trail k source place h within e in
-    let P : List Literal → Type 0 = λ ls. (q : ℕ) → q < length ls → q ≢ place → Stands trail k (negation_of (literal_at ls q)) in
-    subst P (sym is) r.others
 
 pub pair_others : (inputs lemmas : List (List Literal)) (cube : List Literal) (trail : List Entry) (k : ℕ) (tighter : Literal) (given : List Literal) (l : Literal) → IsTrail inputs lemmas cube trail → k < length trail → (entry_at trail k).reason ≡ ByPair tighter → given ≡ pair_cycle tighter l → l ≡ on_trail trail k → (q : ℕ) → q < length given → (literal_at given q ≡ negation_of l) ⊎ Stands trail k (literal_at given q)
 pair_others inputs lemmas cube trail k tighter given l h within e is a =

@@ -1,5 +1,5 @@
 //! What the guide proposes, tested on the trail.
-ghost use Rattle.std.specs.Prelude.{◌≡◌, ◌≢◌, ◌<◌, ℕ, All, IfSome, length, true};
+ghost use Rattle.std.specs.Prelude.{◌≡◌, ◌<◌, All, IfSome, length, true};
 ghost use Rattle.stn_core.specs.Literal.{IsOver, negation_of};
 ghost use Rattle.conflict_analysis.specs.declared.entry.Conflict.TheVariants.{Clause as OfClause};
 ghost use Rattle.conflict_analysis.specs.code.Trails.{on_trail, Stands, IsByClause, IsConflict};
@@ -55,30 +55,6 @@ fn is_denied_near(
     is_denied(guide, entries, numbers, place, literal)
 }
 
-// The numbers of the clause's literals, where they are wanted: of a pair, of which one literal is open, the other
-// one is denied at the place that is looked at first.
-fn wanted_numbers<'a>(
-    guide: &'a Guide,
-    entries: &[Entry],
-    source: Source,
-    clause: &[Literal],
-    place: usize,
-    near: usize,
-) -> &'a [LiteralNumber] {
-    if clause.len() == 2 && place < 2 && near < entries.len() {
-        &[]
-    } else {
-        numbers_of(guide, source)
-    }
-}
-
-// Whether the clause is of two literals, of which the other one is denied at the place `near` of the trail.
-fn is_denied_pair(entries: &[Entry], clause: &[Literal], place: usize, near: usize) -> bool
-    ensures { result ≡ true → AreDenied entries.now clause.now place }
-{
-    clause.len() == 2 && place < 2 && is_denied_at(entries, near, clause[1 - place])
-}
-
 // Whether the clause's literals but the one at the place are denied: one of them perhaps at the place `near` of the
 // trail.
 fn are_denied(
@@ -91,10 +67,7 @@ fn are_denied(
 ) -> bool
     ensures { result ≡ true → AreDenied entries.now clause.now place }
 {
-    if is_denied_pair(entries, clause, place, near) {
-        return true;
-    }
-    let numbers = wanted_numbers(guide, entries, source, clause, place, near);
+    let numbers = numbers_of(guide, source);
     for q in 0..clause.len() {
         if q != place && !is_denied_near(guide, entries, numbers, near, q, clause[q]) {
             return false;
@@ -103,8 +76,7 @@ fn are_denied(
     true
 }
 
-/// The literal at the place of the clause, where it follows from the trail, in which the place `near` is looked at
-/// first.
+/// The literal at the place of the clause, where it follows from the trail.
 pub fn unit_of<E: Earlier>(
     problem: &Problem,
     earlier: &E,
@@ -112,7 +84,6 @@ pub fn unit_of<E: Earlier>(
     entries: &[Entry],
     source: Source,
     place: usize,
-    near: usize,
 ) -> Option<Literal>
     requires lemmas { All (IsClauseOver problem.now.points) (E.clauses earlier.now) }
     ensures follows { IfSome result (λ l. IsByClause problem.now.clauses (E.clauses earlier.now)
@@ -123,7 +94,7 @@ pub fn unit_of<E: Earlier>(
         return None;
     }
     let clause = clause_of(problem, earlier, source);
-    if place < clause.len() && are_denied(guide, entries, source, clause, place, near) {
+    if place < clause.len() && are_denied(guide, entries, source, clause, place, entries.len()) {
         return Some(clause[place]);
     }
     None
@@ -148,13 +119,22 @@ pub fn is_conflict<E: Earlier>(
     are_denied(guide, entries, source, clause, clause.len(), near)
 }
 
-/// The first place of the clause whose literal isn't denied.
-pub fn open_place(guide: &Guide, entries: &[Entry], source: Source, clause: &[Literal]) -> usize {
+/// The one place of the clause whose literal isn't denied, where there is one. It is a hint.
+pub fn unit_place(
+    guide: &Guide,
+    entries: &[Entry],
+    source: Source,
+    clause: &[Literal],
+) -> Option<usize> {
     let numbers = numbers_of(guide, source);
+    let mut found = None;
     for q in 0..clause.len() {
         if !is_denied(guide, entries, numbers, q, clause[q]) {
-            return q;
+            if found.is_some() {
+                return None;
+            }
+            found = Some(q);
         }
     }
-    0
+    found
 }

@@ -1,8 +1,8 @@
 //! Which literals of the trail a conflict rests on.
-ghost use Rattle.std.specs.Prelude.{◌≡◌, ◌≢◌, ◌<◌, ◌≤◌, ◌⊎◌, ℕ, length, OnOk};
+ghost use Rattle.std.specs.Prelude.{◌≡◌, ◌≢◌, ◌<◌, ◌≤◌, ◌⊎◌, ℕ, length, true, IfOk, IfSome, IfNone, OnOk};
 ghost use Rattle.stn_core.specs.Literal.{negation_of, literal_at};
 ghost use Rattle.conflict_analysis.specs.code.Trails.{Stands, StandsUsed, IsMarkedMore, IsGrounded, IsClosed, on_trail};
-ghost use Rattle.conflict_analysis.specs.code.Trails.{role_at, IsUsed, IsConflict, IsTurned, IsMarked};
+ghost use Rattle.conflict_analysis.specs.code.Trails.{role_at, IsUsed, IsConflict, IsTurned, IsMarked, IsStatedAt};
 ghost use Rattle.conflict_analysis.specs.code.Places.{AreWaiting, KeepsWaiting, ArePassed};
 
 use crate::entry::{Conflict, Entry, Level, Reason, Role, Source};
@@ -33,54 +33,56 @@ pub struct Marks {
     pub redundancy: Redundancy,
 }
 
-// A place at which the literal stands, which stands below another place: the last one, or the one that was
-// guessed, or else the first.
+// A place below another one at which the literal stands, if there is one: the last one, or the one that was guessed, or
+// else the first.
 fn place_of<E: Earlier>(
     graph: &ImplicationGraph<'_, E>,
     literal: Literal,
     below: usize,
     guess: Option<usize>,
-) -> usize
+) -> Option<usize>
     requires within { below ≤ length graph.now.trail }
-    requires stands { Stands graph.now.trail below literal }
-    ensures below { result < below }
-    ensures is { on_trail graph.now.trail result ≡ literal }
+    ensures below { IfSome result (λ k. k < below) }
+    ensures is { IfSome result (λ k. on_trail graph.now.trail k ≡ literal) }
+    ensures none { IfNone result ((j : ℕ) → j < below → on_trail graph.now.trail j ≢ literal) }
 {
     let last = below.wrapping_sub(1);
     if last < below && is_same(graph.literal(last), literal) {
-        return last;
+        return Some(last);
     }
     if let Some(k) = guess {
         if k < below && is_same(graph.literal(k), literal) {
-            return k;
+            return Some(k);
         }
     }
     for k in 0..below {
         if is_same(graph.literal(k), literal) {
-            return k;
+            return Some(k);
         }
     }
-    unreachable!()
+    None
 }
 
-// The conflict rests on a literal that stands below the place.
+// The conflict rests on the literal, if it stands below the place. Whether it does.
 fn need<E: Earlier>(
     graph: &ImplicationGraph<'_, E>,
     marks: &mut Marks,
     literal: Literal,
     below: usize,
     guess: Option<usize>,
-) -> Result<(), AllocError>
+) -> Result<bool, AllocError>
     requires count { length graph.now.trail ≤ length marks.old.roles.items }
     requires within { below ≤ length graph.now.trail }
-    requires stands { Stands graph.now.trail below literal }
     ensures more { OnOk result (IsMarkedMore below marks.old.roles.items marks.new.roles.items) }
     ensures waiting { OnOk result (KeepsWaiting marks.old.roles.items marks.old.waiting
         marks.new.roles.items marks.new.waiting) }
     ensures passed { OnOk result (marks.new.passed.items ≡ marks.old.passed.items) }
-    ensures used { OnOk result (StandsUsed graph.now.trail marks.new.roles.items below literal) }
+    ensures used { IfOk result (λ stands. stands ≡ true → StandsUsed graph.now.trail marks.new.roles.items below literal) }
+    ensures stands { IfOk result (λ stands. Stands graph.now.trail below literal → stands ≡ true) }
 {
-    let k = place_of(graph, literal, below, guess);
+    let Some(k) = place_of(graph, literal, below, guess) else {
+        return Ok(false);
+    };
     if let Role::Unused = marks.roles[k] {
         marks.waiting.push(k)?;
         marks.roles[k] = Role::Kept;
@@ -88,10 +90,11 @@ fn need<E: Earlier>(
             marks.open = marks.open.saturating_add(1);
         }
     }
-    Ok(())
+    Ok(true)
 }
 
-// It rests on the negations of the clause's literals but the one at the place.
+// It rests on the negations of the clause's literals but the one at the place, as far as they stand below another place. Whether
+// all do.
 fn need_denials<E: Earlier>(
     graph: &ImplicationGraph<'_, E>,
     marks: &mut Marks,
@@ -100,26 +103,29 @@ fn need_denials<E: Earlier>(
     clause: &[Literal],
     place: usize,
     below: usize,
-) -> Result<(), AllocError>
+) -> Result<bool, AllocError>
     requires count { length graph.now.trail ≤ length marks.old.roles.items }
     requires within { below ≤ length graph.now.trail }
-    requires stand { (q : ℕ) → q < length clause.now → q ≢ place
-        → Stands graph.now.trail below (negation_of (literal_at clause.now q)) }
     ensures more { OnOk result (IsMarkedMore below marks.old.roles.items marks.new.roles.items) }
     ensures waiting { OnOk result (KeepsWaiting marks.old.roles.items marks.old.waiting
         marks.new.roles.items marks.new.waiting) }
     ensures passed { OnOk result (marks.new.passed.items ≡ marks.old.passed.items) }
-    ensures used { OnOk result ((q : ℕ) → q < length clause.now → q ≢ place
+    ensures used { IfOk result (λ stand. stand ≡ true → (q : ℕ) → q < length clause.now → q ≢ place
         → StandsUsed graph.now.trail marks.new.roles.items below (negation_of (literal_at clause.now q))) }
+    ensures stand { IfOk result (λ stand. ((q : ℕ) → q < length clause.now → q ≢ place
+        → Stands graph.now.trail below (negation_of (literal_at clause.now q))) → stand ≡ true) }
 {
     let numbers = numbers_of(guide, source);
     for q in 0..clause.len() {
         if q != place {
             let guess = denial_guess(guide, numbers, q, clause[q]);
-            need(graph, marks, negate(clause[q]), below, guess)?;
+            let stands = need(graph, marks, negate(clause[q]), below, guess)?;
+            if !stands {
+                return Ok(false);
+            }
         }
     }
-    Ok(())
+    Ok(true)
 }
 
 // It rests on the cycle's literals but the negation of this one.
@@ -206,7 +212,25 @@ pub fn need_conflict<E: Earlier>(
     Ok(())
 }
 
-// Instead of the literal at the place the conflict rests on what that follows from, if it does.
+// Whether the literal at the place k of the trail stands at this place of the clause.
+fn is_stated<E: Earlier>(
+    graph: &ImplicationGraph<'_, E>,
+    source: Source,
+    place: usize,
+    k: usize,
+) -> bool
+    requires within { k < length graph.now.trail }
+    ensures { result ≡ true → IsStatedAt graph.now.inputs graph.now.lemmas (on_trail graph.now.trail k) source place }
+{
+    if !graph.is_known(source) {
+        return false;
+    }
+    let clause = graph.clause(source);
+    place < clause.len() && is_same(clause[place], graph.literal(k))
+}
+
+// Instead of the literal at the place the conflict rests on what that follows from, if it does: whether it follows from a clause is
+// tested here.
 fn resolve<E: Earlier>(
     graph: &ImplicationGraph<'_, E>,
     marks: &mut Marks,
@@ -229,9 +253,13 @@ fn resolve<E: Earlier>(
         Reason::Given => {}
         Reason::Decision => {}
         Reason::Clause(source, place) => {
-            let clause = graph.clause(*source);
-            need_denials(graph, marks, guide, *source, clause, *place, k)?;
-            marks.roles[k] = Role::Resolved;
+            if is_stated(graph, *source, *place, k) {
+                let clause = graph.clause(*source);
+                let follows = need_denials(graph, marks, guide, *source, clause, *place, k)?;
+                if follows {
+                    marks.roles[k] = Role::Resolved;
+                }
+            }
         }
         Reason::Pair(tighter) => {
             let literal = graph.literal(k);

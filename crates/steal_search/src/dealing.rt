@@ -2,38 +2,33 @@
 ghost use Rattle.std.specs.Prelude.{◌≡◌, IfOk, None};
 ghost use Rattle.steal_search.specs.Workers.{GoesOn, IsJustifiedThere, IsSearching};
 
+use crate::team::Team;
 use book_lock::{Desk, Seat};
 use book_search::{Finding, Pacing, Tools};
 use std::alloc::{AllocError, Global};
 use std::sync::{Arc, Wait};
 use stn_core::Problem;
-use worker_calls::Calls;
 use worker_gates::Gate;
 
-/// What a worker keeps from slice to slice: its tools, how long its next slice is, how many it has made, and what it
-/// tells the others.
+/// What a worker keeps from slice to slice: its number, its tools, how long its next slice is, and how many it has made.
 #[derive(Drop)]
 pub struct Pace {
+    pub(crate) worker: u32,
     pub(crate) tools: Tools,
     pub(crate) pacing: Pacing,
     pub(crate) slices: u64,
-    pub(crate) calls: Arc<Calls>,
 }
 
 impl Pace {
-    pub(crate) fn new(
-        alloc: Global,
-        problem: &Problem,
-        budget: u64,
-        calls: &Arc<Calls>,
-    ) -> Result<Self, AllocError>
-        ensures { IfOk result (λ pace. pace.tools ≡ problem.now.points) }
+    pub(crate) fn new<G: Gate>(team: &Team<G>, worker: u32) -> Result<Self, AllocError>
+        ensures { IfOk result (λ pace. pace.tools ≡ team.now.points) }
     {
+        let calls = Arc::try_clone(team.calls())?;
         Ok(Pace {
-            tools: Tools::beside(alloc, problem, Arc::try_clone(calls)?)?,
-            pacing: Pacing::beside(budget),
+            worker,
+            tools: Tools::beside(team.alloc(), team.problem(), calls)?,
+            pacing: Pacing::beside(team.budget()),
             slices: 0,
-            calls: Arc::try_clone(calls)?,
         })
     }
 }
@@ -86,24 +81,21 @@ fn deliver<R: Wait>(
 /// slice has a greater budget. Where there is no memory for it, the cube is given back.
 pub(crate) fn deal<R: Wait, G: Gate>(
     rt: &R,
-    alloc: Global,
-    problem: &Problem,
+    team: &Team<G>,
     desk: &Desk,
     seat: &mut Seat,
     pace: &mut Pace,
-    worker: u32,
-    gate: &G,
 ) -> Result<bool, AllocError>
     requires desk { seat.old.desk ≡ desk.now.id }
-    requires tools { pace.old.tools ≡ problem.now.points }
-    requires searching { IsSearching problem.now seat.old }
+    requires tools { pace.old.tools ≡ team.now.points }
+    requires searching { IsSearching team.now seat.old }
     ensures seat { GoesOn seat.old seat.new }
     ensures none { seat.new.cube ≡ None }
     ensures tools { pace.new.tools ≡ pace.old.tools }
 {
-    match search(alloc, problem, seat, pace) {
+    match search(team.alloc(), team.problem(), seat, pace) {
         Ok(delivery) => {
-            gate.pass(worker, pace.slices);
+            team.gate().pass(pace.worker, pace.slices);
             pace.slices = pace.slices.saturating_add(1);
             if delivery.divides {
                 let met_conflict = pace.tools.met_conflict();

@@ -6,9 +6,11 @@
 
 mod dealing;
 mod shared;
+mod team;
 mod worker;
 
 pub use book_search::{Solved, search_one, solve_one, solve_one_with};
 pub use shared::{Worker, search_shared, solve_shared, solve_shared_over, solve_shared_with};
+pub use team::Team;
 pub use worker::work;
 pub use worker_gates::{Gate, HoldSecond, NoGate};

@@ -10,6 +10,7 @@ ghost use Rattle.cube_pool.specs.Hands.{AreInOrder};
 ghost use Rattle.steal_search.specs.code.Staff.{AllMayWork, AreHanded, AreSeated, IsFirst, IsSameWorker, MayWork};
 
 use crate::dealing::{Pace, deal};
+use crate::team::Team;
 use crate::worker::go_on;
 use book_core::{Book, Verdict};
 use book_lock::{Dealt, Desk, Seat};
@@ -38,49 +39,34 @@ pub struct Worker {
 }
 
 // The pace that is there, or a new one.
-fn pace_of(
-    alloc: Global,
-    problem: &Problem,
-    budget: u64,
-    calls: &Arc<Calls>,
+fn pace_of<G: Gate>(
+    team: &Team<G>,
+    worker: u32,
     pace: &mut Option<Pace>,
 ) -> Result<Pace, AllocError>
-    requires { IfSome pace.old (λ pace. pace.tools ≡ problem.now.points) }
-    ensures { IfOk result (λ pace. pace.tools ≡ problem.now.points) }
+    requires { IfSome pace.old (λ pace. pace.tools ≡ team.now.points) }
+    ensures { IfOk result (λ pace. pace.tools ≡ team.now.points) }
 {
     match pace.take() {
         Some(pace) => Ok(pace),
-        None => Pace::new(alloc, problem, budget, calls),
+        None => Pace::new(team, worker),
     }
 }
 
 // One worker on this thread. Where it finds no memory, the others go on.
-fn run<R: Wait, G: Gate>(
-    rt: &R,
-    alloc: Global,
-    problem: &Problem,
-    desk: &Desk,
-    pool: &Pool,
-    worker: &mut Worker,
-    budget: u64,
-    calls: &Arc<Calls>,
-    gate: &G,
-)
-    requires { MayWork desk.now problem.now pool.now worker.old }
+fn run<R: Wait, G: Gate>(rt: &R, team: &Team<G>, desk: &Desk, pool: &Pool, worker: &mut Worker)
+    requires { MayWork desk.now team.now pool.now worker.old }
     ensures { IsSameWorker worker.old worker.new }
 {
-    if let Ok(mut pace) = pace_of(alloc, problem, budget, calls, &mut worker.pace) {
+    if let Ok(mut pace) = pace_of(team, worker.number, &mut worker.pace) {
         let _ = go_on(
             rt,
-            alloc,
-            problem,
+            team,
             desk,
             &mut worker.seat,
             pool,
             &mut worker.hand,
             &mut pace,
-            worker.number,
-            gate,
         );
     }
 }
@@ -88,16 +74,12 @@ fn run<R: Wait, G: Gate>(
 // Each worker on a thread of its own.
 fn run_all<R: Threads + Wait + Sync, G: Gate>(
     rt: &R,
-    alloc: Global,
-    problem: &Problem,
+    team: &Team<G>,
     desk: &Desk,
     pool: &Pool,
     staff: &mut [Worker],
-    budget: u64,
-    calls: &Arc<Calls>,
-    gate: &G,
 )
-    requires staff { AllMayWork desk.now problem.now pool.now staff.old }
+    requires staff { AllMayWork desk.now team.now pool.now staff.old }
     requires seats { AreSeated desk.now staff.old }
     requires hands { AreHanded pool.now staff.old }
     requires some { 0 < length staff.old }
@@ -111,9 +93,9 @@ fn run_all<R: Threads + Wait + Sync, G: Gate>(
         staff,
         count,
         &|_, worker|
-            requires { MayWork desk.now problem.now pool.now worker.old }
+            requires { MayWork desk.now team.now pool.now worker.old }
             ensures { IsSameWorker worker.old worker.new }
-        { run(rt, alloc, problem, desk, pool, worker, budget, calls, gate) },
+        { run(rt, team, desk, pool, worker) },
     );
 }
 
@@ -187,35 +169,23 @@ fn gather(
 // Workers share what is left to do.
 fn share_out<R: Threads + Wait + Sync, G: Gate>(
     rt: &R,
-    alloc: Global,
-    problem: &Problem,
+    team: &Team<G>,
     desk: &Desk,
     seat: &mut Seat,
     pace: Pace,
     workers: u32,
-    budget: u64,
-    gate: &G,
 ) -> Result<(), AllocError>
     requires workers { (1 ≤ workers) × (workers ≤ 64) }
-    requires seat { IsFirst desk.now problem.now 1 seat.old }
-    requires tools { pace.tools ≡ problem.now.points }
-    ensures seat { OnOk result (IsFirst desk.now problem.now (workers + 1) seat.new) }
+    requires seat { IsFirst desk.now team.now 1 seat.old }
+    requires tools { pace.tools ≡ team.now.points }
+    ensures seat { OnOk result (IsFirst desk.now team.now (workers + 1) seat.new) }
     ensures all { OnOk result (AllJoined seat.new.view) }
 {
-    let calls = Arc::try_clone(&pace.calls)?;
+    let alloc = team.alloc();
+    let problem = team.problem();
     let (pool, mut hands) = Pool::open(alloc, workers)?;
     let mut staff = staff_of(alloc, problem, desk, seat, &pool, &mut hands, pace)?;
-    run_all(
-        rt,
-        alloc,
-        problem,
-        desk,
-        &pool,
-        staff.as_mut_slice(),
-        budget,
-        &calls,
-        gate,
-    );
+    run_all(rt, team, desk, &pool, staff.as_mut_slice());
     gather(desk, problem, seat, &pool, &mut hands, staff)?;
     // What is left there are numbers of cubes that were taken without them.
     let _ = pool.close(hands);
@@ -225,23 +195,20 @@ fn share_out<R: Threads + Wait + Sync, G: Gate>(
 // One of the first slices, on the caller's thread: whether it divided its cube. None where nothing is left to do.
 fn slice_alone<R: Wait, G: Gate>(
     rt: &R,
-    alloc: Global,
-    problem: &Problem,
+    team: &Team<G>,
     desk: &Desk,
     seat: &mut Seat,
     pace: &mut Pace,
-    budget: u64,
-    gate: &G,
 ) -> Result<Option<bool>, AllocError>
-    requires seat { IsFirst desk.now problem.now 1 seat.old }
-    requires tools { pace.old.tools ≡ problem.now.points }
-    ensures seat { IsFirst desk.now problem.now 1 seat.new }
+    requires seat { IsFirst desk.now team.now 1 seat.old }
+    requires tools { pace.old.tools ≡ team.now.points }
+    ensures seat { IsFirst desk.now team.now 1 seat.new }
     ensures tools { pace.new.tools ≡ pace.old.tools }
 {
-    pace.pacing = Pacing::at_first(budget, pace.tools.met_conflict());
+    pace.pacing = Pacing::at_first(team.budget(), pace.tools.met_conflict());
     match desk.take(rt, seat)? {
         Dealt::Cube => {
-            let divided = deal(rt, alloc, problem, desk, seat, pace, 0, gate)?;
+            let divided = deal(rt, team, desk, seat, pace)?;
             Ok(Some(divided))
         }
         Dealt::Idle | Dealt::Done => Ok(None),
@@ -252,21 +219,18 @@ fn slice_alone<R: Wait, G: Gate>(
 // whole is divided, and else at the next division.
 fn begin<R: Wait, G: Gate>(
     rt: &R,
-    alloc: Global,
-    problem: &Problem,
+    team: &Team<G>,
     desk: &Desk,
     seat: &mut Seat,
     pace: &mut Pace,
-    budget: u64,
-    gate: &G,
 ) -> Result<bool, AllocError>
-    requires seat { IsFirst desk.now problem.now 1 seat.old }
-    requires tools { pace.old.tools ≡ problem.now.points }
-    ensures seat { IsFirst desk.now problem.now 1 seat.new }
+    requires seat { IsFirst desk.now team.now 1 seat.old }
+    requires tools { pace.old.tools ≡ team.now.points }
+    ensures seat { IsFirst desk.now team.now 1 seat.new }
     ensures tools { pace.new.tools ≡ pace.old.tools }
 {
     for slice in 0..FIRST_SLICES {
-        match slice_alone(rt, alloc, problem, desk, seat, pace, budget, gate)? {
+        match slice_alone(rt, team, desk, seat, pace)? {
             Some(divided) => {
                 if divided && (slice > 0 || !pace.tools.met_conflict()) {
                     return Ok(true);
@@ -282,30 +246,23 @@ fn begin<R: Wait, G: Gate>(
 // from there.
 fn closed<R: Threads + Wait + Sync, G: Gate>(
     rt: &R,
-    alloc: Global,
-    problem: &Problem,
+    team: &Team<G>,
     opening: Batch,
     phases: &[Value],
     workers: u32,
-    budget: u64,
-    calls: &Arc<Calls>,
-    gate: &G,
 ) -> Result<Book, AllocError>
     requires workers { (1 ≤ workers) × (workers ≤ 64) }
     requires seen { opening.seen ≡ 0 }
-    requires opening { IsOpening problem.now opening.lemmas }
-    ensures waiting { IfOk result (IsWaiting problem.now) }
+    requires opening { IsOpening team.now opening.lemmas }
+    ensures waiting { IfOk result (IsWaiting team.now) }
     ensures opening { IfOk result (λ book. book.opening ≡ opening.lemmas) }
 {
-    let (desk, mut seat) = Desk::start_with(alloc, problem.copy()?, opening)?;
-    let mut pace = Pace::new(alloc, problem, budget, calls)?;
+    let (desk, mut seat) = Desk::start_with(team.alloc(), team.problem().copy()?, opening)?;
+    // Of worker 0, who goes on with it.
+    let mut pace = Pace::new(team, 0)?;
     pace.tools.follow(phases);
-    if begin(
-        rt, alloc, problem, &desk, &mut seat, &mut pace, budget, gate,
-    )? {
-        share_out(
-            rt, alloc, problem, &desk, &mut seat, pace, workers, budget, gate,
-        )?;
+    if begin(rt, team, &desk, &mut seat, &mut pace)? {
+        share_out(rt, team, &desk, &mut seat, pace, workers)?;
     }
     Ok(desk.close(seat))
 }
@@ -347,18 +304,9 @@ pub fn solve_shared_over<R: Threads + Wait + Sync, G: Gate>(
     if let Some(verdict) = decide_units(alloc, problem)? {
         return Ok(verdict);
     }
+    let team = Team::new(alloc, problem, budget, calls, gate);
     let nothing = Batch::new(0, Vec::new(alloc));
-    let verdict = searched_by(
-        rt,
-        alloc,
-        problem,
-        nothing,
-        &[],
-        workers,
-        budget,
-        calls,
-        gate,
-    )?;
+    let verdict = searched_by(rt, &team, nothing, &[], workers)?;
     Ok(verdict)
 }
 
@@ -380,36 +328,29 @@ pub fn search_shared<R: Threads + Wait + Sync, G: Gate>(
     ensures { IfOk result (IsRight problem.now) }
 {
     let calls = Arc::new(alloc, Calls::new())?;
-    let verdict = searched_by(
-        rt, alloc, problem, opening, phases, workers, budget, &calls, gate,
-    )?;
+    let team = Team::new(alloc, problem, budget, &calls, gate);
+    let verdict = searched_by(rt, &team, opening, phases, workers)?;
     Ok(verdict)
 }
 
-// The same, where the workers share these calls.
+// The same by this team.
 fn searched_by<R: Threads + Wait + Sync, G: Gate>(
     rt: &R,
-    alloc: Global,
-    problem: &Problem,
+    team: &Team<G>,
     opening: Batch,
     phases: &[Value],
     workers: u32,
-    budget: u64,
-    calls: &Arc<Calls>,
-    gate: &G,
 ) -> Result<Verdict, AllocError>
     requires workers { (1 ≤ workers) × (workers ≤ 64) }
     requires seen { opening.seen ≡ 0 }
-    requires opening { IsOpening problem.now opening.lemmas }
-    ensures { IfOk result (IsRight problem.now) }
+    requires opening { IsOpening team.now opening.lemmas }
+    ensures { IfOk result (IsRight team.now) }
 {
-    let book = closed(
-        rt, alloc, problem, opening, phases, workers, budget, calls, gate,
-    )?;
+    let book = closed(rt, team, opening, phases, workers)?;
     match book.into_verdict()? {
         Ok(verdict) => Ok(verdict),
         Err(book) => {
-            let solved = finish(alloc, problem, book, budget)?;
+            let solved = finish(team.alloc(), team.problem(), book, team.budget())?;
             Ok(solved.into_verdict())
         }
     }
@@ -434,36 +375,29 @@ pub fn solve_shared_with<R: Threads + Wait + Sync, G: Gate>(
     ensures first { IfOk result (λ solved. BeginsWith opening.lemmas solved.verdict (lemmas_of solved.lemmas.items)) }
 {
     let calls = Arc::new(alloc, Calls::new())?;
-    let solved = solved_by(
-        rt, alloc, problem, opening, phases, workers, budget, &calls, gate,
-    )?;
+    let team = Team::new(alloc, problem, budget, &calls, gate);
+    let solved = solved_by(rt, &team, opening, phases, workers)?;
     Ok(solved)
 }
 
-// The same, where the workers share these calls.
+// The same by this team.
 fn solved_by<R: Threads + Wait + Sync, G: Gate>(
     rt: &R,
-    alloc: Global,
-    problem: &Problem,
+    team: &Team<G>,
     opening: Batch,
     phases: &[Value],
     workers: u32,
-    budget: u64,
-    calls: &Arc<Calls>,
-    gate: &G,
 ) -> Result<Solved, AllocError>
     requires workers { (1 ≤ workers) × (workers ≤ 64) }
     requires seen { opening.seen ≡ 0 }
-    requires opening { IsOpening problem.now opening.lemmas }
-    ensures right { IfOk result (λ solved. IsRight problem.now solved.verdict) }
-    ensures lemmas { IfOk result (λ solved. IsOpening problem.now (lemmas_of solved.lemmas.items)) }
+    requires opening { IsOpening team.now opening.lemmas }
+    ensures right { IfOk result (λ solved. IsRight team.now solved.verdict) }
+    ensures lemmas { IfOk result (λ solved. IsOpening team.now (lemmas_of solved.lemmas.items)) }
     ensures first { IfOk result (λ solved. BeginsWith opening.lemmas solved.verdict (lemmas_of solved.lemmas.items)) }
 {
-    let book = closed(
-        rt, alloc, problem, opening, phases, workers, budget, calls, gate,
-    )?;
-    match conclude(alloc, book)? {
+    let book = closed(rt, team, opening, phases, workers)?;
+    match conclude(team.alloc(), book)? {
         Ok(solved) => Ok(solved),
-        Err(book) => finish(alloc, problem, book, budget),
+        Err(book) => finish(team.alloc(), team.problem(), book, team.budget()),
     }
 }

@@ -3,11 +3,11 @@ ghost use Rattle.std.specs.Prelude.{◌≡◌, None, IfOk, OnOk, OnErr, IfSome};
 ghost use Rattle.steal_search.specs.Workers.{GoesOn, HandGoesOn, HasEnded, IsAnswered};
 
 use crate::dealing::{Pace, deal};
+use crate::team::Team;
 use book_lock::{Dealt, Desk, Seat};
 use cube_pool::{Hand, Pool};
-use std::alloc::{AllocError, Global};
-use std::sync::{Arc, Wait};
-use stn_core::Problem;
+use std::alloc::AllocError;
+use std::sync::Wait;
 use worker_calls::Calls;
 use worker_gates::Gate;
 
@@ -89,21 +89,18 @@ fn share(pool: &Pool, hand: &mut Hand, seat: &Seat) -> Option<usize>
 /// One worker's loop at this pace. It ends where nothing is left to do, or no memory.
 pub(crate) fn go_on<R: Wait, G: Gate>(
     rt: &R,
-    alloc: Global,
-    problem: &Problem,
+    team: &Team<G>,
     desk: &Desk,
     seat: &mut Seat,
     pool: &Pool,
     hand: &mut Hand,
     pace: &mut Pace,
-    worker: u32,
-    gate: &G,
 ) -> Result<(), AllocError>
-    requires problem { seat.old.view.begun.problem ≡ problem.now }
+    requires problem { seat.old.view.begun.problem ≡ team.now }
     requires desk { seat.old.desk ≡ desk.now.id }
     requires none { seat.old.cube ≡ None }
     requires hand { hand.old.pool ≡ pool.now }
-    requires tools { pace.old.tools ≡ problem.now.points }
+    requires tools { pace.old.tools ≡ team.now.points }
     ensures seat { GoesOn seat.old seat.new }
     ensures none { seat.new.cube ≡ None }
     ensures hand { HandGoesOn hand.old hand.new }
@@ -111,15 +108,15 @@ pub(crate) fn go_on<R: Wait, G: Gate>(
 {
     let mut near = None;
     for _ in rt.forever() {
-        match next(rt, desk, seat, pool, hand, near.take(), &pace.calls)? {
+        match next(rt, desk, seat, pool, hand, near.take(), team.calls())? {
             Dealt::Cube => {
-                if deal(rt, alloc, problem, desk, seat, pace, worker, gate)? {
+                if deal(rt, team, desk, seat, pace)? {
                     near = share(pool, hand, seat);
                 }
             }
             Dealt::Idle => {}
             Dealt::Done => {
-                pace.calls.end();
+                team.calls().end();
                 return Ok(());
             }
         }
@@ -129,28 +126,24 @@ pub(crate) fn go_on<R: Wait, G: Gate>(
 
 /// One worker, on a thread of the caller's: it takes cubes, the fetched ones first, searches each for a slice,
 /// passes the gate, and delivers what it found. Where a cube was divided, it goes on with one half and pushes the
-/// other. The first slice has this budget, and later ones greater ones, by `book_search::Pacing`.
+/// other. The first slice has the team's budget, and later ones greater ones, by `book_search::Pacing`.
 ///
-/// All workers of the desk share the calls: by them one that waits, or was told that nothing is left to do, ends the slices
-/// of the others sooner.
+/// All workers of the desk are of one team: by its calls one that waits, or was told that nothing is left to do, ends the
+/// slices of the others sooner.
 ///
 /// `Ok` comes where nothing is left to do. Where there is no memory for a slice or a delivery, the worker gives
 /// its cube back and ends. What the other workers deliver goes on, and the desk's book can be finished by
 /// `book_search::finish` once it is closed.
 pub fn work<R: Wait, G: Gate>(
     rt: &R,
-    alloc: Global,
-    problem: &Problem,
+    team: &Team<G>,
     desk: &Desk,
     seat: &mut Seat,
     pool: &Pool,
     hand: &mut Hand,
     worker: u32,
-    budget: u64,
-    calls: &Arc<Calls>,
-    gate: &G,
 ) -> Result<(), AllocError>
-    requires problem { seat.old.view.begun.problem ≡ problem.now }
+    requires problem { seat.old.view.begun.problem ≡ team.now }
     requires desk { seat.old.desk ≡ desk.now.id }
     requires none { seat.old.cube ≡ None }
     requires hand { hand.old.pool ≡ pool.now }
@@ -159,8 +152,6 @@ pub fn work<R: Wait, G: Gate>(
     ensures hand { HandGoesOn hand.old hand.new }
     ensures ended { OnOk result (HasEnded seat.new) }
 {
-    let mut pace = Pace::new(alloc, problem, budget, calls)?;
-    go_on(
-        rt, alloc, problem, desk, seat, pool, hand, &mut pace, worker, gate,
-    )
+    let mut pace = Pace::new(team, worker)?;
+    go_on(rt, team, desk, seat, pool, hand, &mut pace)
 }

@@ -14,7 +14,7 @@ use std::sync::{Arc, Wait};
 use std::test::Fail;
 use std::thread;
 use std::thread::Threads;
-use steal_search::{NoGate, work};
+use steal_search::{NoGate, Team, work};
 use stn_core::Problem;
 use worker_calls::Calls;
 
@@ -39,9 +39,8 @@ fn run<R: Wait>(
 {
     let mut seat = seat;
     let mut hand = hand;
-    let ended = work(
-        rt, alloc, problem, desk, &mut seat, pool, &mut hand, worker, 1, calls, &NoGate,
-    );
+    let team = Team::new(alloc, problem, 1, calls, &NoGate);
+    let ended = work(rt, &team, desk, &mut seat, pool, &mut hand, worker);
     let is_ok = ended.is_ok();
     (seat, is_ok)
 }

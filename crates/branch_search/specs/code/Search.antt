@@ -4,11 +4,15 @@ use Rattle.std.specs.Prelude.{Option, Some, None, slice_index_or, ◌≤ℤ◌}
 use Rattle.stn_core.specs.declared.literal.Literal.{Literal}
 use Rattle.refute_tree.specs.declared.lemma.Lemma.{Lemma}
 use Rattle.refute_tree.specs.Trees.{stated}
-use Rattle.conflict_analysis.specs.declared.entry.Reason.TheVariants.{Decision}
+use Rattle.conflict_analysis.specs.declared.entry.Reason.{Reason}
+use Rattle.conflict_analysis.specs.declared.entry.Reason.TheVariants.{Given, Decision, Clause as ByClause}
+use Rattle.conflict_analysis.specs.declared.entry.Reason.TheVariants.{Pair as ByPair, Cycle as ByCycle}
 use Rattle.conflict_analysis.specs.declared.entry.Entry.{Entry}
 use Rattle.conflict_analysis.specs.declared.entry.Level.{Level}
 use Rattle.conflict_analysis.specs.declared.entry.Conflict.{Conflict}
 use Rattle.branch_search.specs.declared.state.State.{State}
+use Rattle.branch_search.specs.declared.conflict.Reaction.{Reaction}
+use Rattle.branch_search.specs.declared.conflict.Reaction.TheVariants.{Jumped, Excluded, Unsettled}
 use Rattle.branch_search.specs.declared.propagate.Tried.{Tried}
 use Rattle.branch_search.specs.declared.propagate.Tried.TheVariants.{Pushed, Nothing, Stuck}
 use Rattle.conflict_analysis.specs.code.Trails.{IsTrail, AreOver, entry_at, Stands, IsConflict}
@@ -102,25 +106,37 @@ AreExcluding q own j = (j < length own) × Excludes q.cube own j × AreProved q 
 abbrev pub IsExcluded : Question → State → ℕ → Type 0
 IsExcluded q s j = AreExcluding q s.own.items j
 
--- from a conflict a lemma was learned, which has this number; where nothing was decided it excludes the cube
+abbrev pub IsNoClause : Reason → Type 0
+IsNoClause Given = Unit {0}
+IsNoClause Decision = Unit {0}
+IsNoClause (ByClause source place) = ⊥
+IsNoClause (ByPair tighter) = Unit {0}
+IsNoClause (ByCycle cycle) = Unit {0}
+
+-- no literal of the trail stands there by a clause, which might fail its test
+abbrev pub HasNoClause : List Entry → Type 0
+HasNoClause entries = (j : ℕ) → IsNoClause (entry_at entries j).reason
+
+-- from a conflict a lemma was learned, which has this number; where nothing was decided, and no literal stands on the trail by a
+-- clause, it excludes the cube
 pub record IsSearchLearned (q : Question) (own : List Lemma) (entries : List Entry) (levels : List Level)
     (j : ℕ) (literals : List Literal) : Type 0 where
   pub state : IsSearch q own entries levels literals
   pub count : length own ≡ j + 1
-  pub excludes : length levels ≡ 0 → Excludes q.cube own j
+  pub excludes : length levels ≡ 0 → HasNoClause entries → Excludes q.cube own j
 
 abbrev pub IsLearned : Question → State → ℕ → List Literal → Type 0
 IsLearned q s j literals = IsSearchLearned q s.own.items s.entries.items s.levels.items j literals
 
--- a conflict was settled, where there were so many levels: the search goes on with fewer, or a lemma excludes
--- the cube
-abbrev pub IsSearchSettled : Question → ℕ → List Lemma → List Entry → List Level → List Literal → Option ℕ
+-- a conflict was met, where there were so many levels: the search goes on with fewer, a lemma excludes the cube, or it can't go on
+abbrev pub IsSearchSettled : Question → ℕ → List Lemma → List Entry → List Level → List Literal → Reaction
     → Type 0
-IsSearchSettled q count own entries levels literals None =
+IsSearchSettled q count own entries levels literals Jumped =
     (length levels < count) × IsSearch q own entries levels literals
-IsSearchSettled q count own entries levels literals (Some j) = AreExcluding q own j
+IsSearchSettled q count own entries levels literals (Excluded j) = AreExcluding q own j
+IsSearchSettled q count own entries levels literals Unsettled = AreProved q own
 
-abbrev pub IsSettled : Question → ℕ → State → List Literal → Option ℕ → Type 0
+abbrev pub IsSettled : Question → ℕ → State → List Literal → Reaction → Type 0
 IsSettled q count s literals found =
     IsSearchSettled q count s.own.items s.entries.items s.levels.items literals found
 

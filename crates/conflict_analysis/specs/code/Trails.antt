@@ -45,6 +45,12 @@ pub record IsByClause (inputs lemmas : List (List Literal)) (Good : Literal → 
   pub others : (q : ℕ) → q < length (source_clause inputs lemmas source) → q ≢ place
       → Good (negation_of (literal_at (source_clause inputs lemmas source) q))
 
+-- the literal stands at the place of a clause that is named
+pub record IsStatedAt (inputs lemmas : List (List Literal)) (l : Literal) (source : Source) (place : ℕ) : Type 0 where
+  pub known : IsKnown inputs lemmas source
+  pub within : place < length (source_clause inputs lemmas source)
+  pub at : literal_at (source_clause inputs lemmas source) place ≡ l
+
 -- with the literal's negation they have a negative cycle
 pub record IsByCycle (Good : Literal → Type 0) (l : Literal) (cycle : List Literal) : Type 0 where
   pub negative : IsNegativeCycle cycle
@@ -67,13 +73,13 @@ Follows inputs lemmas Good l (ByCycle cycle) = IsByCycle Good l cycle
 abbrev pub Stands : List Entry → ℕ → Literal → Type 0
 Stands trail below l = (j : ℕ) × (j < below) × (on_trail trail j ≡ l)
 
--- the reason of the literal at a place is a good one
+-- the reason of the literal at a place is a good one; of a clause nothing is said, since it is tested where a conflict comes to
+-- rest on it
 abbrev pub IsReason : List (List Literal) → List (List Literal) → List Literal → List Entry → ℕ → Literal
     → Reason → Type 0
 IsReason inputs lemmas cube trail k l Given = Contains cube l
 IsReason inputs lemmas cube trail k l Decision = Unit {0}
-IsReason inputs lemmas cube trail k l (ByClause source place) =
-    IsByClause inputs lemmas (Stands trail k) l source place
+IsReason inputs lemmas cube trail k l (ByClause source place) = Unit {0}
 IsReason inputs lemmas cube trail k l (ByPair tighter) = IsByCycle (Stands trail k) l (pair_cycle tighter l)
 IsReason inputs lemmas cube trail k l (ByCycle cycle) = IsByCycle (Stands trail k) l cycle
 
@@ -132,20 +138,19 @@ pub record IsMarkedMore (below : ℕ) (old new : List Role) : Type 0 where
   pub resolved : (j : ℕ) → role_at new j ≡ Resolved → role_at old j ≡ Resolved
   pub above : (j : ℕ) → below ≤ j → role_at new j ≡ role_at old j
 
--- a chosen literal, or one of the cube's
-abbrev pub IsFirst : Reason → Type 0
-IsFirst Given = Unit {0}
-IsFirst Decision = Unit {0}
-IsFirst (ByClause source place) = ⊥
-IsFirst (ByPair tighter) = ⊥
-IsFirst (ByCycle cycle) = ⊥
+-- the literal needs no reason: a chosen one, one of the cube's, or one whose clause may have failed its test
+abbrev pub MayStay : Reason → Type 0
+MayStay Given = Unit {0}
+MayStay Decision = Unit {0}
+MayStay (ByClause source place) = Unit {0}
+MayStay (ByPair tighter) = ⊥
+MayStay (ByCycle cycle) = ⊥
 
--- the literal is the negation of one that stands on the trail; of one without a reason before it, where only
--- such are kept
+-- the literal is the negation of one that stands on the trail; of one that needs no reason, where only such are kept
 abbrev pub IsDenial : List Entry → Bool → Literal → Type 0
 IsDenial trail whole m =
     (j : ℕ) × (j < length trail) × (m ≡ negation_of (on_trail trail j))
-    × (whole ≡ true → IsFirst (entry_at trail j).reason)
+    × (whole ≡ true → MayStay (entry_at trail j).reason)
 
 -- the trail's literals lie over so many points and within the limits
 abbrev pub AreOver : ℕ → List Entry → Type 0
@@ -169,7 +174,7 @@ pub record IsTurned (inputs lemmas : List (List Literal)) (trail : List Entry) (
   pub closed : IsClosed inputs lemmas trail new
   pub used : (j : ℕ) → IsUsed (role_at old j) → IsUsed (role_at new j)
   pub above : (j : ℕ) → k < j → role_at new j ≡ role_at old j
-  pub first : whole ≡ true → role_at new k ≡ Kept → IsFirst (entry_at trail k).reason
+  pub first : whole ≡ true → role_at new k ≡ Kept → MayStay (entry_at trail k).reason
 
 -- the way back over the trail, down to a place
 pub record IsMarked (inputs lemmas : List (List Literal)) (trail : List Entry) (whole : Bool) (k : ℕ)
@@ -178,4 +183,4 @@ pub record IsMarked (inputs lemmas : List (List Literal)) (trail : List Entry) (
   pub closed : IsClosed inputs lemmas trail new
   pub used : (j : ℕ) → IsUsed (role_at old j) → IsUsed (role_at new j)
   pub first : whole ≡ true → (j : ℕ) → k ≤ j → j < length trail → role_at new j ≡ Kept
-      → IsFirst (entry_at trail j).reason
+      → MayStay (entry_at trail j).reason

@@ -1,15 +1,8 @@
 use Rattle.std.proofs.Common.{refl, sym, ◌∙◌, ap, [], ◌∷◌}
 use Rattle.stn_core.specs.declared.literal.Literal.{Literal}
-use Rattle.conflict_analysis.proofs.Marks.{clause_stands, pair_others, turned_by_clause, turned_by_pair, turned_by_cycle}
+use Rattle.conflict_analysis.proofs.Marks.{pair_others, turned_by_clause, turned_by_none, turned_by_pair, turned_by_cycle}
 use Rattle.conflict_analysis.proofs.Passing.{waiting_resolved}
 use Rattle.conflict_analysis.proofs.marking.resolve.Goals as goal
-
-pub need_denials-requires-clause-stand : goal.need_denials-requires-clause-stand
-need_denials-requires-clause-stand g c =
-    clause_stands c.args.graph.now.inputs c.args.graph.now.lemmas c.requires.trail.0
-    c.args.graph.now.trail c.args.k c.in-Clause.source c.in-Clause.place _ c.requires.trail.1 c.requires.within
-    (sym c.reason.ensures ∙ c.in-Clause.is)
-    c.clause-clause.ensures
 
 pub need_cycle-requires-clause-stand : goal.need_cycle-requires-clause-stand
 need_cycle-requires-clause-stand g c =
@@ -18,16 +11,6 @@ need_cycle-requires-clause-stand g c =
     (sym c.reason.ensures ∙ c.in-Pair.is)
     (c.as_slice.ensures ∙ ap (λ (m : Literal). c.in-Pair.tighter ∷ m ∷ []) c.negate.ensures)
     c.literal-literal.ensures
-
-pub returns-in_ok-need_denials-in-Clause-clause-turned : goal.returns-in_ok-need_denials-in-Clause-clause-turned
-returns-in_ok-need_denials-in-Clause-clause-turned g c =
-    turned_by_clause c.args.graph.now.inputs c.args.graph.now.lemmas c.requires.trail.0
-    c.args.graph.now.trail c.args.whole c.args.marks.now.roles.items c.need_denials.new.marks.roles.items _ c.args.k
-    c.in-Clause.source c.in-Clause.place c.clause-clause.result.now c.requires.within c.requires.count
-    c.requires.trail.1
-    (sym c.reason.ensures ∙ c.in-Clause.is)
-    c.clause-clause.ensures c.requires.closed c.in_ok-need_denials-in-Clause.ensures.more
-    c.in_ok-need_denials-in-Clause.ensures.used refl
 
 pub returns-in_ok-need_cycle-in-Pair-clause-turned : goal.returns-in_ok-need_cycle-in-Pair-clause-turned
 returns-in_ok-need_cycle-in-Pair-clause-turned g c =
@@ -51,11 +34,6 @@ returns-in_ok-need_cycle-in-Cycle-clause-turned g c =
     c.in_ok-need_cycle-in-Cycle.ensures.more
     c.in_ok-need_cycle-in-Cycle.ensures.used refl
 
-pub returns-in_ok-need_denials-in-Clause-clause-waiting : goal.returns-in_ok-need_denials-in-Clause-clause-waiting
-returns-in_ok-need_denials-in-Clause-clause-waiting g c =
-    waiting_resolved _ _ _ _ _ c.args.k c.in_ok-need_denials-in-Clause.ensures.waiting
-    (c.in_ok-need_denials-in-Clause.ensures.more.used c.args.k c.requires.used) refl
-
 pub returns-in_ok-need_cycle-in-Pair-clause-waiting : goal.returns-in_ok-need_cycle-in-Pair-clause-waiting
 returns-in_ok-need_cycle-in-Pair-clause-waiting g c =
     waiting_resolved _ _ _ _ _ c.args.k c.in_ok-need_cycle-in-Pair.ensures.waiting
@@ -65,3 +43,24 @@ pub returns-in_ok-need_cycle-in-Cycle-clause-waiting : goal.returns-in_ok-need_c
 returns-in_ok-need_cycle-in-Cycle-clause-waiting g c =
     waiting_resolved _ _ _ _ _ c.args.k c.in_ok-need_cycle-in-Cycle.ensures.waiting
     (c.in_ok-need_cycle-in-Cycle.ensures.more.used c.args.k c.requires.used) refl
+
+pub returns-then-follows-clause-turned : goal.returns-then-follows-clause-turned
+returns-then-follows-clause-turned g c =
+    turned_by_clause c.args.graph.now.inputs c.args.graph.now.lemmas c.args.graph.now.trail c.args.whole
+    c.args.marks.now.roles.items c.need_denials.new.marks.roles.items _ c.args.k
+    c.in-Clause.source c.in-Clause.place c.clause-clause.result.now c.requires.within c.requires.count
+    (c.is_stated.ensures c.if-is_stated.true)
+    (sym c.reason.ensures ∙ c.in-Clause.is)
+    c.clause-clause.ensures c.requires.closed c.in_ok-follows-in-Clause.ensures.more
+    (c.in_ok-follows-in-Clause.ensures.used c.if-follows.true) refl
+
+pub returns-then-follows-clause-waiting : goal.returns-then-follows-clause-waiting
+returns-then-follows-clause-waiting g c =
+    waiting_resolved _ _ _ _ _ c.args.k c.in_ok-follows-in-Clause.ensures.waiting
+    (c.in_ok-follows-in-Clause.ensures.more.used c.args.k c.requires.used) refl
+
+pub returns-else-follows-clause-turned : goal.returns-else-follows-clause-turned
+returns-else-follows-clause-turned g c =
+    turned_by_none c.args.graph.now.inputs c.args.graph.now.lemmas c.args.graph.now.trail c.args.whole
+    c.args.marks.now.roles.items c.need_denials.new.marks.roles.items c.args.k c.in-Clause.source c.in-Clause.place
+    (sym c.reason.ensures ∙ c.in-Clause.is) c.requires.closed c.in_ok-follows-in-Clause.ensures.more

@@ -4,6 +4,6 @@ use Rattle.steal_search.proofs.shared.begin.Given as goal
 
 abbrev pub invariant-loop-slice : goal.invariant-loop-slice
 invariant-loop-slice g l = record {
-  seat : IsFirst l.desk l.problem 1 l.seat;
+  seat : IsFirst l.desk l.team 1 l.seat;
   tools : l.pace.tools ≡ l.fn.pace.tools;
 }

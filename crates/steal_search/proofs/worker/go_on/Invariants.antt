@@ -7,5 +7,5 @@ invariant-loop g l = record {
   seat : GoesOn l.fn.seat l.seat;
   none : l.seat.cube ≡ None;
   hand : HandGoesOn l.fn.hand l.hand;
-  tools : l.pace.tools ≡ l.problem.points;
+  tools : l.pace.tools ≡ l.team.points;
 }

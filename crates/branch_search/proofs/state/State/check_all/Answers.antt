@@ -18,6 +18,7 @@ loop-i-preserved g c =
       literals = c.in_ok-check_live.ensures.literals ∙ c.loop-i.invariant.literals;
       levels = c.in_ok-check_live.ensures.levels ∙ c.loop-i.invariant.levels;
       state = turn.0;
+      plain = c.in_ok-check_live.ensures.plain;
       live = turn.1;
       counts = omega (arith, c.in_ok-check_live.ensures.counts, c.loop-i.invariant.counts);
     }

@@ -6,7 +6,6 @@ use Rattle.conflict_analysis.specs.declared.entry.Reason.TheVariants.{Decision}
 use Rattle.conflict_analysis.specs.code.Trails.{on_trail, AreOver, IsConflict, IsTrail, Stands}
 use Rattle.conflict_analysis.specs.Proved.{IsProved}
 use Rattle.branch_search.specs.code.Search.{all_lemmas}
-use Rattle.conflict_analysis.proofs.Marks.{entry_is}
 use Rattle.branch_search.proofs.Learned.{trail_seen}
 use Rattle.branch_search.proofs.Restated.{prefix_trail, prefix_over, prefix_conflict, put_back, derived}
 use Rattle.branch_search.proofs.state.State.derive.Goals as goal
@@ -41,15 +40,14 @@ analyze-requires-clause-conflict g c =
     let k = c.args.k in
     let made = c.replace-entry.ensures.after ∙ ap (λ (m : Literal). record { literal = m; number = c.negated.result; reason = Decision }) c.negate.ensures in
     let is = ap (take (k + 1)) (c.deref-2.ensures.value ∙ ap (λ (d : Entry). set es k d) made) in
-    let at = c.index.ensures ∙ entry_is es k c.index.result.now c.requires.within in
     let part = take (k + 1) c.deref-2.result.now in
     rw c.new-graph.ensures (subst (λ (p : Problem). IsConflict p.clauses (all_lemmas q.handed c.as_slice.result.now) (Stands part (length part)) c.in-Some.conflict) (sym c.problem.ensures)
     (prefix_conflict es _ k c.negated.result c.literal_on.result c.requires.within is q.problem.clauses
-    (all_lemmas q.handed c.as_slice.result.now) q.cube c.index.result.now c.in_ok-conflict.field-0 c.in-Some.conflict
-    (trail_seen q c.args.self.now.own.items c.as_slice.result.now es es c.as_slice.ensures.value refl c.requires.state.trail)
-    at
-    (c.literal_on.ensures ∙ ap (λ (fs : List Entry). on_trail fs k) c.deref.ensures.value ∙ sym (ap (λ (f : Entry). f.literal) at))
-    c.in_ok-conflict.ensures c.in-Some.is))
+    (all_lemmas q.handed c.as_slice.result.now) c.in_ok-conflict.field-0 c.in-Some.conflict
+    (c.literal_on.ensures ∙ ap (λ (fs : List Entry). on_trail fs k) c.deref.ensures.value)
+    c.in_ok-conflict.ensures.denial
+    (rw c.as_slice.ensures.value c.in_ok-conflict.ensures.follows)
+    c.in-Some.is))
 
 pub returns-clause-entries : goal.returns-clause-entries
 returns-clause-entries g c =

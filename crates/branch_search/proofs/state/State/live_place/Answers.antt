@@ -1,6 +1,7 @@
 use Rattle.std.proofs.Common.{arith, refl, ◌∙◌, subst, ℕ}
 use Rattle.stn_core.specs.Literal.{IsOver, literal_at}
 use Rattle.conflict_analysis.specs.code.Trails.{no_literal}
+use Rattle.branch_search.proofs.States.{plain_pushed}
 use Rattle.branch_search.proofs.Splits.{live_turn, same_literals}
 use Rattle.branch_search.proofs.state.State.live_place.Goals as goal
 
@@ -27,6 +28,7 @@ loop-q-preserved g c =
       levels = c.in_ok-deny-in-Cycle.ensures.levels ∙ c.loop-q.invariant.levels;
       own = c.in_ok-deny-in-Cycle.ensures.own ∙ c.loop-q.invariant.own;
       state = turn.0;
+      plain = plain_pushed _ _ _ c.in_ok-deny-in-Cycle.ensures.entries c.loop-q.invariant.plain tt;
       denied = turn.1;
       counts = omega (arith, c.in_ok-add.ensures.counts, c.loop-q.invariant.counts);
     }

@@ -1,6 +1,6 @@
 use Rattle.std.proofs.Common.{◌∙◌, sym, subst, ◌<◌, length, List}
 use Rattle.conflict_analysis.specs.declared.entry.Level.{Level}
-use Rattle.branch_search.proofs.Learned.{cut_back, cut_within, settled}
+use Rattle.branch_search.proofs.Learned.{cut_back, cut_within, settled, found_excluding}
 use Rattle.branch_search.proofs.state.State.react.Goals as goal
 
 pub cut-requires-clause-within : goal.cut-requires-clause-within
@@ -12,8 +12,8 @@ cut-requires-clause-within g c =
     c.in_ok-level.ensures.within)
     c.in_ok-cite_all.ensures.state c.in_ok-level.ensures.levels
 
-pub take_unit-requires : goal.take_unit-requires
-take_unit-requires g c =
+pub take_learned-requires : goal.take_learned-requires
+take_learned-requires g c =
     record {
       state = cut_back c.args.task.now
           c.cite_all.new.self.own.items _ _ c.cite_all.new.self.entries.items _ _ c.cite_all.new.self.levels.items _ _
@@ -27,10 +27,14 @@ take_unit-requires g c =
 pub returns-clause-settled : goal.returns-clause-settled
 returns-clause-settled g c =
     settled c.args.task.now
-    c.take_unit.new.self.own.items c.take_unit.new.self.entries.items c.args.self.now.levels.items _
-    c.cut.new.self.levels.items c.take_unit.new.self.levels.items (g.N.Net.literals_of c.cut.new.net) c.in_ok-level.level
-    c.in_ok-take_unit.field-0
+    c.take_learned.new.self.own.items c.take_learned.new.self.entries.items c.args.self.now.levels.items _
+    c.cut.new.self.levels.items c.take_learned.new.self.levels.items (g.N.Net.literals_of c.cut.new.net) c.in_ok-level.level
     (subst (λ (vs : List Level). c.in_ok-level.level < length vs) (sym c.in_ok-level.ensures.levels)
     c.in_ok-level.ensures.within)
     (c.in_ok-level.ensures.levels ∙ c.in_ok-cite_all.ensures.levels ∙ c.in_ok-learn.ensures.levels)
-    c.cut.ensures.levels c.in_ok-take_unit.ensures.levels c.in_ok-take_unit.ensures.taken
+    c.cut.ensures.levels c.in_ok-take_learned.ensures.levels c.in_ok-take_learned.ensures.state
+
+pub returns-then-excludes-clause-settled : goal.returns-then-excludes-clause-settled
+returns-then-excludes-clause-settled g c =
+    found_excluding c.args.task.now c.learn.new.self.own.items _ _ c.learn.new.self.entries.items c.learn.new.self.levels.items _ _ _
+    c.cube.ensures c.as_slice.ensures.value (c.excludes.ensures c.if-excludes.true) c.in_ok-learn.ensures.learned
