@@ -172,6 +172,8 @@ fn items_for(
 /// What earlier entries leave to later ones: lemmas that a search opens with, and what a certificate of the second version keeps. Contracts see what
 /// the entries of such a certificate state, entry by entry; the rest are hints.
 pub struct Earlier {
+    /// Whether a question may follow the one that is decided: else nothing is learned of it.
+    asks_on: bool,
     /// What the search of an earlier question has learned.
     learned: Option<Learned>,
     /// The entries of the certificate, but for the last one where it waits.
@@ -185,6 +187,7 @@ pub struct Earlier {
 impl Drop for Earlier {
     fn drop(self) {
         let Earlier {
+            asks_on: _,
             learned,
             shelf,
             places,
@@ -215,6 +218,7 @@ impl Earlier {
         ensures { result ≡ [] }
     {
         Earlier {
+            asks_on: true,
             learned: None,
             shelf: Shelf::new(alloc),
             places: IndexMap::new(alloc),
@@ -232,7 +236,14 @@ impl Earlier {
         }
     }
 
-    /// Keeps what searches of later problems may take over of a refutation.
+    /// Whether a question may follow the next one that is decided.
+    pub fn expect(&mut self, asks_on: bool)
+        ensures { self.new ≡ self.old }
+    {
+        self.asks_on = asks_on;
+    }
+
+    /// Keeps what searches of later problems may take over of a refutation, where there may be any.
     pub fn learn(
         &mut self,
         alloc: Global,
@@ -243,6 +254,9 @@ impl Earlier {
         requires over { All (LemmaIsOver problem.now.points) refutation.now }
         ensures { self.new ≡ self.old }
     {
+        if !self.asks_on {
+            return Ok(());
+        }
         if let Some(learned) = Learned::of(alloc, problem, refutation, CHOICE)? {
             self.learned = Some(learned);
         }

@@ -29,7 +29,7 @@ use crate::options::SearchOptions;
 use crate::piece::Piece;
 use crate::shown::Shown;
 use crate::shown_items::ShownItems;
-use crate::wanted::{Wanted, last_proof};
+use crate::wanted::{LastWords, Wanted};
 use cert_text::{Entry, Version};
 use dtp_entry::{Report, SessionError, problem};
 use dtp_io::Sink;
@@ -64,8 +64,8 @@ pub struct Session<'a> {
     pub held: Option<Found>,
     /// Where that entry has values of the time points: the schedule that they give.
     pub given: Option<NamedValues>,
-    /// Behind this place of the script no proof is asked for, where it was looked up.
-    pub last_proof: Option<usize>,
+    /// Behind which places of the script no proof is asked for, and no question, where that was looked up.
+    pub last_words: Option<LastWords>,
     /// The truth of the table's first nodes on a schedule that is held, of as many as values were asked for.
     pub marks: Vec<bool>,
     /// The schedule of the last question that had one.
@@ -106,7 +106,7 @@ impl<'a> Session<'a> {
             walk: Walk::new(alloc, bytes),
             held: None,
             given: None,
-            last_proof: None,
+            last_words: None,
             marks: Vec::new(alloc),
             kept: KeptSchedule::new(alloc),
             earlier: Earlier::new(alloc),
@@ -452,20 +452,31 @@ impl<'a> Session<'a> {
         }
     }
 
-    /// What the next question is decided for. In a transcript its entry shows where a proof is asked for later.
+    /// Where words stand for the last time, looked up once.
+    fn last_words(&mut self) -> LastWords
+        ensures same { self.new ≡ record self.old { last_words = self.new.last_words } }
+    {
+        let last = match self.last_words {
+            Some(last) => last,
+            None => LastWords::of(self.walk.lexer.bytes()),
+        };
+        self.last_words = Some(last);
+        last
+    }
+
+    /// What the next question is decided for. In a transcript its entry shows where a proof is asked for later. Where no question may come behind it nothing is
+    /// learned of it.
     fn wanted(&mut self) -> Wanted
         ensures version { version_wanted result ≡ version_of self.old.report }
-        ensures same { self.new ≡ record self.old { last_proof = self.new.last_proof } }
+        ensures same { self.new ≡ record self.old { last_words = self.new.last_words } }
     {
+        let last = self.last_words();
+        let place = self.walk.lexer.place();
+        self.earlier.expect(place <= last.question);
         match self.report {
             Report::Certificate(version) => Wanted::Entry(version),
             Report::Verdicts => {
-                let last = match self.last_proof {
-                    Some(place) => place,
-                    None => last_proof(self.walk.lexer.bytes()),
-                };
-                self.last_proof = Some(last);
-                if self.walk.lexer.place() <= last {
+                if place <= last.proof {
                     Wanted::Entry(Version::One)
                 } else {
                     Wanted::Verdict

@@ -26,7 +26,24 @@ impl Wanted {
     }
 }
 
-/// Where the script's last word `get-proof` begins: behind it no proof is asked for. 0 where there is none.
-pub fn last_proof(script: &[u8]) -> usize {
-    script.rfind(b"get-proof").unwrap_or(0)
+/// Where words of a script stand for the last time.
+#[derive(Clone, Copy, Debug, PartialEq, Eq)]
+pub struct LastWords {
+    /// Where the last word `get-proof` begins: behind it no proof is asked for. 0 where there is none.
+    pub proof: usize,
+    /// Where the last word that asks a question begins: behind it nothing is searched. 0 where there is none.
+    pub question: usize,
+}
+
+impl LastWords {
+    /// Those of the script.
+    pub fn of(script: &[u8]) -> Self {
+        let check = script.rfind(b"check-sat").unwrap_or(0);
+        let behind = script.get(check..).unwrap_or(&[]);
+        let minimize = behind.rfind(b"minimize").unwrap_or(0);
+        LastWords {
+            proof: script.rfind(b"get-proof").unwrap_or(0),
+            question: check.saturating_add(minimize),
+        }
+    }
 }
