@@ -147,7 +147,9 @@ fn wanted_roots<E: Earlier>(
 /// The clause that a conflict teaches, with its tree: the negations of some of the trail's literals. The one
 /// error is want of memory.
 ///
-/// With `whole` the literals are negations of decided ones and of the cube's. Else it is the clause of the
+/// With `whole` the literals are negations of decided ones, of the cube's, and of such as stand on the trail by a clause that
+/// failed its test as a reason: where none stands there by a clause, of decided ones and the cube's alone. That no clause fails
+/// which is one's reason isn't promised. Else it is the clause of the
 /// first unique implication point of the last level on which the conflict rests, and to `wanted` come the
 /// places of the root's literals whose reasons are in the steps and could be cited.
 pub fn analyze<E: Earlier>(

@@ -16,7 +16,7 @@ pub enum Reason {
     /// It was decided.
     Decision,
     /// It stands at this place of the clause, and the negations of the clause's other literals stand before
-    /// it.
+    /// it, if the guide is right: that is tested where a conflict comes to rest on the literal.
     Clause(Source, usize),
     /// This literal stands before it, and bounds the same two points at least as tightly.
     Pair(Literal),
