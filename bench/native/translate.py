@@ -37,7 +37,7 @@ STAND_INS = [
     (r"\batomic_table::Seat", "shim::atomic_table::Seat"),
     (r"use indexmap::(\w+);", r"use shim::\1;"),
     (r"use smallvec::(\w+);", r"use shim::\1;"),
-    (r"use (bstr::ByteSlice|bstr::ByteVec|itoa::Buffer);", r"use shim::\1;"),
+    (r"use (bstr::ByteSlice|bstr::ByteVec|itoa::Buffer|itoa::\{Buffer, write_digits\});", r"use shim::\1;"),
     (r"\bformat!\(in alloc;", "shim::format_in!(in alloc;"),
     (r"\.to_string\(alloc\)", ".to_string_in(alloc)"),
     (r"\bfirsts\.get\(clause\.as_slice\(\)\)", "firsts.get(&clause.as_slice())"),

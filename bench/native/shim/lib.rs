@@ -807,6 +807,36 @@ pub mod itoa {
     }
     integers! { u8, i8; u16, i16; u32, i32; u64, i64; u128, i128; usize, isize; }
     static PAIRS: &[u8; 200] = b"00010203040506070809101112131415161718192021222324252627282930313233343536373839404142434445464748495051525354555657585960616263646566676869707172737475767778798081828384858687888990919293949596979899";
+    #[inline]
+    pub fn write_digits(n: u64, buf: &mut [u8], end: usize) -> usize {
+        let mut left = n;
+        let mut at = end;
+        while left >= 10_000 {
+            let four = left % 10_000;
+            left /= 10_000;
+            write_pair(four % 100, buf, at - 2);
+            write_pair(four / 100, buf, at - 4);
+            at -= 4;
+        }
+        if left >= 100 {
+            write_pair(left % 100, buf, at - 2);
+            left /= 100;
+            at -= 2;
+        }
+        if left < 10 {
+            buf[at - 1] = b'0' + left as u8;
+            return at - 1;
+        }
+        write_pair(left, buf, at - 2);
+        at - 2
+    }
+    #[inline(always)]
+    fn write_pair(pair: u64, buf: &mut [u8], at: usize) {
+        let from = pair as usize * 2;
+        let (tens, ones) = (PAIRS[from], PAIRS[from + 1]);
+        buf[at] = tens;
+        buf[at + 1] = ones;
+    }
     impl Buffer {
         #[inline(always)]
         pub fn new() -> Self {

@@ -2,7 +2,7 @@
 use Rattle.std.proofs.Common.{arith, ◌≡◌, ℕ, zero, suc, inl, inr, get_or, ◌+◌, ◌<◌, ◌≤◌, List, [], ◌∷◌, ◌++◌, length, take, All, Contains, Bool, true, Some, subst, sym, ap, ◌∙◌, refl}
 use Rattle.std.specs.Prelude.{slice_get}
 use Rattle.std.proofs.lemmas.Bool.{cases_eq}
-use Rattle.std.proofs.lemmas.Option.{slice_get_within}
+use Rattle.std.proofs.lemmas.Option.{slice_get_within, same_Some}
 use Rattle.std.proofs.lemmas.List.{length_push, length-take-le}
 use Rattle.std.proofs.lemmas.List.Elements.{Contains-get_or}
 use Rattle.stn_core.specs.Literal.{negation_of, literal_at}
@@ -19,48 +19,69 @@ use Rattle.branch_search.specs.declared.propagate.Tried.{Tried}
 use Rattle.branch_search.specs.declared.propagate.Tried.TheVariants.{Pushed, Nothing, Stuck}
 use Rattle.conflict_analysis.specs.code.Trails.{IsReason, IsTrail, MayStay, IsDenial, no_literal, entry_at, on_trail}
 use Rattle.conflict_analysis.specs.Proved.{IsProved}
-use Rattle.branch_search.specs.code.Search.{all_lemmas, start_of, in_net_of, IsSearch, IsSearchLearned, IsSearchSettled, AreExcluding, IsSearchTried, IsNoClause, HasNoClause}
+use Rattle.branch_search.specs.code.Search.{all_lemmas, start_of, in_net_of, IsSearch, IsSearchLearned, IsSearchSettled, AreExcluding, IsSearchTried, IsNoClause, HasNoClause, IsClauseReason, HasReasons}
 use Rattle.branch_search.specs.Slices.{Question, Excludes}
 use Rattle.branch_search.proofs.States.{lemma_last, state_learned, state_cut}
 
--- a literal that needs no reason is one of the cube's, where nothing was decided and it doesn't stand there by a clause
-first_given : (inputs lemmas : List (List Literal)) (cube : List Literal) (es : List Entry) (k : ℕ) (l : Literal) (r : Reason) → (r ≡ Decision → ⊥) → IsNoClause r → MayStay r → IsReason inputs lemmas cube es k l r → Contains cube l
-first_given inputs lemmas cube es k l Given not plain first h = h
-first_given inputs lemmas cube es k l Decision not plain first h = absurd (not refl)
-first_given inputs lemmas cube es k l (ByClause source place) not plain first h = absurd plain
-first_given inputs lemmas cube es k l (ByPair tighter) not plain first h = absurd first
-first_given inputs lemmas cube es k l (ByCycle cycle) not plain first h = absurd first
+-- a literal that needs no reason is one of the cube's, where nothing was decided and it follows from the clause by which it stands
+-- on the trail, if it does so by one
+first_given : (inputs lemmas : List (List Literal)) (cube : List Literal) (es : List Entry) (k : ℕ) (l : Literal) (r : Reason) → (r ≡ Decision → ⊥) → IsClauseReason inputs lemmas es k l r → MayStay inputs lemmas es k l r → IsReason inputs lemmas cube es k l r → Contains cube l
+first_given inputs lemmas cube es k l Given not good first h = h
+first_given inputs lemmas cube es k l Decision not good first h = absurd (not refl)
+first_given inputs lemmas cube es k l (ByClause source place) not good first h = absurd (first good)
+first_given inputs lemmas cube es k l (ByPair tighter) not good first h = absurd first
+first_given inputs lemmas cube es k l (ByCycle cycle) not good first h = absurd first
+
+-- where none stands there by a clause, each that does follows from it
+plain_reason : (inputs lemmas : List (List Literal)) (es : List Entry) (k : ℕ) (l : Literal) (r : Reason) → IsNoClause r → IsClauseReason inputs lemmas es k l r
+plain_reason inputs lemmas es k l Given plain = tt
+plain_reason inputs lemmas es k l Decision plain = tt
+plain_reason inputs lemmas es k l (ByClause source place) plain = absurd plain
+plain_reason inputs lemmas es k l (ByPair tighter) plain = tt
+plain_reason inputs lemmas es k l (ByCycle cycle) plain = tt
+
+plain_reasons : (inputs lemmas : List (List Literal)) (es : List Entry) → HasNoClause es → HasReasons inputs lemmas es
+plain_reasons inputs lemmas es plain j = plain_reason inputs lemmas es j (on_trail es j) (entry_at es j).reason (plain j)
 
 pub trail_seen : (q : Question) (own lent : List Lemma) (es seen : List Entry) → lent ≡ own → seen ≡ es → IsTrail q.problem.clauses (all_lemmas q.handed own) q.cube es → IsTrail q.problem.clauses (all_lemmas q.handed lent) q.cube seen
 trail_seen q own lent es seen a b h =
     subst (λ (ls : List Lemma). IsTrail q.problem.clauses (all_lemmas q.handed ls) q.cube seen) (sym a) (subst (IsTrail q.problem.clauses (all_lemmas q.handed own) q.cube) (sym b) h)
 
-pub learned_search : (q : Question) (own new lent : List Lemma) (lemma : Lemma) (es seen : List Entry) (levels : List Level) (literals : List Literal) (whole : Bool) → IsSearch q own es levels literals → lent ≡ own → IsProved q.problem.points q.problem.clauses (all_lemmas q.handed lent) lemma → seen ≡ es → All (IsDenial seen whole) lemma.clause → (length levels ≡ 0 → whole ≡ true) → new ≡ own ++ lemma ∷ [] → IsSearchLearned q new es levels (length own) literals
+pub learned_search : (q : Question) (own new lent : List Lemma) (lemma : Lemma) (es seen : List Entry) (levels : List Level) (literals : List Literal) (whole : Bool) → IsSearch q own es levels literals → lent ≡ own → IsProved q.problem.points q.problem.clauses (all_lemmas q.handed lent) lemma → seen ≡ es → All (IsDenial q.problem.clauses (all_lemmas q.handed lent) seen whole) lemma.clause → (length levels ≡ 0 → whole ≡ true) → new ≡ own ++ lemma ∷ [] → IsSearchLearned q (all_lemmas q.handed own) new es levels (length own) literals
 learned_search q own new lent lemma es seen levels literals whole s is r same denials root grown =
-    let proved = subst (λ (ls : List Lemma). IsProved q.problem.points q.problem.clauses (all_lemmas q.handed ls) lemma) is r in
-    let denied : All (IsDenial es whole) lemma.clause = subst (λ (fs : List Entry). All (IsDenial fs whole) lemma.clause) same denials in
-    subst (λ (ls : List Lemma). IsSearchLearned q ls es levels (length own) literals) (sym grown) (record {
+    let inputs = q.problem.clauses in
+    let lemmas = all_lemmas q.handed own in
+    let proved = subst (λ (ls : List Lemma). IsProved q.problem.points inputs (all_lemmas q.handed ls) lemma) is r in
+    let lent_denied : All (IsDenial inputs lemmas seen whole) lemma.clause = subst (λ (ls : List Lemma). All (IsDenial inputs (all_lemmas q.handed ls) seen whole) lemma.clause) is denials in
+    let denied : All (IsDenial inputs lemmas es whole) lemma.clause = subst (λ (fs : List Entry). All (IsDenial inputs lemmas fs whole) lemma.clause) same lent_denied in
+    subst (λ (ls : List Lemma). IsSearchLearned q lemmas ls es levels (length own) literals) (sym grown) (record {
       state = state_learned q own lemma es levels literals s proved;
       count = length_push own lemma;
-      excludes = λ none plain. (
+      excludes = λ none good. (
         lemma,
         lemma_last own lemma,
         λ k d lt. (let h = denied k d lt in
-            (on_trail es h.0, first_given q.problem.clauses (all_lemmas q.handed own) q.cube es h.0 (on_trail es h.0) (entry_at es h.0).reason (λ chosen. let some = (s.rooted h.0 chosen).0 in absurd (omega arith)) (plain h.0) (h.3 (root none)) (s.trail h.0 h.1), h.2)),
+            (on_trail es h.0, first_given inputs lemmas q.cube es h.0 (on_trail es h.0) (entry_at es h.0).reason (λ chosen. let some = (s.rooted h.0 chosen).0 in absurd (omega arith)) (good h.0) (h.3 (root none)) (s.trail h.0 h.1), h.2)),
       );
     })
 
--- where nothing was decided it excludes the cube
-pub excluding : (q : Question) (own : List Lemma) (es : List Entry) (levels : List Level) (j : ℕ) (literals : List Literal) → length levels ≡ 0 → HasNoClause es → IsSearchLearned q own es levels j literals → AreExcluding q own j
-excluding q own es levels j literals none plain learned =
+-- where nothing was decided, and no literal stands on the trail by a clause, it excludes the cube
+pub excluding : (q : Question) (lemmas : List (List Literal)) (own : List Lemma) (es : List Entry) (levels : List Level) (j : ℕ) (literals : List Literal) → length levels ≡ 0 → HasNoClause es → IsSearchLearned q lemmas own es levels j literals → AreExcluding q own j
+excluding q lemmas own es levels j literals none plain learned =
     let count = learned.count in
-    (omega arith, learned.excludes none plain, learned.state.proved)
+    (omega arith, learned.excludes none (plain_reasons q.problem.clauses lemmas es plain), learned.state.proved)
 
 -- so it was found to be
-pub found_excluding : (q : Question) (own seen : List Lemma) (cube : List Literal) (es : List Entry) (levels : List Level) (j k : ℕ) (literals : List Literal) → cube ≡ q.cube → seen ≡ own → Excludes cube seen j → IsSearchLearned q own es levels k literals → AreExcluding q own j
-found_excluding q own seen cube es levels j k literals a b h learned =
+pub found_excluding : (q : Question) (lemmas : List (List Literal)) (own seen : List Lemma) (cube : List Literal) (es : List Entry) (levels : List Level) (j k : ℕ) (literals : List Literal) → cube ≡ q.cube → seen ≡ own → Excludes cube seen j → IsSearchLearned q lemmas own es levels k literals → AreExcluding q own j
+found_excluding q lemmas own seen cube es levels j k literals a b h learned =
     let there : Excludes q.cube own j = subst (λ (ls : List Literal). Excludes ls own j) a (subst (λ (ls : List Lemma). Excludes cube ls j) b h) in
     (slice_get_within own j there.0 there.1, there, learned.state.proved)
+
+-- and where it wasn't, some literal doesn't follow from the clause by which it stands on the trail
+pub found_failing : (q : Question) (lemmas : List (List Literal)) (own seen : List Lemma) (cube : List Literal) (es before : List Entry) (levels : List Level) (j k : ℕ) (literals : List Literal) → cube ≡ q.cube → seen ≡ own → es ≡ before → j ≡ k → length levels ≡ 0 → (Excludes cube seen j → ⊥) → IsSearchLearned q lemmas own es levels k literals → HasReasons q.problem.clauses lemmas before → ⊥
+found_failing q lemmas own seen cube es before levels j k literals a b same number none not learned good =
+    let there : Excludes q.cube own j = subst (Excludes q.cube own) (sym number) (learned.excludes none (subst (HasReasons q.problem.clauses lemmas) (sym same) good)) in
+    not (subst (λ (ls : List Lemma). Excludes cube ls j) (sym b) (subst (λ (ls : List Literal). Excludes ls own j) (sym a) there))
 
 pub cut_back : (q : Question) (own kept mid : List Lemma) (es there now : List Entry) (levels these fewer : List Level) (literals left : List Literal) (level : ℕ) → level < length these → IsSearch q own es levels literals → there ≡ es → these ≡ levels → mid ≡ own → now ≡ take (start_of these level) there → fewer ≡ take level these → left ≡ take (in_net_of these level) literals → kept ≡ mid → IsSearch q kept now fewer left
 cut_back q own kept mid es there now levels these fewer literals left level lt s a b c is_now is_fewer is_left same =
@@ -103,6 +124,11 @@ one_more_in cube clause q place within is before i lt = elim (cases_eq i q) [
   | inr other ↦ before i (omega arith)
 ]
 
+any_literal : (xs : List Literal) (i : ℕ) (x y : Literal) → i < length xs → get_or xs i x ≡ get_or xs i y
+any_literal [] i x y lt = absurd (omega arith)
+any_literal (z ∷ xs) zero x y lt = refl
+any_literal (z ∷ xs) (suc i) x y lt = any_literal xs i x y (omega arith)
+
 pub excluded_by : (cube clause : List Literal) (own : List Lemma) (lemma : Lemma) (j : ℕ) → slice_get own j ≡ Some lemma → clause ≡ lemma.clause → ((i : ℕ) → i < length clause → (k : ℕ) × (k < length cube) × (literal_at cube k ≡ negation_of (literal_at clause i))) → Excludes cube own j
 excluded_by cube clause own lemma j there same each =
     let Denies : Literal → Type 0 = λ m. (l : Literal) × Contains cube l × (m ≡ negation_of l) in
@@ -111,8 +137,13 @@ excluded_by cube clause own lemma j there same each =
     let one : Denies m = (literal_at cube h.0, Contains-get_or cube h.0 no_literal h.1, sym (negation_twice m) ∙ sym (ap negation_of h.2)) in
     subst Denies (any_literal clause i no_literal d lt) one) in
     (lemma, there, subst (All Denies) same all)
-  where
-    any_literal : (xs : List Literal) (i : ℕ) (x y : Literal) → i < length xs → get_or xs i x ≡ get_or xs i y
-    any_literal [] i x y lt = absurd (omega arith)
-    any_literal (z ∷ xs) zero x y lt = refl
-    any_literal (z ∷ xs) (suc i) x y lt = any_literal xs i x y (omega arith)
+
+-- a lemma that excludes the cube passes them
+pub excluded_at : (cube clause : List Literal) (own : List Lemma) (lemma : Lemma) (j q : ℕ) → slice_get own j ≡ Some lemma → clause ≡ lemma.clause → q < length clause → Excludes cube own j → (k : ℕ) × (k < length cube) × (literal_at cube k ≡ negation_of (literal_at clause q))
+excluded_at cube clause own lemma j q there same lt h =
+    let Denies : Literal → Type 0 = λ m. (l : Literal) × Contains cube l × (m ≡ negation_of l) in
+    let one : h.0 ≡ lemma = same_Some h.0 lemma (sym h.1 ∙ there) in
+    let all : All Denies clause = subst (All Denies) (sym same) (subst (λ (m : Lemma). All Denies m.clause) one h.2) in
+    let d : Denies (literal_at clause q) = all q no_literal lt in
+    let at = d.1 in
+    (at.0, at.1, any_literal cube at.0 no_literal d.0 at.1 ∙ at.2 ∙ sym (negation_twice d.0) ∙ sym (ap negation_of d.2))

@@ -1,9 +1,9 @@
 //! What a conflict leads to.
-ghost use Rattle.std.specs.Prelude.{◌≡◌, ◌<◌, ◌+◌, [], length, true, Some};
-ghost use Rattle.std.specs.Prelude.{IfOk, IfSome, OnOk};
+ghost use Rattle.std.specs.Prelude.{◌≡◌, ◌≢◌, ◌↔◌, ℕ, ◌<◌, ◌+◌, [], length, true, Some};
+ghost use Rattle.std.specs.Prelude.{IfOk, IfSome, IfNone, OnOk};
 ghost use Rattle.stn_core.specs.Literal.{negation_of, literal_at};
 ghost use Rattle.branch_search.specs.Slices.{Excludes};
-ghost use Rattle.branch_search.specs.code.Search.{IsState, IsStuck, IsLearned, IsSettled, IsExcluded, HasNoClause};
+ghost use Rattle.branch_search.specs.code.Search.{IsState, IsStuck, IsLearned, IsSettled, IsExcluded, FailsReason, HasNoClause};
 
 use crate::both::Both;
 use crate::state::State;
@@ -19,7 +19,7 @@ use stn_core::{Literal, Net, negate};
 
 // Whether nothing was decided.
 fn is_root(levels: &[Level]) -> bool
-    ensures { length levels.now ≡ 0 → result ≡ true }
+    ensures { result ≡ true ↔ (length levels.now ≡ 0) }
 {
     levels.is_empty()
 }
@@ -39,7 +39,8 @@ pub enum Reaction {
     Jumped,
     /// The lemma with this number excludes the cube.
     Excluded(usize),
-    /// Nothing was decided, and what was learned doesn't exclude the cube: a clause failed its test as a reason.
+    /// Nothing was decided, and what was learned doesn't exclude the cube: some literal doesn't follow from the clause by which it
+    /// stands on the trail.
     Unsettled,
 }
 
@@ -48,6 +49,7 @@ pub enum Reaction {
 fn denial_in(cube: &[Literal], guide: &Guide, literal: Literal) -> Option<usize>
     ensures within { IfSome result (λ k. k < length cube.now) }
     ensures is { IfSome result (λ k. literal_at cube.now k ≡ negation_of literal) }
+    ensures none { IfNone result ((k : ℕ) → k < length cube.now → literal_at cube.now k ≢ negation_of literal) }
 {
     let denial = negate(literal);
     if let Some(k) = literal_place(guide, denial) {
@@ -65,7 +67,8 @@ fn denial_in(cube: &[Literal], guide: &Guide, literal: Literal) -> Option<usize>
 
 // Whether the lemma with the number states that some literal of the cube fails.
 fn excludes(cube: &[Literal], guide: &Guide, own: &[Lemma], j: usize) -> bool
-    ensures { result ≡ true → Excludes cube.now own.now j }
+    ensures sound { result ≡ true → Excludes cube.now own.now j }
+    ensures all { Excludes cube.now own.now j → result ≡ true }
 {
     let Some(lemma) = own.get(j) else {
         return false;
@@ -92,8 +95,7 @@ impl State {
         requires stuck { IsStuck task.now self.old (N.literals_of net.now) conflict.now }
         ensures entries { self.new.entries.items ≡ self.old.entries.items }
         ensures levels { self.new.levels.items ≡ self.old.levels.items }
-        ensures learned { OnOk result (IsLearned task.now
-            self.new (length self.old.own.items) (N.literals_of net.now)) }
+        ensures learned { OnOk result (IsLearned task.now self.old self.new (N.literals_of net.now)) }
     {
         let whole = is_root(&self.levels);
         let both = Both {
@@ -170,12 +172,13 @@ impl State {
         ensures points { N.points_of net.new ≡ N.points_of net.old }
         ensures settled { IfOk result (IsSettled task.now
             (length self.old.levels.items) self.new (N.literals_of net.new)) }
+        ensures reasons { IfOk result (FailsReason task.now self.old) }
         ensures adds { N.adds_of net.new ≡ N.adds_of net.old }
     {
         let j = self.own.len();
         let mut wanted = Vec::new(alloc);
         self.learn(alloc, task, net, conflict, &mut wanted)?;
-        if self.levels.is_empty() {
+        if is_root(&self.levels) {
             if excludes(task.cube(), &self.guide, self.own.as_slice(), j) {
                 return Ok(Reaction::Excluded(j));
             }

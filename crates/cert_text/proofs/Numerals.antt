@@ -1,5 +1,5 @@
 -- The digits of a numeral, and the minus form of a number.
-use Rattle.std.proofs.Common.{◌≡◌, ℕ, ◌<◌, ◌^◌, ◌+◌, ◌/◌, ◌%◌, map, ap, false, ℤ, pos, negsuc, [], ◌∷◌, ◌++◌, refl, sym, ◌∙◌, arith, int_le, unsigned_abs, true≢false, decimal, eq-zero-or-pos, inl, inr}
+use Rattle.std.proofs.Common.{◌≡◌, ℕ, ◌<◌, ◌^◌, ◌+◌, ◌/◌, ◌%◌, map, ap, false, ℤ, pos, negsuc, [], ◌∷◌, ◌++◌, refl, sym, ◌∙◌, arith, int_le, unsigned_abs, true≢false, decimal, eq-zero-or-pos, inl, inr, List, append_assoc}
 use Rattle.std.proofs.lemmas.Bool.{ne_eqb}
 use Rattle.std.proofs.lemmas.Fmt.{decimal_digit, decimal_by_steps_wide}
 use Rattle.std.proofs.lemmas.Int.Digits.{digits_of_step}
@@ -29,3 +29,16 @@ pub minus_text : (n : ℤ) → int_le (pos 0) n ≡ false → text_of (number_of
 unfolding is_symbol_byte
 minus_text (pos n) e = absurd (true≢false (sym (leb-zero n) ∙ e))
 minus_text (negsuc n) e = refl
+
+-- a number below 0, put down from its end
+pub minus_before : (n : ℤ) (m : ℕ) (rest a b c d e : List ℕ) → int_le (pos 0) n ≡ false → m ≡ unsigned_abs n → a ≡ 41 ∷ rest → b ≡ numeral_text m ++ a → c ≡ 32 ∷ b → d ≡ 45 ∷ c → e ≡ 40 ∷ d → e ≡ text_of (number_of_value n) ++ rest
+minus_before n m rest a b c d e below is closed digits space minus opened =
+    let text : b ≡ (numeral_text (unsigned_abs n) ++ 41 ∷ []) ++ rest = digits ∙ (λ i. numeral_text (is i) ++ closed i) ∙ sym (append_assoc (numeral_text (unsigned_abs n)) (41 ∷ []) rest) in
+    opened ∙ ap (λ (xs : List ℕ). 40 ∷ xs) (minus ∙ ap (λ (xs : List ℕ). 45 ∷ xs) (space ∙ ap (λ (xs : List ℕ). 32 ∷ xs) text)) ∙ ap (λ (xs : List ℕ). xs ++ rest) (sym (minus_text n below))
+
+-- the points and the bound of a literal, put down from their end
+pub bound_before : (x y u v : ℕ) (number rest a b c d e f : List ℕ) → u ≡ x → v ≡ y → rest ≡ [] → a ≡ 41 ∷ rest → b ≡ number ++ a → c ≡ 32 ∷ b → d ≡ numeral_text v ++ c → e ≡ 32 ∷ d → f ≡ numeral_text u ++ e → f ≡ numeral_text x ++ 32 ∷ (numeral_text y ++ 32 ∷ (number ++ 41 ∷ []))
+bound_before x y u v number rest a b c d e f is_x is_y none closed bound space second gap first =
+    let behind : c ≡ 32 ∷ (number ++ 41 ∷ []) = space ∙ ap (λ (xs : List ℕ). 32 ∷ xs) (bound ∙ ap (λ (xs : List ℕ). number ++ xs) (closed ∙ ap (λ (xs : List ℕ). 41 ∷ xs) none)) in
+    let left : e ≡ 32 ∷ (numeral_text y ++ 32 ∷ (number ++ 41 ∷ [])) = gap ∙ ap (λ (xs : List ℕ). 32 ∷ xs) (second ∙ (λ i. numeral_text (is_y i) ++ behind i)) in
+    first ∙ (λ i. numeral_text (is_x i) ++ left i)

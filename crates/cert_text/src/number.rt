@@ -1,5 +1,5 @@
 //! Numbers in decimal.
-ghost use Rattle.std.specs.Prelude.{◌≡◌, ◌++◌, take, OnOk};
+ghost use Rattle.std.specs.Prelude.{◌≡◌, ◌<◌, ◌≤◌, ◌+◌, ◌∷◌, ◌++◌, take, drop, length, OnOk};
 ghost use Rattle.std.specs.Vec.{vec_len};
 ghost use Rattle.smt_sexpr.specs.Printing.{text_of};
 ghost use Rattle.cert_text.specs.Form.{numeral_text, number_of_value};
@@ -7,7 +7,7 @@ ghost use Rattle.cert_text.specs.Limits.{limit};
 ghost use Rattle.cert_text.specs.declared.number.TheConstants.{NUMBER_LIMIT};
 
 use bstr::ByteVec;
-use itoa::Buffer;
+use itoa::{Buffer, write_digits};
 use std::alloc::AllocError;
 use stn_core::Value;
 
@@ -40,4 +40,39 @@ pub(crate) fn write_number(n: Value, out: &mut Vec<u8>) -> Result<(), AllocError
     out.push_str(b"(- ")?;
     write_numeral(n.unsigned_abs(), out)?;
     out.push_str(b")")
+}
+
+/// Puts a byte into the text before what stands from a place on. Where it begins.
+pub(crate) fn byte_before(byte: u8, text: &mut [u8], end: usize) -> usize
+    requires { (0 < end) × (end ≤ length text.old) }
+    ensures start { result + 1 ≡ end }
+    ensures written { drop result text.new ≡ byte ∷ drop end text.old }
+{
+    text[end - 1] = byte;
+    end - 1
+}
+
+/// Puts a numeral before it, of twenty digits at most.
+pub(crate) fn numeral_before(n: u64, text: &mut [u8], end: usize) -> usize
+    requires { (20 ≤ end) × (end ≤ length text.old) }
+    ensures start { (result ≤ end) × (end ≤ result + 20) }
+    ensures written { drop result text.new ≡ numeral_text n ++ drop end text.old }
+{
+    write_digits(n, text, end)
+}
+
+/// Puts a number before it, of 24 bytes at most.
+pub(crate) fn number_before(n: i64, text: &mut [u8], end: usize) -> usize
+    requires { (24 ≤ end) × (end ≤ length text.old) }
+    ensures start { (result ≤ end) × (end ≤ result + 24) }
+    ensures written { drop result text.new ≡ text_of (number_of_value n) ++ drop end text.old }
+{
+    if n >= 0 {
+        return numeral_before(n.unsigned_abs(), text, end);
+    }
+    let at = byte_before(b')', text, end);
+    let at = numeral_before(n.unsigned_abs(), text, at);
+    let at = byte_before(b' ', text, at);
+    let at = byte_before(b'-', text, at);
+    byte_before(b'(', text, at)
 }

@@ -1,7 +1,7 @@
 //! The parts of an entry. When memory ends, a part of the text may have been appended.
 #![tactic(auto, unfolding(smt_lex::specs::Bytes::is_symbol_byte))]
 
-ghost use Rattle.std.specs.Prelude.{◌≡◌, ◌++◌, ◌∷◌, [], map, take, OnOk};
+ghost use Rattle.std.specs.Prelude.{◌≡◌, ◌<◌, ◌≤◌, ◌++◌, ◌∷◌, [], length, map, take, drop, OnOk};
 ghost use Rattle.std.specs.Vec.{vec_len};
 ghost use Rattle.smt_sexpr.specs.Tree.{Sexpr};
 ghost use Rattle.smt_sexpr.specs.Printing.{text_of, text_behind};
@@ -10,12 +10,15 @@ ghost use Rattle.refute_tree.specs.declared.step.Step.TheVariants.{Cycle as Cycl
 ghost use Rattle.refute_tree.specs.code.Views.{literals_of, step_seen};
 ghost use Rattle.smt_sexpr.specs.Shapes.{items_of};
 
-use crate::number::{write_number, write_numeral};
+use crate::number::{byte_before, number_before, numeral_before, write_number, write_numeral};
 use bstr::ByteVec;
 use kept_lemmas::{Item, Kept};
 use refute_tree::{Cycle, Lemma, Reader, StepView};
 use std::alloc::AllocError;
 use stn_core::{Literal, NamedValue, Value, negate};
+
+/// Room for a literal: three numbers of twenty digits at most, a sign, and what stands between them.
+const ROOM: usize = 72;
 
 /// What is written as an s-expression.
 pub trait Part {
@@ -41,18 +44,30 @@ fn write_behind<T: Part>(items: &[T], out: &mut Vec<u8>) -> Result<(), AllocErro
     out.push_str(b")")
 }
 
+/// The points and the bound of a literal, and the closing parenthesis, at the end of the text. Where they begin.
+fn bound_before(literal: Literal, text: &mut [u8]) -> usize
+    requires { length text.old ≡ ROOM }
+    ensures start { (0 < result) × (result ≤ ROOM) }
+    ensures written { drop result text.new ≡ text_of (numeral literal.x)
+        ++ text_behind (items_of (numeral literal.y ∷ number_of_value literal.c ∷ [])) }
+{
+    let at = byte_before(b')', text, ROOM);
+    let at = number_before(literal.c, text, at);
+    let at = byte_before(b' ', text, at);
+    let at = numeral_before(u64::from(literal.y), text, at);
+    let at = byte_before(b' ', text, at);
+    numeral_before(u64::from(literal.x), text, at)
+}
+
 /// Appends the points and the bound of a literal, and the closing parenthesis.
 fn write_bound(literal: Literal, out: &mut Vec<u8>) -> Result<(), AllocError>
     ensures ok { OnOk result (out.new.items ≡ out.old.items ++ text_of (numeral literal.x)
         ++ text_behind (items_of (numeral literal.y ∷ number_of_value literal.c ∷ []))) }
     ensures front { take (vec_len out.old) out.new.items ≡ out.old.items }
 {
-    write_numeral(u128::from(literal.x), out)?;
-    out.push_str(b" ")?;
-    write_numeral(u128::from(literal.y), out)?;
-    out.push_str(b" ")?;
-    write_number(Value::from(literal.c), out)?;
-    out.push_str(b")")
+    let mut text = [0u8; ROOM];
+    let at = bound_before(literal, &mut text);
+    out.push_str(&text[at..])
 }
 
 impl Part for Literal {
@@ -61,8 +76,10 @@ impl Part for Literal {
     ghost sexpr = { literal_sexpr };
 
     fn write(&self, out: &mut Vec<u8>) -> Result<(), AllocError> {
-        out.push_str(b"(")?;
-        write_bound(*self, out)
+        let mut text = [0u8; ROOM];
+        let at = bound_before(*self, &mut text);
+        let at = byte_before(b'(', &mut text, at);
+        out.push_str(&text[at..])
     }
 }
 

@@ -54,5 +54,5 @@ module _ (inputs lemmas : List (List Literal)) (trail : List Entry) (whole : Boo
       learned points inputs lemmas trail roles clause written over (subst (λ (rs : List Role). KeepsAll trail rs (length trail) clause) same keeps) (subst (λ (rs : List Role). All (DeniesKept trail rs) clause) same denies) (subst R (sym w) (subst (λ (rs : List Role). Refutes inputs lemmas trail rs steps) again refutes)) in
       subst (λ (ls : List Literal). IsProved points inputs lemmas (record { clause = ls; steps = written })) (sym is) all
 
-  pub denials_by : All (IsDenial trail whole) given
-  denials_by = subst (All (IsDenial trail whole)) (sym is) (denials_of inputs lemmas trail whole mid roles clause marked (subst (λ (rs : List Role). All (DeniesKept trail rs) clause) same denies))
+  pub denials_by : All (IsDenial inputs lemmas trail whole) given
+  denials_by = subst (All (IsDenial inputs lemmas trail whole)) (sym is) (denials_of inputs lemmas trail whole mid roles clause marked (subst (λ (rs : List Role). All (DeniesKept trail rs) clause) same denies))

@@ -13,7 +13,7 @@ use Rattle.conflict_analysis.specs.declared.entry.Conflict.{Conflict}
 use Rattle.conflict_analysis.specs.declared.entry.Conflict.TheVariants.{Clause as OfClause, Cycle as OfCycle}
 use Rattle.conflict_analysis.specs.declared.entry.Role.{Role}
 use Rattle.conflict_analysis.specs.declared.entry.Role.TheVariants.{Unused, Kept, Resolved}
-use Rattle.conflict_analysis.specs.code.Trails.{source_clause, pair_cycle, entry_at, on_trail, role_at, IsByClause, IsByCycle, Follows, Stands, IsReason, IsTrail, IsConflict, IsUsed, StandsUsed, IsClosed, IsMarkedMore, MayStay, IsStatedAt, IsTurned, IsMarked, DeniesKept, IsDenial}
+use Rattle.conflict_analysis.specs.code.Trails.{source_clause, pair_cycle, entry_at, on_trail, role_at, IsByClause, IsByCycle, Follows, Stands, IsReason, IsTrail, IsConflict, IsUsed, StandsUsed, IsClosed, IsMarkedMore, MayStay, MayStayAt, IsStatedAt, IsTurned, IsMarked, DeniesKept, IsDenial}
 use Rattle.std.specs.Prelude.{slice_index}
 
 pub marked_none : (below : ℕ) (roles : List Role) → IsMarkedMore below roles roles
@@ -96,14 +96,24 @@ turned_by_clause inputs lemmas trail whole old mid new k source place clause wit
     turned_resolved inputs lemmas trail whole old mid new k (omega arith) closed more (subst (Follows inputs lemmas (StandsUsed trail mid k) (on_trail trail k)) (sym e) follows) is
 
 -- the clause isn't its reason, and so it stays
-pub turned_by_none : (inputs lemmas : List (List Literal)) (trail : List Entry) (whole : Bool) (old new : List Role) (k : ℕ) (source : Source) (place : ℕ) → (entry_at trail k).reason ≡ ByClause source place → IsClosed inputs lemmas trail old → IsMarkedMore k old new → IsTurned inputs lemmas trail whole k old new
-turned_by_none inputs lemmas trail whole old new k source place e closed more = record {
+pub turned_by_none : (inputs lemmas : List (List Literal)) (trail : List Entry) (whole : Bool) (old new : List Role) (k : ℕ) (source : Source) (place : ℕ) → (entry_at trail k).reason ≡ ByClause source place → (IsByClause inputs lemmas (Stands trail k) (on_trail trail k) source place → ⊥) → IsClosed inputs lemmas trail old → IsMarkedMore k old new → IsTurned inputs lemmas trail whole k old new
+turned_by_none inputs lemmas trail whole old new k source place e not closed more = record {
   count = more.count;
   closed = closed_more inputs lemmas trail old new k more closed;
   used = more.used;
   above = λ j lt. more.above j (omega arith);
-  first = λ w is. subst MayStay (sym e) tt;
+  first = λ w is. subst (MayStay inputs lemmas trail k (on_trail trail k)) (sym e) not;
 }
+
+-- no reason: the literal doesn't stand there
+pub not_stated : (inputs lemmas : List (List Literal)) (trail : List Entry) (k : ℕ) (source : Source) (place : ℕ) → (IsStatedAt inputs lemmas (on_trail trail k) source place → ⊥) → IsByClause inputs lemmas (Stands trail k) (on_trail trail k) source place → ⊥
+not_stated inputs lemmas trail k source place not r = not (record { known = r.known; within = r.within; at = r.at })
+
+-- or not all others are denied
+pub not_denied : (inputs lemmas : List (List Literal)) (trail : List Entry) (k : ℕ) (source : Source) (place : ℕ) (clause : List Literal) → clause ≡ source_clause inputs lemmas source → (((q : ℕ) → q < length clause → q ≢ place → Stands trail k (negation_of (literal_at clause q))) → ⊥) → IsByClause inputs lemmas (Stands trail k) (on_trail trail k) source place → ⊥
+not_denied inputs lemmas trail k source place clause c not r =
+    let P : List Literal → Type 0 = λ ls. (q : ℕ) → q < length ls → q ≢ place → Stands trail k (negation_of (literal_at ls q)) in
+    not (subst P (sym c) r.others)
 
 pub turned_by_cycle : (inputs lemmas : List (List Literal)) (cube : List Literal) (trail : List Entry) (whole : Bool) (old mid new : List Role) (k : ℕ) (cycle given : List Literal) (l : Literal) → k < length trail → length trail ≤ length old → IsTrail inputs lemmas cube trail → (entry_at trail k).reason ≡ ByCycle cycle → given ≡ cycle → l ≡ on_trail trail k → IsClosed inputs lemmas trail old → IsMarkedMore k old mid → ((q : ℕ) → q < length given → (literal_at given q ≡ negation_of l) ⊎ StandsUsed trail mid k (literal_at given q)) → new ≡ set mid k Resolved → IsTurned inputs lemmas trail whole k old new
 turned_by_cycle inputs lemmas cube trail whole old mid new k cycle given l within count h e g a closed more used is =
@@ -204,7 +214,7 @@ pair_others inputs lemmas cube trail k tighter given l h within e is a =
     subst P (sym is) (subst Q (sym a) r.others)
 
 -- the literals of the learned clause
-pub denials_of : (inputs lemmas : List (List Literal)) (trail : List Entry) (whole : Bool) (first roles : List Role) (clause : List Literal) → IsMarked inputs lemmas trail whole 0 first roles → All (DeniesKept trail roles) clause → All (IsDenial trail whole) clause
+pub denials_of : (inputs lemmas : List (List Literal)) (trail : List Entry) (whole : Bool) (first roles : List Role) (clause : List Literal) → IsMarked inputs lemmas trail whole 0 first roles → All (DeniesKept trail roles) clause → All (IsDenial inputs lemmas trail whole) clause
 denials_of inputs lemmas trail whole first roles clause m denies k d lt =
     let h = denies k d lt in
     (h.0, h.1, h.3, λ w. m.first w h.0 (omega arith) h.1 h.2)

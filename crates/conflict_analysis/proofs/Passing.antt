@@ -11,7 +11,7 @@ use Rattle.conflict_analysis.specs.declared.entry.Entry.{Entry}
 use Rattle.conflict_analysis.specs.declared.entry.Role.{Role}
 use Rattle.conflict_analysis.specs.declared.entry.Role.TheVariants.{Unused, Kept, Resolved}
 use Rattle.stn_core.specs.declared.literal.Literal.{Literal}
-use Rattle.conflict_analysis.specs.code.Trails.{role_at, IsUsed, IsTurned, IsMarked, MayStay, entry_at}
+use Rattle.conflict_analysis.specs.code.Trails.{role_at, IsUsed, IsTurned, IsMarked, MayStayAt}
 use Rattle.conflict_analysis.specs.code.Places.{HasMore, IsGreatestBelow, AreWaiting, KeepsWaiting, ArePassed}
 
 pub not_used : (r : Role) → r ≡ Unused → IsUsed r → ⊥
@@ -111,7 +111,7 @@ module _ (inputs lemmas : List (List Literal)) (trail : List Entry) (whole : Boo
         closed = t.closed;
         used = λ j u. t.used j (m.used j u);
         first = λ w j le lt is. elim (cases_eq j k) [
-          | inl same ↦ subst (λ (i : ℕ). MayStay (entry_at trail i).reason) (sym same) (t.first w (subst (λ (i : ℕ). role_at new i ≡ Kept) same is))
+          | inl same ↦ subst (MayStayAt inputs lemmas trail) (sym same) (t.first w (subst (λ (i : ℕ). role_at new i ≡ Kept) same is))
           | inr other ↦ (let past : k < j = omega arith in
               let was : role_at mid j ≡ Kept = sym (t.above j past) ∙ is in
               elim (cases_lt j n) [

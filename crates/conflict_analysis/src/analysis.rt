@@ -147,9 +147,8 @@ fn wanted_roots<E: Earlier>(
 /// The clause that a conflict teaches, with its tree: the negations of some of the trail's literals. The one
 /// error is want of memory.
 ///
-/// With `whole` the literals are negations of decided ones, of the cube's, and of such as stand on the trail by a clause that
-/// failed its test as a reason: where none stands there by a clause, of decided ones and the cube's alone. That no clause fails
-/// which is one's reason isn't promised. Else it is the clause of the
+/// With `whole` the literals are negations of decided ones, of the cube's, and of such as don't follow from the clause that is
+/// named as their reason: where each does, of decided ones and the cube's alone. Else it is the clause of the
 /// first unique implication point of the last level on which the conflict rests, and to `wanted` come the
 /// places of the root's literals whose reasons are in the steps and could be cited.
 pub fn analyze<E: Earlier>(
@@ -167,7 +166,7 @@ pub fn analyze<E: Earlier>(
     requires conflict { IsConflict graph.now.inputs graph.now.lemmas
         (Stands graph.now.trail (length graph.now.trail)) conflict.now }
     ensures proved { IfOk result (IsProved graph.now.points graph.now.inputs graph.now.lemmas) }
-    ensures denials { IfOk result (λ lemma. All (IsDenial graph.now.trail whole) lemma.clause) }
+    ensures denials { IfOk result (λ lemma. All (IsDenial graph.now.inputs graph.now.lemmas graph.now.trail whole) lemma.clause) }
 {
     let mut marks = begin(alloc, graph, levels, tables)?;
     need_conflict(graph, &mut marks, guide, conflict)?;

@@ -1,5 +1,5 @@
 //! What an analysis goes back over.
-ghost use Rattle.std.specs.Prelude.{◌≡◌, ◌<◌, length, true};
+ghost use Rattle.std.specs.Prelude.{◌≡◌, ◌<◌, ◌↔◌, length, true};
 ghost use Rattle.conflict_analysis.specs.code.Graphs.{graph_of};
 ghost use Rattle.conflict_analysis.specs.code.Trails.{IsKnown, entry_at, on_trail, source_clause};
 
@@ -65,7 +65,7 @@ impl<'a, E: Earlier> ImplicationGraph<'a, E> {
 
     /// Whether there is such a clause.
     pub fn is_known(&self, source: Source) -> bool
-        ensures { result ≡ true → IsKnown self.now.inputs self.now.lemmas source }
+        ensures { result ≡ true ↔ IsKnown self.now.inputs self.now.lemmas source }
     {
         is_known(self.problem, self.earlier, source)
     }

@@ -1,5 +1,5 @@
 //! Which literals of the trail a conflict rests on.
-ghost use Rattle.std.specs.Prelude.{◌≡◌, ◌≢◌, ◌<◌, ◌≤◌, ◌⊎◌, ℕ, length, true, IfOk, IfSome, IfNone, OnOk};
+ghost use Rattle.std.specs.Prelude.{◌≡◌, ◌≢◌, ◌<◌, ◌≤◌, ◌⊎◌, ◌↔◌, ℕ, length, true, IfOk, IfSome, IfNone, OnOk};
 ghost use Rattle.stn_core.specs.Literal.{negation_of, literal_at};
 ghost use Rattle.conflict_analysis.specs.code.Trails.{Stands, StandsUsed, IsMarkedMore, IsGrounded, IsClosed, on_trail};
 ghost use Rattle.conflict_analysis.specs.code.Trails.{role_at, IsUsed, IsConflict, IsTurned, IsMarked, IsStatedAt};
@@ -220,7 +220,7 @@ fn is_stated<E: Earlier>(
     k: usize,
 ) -> bool
     requires within { k < length graph.now.trail }
-    ensures { result ≡ true → IsStatedAt graph.now.inputs graph.now.lemmas (on_trail graph.now.trail k) source place }
+    ensures { result ≡ true ↔ IsStatedAt graph.now.inputs graph.now.lemmas (on_trail graph.now.trail k) source place }
 {
     if !graph.is_known(source) {
         return false;

@@ -25,7 +25,7 @@ pub fn clause_of<'a, E: Earlier>(
 
 /// Whether there is such a clause.
 pub fn is_known<E: Earlier>(problem: &Problem, earlier: &E, source: Source) -> bool
-    ensures { result ≡ true → IsKnown problem.now.clauses (E.clauses earlier.now) source }
+    ensures { result ≡ true ↔ IsKnown problem.now.clauses (E.clauses earlier.now) source }
 {
     match source {
         Source::Input(i) => i < problem.clauses.as_slice().len(),

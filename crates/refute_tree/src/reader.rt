@@ -5,7 +5,7 @@ ghost use Rattle.refute_tree.specs.code.Paths.{narrow_literal, path_of};
 ghost use Rattle.refute_tree.specs.code.Views.{step_seen, ReadsNone};
 
 use crate::cycle::Cycle;
-use crate::kind::{Kind, bounds_by, large_by, literals_by, points_by, small_by};
+use crate::kind::Kind;
 use crate::lists::Slices;
 use crate::path::Path;
 use std::marker::Model;
@@ -77,18 +77,45 @@ fn behind<'a>(kind: Kind, slices: Slices<'a>) -> Slices<'a>
     requires step { HaveStep kind slices }
     ensures { IsBehindStep kind slices.entry result }
 {
-    let small = small_by(kind);
-    let large = large_by(kind);
-    let points = points_by(kind, slices.small, 0);
-    let bounds = bounds_by(kind, slices.small, 0);
-    let literals = literals_by(kind, slices.large, 0);
-    Slices {
-        kinds: &slices.kinds[1..],
-        small: &slices.small[small..],
-        large: &slices.large[large..],
-        points: &slices.points[points..],
-        bounds: &slices.bounds[bounds..],
-        literals: &slices.literals[literals..],
+    let kinds = &slices.kinds[1..];
+    match kind {
+        Kind::Input | Kind::Lemma | Kind::Clash => Slices {
+            kinds,
+            small: &slices.small[1..],
+            ..slices
+        },
+        Kind::Pair | Kind::Either => Slices {
+            kinds,
+            points: &slices.points[2..],
+            bounds: &slices.bounds[1..],
+            ..slices
+        },
+        Kind::Path => {
+            let count = slices.small[0] as usize;
+            Slices {
+                kinds,
+                small: &slices.small[1..],
+                points: &slices.points[count + 1..],
+                bounds: &slices.bounds[count..],
+                ..slices
+            }
+        }
+        Kind::Cycle => Slices {
+            kinds,
+            large: &slices.large[1..],
+            literals: &slices.literals[slices.large[0]..],
+            ..slices
+        },
+        Kind::LargePair | Kind::LargeEither => Slices {
+            kinds,
+            literals: &slices.literals[1..],
+            ..slices
+        },
+        Kind::LargeInput | Kind::LargeLemma | Kind::LargeClash => Slices {
+            kinds,
+            large: &slices.large[1..],
+            ..slices
+        },
     }
 }
 

@@ -15,7 +15,7 @@ use Rattle.branch_search.specs.declared.conflict.Reaction.{Reaction}
 use Rattle.branch_search.specs.declared.conflict.Reaction.TheVariants.{Jumped, Excluded, Unsettled}
 use Rattle.branch_search.specs.declared.propagate.Tried.{Tried}
 use Rattle.branch_search.specs.declared.propagate.Tried.TheVariants.{Pushed, Nothing, Stuck}
-use Rattle.conflict_analysis.specs.code.Trails.{IsTrail, AreOver, entry_at, Stands, IsConflict}
+use Rattle.conflict_analysis.specs.code.Trails.{IsTrail, AreOver, entry_at, on_trail, Stands, IsByClause, IsConflict}
 use Rattle.conflict_analysis.specs.Proved.{IsClauseOver}
 use Rattle.branch_search.specs.Slices.{Question, AreProved, Excludes}
 
@@ -117,16 +117,39 @@ IsNoClause (ByCycle cycle) = Unit {0}
 abbrev pub HasNoClause : List Entry → Type 0
 HasNoClause entries = (j : ℕ) → IsNoClause (entry_at entries j).reason
 
--- from a conflict a lemma was learned, which has this number; where nothing was decided, and no literal stands on the trail by a
--- clause, it excludes the cube
-pub record IsSearchLearned (q : Question) (own : List Lemma) (entries : List Entry) (levels : List Level)
-    (j : ℕ) (literals : List Literal) : Type 0 where
+-- where the literal stands there by a clause, it follows from it
+abbrev pub IsClauseReason : List (List Literal) → List (List Literal) → List Entry → ℕ → Literal → Reason → Type 0
+IsClauseReason inputs lemmas entries k l Given = Unit {0}
+IsClauseReason inputs lemmas entries k l Decision = Unit {0}
+IsClauseReason inputs lemmas entries k l (ByClause source place) = IsByClause inputs lemmas (Stands entries k) l source place
+IsClauseReason inputs lemmas entries k l (ByPair tighter) = Unit {0}
+IsClauseReason inputs lemmas entries k l (ByCycle cycle) = Unit {0}
+
+-- each literal that stands on the trail by a clause follows from it
+abbrev pub HasReasons : List (List Literal) → List (List Literal) → List Entry → Type 0
+HasReasons inputs lemmas entries =
+    (j : ℕ) → IsClauseReason inputs lemmas entries j (on_trail entries j) (entry_at entries j).reason
+
+-- from a conflict a lemma was learned over these, which has this number; where nothing was decided, and each literal that stands
+-- on the trail by a clause follows from it, the lemma excludes the cube
+pub record IsSearchLearned (q : Question) (lemmas : List (List Literal)) (own : List Lemma) (entries : List Entry)
+    (levels : List Level) (j : ℕ) (literals : List Literal) : Type 0 where
   pub state : IsSearch q own entries levels literals
   pub count : length own ≡ j + 1
-  pub excludes : length levels ≡ 0 → HasNoClause entries → Excludes q.cube own j
+  pub excludes : length levels ≡ 0 → HasReasons q.problem.clauses lemmas entries → Excludes q.cube own j
 
-abbrev pub IsLearned : Question → State → ℕ → List Literal → Type 0
-IsLearned q s j literals = IsSearchLearned q s.own.items s.entries.items s.levels.items j literals
+abbrev pub IsLearned : Question → State → State → List Literal → Type 0
+IsLearned q before s literals =
+    IsSearchLearned q (all_lemmas q.handed before.own.items) s.own.items s.entries.items s.levels.items
+    (length before.own.items) literals
+
+-- nothing was decided, and what was learned doesn't exclude the cube, only where some literal stands on the trail by a clause
+-- that it doesn't follow from
+abbrev pub FailsReason : Question → State → Reaction → Type 0
+FailsReason q before Jumped = Unit {0}
+FailsReason q before (Excluded j) = Unit {0}
+FailsReason q before Unsettled =
+    HasReasons q.problem.clauses (all_lemmas q.handed before.own.items) before.entries.items → ⊥
 
 -- a conflict was met, where there were so many levels: the search goes on with fewer, a lemma excludes the cube, or it can't go on
 abbrev pub IsSearchSettled : Question → ℕ → List Lemma → List Entry → List Level → List Literal → Reaction

@@ -138,19 +138,23 @@ pub record IsMarkedMore (below : ℕ) (old new : List Role) : Type 0 where
   pub resolved : (j : ℕ) → role_at new j ≡ Resolved → role_at old j ≡ Resolved
   pub above : (j : ℕ) → below ≤ j → role_at new j ≡ role_at old j
 
--- the literal needs no reason: a chosen one, one of the cube's, or one whose clause may have failed its test
-abbrev pub MayStay : Reason → Type 0
-MayStay Given = Unit {0}
-MayStay Decision = Unit {0}
-MayStay (ByClause source place) = Unit {0}
-MayStay (ByPair tighter) = ⊥
-MayStay (ByCycle cycle) = ⊥
+-- the literal at a place needs no reason: a chosen one, one of the cube's, or one that doesn't follow from the clause that is
+-- named as its reason
+abbrev pub MayStay : List (List Literal) → List (List Literal) → List Entry → ℕ → Literal → Reason → Type 0
+MayStay inputs lemmas trail k l Given = Unit {0}
+MayStay inputs lemmas trail k l Decision = Unit {0}
+MayStay inputs lemmas trail k l (ByClause source place) = IsByClause inputs lemmas (Stands trail k) l source place → ⊥
+MayStay inputs lemmas trail k l (ByPair tighter) = ⊥
+MayStay inputs lemmas trail k l (ByCycle cycle) = ⊥
+
+abbrev pub MayStayAt : List (List Literal) → List (List Literal) → List Entry → ℕ → Type 0
+MayStayAt inputs lemmas trail k = MayStay inputs lemmas trail k (on_trail trail k) (entry_at trail k).reason
 
 -- the literal is the negation of one that stands on the trail; of one that needs no reason, where only such are kept
-abbrev pub IsDenial : List Entry → Bool → Literal → Type 0
-IsDenial trail whole m =
+abbrev pub IsDenial : List (List Literal) → List (List Literal) → List Entry → Bool → Literal → Type 0
+IsDenial inputs lemmas trail whole m =
     (j : ℕ) × (j < length trail) × (m ≡ negation_of (on_trail trail j))
-    × (whole ≡ true → MayStay (entry_at trail j).reason)
+    × (whole ≡ true → MayStayAt inputs lemmas trail j)
 
 -- the trail's literals lie over so many points and within the limits
 abbrev pub AreOver : ℕ → List Entry → Type 0
@@ -174,7 +178,7 @@ pub record IsTurned (inputs lemmas : List (List Literal)) (trail : List Entry) (
   pub closed : IsClosed inputs lemmas trail new
   pub used : (j : ℕ) → IsUsed (role_at old j) → IsUsed (role_at new j)
   pub above : (j : ℕ) → k < j → role_at new j ≡ role_at old j
-  pub first : whole ≡ true → role_at new k ≡ Kept → MayStay (entry_at trail k).reason
+  pub first : whole ≡ true → role_at new k ≡ Kept → MayStayAt inputs lemmas trail k
 
 -- the way back over the trail, down to a place
 pub record IsMarked (inputs lemmas : List (List Literal)) (trail : List Entry) (whole : Bool) (k : ℕ)
@@ -183,4 +187,4 @@ pub record IsMarked (inputs lemmas : List (List Literal)) (trail : List Entry) (
   pub closed : IsClosed inputs lemmas trail new
   pub used : (j : ℕ) → IsUsed (role_at old j) → IsUsed (role_at new j)
   pub first : whole ≡ true → (j : ℕ) → k ≤ j → j < length trail → role_at new j ≡ Kept
-      → MayStay (entry_at trail j).reason
+      → MayStayAt inputs lemmas trail j

@@ -1,6 +1,6 @@
-use Rattle.std.proofs.Common.{refl, sym, ◌∙◌, ap, [], ◌∷◌}
+use Rattle.std.proofs.Common.{refl, sym, ◌∙◌, ap, [], ◌∷◌, ◌≡◌, true, false}
 use Rattle.stn_core.specs.declared.literal.Literal.{Literal}
-use Rattle.conflict_analysis.proofs.Marks.{pair_others, turned_by_clause, turned_by_none, turned_by_pair, turned_by_cycle}
+use Rattle.conflict_analysis.proofs.Marks.{pair_others, marked_none, not_denied, not_stated, turned_by_clause, turned_by_none, turned_by_pair, turned_by_cycle}
 use Rattle.conflict_analysis.proofs.Passing.{waiting_resolved}
 use Rattle.conflict_analysis.proofs.marking.resolve.Goals as goal
 
@@ -49,7 +49,7 @@ returns-then-follows-clause-turned g c =
     turned_by_clause c.args.graph.now.inputs c.args.graph.now.lemmas c.args.graph.now.trail c.args.whole
     c.args.marks.now.roles.items c.need_denials.new.marks.roles.items _ c.args.k
     c.in-Clause.source c.in-Clause.place c.clause-clause.result.now c.requires.within c.requires.count
-    (c.is_stated.ensures c.if-is_stated.true)
+    (c.is_stated.ensures.0 c.if-is_stated.true)
     (sym c.reason.ensures ∙ c.in-Clause.is)
     c.clause-clause.ensures c.requires.closed c.in_ok-follows-in-Clause.ensures.more
     (c.in_ok-follows-in-Clause.ensures.used c.if-follows.true) refl
@@ -61,6 +61,25 @@ returns-then-follows-clause-waiting g c =
 
 pub returns-else-follows-clause-turned : goal.returns-else-follows-clause-turned
 returns-else-follows-clause-turned g c =
-    turned_by_none c.args.graph.now.inputs c.args.graph.now.lemmas c.args.graph.now.trail c.args.whole
+    let inputs = c.args.graph.now.inputs in
+    let lemmas = c.args.graph.now.lemmas in
+    let trail = c.args.graph.now.trail in
+    let marked = c.in_ok-follows-in-Clause.ensures in
+    turned_by_none inputs lemmas trail c.args.whole
     c.args.marks.now.roles.items c.need_denials.new.marks.roles.items c.args.k c.in-Clause.source c.in-Clause.place
-    (sym c.reason.ensures ∙ c.in-Clause.is) c.requires.closed c.in_ok-follows-in-Clause.ensures.more
+    (sym c.reason.ensures ∙ c.in-Clause.is)
+    (not_denied inputs lemmas trail c.args.k c.in-Clause.source c.in-Clause.place c.clause-clause.result.now c.clause-clause.ensures
+    (λ all. let no : true ≡ false = sym (marked.stand all) ∙ c.if-follows.false in absurd cc))
+    c.requires.closed marked.more
+
+pub returns-else-is_stated-clause-turned : goal.returns-else-is_stated-clause-turned
+returns-else-is_stated-clause-turned g c =
+    let inputs = c.args.graph.now.inputs in
+    let lemmas = c.args.graph.now.lemmas in
+    let trail = c.args.graph.now.trail in
+    turned_by_none inputs lemmas trail c.args.whole
+    c.args.marks.now.roles.items c.args.marks.now.roles.items c.args.k c.in-Clause.source c.in-Clause.place
+    (sym c.reason.ensures ∙ c.in-Clause.is)
+    (not_stated inputs lemmas trail c.args.k c.in-Clause.source c.in-Clause.place
+    (λ at. let no : true ≡ false = sym (c.is_stated.ensures.1 at) ∙ c.if-is_stated.false in absurd cc))
+    c.requires.closed (marked_none c.args.k c.args.marks.now.roles.items)

@@ -1,7 +1,7 @@
-use Rattle.std.proofs.Common.{ap, ◌∙◌, length, subst, sym}
+use Rattle.std.proofs.Common.{ap, ◌∙◌, length, subst, sym, All}
 use Rattle.stn_core.specs.declared.problem.Problem.{Problem}
 use Rattle.conflict_analysis.specs.declared.entry.Level.{Level}
-use Rattle.conflict_analysis.specs.code.Trails.{IsTrail}
+use Rattle.conflict_analysis.specs.code.Trails.{IsTrail, IsDenial}
 use Rattle.conflict_analysis.specs.Proved.{IsProved}
 use Rattle.branch_search.specs.code.Search.{all_lemmas}
 use Rattle.branch_search.proofs.Learned.{trail_seen, learned_search}
@@ -29,5 +29,6 @@ returns-clause-learned g c =
     learned_search q c.args.self.now.own.items _ _ c.in_ok-lemma.lemma c.args.self.now.entries.items _ c.args.self.now.levels.items
     (g.N.Net.literals_of c.args.net.now) c.is_root-whole.result c.requires.stuck.state c.as_slice.ensures.value
     (subst (λ (p : Problem). IsProved p.points p.clauses (all_lemmas q.handed c.as_slice.result.now) c.in_ok-lemma.lemma) c.problem.ensures (rw c.new-graph.ensures at c.in_ok-lemma.ensures.proved))
-    c.as_slice-2.ensures.value (rw c.new-graph.ensures at c.in_ok-lemma.ensures.denials)
-    (λ none. c.is_root-whole.ensures (ap (length {A = Level}) c.deref.ensures.value ∙ none)) c.in_ok-push.ensures.items
+    c.as_slice-2.ensures.value
+    (subst (λ (p : Problem). All (IsDenial p.clauses (all_lemmas q.handed c.as_slice.result.now) c.as_slice-2.result.now c.is_root-whole.result) c.in_ok-lemma.lemma.clause) c.problem.ensures (rw c.new-graph.ensures at c.in_ok-lemma.ensures.denials))
+    (λ none. c.is_root-whole.ensures.1 (ap (length {A = Level}) c.deref.ensures.value ∙ none)) c.in_ok-push.ensures.items

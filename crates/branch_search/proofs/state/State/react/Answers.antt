@@ -1,6 +1,6 @@
-use Rattle.std.proofs.Common.{◌∙◌, sym, subst, ◌<◌, length, List}
+use Rattle.std.proofs.Common.{◌≡◌, ◌∙◌, ap, sym, subst, ◌<◌, length, List, true, false}
 use Rattle.conflict_analysis.specs.declared.entry.Level.{Level}
-use Rattle.branch_search.proofs.Learned.{cut_back, cut_within, settled, found_excluding}
+use Rattle.branch_search.proofs.Learned.{cut_back, cut_within, settled, found_excluding, found_failing}
 use Rattle.branch_search.proofs.state.State.react.Goals as goal
 
 pub cut-requires-clause-within : goal.cut-requires-clause-within
@@ -36,5 +36,13 @@ returns-clause-settled g c =
 
 pub returns-then-excludes-clause-settled : goal.returns-then-excludes-clause-settled
 returns-then-excludes-clause-settled g c =
-    found_excluding c.args.task.now c.learn.new.self.own.items _ _ c.learn.new.self.entries.items c.learn.new.self.levels.items _ _ _
-    c.cube.ensures c.as_slice.ensures.value (c.excludes.ensures c.if-excludes.true) c.in_ok-learn.ensures.learned
+    found_excluding c.args.task.now _ c.learn.new.self.own.items _ _ c.learn.new.self.entries.items c.learn.new.self.levels.items _ _ _
+    c.cube.ensures c.as_slice.ensures.value (c.excludes.ensures.sound c.if-excludes.true) c.in_ok-learn.ensures.learned
+
+pub returns-then-is_root-clause-reasons : goal.returns-then-is_root-clause-reasons
+returns-then-is_root-clause-reasons g c =
+    let none : length c.learn.new.self.levels.items ≡ 0 = ap (length {A = Level}) (sym c.deref.ensures.value) ∙ c.is_root.ensures.0 c.if-is_root.true in
+    found_failing c.args.task.now _ c.learn.new.self.own.items _ _ c.learn.new.self.entries.items c.args.self.now.entries.items
+    c.learn.new.self.levels.items _ _ _ c.cube.ensures c.as_slice.ensures.value c.in_ok-learn.ensures.entries
+    (c.len-j.ensures ∙ c.args.self.now.own.ok.0) none
+    (λ there. let no : true ≡ false = sym (c.excludes.ensures.all there) ∙ c.if-excludes.false in absurd cc) c.in_ok-learn.ensures.learned
