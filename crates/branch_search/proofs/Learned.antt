@@ -19,7 +19,7 @@ use Rattle.branch_search.specs.declared.propagate.Tried.{Tried}
 use Rattle.branch_search.specs.declared.propagate.Tried.TheVariants.{Pushed, Nothing, Stuck}
 use Rattle.conflict_analysis.specs.code.Trails.{IsReason, IsTrail, MayStay, IsDenial, no_literal, entry_at, on_trail}
 use Rattle.conflict_analysis.specs.Proved.{IsProved}
-use Rattle.branch_search.specs.code.Search.{all_lemmas, start_of, in_net_of, IsSearch, IsSearchLearned, IsSearchSettled, AreExcluding, IsSearchTried, IsNoClause, HasNoClause, IsClauseReason, HasReasons}
+use Rattle.branch_search.specs.code.Search.{all_lemmas, start_of, in_net_of, IsSearch, IsSearchTaught, IsSearchLearned, IsSearchSettled, AreExcluding, IsSearchTried, IsClauseReason, HasReasons}
 use Rattle.branch_search.specs.Slices.{Question, Excludes}
 use Rattle.branch_search.proofs.States.{lemma_last, state_learned, state_cut}
 
@@ -32,44 +32,50 @@ first_given inputs lemmas cube es k l (ByClause source place) not good first h =
 first_given inputs lemmas cube es k l (ByPair tighter) not good first h = absurd first
 first_given inputs lemmas cube es k l (ByCycle cycle) not good first h = absurd first
 
--- where none stands there by a clause, each that does follows from it
-plain_reason : (inputs lemmas : List (List Literal)) (es : List Entry) (k : ℕ) (l : Literal) (r : Reason) → IsNoClause r → IsClauseReason inputs lemmas es k l r
-plain_reason inputs lemmas es k l Given plain = tt
-plain_reason inputs lemmas es k l Decision plain = tt
-plain_reason inputs lemmas es k l (ByClause source place) plain = absurd plain
-plain_reason inputs lemmas es k l (ByPair tighter) plain = tt
-plain_reason inputs lemmas es k l (ByCycle cycle) plain = tt
-
-plain_reasons : (inputs lemmas : List (List Literal)) (es : List Entry) → HasNoClause es → HasReasons inputs lemmas es
-plain_reasons inputs lemmas es plain j = plain_reason inputs lemmas es j (on_trail es j) (entry_at es j).reason (plain j)
-
 pub trail_seen : (q : Question) (own lent : List Lemma) (es seen : List Entry) → lent ≡ own → seen ≡ es → IsTrail q.problem.clauses (all_lemmas q.handed own) q.cube es → IsTrail q.problem.clauses (all_lemmas q.handed lent) q.cube seen
 trail_seen q own lent es seen a b h =
     subst (λ (ls : List Lemma). IsTrail q.problem.clauses (all_lemmas q.handed ls) q.cube seen) (sym a) (subst (IsTrail q.problem.clauses (all_lemmas q.handed own) q.cube) (sym b) h)
 
-pub learned_search : (q : Question) (own new lent : List Lemma) (lemma : Lemma) (es seen : List Entry) (levels : List Level) (literals : List Literal) (whole : Bool) → IsSearch q own es levels literals → lent ≡ own → IsProved q.problem.points q.problem.clauses (all_lemmas q.handed lent) lemma → seen ≡ es → All (IsDenial q.problem.clauses (all_lemmas q.handed lent) seen whole) lemma.clause → (length levels ≡ 0 → whole ≡ true) → new ≡ own ++ lemma ∷ [] → IsSearchLearned q (all_lemmas q.handed own) new es levels (length own) literals
-learned_search q own new lent lemma es seen levels literals whole s is r same denials root grown =
+-- the analysis was made over the own lemmas and the trail
+pub taught : (q : Question) (own lent : List Lemma) (es seen : List Entry) (whole : Bool) (lemma : Lemma) → lent ≡ own → seen ≡ es → IsProved q.problem.points q.problem.clauses (all_lemmas q.handed lent) lemma → All (IsDenial q.problem.clauses (all_lemmas q.handed lent) seen whole) lemma.clause → IsSearchTaught q own es whole lemma
+taught q own lent es seen whole lemma is same r denials =
+    let inputs = q.problem.clauses in
+    let denied : All (IsDenial inputs (all_lemmas q.handed own) seen whole) lemma.clause = subst (λ (ls : List Lemma). All (IsDenial inputs (all_lemmas q.handed ls) seen whole) lemma.clause) is denials in
+    record {
+      proved = subst (λ (ls : List Lemma). IsProved q.problem.points inputs (all_lemmas q.handed ls) lemma) is r;
+      denials = subst (λ (fs : List Entry). All (IsDenial inputs (all_lemmas q.handed own) fs whole) lemma.clause) same denied;
+    }
+
+-- the search stands as it was
+pub same_search : (q : Question) (own mid : List Lemma) (es seen : List Entry) (levels these : List Level) (literals : List Literal) → mid ≡ own → seen ≡ es → these ≡ levels → IsSearch q own es levels literals → IsSearch q mid seen these literals
+same_search q own mid es seen levels these literals a b c h =
+    subst (λ (ls : List Lemma). IsSearch q ls seen these literals) (sym a)
+    (subst (λ (fs : List Entry). IsSearch q own fs these literals) (sym b) (subst (λ (vs : List Level). IsSearch q own es vs literals) (sym c) h))
+
+-- and with the lemma behind its own ones
+pub search_grown : (q : Question) (own mid new : List Lemma) (lemma : Lemma) (es seen : List Entry) (levels these : List Level) (literals : List Literal) (whole : Bool) → mid ≡ own → seen ≡ es → these ≡ levels → new ≡ mid ++ lemma ∷ [] → IsSearchTaught q own es whole lemma → IsSearch q own es levels literals → IsSearch q new seen these literals
+search_grown q own mid new lemma es seen levels these literals whole a b c grown t h =
+    let more : IsSearch q (own ++ lemma ∷ []) es levels literals = state_learned q own lemma es levels literals h t.proved in
+    same_search q (own ++ lemma ∷ []) new es seen levels these literals (grown ∙ ap (λ (ls : List Lemma). ls ++ lemma ∷ []) a) b c more
+
+pub learned_search : (q : Question) (own mid new : List Lemma) (lemma : Lemma) (es seen : List Entry) (levels these : List Level) (literals : List Literal) (whole : Bool) → mid ≡ own → seen ≡ es → these ≡ levels → new ≡ mid ++ lemma ∷ [] → IsSearchTaught q own es whole lemma → IsSearch q own es levels literals → (length levels ≡ 0 → whole ≡ true) → IsSearchLearned q (all_lemmas q.handed own) new seen these (length own) literals
+learned_search q own mid new lemma es seen levels these literals whole a b c grown t s root =
     let inputs = q.problem.clauses in
     let lemmas = all_lemmas q.handed own in
-    let proved = subst (λ (ls : List Lemma). IsProved q.problem.points inputs (all_lemmas q.handed ls) lemma) is r in
-    let lent_denied : All (IsDenial inputs lemmas seen whole) lemma.clause = subst (λ (ls : List Lemma). All (IsDenial inputs (all_lemmas q.handed ls) seen whole) lemma.clause) is denials in
-    let denied : All (IsDenial inputs lemmas es whole) lemma.clause = subst (λ (fs : List Entry). All (IsDenial inputs lemmas fs whole) lemma.clause) same lent_denied in
-    subst (λ (ls : List Lemma). IsSearchLearned q lemmas ls es levels (length own) literals) (sym grown) (record {
-      state = state_learned q own lemma es levels literals s proved;
+    let is : new ≡ own ++ lemma ∷ [] = grown ∙ ap (λ (ls : List Lemma). ls ++ lemma ∷ []) a in
+    let there : IsSearchLearned q lemmas (own ++ lemma ∷ []) es levels (length own) literals = record {
+      state = state_learned q own lemma es levels literals s t.proved;
       count = length_push own lemma;
       excludes = λ none good. (
         lemma,
         lemma_last own lemma,
-        λ k d lt. (let h = denied k d lt in
+        λ k d lt. (let h = t.denials k d lt in
             (on_trail es h.0, first_given inputs lemmas q.cube es h.0 (on_trail es h.0) (entry_at es h.0).reason (λ chosen. let some = (s.rooted h.0 chosen).0 in absurd (omega arith)) (good h.0) (h.3 (root none)) (s.trail h.0 h.1), h.2)),
       );
-    })
-
--- where nothing was decided, and no literal stands on the trail by a clause, it excludes the cube
-pub excluding : (q : Question) (lemmas : List (List Literal)) (own : List Lemma) (es : List Entry) (levels : List Level) (j : ℕ) (literals : List Literal) → length levels ≡ 0 → HasNoClause es → IsSearchLearned q lemmas own es levels j literals → AreExcluding q own j
-excluding q lemmas own es levels j literals none plain learned =
-    let count = learned.count in
-    (omega arith, learned.excludes none (plain_reasons q.problem.clauses lemmas es plain), learned.state.proved)
+    } in
+    subst (λ (ls : List Lemma). IsSearchLearned q lemmas ls seen these (length own) literals) (sym is)
+    (subst (λ (fs : List Entry). IsSearchLearned q lemmas (own ++ lemma ∷ []) fs these (length own) literals) (sym b)
+    (subst (λ (vs : List Level). IsSearchLearned q lemmas (own ++ lemma ∷ []) es vs (length own) literals) (sym c) there))
 
 -- so it was found to be
 pub found_excluding : (q : Question) (lemmas : List (List Literal)) (own seen : List Lemma) (cube : List Literal) (es : List Entry) (levels : List Level) (j k : ℕ) (literals : List Literal) → cube ≡ q.cube → seen ≡ own → Excludes cube seen j → IsSearchLearned q lemmas own es levels k literals → AreExcluding q own j

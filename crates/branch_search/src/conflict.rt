@@ -3,7 +3,7 @@ ghost use Rattle.std.specs.Prelude.{◌≡◌, ◌≢◌, ◌↔◌, ℕ, ◌<�
 ghost use Rattle.std.specs.Prelude.{IfOk, IfSome, IfNone, OnOk};
 ghost use Rattle.stn_core.specs.Literal.{negation_of, literal_at};
 ghost use Rattle.branch_search.specs.Slices.{Excludes};
-ghost use Rattle.branch_search.specs.code.Search.{IsState, IsStuck, IsLearned, IsSettled, IsExcluded, FailsReason, HasNoClause};
+ghost use Rattle.branch_search.specs.code.Search.{IsState, IsStuck, IsTaught, IsLearned, IsSettled, IsExcluded, FailsReason, HasNoClause};
 
 use crate::both::Both;
 use crate::state::State;
@@ -83,21 +83,22 @@ fn excludes(cube: &[Literal], guide: &Guide, own: &[Lemma], j: usize) -> bool
 }
 
 impl State {
-    // Learns from a conflict.
-    fn learn<E: Earlier, N: Net>(
+    /// The lemma that a conflict teaches: with `whole` of decided literals and the cube's.
+    pub fn lemma_of<E: Earlier, N: Net>(
         &mut self,
         alloc: Global,
         task: &Task<'_, E>,
         net: &N,
         conflict: &Conflict,
+        whole: bool,
         wanted: &mut Vec<usize>,
-    ) -> Result<(), AllocError>
+    ) -> Result<Lemma, AllocError>
         requires stuck { IsStuck task.now self.old (N.literals_of net.now) conflict.now }
         ensures entries { self.new.entries.items ≡ self.old.entries.items }
         ensures levels { self.new.levels.items ≡ self.old.levels.items }
-        ensures learned { OnOk result (IsLearned task.now self.old self.new (N.literals_of net.now)) }
+        ensures own { self.new.own.items ≡ self.old.own.items }
+        ensures taught { IfOk result (IsTaught task.now self.old whole) }
     {
-        let whole = is_root(&self.levels);
         let both = Both {
             task,
             own: self.own.as_slice(),
@@ -113,6 +114,25 @@ impl State {
             conflict,
             wanted,
         )?;
+        Ok(lemma)
+    }
+
+    // Learns from a conflict.
+    fn learn<E: Earlier, N: Net>(
+        &mut self,
+        alloc: Global,
+        task: &Task<'_, E>,
+        net: &N,
+        conflict: &Conflict,
+        wanted: &mut Vec<usize>,
+    ) -> Result<(), AllocError>
+        requires stuck { IsStuck task.now self.old (N.literals_of net.now) conflict.now }
+        ensures entries { self.new.entries.items ≡ self.old.entries.items }
+        ensures levels { self.new.levels.items ≡ self.old.levels.items }
+        ensures learned { OnOk result (IsLearned task.now self.old self.new (N.literals_of net.now)) }
+    {
+        let whole = is_root(&self.levels);
+        let lemma = self.lemma_of(alloc, task, net, conflict, whole, wanted)?;
         self.guide.add_lemma(lemma.clause.as_slice())?;
         self.own.push(lemma)?;
         Ok(())
@@ -138,8 +158,8 @@ impl State {
         }
     }
 
-    // The literal that the own lemma with the number gives, if it gives one.
-    fn take_learned<E: Earlier, N: Net>(
+    /// The literal that the own lemma with the number gives, if it gives one.
+    pub fn take_learned<E: Earlier, N: Net>(
         &mut self,
         task: &Task<'_, E>,
         net: &N,

@@ -130,7 +130,8 @@ impl State {
         self.distances.is_none() || self.measured >= self.entries.len() || self.guide.is_full()
     }
 
-    /// The next literal of the trail into the distances, and then all that follows by them on the trail.
+    /// The next literal of the trail into the distances, and then all that follows by them on the trail. Where the guide
+    /// finds them not worth their time, there are none from now on.
     pub fn measure_next<E: Earlier, N: Net>(
         &mut self,
         alloc: Global,
@@ -141,6 +142,10 @@ impl State {
         ensures levels { self.new.levels.items ≡ self.old.levels.items }
         ensures state { OnOk result (IsState task.now self.new (N.literals_of net.now)) }
     {
+        if !self.guide.wants_distances() {
+            self.distances = None;
+            return Ok(());
+        }
         let k = self.measured;
         if k >= self.entries.len() {
             return Ok(());

@@ -23,6 +23,7 @@ mod search;
 mod slicing;
 mod state;
 mod task;
+mod vivify;
 mod waiting;
 
 pub use answer::Slice;

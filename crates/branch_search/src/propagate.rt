@@ -165,8 +165,8 @@ impl State {
         Ok(None)
     }
 
-    // The same for all literals from `followed` on, and for those that come.
-    fn follow_all<E: Earlier, N: Net>(
+    /// The same for all literals from `followed` on, and for those that come.
+    pub fn follow_all<E: Earlier, N: Net>(
         &mut self,
         alloc: Global,
         task: &Task<'_, E>,

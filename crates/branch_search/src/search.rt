@@ -1,5 +1,5 @@
 //! The turns of a search.
-ghost use Rattle.std.specs.Prelude.{◌≡◌, ◌<◌, ◌≤◌, length, min, IfOk, IfSome, OnOk};
+ghost use Rattle.std.specs.Prelude.{◌≡◌, ◌<◌, ◌≤◌, ◌+◌, length, min, IfOk, IfSome, OnOk};
 ghost use Rattle.branch_search.specs.code.Search.{IsAfter, IsState, IsStuck};
 ghost use Rattle.stn_core.specs.Limits.{adds_limit};
 ghost use Rattle.branch_search.specs.code.Turns.{IsTurn, IsFound};
@@ -51,12 +51,15 @@ pub struct Rest {
 const LOOK: u64 = 500;
 
 // Where it is time to restart, the first level whose decision is no more active than an open atom: those before
-// it would be decided again. Any level is right.
+// it would be decided again; all levels, where lemmas are to be looked at. Any level is right.
 //
 // Source: van der Tak, Ramos and Heule, "Reusing the assignment trail in CDCL solvers", JSAT 7 (2011).
 fn restart_level(guide: &mut Guide, entries: &[Entry], levels: &[Level]) -> Option<usize>
     ensures { IfSome result (λ level. level < length levels.now) }
 {
+    if guide.wants_vivification() {
+        return if levels.is_empty() { None } else { Some(0) };
+    }
     if !guide.wants_restart() {
         return None;
     }
@@ -122,6 +125,28 @@ impl State {
         Ok(Turn::Jumped)
     }
 
+    /// Begins a level with this literal, if it is one over the problem's points.
+    pub fn open_level<E: Earlier, N: Net>(
+        &mut self,
+        task: &Task<'_, E>,
+        net: &N,
+        number: LiteralNumber,
+    ) -> Result<bool, AllocError>
+        requires state { IsState task.now self.old (N.literals_of net.now) }
+        ensures levels { OnOk result (length self.new.levels.items ≤ length self.old.levels.items + 1) }
+        ensures state { OnOk result (IsState task.now self.new (N.literals_of net.now)) }
+    {
+        let Some(literal) = self.guide.literal(number) else {
+            return Ok(false);
+        };
+        if !is_over(literal, task.problem().points) {
+            return Ok(false);
+        }
+        self.begin_level(net)?;
+        self.push(literal, number, Reason::Decision)?;
+        Ok(true)
+    }
+
     // Decides the literal with the number.
     fn decide<E: Earlier, N: Net>(
         &mut self,
@@ -135,15 +160,13 @@ impl State {
         ensures turn { IfOk result (IsTurn task.now
             rest.decisions (length self.old.levels.items) self.new (N.literals_of net.now)) }
     {
-        let Some(literal) = self.guide.literal(number) else {
-            return Ok(Turn::Ended(Found::Spent));
-        };
-        if !is_over(literal, task.problem().points) || rest.decisions < 1 {
+        if rest.decisions < 1 {
             return Ok(Turn::Ended(Found::Spent));
         }
-        self.begin_level(net)?;
+        if !self.open_level(task, net, number)? {
+            return Ok(Turn::Ended(Found::Spent));
+        }
         self.decisions = self.decisions.saturating_add(1);
-        self.push(literal, number, Reason::Decision)?;
         Ok(Turn::Decided)
     }
 
@@ -226,6 +249,7 @@ impl State {
         let mut left = rest;
         'turns: loop {
             let found = self.propagate(alloc, task, net)?;
+            let found = self.vivify(alloc, task, net, found)?;
             match self.turn(alloc, task, net, left, found)? {
                 Turn::Decided => left.decisions -= 1,
                 Turn::Jumped => {}

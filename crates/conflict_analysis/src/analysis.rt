@@ -101,8 +101,10 @@ fn is_resolved(marks: &Marks, k: usize) -> bool {
 }
 
 fn bump_reason(entry: &Entry, guide: &mut Guide) {
-    if let Reason::Clause(source, _) = &entry.reason {
-        guide.bump_clause(named(*source));
+    match &entry.reason {
+        Reason::Clause(source, _) => guide.bump_clause(named(*source)),
+        Reason::Cycle(_) => guide.use_distances(),
+        Reason::Given | Reason::Decision | Reason::Pair(_) => {}
     }
 }
 

@@ -375,6 +375,12 @@ impl Clauses {
         self.put(start, if is_first { FIRST } else { SECOND }, to);
     }
 
+    /// The lemma loses its literals. Its watches go where they are met.
+    pub fn forget(&mut self, clause: u32) {
+        let start = self.start(clause);
+        self.put(start, 0, 0);
+    }
+
     /// The lemmas that aren't kept lose their literals, and the table closes up.
     pub fn keep_lemmas(&mut self, kept: &[bool]) {
         let mut end = self.inputs_end;

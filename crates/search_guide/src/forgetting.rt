@@ -30,6 +30,8 @@ const FEW_LEVELS: u32 = 2;
 struct Merit {
     levels: u32,
     activity: u64,
+    /// whether it was looked at for a shorter one, or is one
+    is_tried: bool,
 }
 
 /// A lemma that can be forgotten; the least is the best.
@@ -130,6 +132,7 @@ impl Forgetting {
         self.merits.push(Merit {
             levels,
             activity: self.increment,
+            is_tried: false,
         })?;
         Ok(())
     }
@@ -145,7 +148,11 @@ impl Forgetting {
         }
         let activity = merit.activity.saturating_add(self.increment);
         if let Some(slot) = self.merits.get_mut(lemma) {
-            *slot = Merit { levels, activity };
+            *slot = Merit {
+                levels,
+                activity,
+                is_tried: merit.is_tried,
+            };
         }
         if activity > LARGE {
             self.scale();
@@ -157,6 +164,32 @@ impl Forgetting {
             merit.activity >>= SHIFT;
         }
         self.increment = (self.increment >> SHIFT).max(START);
+    }
+
+    /// The last lemma before the place, of at most so many levels, that wasn't looked at yet for a shorter one. Now it is.
+    pub fn next_untried(&mut self, before: usize, most_levels: u32) -> Option<usize> {
+        let end = before.min(self.merits.len());
+        for back in 0..end {
+            let place = end - 1 - back;
+            if let Some(merit) = self.merits.get_mut(place) {
+                if !merit.is_tried && merit.levels <= most_levels {
+                    merit.is_tried = true;
+                    return Some(place);
+                }
+            }
+        }
+        None
+    }
+
+    /// The lemma at one place takes the place of a longer one.
+    pub fn take_over(&mut self, old: usize, new: usize) {
+        let Some(longer) = self.merits.get(old).copied() else {
+            return;
+        };
+        if let Some(merit) = self.merits.get_mut(new) {
+            merit.levels = merit.levels.min(longer.levels);
+            merit.is_tried = true;
+        }
     }
 
     pub fn decay(&mut self) {

@@ -2,6 +2,7 @@ use crate::activities::Activities;
 use crate::assignment::{Assignment, Truth};
 use crate::clauses::{Clauses, Source};
 use crate::closing::Closing;
+use crate::distances_worth::DistancesWorth;
 use crate::forgetting::Forgetting;
 use crate::hall_set::HallSet;
 use crate::ladders::Ladders;
@@ -12,6 +13,7 @@ use crate::phases::{Phases, holds_on};
 use crate::policy::Policy;
 use crate::probing::Probing;
 use crate::restarts::Restarts;
+use crate::vivification::Vivification;
 use crate::watches::{Proposal, Watches};
 use std::alloc::{AllocError, Global};
 use stn_core::{Literal, Problem, Value};
@@ -36,7 +38,9 @@ pub struct Guide {
     pub(crate) activities: Activities,
     pub(crate) phases: Phases,
     restarts: Restarts,
-    forgetting: Forgetting,
+    pub(crate) forgetting: Forgetting,
+    pub(crate) vivification: Vivification,
+    pub(crate) distances_worth: DistancesWorth,
     /// the clause of the problem from which the next look for a model goes on
     pointer: usize,
     patience: Patience,
@@ -62,6 +66,8 @@ impl Drop for Guide {
             phases,
             restarts,
             forgetting,
+            vivification,
+            distances_worth,
             pointer: _,
             patience,
             set: _,
@@ -80,6 +86,8 @@ impl Drop for Guide {
         drop(phases);
         drop(restarts);
         drop(forgetting);
+        drop(vivification);
+        drop(distances_worth);
         drop(patience);
         drop(probing);
         drop(hall_set);
@@ -141,6 +149,8 @@ impl Guide {
             phases,
             restarts,
             forgetting: Forgetting::new(alloc),
+            vivification: Vivification::new(),
+            distances_worth: DistancesWorth::new(),
             pointer: 0,
             patience: Patience::new(),
             set: 0,
@@ -342,9 +352,9 @@ impl Guide {
             .next(&mut self.clauses, &self.ladders, &self.assignment)
     }
 
-    /// Whether the literals that are decided now are those of a plan.
+    /// Whether the literals that are decided now are those of a plan, or of a lemma that is looked at.
     fn is_planned(&self) -> bool {
-        self.probing.is_under_way() || self.has_plan()
+        self.probing.is_under_way() || self.vivification.is_under_way() || self.has_plan()
     }
 
     /// Whether a plan is under way that a slice is to carry through, since a division of its cube would spoil it.
@@ -460,7 +470,8 @@ impl Guide {
         if self.is_planned() {
             return;
         }
-        self.activities.decay();
+        let is_clausal = self.is_clausal();
+        self.activities.decay(is_clausal);
         self.forgetting.decay();
     }
 
@@ -499,7 +510,8 @@ impl Guide {
         if self.load_set.is_under_way() {
             return self.load_set.wants_root(&self.assignment);
         }
-        self.policy.restarts && self.restarts.is_due()
+        let is_clausal = self.is_clausal();
+        self.policy.restarts && self.restarts.is_due(is_clausal)
     }
 
     /// Takes lemmas out of the watches where it is time, and answers how many. Their numbers stay theirs;

@@ -5,11 +5,15 @@
 //! on disjunctive temporal problems. Since a restart keeps most decisions, it is cheap: waits of 100 conflicts
 //! took 1.2 to 2 times as long on circuits and mutual exclusion, and about the same on job shops. But with many
 //! atoms a schedule is found by one long descent with few conflicts, whose order each restart upsets: there the
-//! waits are 100 conflicts times the sequence, and beyond 25,000 atoms the more, the deeper the descents are.
+//! waits are 100 conflicts times the sequence, and beyond 25,000 atoms the more, the deeper the descents are. Where hardly
+//! anything follows by distances, as on circuits and mutual exclusion, they are 7.
 use crate::numbers::{MANY_ATOMS, VAST};
 
 /// How many conflicts the sequence's 1 stands for.
 const UNIT: u64 = 15;
+
+/// And where clauses alone lead to most conflicts.
+const SHORT_UNIT: u64 = 7;
 
 /// And where there are many atoms.
 const LONG_UNIT: u64 = 100;
@@ -64,15 +68,18 @@ impl Restarts {
     }
 
     /// How many conflicts the sequence's 1 stands for.
-    fn unit(&self) -> u64 {
+    fn unit(&self, is_clausal: bool) -> u64 {
+        if is_clausal && self.most == UNIT {
+            return SHORT_UNIT;
+        }
         (self.levels / WINDOW / LEVELS)
             .max(self.least)
             .min(self.most)
     }
 
     /// Whether the wait is over; if so, the next one begins.
-    pub fn is_due(&mut self) -> bool {
-        if self.conflicts < self.length.saturating_mul(self.unit()) {
+    pub fn is_due(&mut self, is_clausal: bool) -> bool {
+        if self.conflicts < self.length.saturating_mul(self.unit(is_clausal)) {
             return false;
         }
         self.conflicts = 0;

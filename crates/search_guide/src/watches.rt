@@ -83,6 +83,8 @@ pub struct Watches {
     alloc: Global,
     /// for each literal
     lists: Vec<Lists>,
+    /// where the head of a longer clause stands from which nothing follows
+    muted: Option<u32>,
     /// the literal from which consequences are drawn
     literal: Option<LiteralNumber>,
     /// the next step of its ladder
@@ -104,6 +106,7 @@ impl Drop for Watches {
         let Watches {
             alloc: _,
             lists,
+            muted,
             literal,
             weaker,
             pair: _,
@@ -114,6 +117,7 @@ impl Drop for Watches {
             touched: _,
         } = self;
         drop(lists);
+        drop(muted);
         drop(literal);
         drop(weaker);
         drop(list);
@@ -125,6 +129,7 @@ impl Watches {
         Watches {
             alloc,
             lists: Vec::new(alloc),
+            muted: None,
             literal: None,
             weaker: None,
             pair: 0,
@@ -199,6 +204,11 @@ impl Watches {
             None => 0,
         };
         self.touched = pair ^ longer;
+    }
+
+    /// From now on nothing follows from the longer clause whose head stands there, alone.
+    pub fn mute(&mut self, start: Option<u32>) {
+        self.muted = start;
     }
 
     /// The list that was taken out goes back.
@@ -305,6 +315,10 @@ impl Watches {
                 continue;
             }
             let start = watch.clause;
+            if self.muted == Some(start) {
+                kept = keep(list, kept, watch);
+                continue;
+            }
             let visit = look_at(clauses, start, denied, assignment);
             if visit.is_whole() {
                 self.read = self.read.wrapping_add(clauses.length_at(start));

@@ -1,6 +1,6 @@
 -- Of the code and not of the meaning: trail and levels of a search in the middle of a slice, and what its end says.
 use Rattle.std.specs.Prelude.{◌≡◌, ℕ, ◌<◌, ◌≤◌, ◌+◌, List, [], ◌∷◌, ◌++◌, length, map, take, All}
-use Rattle.std.specs.Prelude.{Option, Some, None, slice_index_or, ◌≤ℤ◌}
+use Rattle.std.specs.Prelude.{Bool, Option, Some, None, slice_index_or, ◌≤ℤ◌}
 use Rattle.stn_core.specs.declared.literal.Literal.{Literal}
 use Rattle.refute_tree.specs.declared.lemma.Lemma.{Lemma}
 use Rattle.refute_tree.specs.Trees.{stated}
@@ -15,8 +15,8 @@ use Rattle.branch_search.specs.declared.conflict.Reaction.{Reaction}
 use Rattle.branch_search.specs.declared.conflict.Reaction.TheVariants.{Jumped, Excluded, Unsettled}
 use Rattle.branch_search.specs.declared.propagate.Tried.{Tried}
 use Rattle.branch_search.specs.declared.propagate.Tried.TheVariants.{Pushed, Nothing, Stuck}
-use Rattle.conflict_analysis.specs.code.Trails.{IsTrail, AreOver, entry_at, on_trail, Stands, IsByClause, IsConflict}
-use Rattle.conflict_analysis.specs.Proved.{IsClauseOver}
+use Rattle.conflict_analysis.specs.code.Trails.{IsTrail, AreOver, entry_at, on_trail, Stands, IsByClause, IsConflict, IsDenial}
+use Rattle.conflict_analysis.specs.Proved.{IsClauseOver, IsProved}
 use Rattle.branch_search.specs.Slices.{Question, AreProved, Excludes}
 
 -- the clauses of the handed lemmas, and of the slice's own
@@ -129,6 +129,14 @@ IsClauseReason inputs lemmas entries k l (ByCycle cycle) = Unit {0}
 abbrev pub HasReasons : List (List Literal) → List (List Literal) → List Entry → Type 0
 HasReasons inputs lemmas entries =
     (j : ℕ) → IsClauseReason inputs lemmas entries j (on_trail entries j) (entry_at entries j).reason
+
+-- a lemma that follows from the search's clauses, of literals that the trail denies: with `whole` of decided ones and the cube's
+pub record IsSearchTaught (q : Question) (own : List Lemma) (entries : List Entry) (whole : Bool) (lemma : Lemma) : Type 0 where
+  pub proved : IsProved q.problem.points q.problem.clauses (all_lemmas q.handed own) lemma
+  pub denials : All (IsDenial q.problem.clauses (all_lemmas q.handed own) entries whole) lemma.clause
+
+abbrev pub IsTaught : Question → State → Bool → Lemma → Type 0
+IsTaught q s whole lemma = IsSearchTaught q s.own.items s.entries.items whole lemma
 
 -- from a conflict a lemma was learned over these, which has this number; where nothing was decided, and each literal that stands
 -- on the trail by a clause follows from it, the lemma excludes the cube
