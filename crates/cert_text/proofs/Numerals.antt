@@ -25,6 +25,10 @@ numeral_from_decimal n small =
       | inr some ↦ rw (ne_eqb n 0 (λ h. absurd (omega arith))) (digits_wide n some (omega arith))
     ]
 
+-- one digit
+pub numeral_of_digit : (n : ℕ) → n < 10 → numeral_text n ≡ (48 + n) ∷ []
+numeral_of_digit n digit = sym (numeral_from_decimal n (omega arith)) ∙ decimal_digit n digit
+
 pub minus_text : (n : ℤ) → int_le (pos 0) n ≡ false → text_of (number_of_value n) ≡ 40 ∷ 45 ∷ 32 ∷ (numeral_text (unsigned_abs n) ++ 41 ∷ [])
 unfolding is_symbol_byte
 minus_text (pos n) e = absurd (true≢false (sym (leb-zero n) ∙ e))

@@ -25,6 +25,10 @@ pub(crate) fn write_numeral(n: u128, out: &mut Vec<u8>) -> Result<(), AllocError
     ensures ok { OnOk result (out.new.items ≡ out.old.items ++ numeral_text n) }
     ensures front { take (vec_len out.old) out.new.items ≡ out.old.items }
 {
+    if n < 10 {
+        out.push(b'0' + n as u8)?;
+        return Ok(());
+    }
     let mut buffer = Buffer::new();
     out.push_str(buffer.format(n).as_bytes())
 }
