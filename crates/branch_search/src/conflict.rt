@@ -83,7 +83,8 @@ fn excludes(cube: &[Literal], guide: &Guide, own: &[Lemma], j: usize) -> bool
 }
 
 impl State {
-    /// The lemma that a conflict teaches: with `whole` of decided literals and the cube's.
+    /// The lemma that a conflict teaches: with `whole` of denials of decided literals and the cube's, and of others that don't follow
+    /// from the clause which is named as their reason.
     pub fn lemma_of<E: Earlier, N: Net>(
         &mut self,
         alloc: Global,

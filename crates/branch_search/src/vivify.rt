@@ -1,6 +1,7 @@
 //! Lemmas made shorter, where nothing is decided: the guide says which, and in which order their literals are denied.
 ghost use Rattle.std.specs.Prelude.{◌≡◌, ◌≤◌, [], length, min, IfOk, IfSome, OnOk, Some};
 ghost use Rattle.stn_core.specs.Limits.{adds_limit};
+ghost use Rattle.conflict_analysis.specs.declared.entry.Conflict.{Conflict as Found};
 ghost use Rattle.branch_search.specs.code.Search.{IsAfter, IsState, IsStuck};
 
 use crate::propagate::Tried;
@@ -17,7 +18,8 @@ const MOST_FOLLOWED: usize = 20_000;
 
 // The conflict, if there is one.
 fn conflict_in(tried: Tried) -> Option<Conflict>
-    ensures { IfSome result (λ conflict. tried ≡ Tried.Stuck conflict) }
+    ensures is { IfSome result (λ conflict. tried ≡ Tried.Stuck conflict) }
+    ensures all { (conflict : Found) → tried ≡ Tried.Stuck conflict → result ≡ Some conflict }
 {
     match tried {
         Tried::Stuck(conflict) => Some(conflict),

@@ -1,6 +1,6 @@
 //! Forgetting: a search learns a lemma a conflict, and each that is watched makes every step slower. After
-//! 2,000 conflicts, and then after 2,000 + 300 k more, half of the lemmas that matter least are taken out of
-//! the watches; they stay with their owner, since refutations cite them. A lemma matters the more, the fewer
+//! 2,000 conflicts, and then after 2,000 + 300 k more, half of the lemmas that matter least, where distances were let go
+//! two thirds of them, are taken out of the watches; they stay with their owner, since refutations cite them. A lemma matters the more, the fewer
 //! levels its literals had when they were denied (Audemard, Simon 2009), and then the more it took part in
 //! late conflicts. Lemmas of two literals or of at most two levels stay for ever, and so does a lemma that
 //! may be the reason of a literal of the trail.
@@ -14,6 +14,11 @@ use std::alloc::{AllocError, Global};
 const FIRST: u64 = 2_000;
 
 const MORE: u64 = 300;
+
+/// Of so many lemmas that may go one stays, and where distances were let go.
+const SHARE: usize = 2;
+
+const SMALL_SHARE: usize = 3;
 
 /// A lemma's activity grows by an increment that grows by a thousandth with each conflict.
 const START: u64 = 1 << 20;
@@ -232,6 +237,7 @@ impl Forgetting {
         alloc: Global,
         clauses: &Clauses,
         assignment: &Assignment,
+        is_clausal: bool,
     ) -> Result<(Vec<bool>, usize), AllocError> {
         let mut kept = Vec::with_capacity(alloc, self.merits.len())?;
         let mut candidates = Vec::new(alloc);
@@ -250,9 +256,13 @@ impl Forgetting {
             }
         }
         candidates.sort_unstable();
-        let half = candidates.len() / 2;
+        let staying = if is_clausal {
+            candidates.len() / SMALL_SHARE
+        } else {
+            candidates.len() / SHARE
+        };
         let mut dropped = 0usize;
-        for candidate in candidates.iter().skip(half) {
+        for candidate in candidates.iter().skip(staying) {
             if let Some(slot) = kept.get_mut(candidate.lemma) {
                 *slot = false;
                 dropped = dropped.saturating_add(1);

@@ -520,9 +520,10 @@ impl Guide {
         if !self.policy.forgetting || !self.forgetting.is_due() {
             return Ok(0);
         }
+        let is_clausal = self.is_clausal();
         let (kept, dropped) = self
             .forgetting
-            .select(self.alloc, &self.clauses, &self.assignment)?;
+            .select(self.alloc, &self.clauses, &self.assignment, is_clausal)?;
         self.watches.begin_closing(&self.clauses);
         self.clauses.keep_lemmas(&kept);
         self.watches.end_closing(&self.clauses);

@@ -130,7 +130,8 @@ abbrev pub HasReasons : List (List Literal) → List (List Literal) → List Ent
 HasReasons inputs lemmas entries =
     (j : ℕ) → IsClauseReason inputs lemmas entries j (on_trail entries j) (entry_at entries j).reason
 
--- a lemma that follows from the search's clauses, of literals that the trail denies: with `whole` of decided ones and the cube's
+-- a lemma that follows from the search's clauses, of literals that the trail denies: with `whole` what it denies by decisions and
+-- the cube's literals, and by those that don't follow from the clause by which they stand there
 pub record IsSearchTaught (q : Question) (own : List Lemma) (entries : List Entry) (whole : Bool) (lemma : Lemma) : Type 0 where
   pub proved : IsProved q.problem.points q.problem.clauses (all_lemmas q.handed own) lemma
   pub denials : All (IsDenial q.problem.clauses (all_lemmas q.handed own) entries whole) lemma.clause
