@@ -15,6 +15,7 @@ use Rattle.script_law.proofs.Lists.{all_append, all_each, long_each}
 use Rattle.script_law.proofs.Going.{Goes}
 use Rattle.script_law.proofs.Orders.{HasPoint, has_point, decimal_is, more_few, begins_accepted, later_accepted, apart_accepted}
 use Rattle.script_law.proofs.Starts.{name_usual, starts_new, starts_few, start_among}
+use Rattle.script_law.proofs.Leading.{tells_of}
 use Rattle.script_law.proofs.States.{IsReady, AreNew, IsAccepted, scope_with, script_goes}
 use Rattle.bench_law.proofs.Commands.{names, goes_on, finishes, bounds_job, pair_on, pairs_of, pairs_on, terms, check, told, short_duration, on_machine, script_text}
 use Rattle.bench_law.proofs.Sums.{ends_formula}
@@ -99,7 +100,7 @@ module _ (p : Plan) (jobs : p.jobs ≤ 40) (some : 1 ≤ p.machines) (machines :
   asks_once = record {
     text = script_text p jobs some machines;
     lines = script_lines p jobs some machines deadline;
-    tells = ready.tells;
+    tells = tells_of (told p) start_state ready.t ready.tells;
     asks = after_check ready.t ready.holds.alone;
     taken = refl;
   }

@@ -37,6 +37,6 @@ counted back one p jobs some machines deadline counts h =
     let mine = script_back back (script p) (told p) check once.text once.lines in
     let w = h.leads in
     let over = over_by (last_of w.turns) h.last w.is_last in
-    let e = ends_asked says check CheckSat path.t once.asks once.taken one (script p) (told p) mine.here (start_with []) once.tells mine.reads w.turns w.are over refl in
+    let e = ends_asked says check CheckSat path.t once.asks once.taken one (script p) (told p) mine.here (start_with []) path.tells mine.reads w.turns w.are over refl in
     let same : h.last ≡ path.t = state_of (last_of w.turns) e.0 h.last w.is_last e.1 ∙ e.2 in
     h.names ∙ ap (λ (s : State). length s.context.declared) same ∙ ap length path.holds.declared ∙ ints_length (names p) ∙ starts_many p.jobs p.machines

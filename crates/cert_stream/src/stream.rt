@@ -5,8 +5,7 @@ ghost use Rattle.std.specs.Prelude.{◌≡◌, ◌∷◌, [], ◌++◌, map, cod
 ghost use Rattle.smt_sexpr.specs.Printing.{text_of, text_behind};
 ghost use Rattle.smt_sexpr.specs.Shapes.{form, items_of, list_of};
 ghost use Rattle.cert_text.specs.declared.entry.Entry.TheVariants.{Unbounded};
-ghost use Rattle.cert_text.specs.Form.{number_of_value, values_sexpr, entry_sexpr, file_entry_sexpr, line_of};
-ghost use Rattle.dtp_entry.specs.Keeping.{shown_by};
+ghost use Rattle.cert_text.specs.Form.{number_of_value, values_sexpr, entry_sexpr, file_entry_sexpr, line_of, shown_by};
 ghost use Rattle.dtp_entry.specs.Written.{WritesOne};
 ghost use Rattle.cert_stream.specs.code.Streams.{Streams};
 

@@ -19,7 +19,7 @@
 --     p        a numeral
 --
 -- A number is a numeral, or (- n) where it is below 0. Each line holds one s-expression.
-use Rattle.std.specs.Prelude.{ℕ, suc, ◌+◌, ◌==◌, ℤ, pos, negsuc, true, false, if◌then◌else◌, List, [], ◌∷◌, ◌++◌, map, codes}
+use Rattle.std.specs.Prelude.{ℕ, suc, ◌+◌, ◌==◌, ℤ, pos, negsuc, true, false, if◌then◌else◌, List, [], ◌∷◌, ◌++◌, map, codes, Option, Some, None}
 use Rattle.std.specs.Int.Digits.{digits_of}
 use Rattle.smt_lex.specs.declared.token.TokenKind.TheVariants.{Numeral}
 use Rattle.smt_sexpr.specs.Shapes.{symbol, list_of, form}
@@ -126,6 +126,59 @@ file_entry_of (Sat values) = file.Sat values
 file_entry_of (Unsat lemmas) = file.Unsat (map Own lemmas)
 file_entry_of (Best m values lemmas) = file.Best m values (map Own lemmas)
 file_entry_of (Unbounded values points) = file.Unbounded values points
+
+-- ---- what an entry has, whatever its kind
+
+-- why there is no solution, or no lesser value
+abbrev pub lemmas_in : Entry → Option (List Lemma)
+lemmas_in (Sat values) = None
+lemmas_in (Unsat lemmas) = Some lemmas
+lemmas_in (Best m values lemmas) = Some lemmas
+lemmas_in (Unbounded values points) = None
+
+-- the same of an entry that may keep some
+abbrev pub items_in : FileEntry → Option (List Item)
+items_in (file.Sat values) = None
+items_in (file.Unsat items) = Some items
+items_in (file.Best m values items) = Some items
+items_in (file.Unbounded values points) = None
+
+-- each of its lemmas changed
+abbrev pub with_each : (Lemma → Lemma) → Entry → Entry
+with_each f (Sat values) = Sat values
+with_each f (Unsat lemmas) = Unsat (map f lemmas)
+with_each f (Best m values lemmas) = Best m values (map f lemmas)
+with_each f (Unbounded values points) = Unbounded values points
+
+-- with these items in the place of its lemmas
+abbrev pub shown_by : Entry → List Item → FileEntry
+shown_by (Sat values) items = file.Sat values
+shown_by (Unsat lemmas) items = file.Unsat items
+shown_by (Best m values lemmas) items = file.Best m values items
+shown_by (Unbounded values points) items = file.Unbounded values points
+
+-- with these lemmas in the place of its items
+abbrev pub with_lemmas : FileEntry → List Lemma → Entry
+with_lemmas (file.Sat values) lemmas = Sat values
+with_lemmas (file.Unsat items) lemmas = Unsat lemmas
+with_lemmas (file.Best m values items) lemmas = Best m values lemmas
+with_lemmas (file.Unbounded values points) lemmas = Unbounded values points
+
+-- its values of the names, where it has some, or those that its values of the time points give
+abbrev pub values_by : (List ℤ → Option (List NamedValue)) → Entry → Option (List NamedValue)
+values_by give (Sat values) = Some values
+values_by give (Unsat lemmas) = None
+values_by give (Best m values lemmas) = Some values
+values_by give (Unbounded values points) = give values
+
+-- the least value, with the values of the names that have it
+abbrev pub least_in : Entry → Option (ℤ × List NamedValue)
+least_in (Sat values) = None
+least_in (Unsat lemmas) = None
+least_in (Best m values lemmas) = Some (m, values)
+least_in (Unbounded values points) = None
+
+-- ---- the end
 
 abbrev pub end_sexpr : Sexpr
 end_sexpr = form (codes "end") []

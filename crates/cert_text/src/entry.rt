@@ -1,8 +1,8 @@
 //! The lines of a certificate.
 #![tactic(auto, unfolding(smt_lex::specs::Bytes::is_symbol_byte))]
 
-ghost use Rattle.std.specs.Prelude.{◌≡◌, ◌++◌, OnOk, OnErr};
-ghost use Rattle.cert_text.specs.Form.{header_sexpr, end_sexpr, line_of};
+ghost use Rattle.std.specs.Prelude.{◌≡◌, ◌++◌, Some, None, MatchOption, OnOk, OnErr};
+ghost use Rattle.cert_text.specs.Form.{header_sexpr, end_sexpr, lemmas_in, line_of};
 
 use best_values::Points;
 use bstr::ByteVec;
@@ -31,6 +31,19 @@ pub enum Entry {
     Best(Value, NamedValues, Refutation),
     /// A term without a least value: one value for each time point, and the points that can be lowered together.
     Unbounded(Schedule, Points),
+}
+
+impl Entry {
+    /// Its lemmas, where it has any.
+    pub fn refutation(&self) -> Option<&Refutation>
+        ensures { MatchOption result (lemmas_in self.now ≡ None) (λ refutation. lemmas_in self.now ≡ Some refutation.now) }
+    {
+        match self {
+            Entry::Unsat(refutation) => Some(refutation),
+            Entry::Best(_, _, refutation) => Some(refutation),
+            Entry::Sat(_) | Entry::Unbounded(_, _) => None,
+        }
+    }
 }
 
 /// What a certificate holds for one question of a script.

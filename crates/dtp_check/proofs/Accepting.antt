@@ -17,7 +17,7 @@ use Rattle.cert_text.specs.declared.entry.Version.TheVariants.{One, Two}
 use Rattle.cert_text.specs.declared.entry.FileEntry.{FileEntry}
 use Rattle.cert_text.specs.declared.entry.Entry.{Entry}
 use Rattle.cert_text.specs.declared.entry.Entry.TheVariants.{Sat, Unsat, Best, Unbounded}
-use Rattle.cert_text.specs.Form.{header_sexpr, file_entry_sexpr, file_entry_of, end_sexpr, line_of}
+use Rattle.cert_text.specs.Form.{header_sexpr, file_entry_sexpr, file_entry_of, end_sexpr, line_of, shown_by}
 use Rattle.kept_lemmas.specs.declared.item.Item.{Item}
 use Rattle.kept_lemmas.specs.declared.item.Item.TheVariants.{Own}
 use Rattle.kept_lemmas.specs.Entries.{Placed, shelf_of, AreRight}
@@ -45,13 +45,13 @@ use Rattle.smt_script.specs.Laws.{OnlyExitEnds}
 use Rattle.smt_script.specs.States.{State, start_state, Step, after, settled}
 use Rattle.smt_answer.specs.declared.kind.Kind.{Kind}
 use Rattle.script_walk.specs.Questions.{refusal_of}
-use Rattle.script_walk.specs.Course.{Place, start_with, Turn, turn, tells, answers, ends, behind_told, behind_answer, asked, taken, by_effect, by_command, last_turn, course, status_of, answers_of}
+use Rattle.script_walk.specs.Course.{Place, start_with, Turn, behind_told, behind_answer, asked, taken, by_effect, by_command, last_turn, course, status_of}
 use Rattle.script_walk.proofs.Turns.{told_turn, answered_turn, exit_turn}
 use Rattle.dtp_entry.specs.declared.report.Report.TheVariants.{Certificate}
 use Rattle.smt_script.specs.declared.state.Satisfiability.{Satisfiability}
 use Rattle.dtp_entry.specs.Bests.{Satisfies}
 use Rattle.dtp_entry.specs.Entries.{points_of, problem_of, problem_below, verdict_of, IsLeast, IsUnbounded, IsRight, IsEntryOf}
-use Rattle.dtp_entry.specs.Keeping.{shown_by, StandIn, facts_shown}
+use Rattle.dtp_entry.specs.Keeping.{StandIn, facts_shown}
 use Rattle.dtp_entry.specs.Transcripts.{IsLine, IsWritten, IsLegal, IsReport}
 use Rattle.dtp_entry.proofs.Verdicts.{sorts_count}
 use Rattle.dtp_check.specs.declared.judgement.EntryFlaw.{EntryFlaw}

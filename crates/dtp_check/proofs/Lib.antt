@@ -2,6 +2,7 @@ pub mod Entries
 pub mod Walking
 pub mod Judging
 pub mod Reading
+pub mod Visiting
 pub mod Telling
 pub mod Truths
 pub mod Accepting

@@ -24,10 +24,11 @@ use Rattle.dtp_check.specs.declared.judge.Progress.TheVariants.{Going, Judged}
 use Rattle.dtp_check.specs.declared.judgement.Judgement.{Judgement}
 use Rattle.cert_read.specs.Certificates.{CertificateOutcome}
 use Rattle.cert_read.specs.Laws.{OneCertificate, OneRest}
-use Rattle.cert_read.specs.code.Entries.{EntriesFrom, IsReadTo}
+use Rattle.cert_read.specs.code.Entries.{EntriesFrom}
 use Rattle.cert_read.proofs.ReadOn.{read_none, read_more}
 use Rattle.dtp_check.specs.Judged.{CertificateBehind, judged_with, JudgedPart, EndsPart, IsApart, ExitEnds, FollowsExit, ScriptPart, told_by, surplus_of, turns_with}
 use Rattle.dtp_check.specs.Laws.{OneJudgement}
+use Rattle.dtp_check.specs.code.Judging.{IsJudging}
 use Rattle.dtp_check.specs.code.Parts.{IsReadable}
 use Rattle.dtp_check.specs.declared.earlier.Earlier.{Earlier}
 use Rattle.dtp_check.specs.code.Earlier.{Holds}
@@ -44,23 +45,9 @@ pub record IsMore (bytes : List ℕ) (after : ℕ) (x : Sexpr) (rest : List Sexp
 -- ---- the loop
 
 module _ {K : Type 0} (leads : Leads K) (bytes : List ℕ) (start : EntriesFrom) (first : K) where
-  -- what is left of the script comes to what the whole does, behind these entries and with those that are left
-  pub record IsLeft (taken : List FileEntry) (place : Place FileEntry) (at : ℕ) (before : List Placed) (now : K) (xs : List Sexpr) (end : PartEnd) (behind : ℕ) : Type 0 where
-    pub rest : List Sexpr
-    pub stands_there : ScriptPart bytes at rest end behind
-    pub gives : (left : List FileEntry) (judgement : Judgement) (last : K) → ComesTo leads before now (course told_by (with_left place left) rest ended) judgement last → ComesTo leads [] first (turns_with (taken ++ left) xs) judgement last
-
-  pub record IsJudging (at number : ℕ) (here : EntriesFrom) (kept : Kept) (earlier : Earlier) (now : K) : Type 0 where
-    pub place : Place FileEntry
-    pub before : List Placed
-    pub taken : List FileEntry
-    pub takes : IsReadTo start here taken
-    pub there : StandsAt number here.count kept earlier place before
-    pub left : (xs : List Sexpr) (end : PartEnd) (behind : ℕ) → ScriptPart bytes 0 xs end behind → IsReadable end → IsLeft taken place at before now xs end behind
-
-  pub judging_starts : (w : Walk) (earlier : Earlier) → start.count ≡ 0 → Holds earlier [] → IsStart w → IsJudging w.lexer.place w.number start w.state earlier first
+  pub judging_starts : (w : Walk) (earlier : Earlier) → start.count ≡ 0 → Holds earlier [] → IsStart w → IsJudging leads bytes start first w.lexer.place w.number start w.state earlier first
   judging_starts w earlier none held h =
-      subst (λ (at : ℕ). IsJudging at w.number start w.state earlier first) (sym h.place) (record {
+      subst (λ (at : ℕ). IsJudging leads bytes start first at w.number start w.state earlier first) (sym h.place) (record {
         place = start_with [];
         before = [];
         taken = [];

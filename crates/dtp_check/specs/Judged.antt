@@ -30,7 +30,7 @@ use Rattle.smt_script.specs.declared.state.Satisfiability.{Satisfiability}
 use Rattle.smt_script.specs.declared.state.Satisfiability.TheVariants as verdict
 use Rattle.smt_answer.specs.Kinds.{kind_of_unreadable}
 use Rattle.script_walk.specs.Course.{start_with, Turn, Outcome, tells, answers, asks, ends, fails, course}
-use Rattle.dtp_entry.specs.Entries.{points_of, problem_of, difference_at, problem_below}
+use Rattle.dtp_entry.specs.Entries.{points_of, problem_of, difference_at, problem_below, AtMinimize}
 use Rattle.dtp_check.specs.declared.judgement.EntryFlaw.{EntryFlaw}
 use Rattle.dtp_check.specs.declared.judgement.EntryFlaw.TheVariants.{WrongKind, WrongCount, WrongSort, FalseAssertion, Flawed}
 use Rattle.dtp_check.specs.declared.judgement.Judgement.{Judgement}
@@ -153,6 +153,13 @@ placed question c (Sat values) = without_items
 placed question c (Unsat items) = placed_items c (problem_of c) items
 placed question c (Best m values items) = placed_at_minimize question (λ o. placed_items c (problem_below c o m) items)
 placed question c (Unbounded values set) = without_items
+
+-- what is so of that, where the entry has items
+abbrev pub OfPlaced : Question → Context → FileEntry → (Placed → Type 0) → Type 0
+OfPlaced question c (Sat values) Holds = Unit {0}
+OfPlaced question c (Unsat items) Holds = Holds (placed_items c (problem_of c) items)
+OfPlaced question c (Best m values items) Holds = AtMinimize question (λ o. Holds (placed_items c (problem_below c o m) items))
+OfPlaced question c (Unbounded values set) Holds = Unit {0}
 
 -- what an entry says of the assertions
 abbrev pub told_by : FileEntry → Satisfiability

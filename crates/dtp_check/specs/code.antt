@@ -6,3 +6,4 @@ pub mod Parts
 pub mod Roots
 pub mod Turns
 pub mod Made
+pub mod Judging

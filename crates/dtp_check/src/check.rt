@@ -1,6 +1,5 @@
 //! The call that accepts or refuses.
 ghost use Rattle.std.specs.Prelude.{◌≡◌, ◌≢◌, ◌≤◌, IfOk, OnErr, Err};
-ghost use Rattle.std.specs.Io.KnownBytes.{Appends};
 ghost use Rattle.dtp_io.specs.Faults.{Rose};
 ghost use Rattle.dtp_entry.specs.Written.{Writes};
 ghost use Rattle.dtp_check.specs.Judged.{IsJudged};
@@ -36,8 +35,8 @@ fn judgement_of(alloc: Global, bytes: &[u8]) -> Result<Judgement, AllocError>
     }
     let behind = open_behind(alloc, lexer, part.end)?;
     match behind {
-        Behind::Opened(mut entries) => {
-            let judgement = judge_script(alloc, bytes, &mut entries, &mut KeepsNothing)?;
+        Behind::Opened(entries) => {
+            let judgement = judge_script(alloc, bytes, entries, &mut KeepsNothing)?;
             Ok(judgement)
         }
         Behind::Refused(why) => Ok(Judgement::Certificate(why)),

@@ -1,4 +1,4 @@
-//! What is wrong with an entry.
+//! What an entry says, and what is wrong with it.
 ghost use Rattle.std.specs.Prelude.{◌≡◌, [], ◌∷◌, ◌++◌, List, IfOk, None};
 ghost use Rattle.kept_lemmas.specs.Entries.{Placed as Place};
 ghost use Rattle.cert_text.specs.declared.entry.FileEntry.{FileEntry as Shown};
@@ -9,7 +9,7 @@ ghost use Rattle.script_walk.specs.code.Standing.{Stands};
 ghost use Rattle.dtp_entry.specs.Entries.{problem_of};
 ghost use Rattle.dtp_check.specs.code.Asked.{IsAsked};
 ghost use Rattle.dtp_check.specs.code.Earlier.{Holds, Suffices};
-ghost use Rattle.dtp_check.specs.Judged.{refutation_flaw, entry_flaw, placed_items, placed};
+ghost use Rattle.dtp_check.specs.Judged.{refutation_flaw, entry_flaw, placed_items, placed, told_by};
 ghost use Rattle.dtp_check.specs.code.Made.{IsMadeOf};
 
 use crate::best_entry::best_flaw;
@@ -21,9 +21,21 @@ use crate::unbounded_entry::unbounded_flaw;
 use cert_check::CheckError;
 use cert_text::FileEntry;
 use kept_lemmas::Items;
-use smt_script::{Objective, Question, State};
+use smt_script::{Objective, Question, Satisfiability, State};
 use std::alloc::{AllocError, Global};
 use stn_core::Problem;
+
+/// What an entry says of the assertions.
+pub fn told_by(entry: &FileEntry) -> Satisfiability
+    ensures { result ≡ told_by entry.now }
+{
+    match entry {
+        FileEntry::Sat(_) => Satisfiability::Sat,
+        FileEntry::Unsat(_) => Satisfiability::Unsat,
+        FileEntry::Best(_, _, _) => Satisfiability::Sat,
+        FileEntry::Unbounded(_, _) => Satisfiability::Sat,
+    }
+}
 
 /// What is wrong with the entry of a question that was asked in this state. Where nothing is, it is held for those that come. It
 /// takes time of the order of the entry and the state, and of what it keeps with what that cites; of a refutation without kept

@@ -1,54 +1,42 @@
 //! The commands of a script, with the entries of its certificate.
 ghost use Rattle.std.specs.Prelude.{◌≡◌, ◌+◌, ◌-◌, ◌<◌, ◌≤◌, ◌^◌, [], ◌∷◌, List, length, IfOk, None};
 ghost use Rattle.smt_sexpr.specs.Tree.{Sexpr};
-ghost use Rattle.smt_sexpr.specs.Table.{Means, HasMeaning};
 ghost use Rattle.cert_text.specs.declared.entry.FileEntry.{FileEntry as Shown};
 ghost use Rattle.smt_script.specs.States.{State as Meaning};
 ghost use Rattle.script_walk.specs.Questions.{refusal_of};
 ghost use Rattle.kept_lemmas.specs.Entries.{Placed};
-ghost use Rattle.script_walk.specs.Course.{Place};
+ghost use Rattle.script_walk.specs.code.Events.{IsStart};
 ghost use Rattle.script_walk.specs.code.Standing.{Stands};
 ghost use Rattle.dtp_check.specs.code.Asked.{IsAsked};
 ghost use Rattle.dtp_check.specs.code.Earlier.{Holds, Suffices, SufficesFrom};
-ghost use Rattle.dtp_check.specs.Judged.{surplus_of, entry_flaw, told_by};
+ghost use Rattle.dtp_check.specs.Judged.{surplus_of, entry_flaw};
 ghost use Rattle.dtp_check.specs.code.Made.{IsMadeOf, IsMadeStill, GoesOn as More};
 ghost use Rattle.dtp_check.specs.code.Parts.{IsNext, GoesOn};
-ghost use Rattle.dtp_check.specs.code.Turns.{IsSoOfAll, IsRightTurn, IsAnswerTurn, IsQuestionTurn, StandsAt, IsJudgedTurn};
+ghost use Rattle.dtp_check.specs.code.Turns.{IsSoOfAll, IsRightTurn, IsAnswerTurn, IsQuestionTurn};
 ghost use Rattle.dtp_check.specs.code.Turns.{ScriptComesTo, IsJudgedBy};
 
 use crate::earlier::Earlier;
+use crate::entry_flaw::told_by;
 use crate::judgement::{EntryFlaw, Judgement};
 use crate::keeps::Keeps;
 use crate::made::{let_go_if_assumed, let_go_if_changed, take_or_make};
 use crate::script_part::{Next, PartEnd, next_command};
 use cert_read::{CertReadError, EntryReader};
 use cert_text::FileEntry;
-use script_walk::{Event, Walk, refusal_of};
+use script_walk::{Event, Visitor, Walk, go_through, refusal_of};
 use smt_answer::Kind;
-use smt_script::{Question, Satisfiability, State};
+use smt_script::{Notice, Question, State};
 use smt_sexpr::SexprId;
 use std::alloc::{AllocError, Global};
 use stn_core::Problem;
 
-/// What a command leads to.
+/// What a question leads to.
 #[derive(Clone, Copy)]
 pub enum Progress {
     /// The script goes on.
     Going,
     /// This is the judgement, where what is left of the certificate's text is read to its end.
     Judged(Judgement),
-}
-
-/// What an entry says of the assertions.
-pub fn told_by(entry: &FileEntry) -> Satisfiability
-    ensures { result ≡ told_by entry.now }
-{
-    match entry {
-        FileEntry::Sat(_) => Satisfiability::Sat,
-        FileEntry::Unsat(_) => Satisfiability::Unsat,
-        FileEntry::Best(_, _, _) => Satisfiability::Sat,
-        FileEntry::Unbounded(_, _) => Satisfiability::Sat,
-    }
 }
 
 /// Behind the script no entry may be left.
@@ -194,47 +182,6 @@ fn judge_question<K: Keeps>(
     }
 }
 
-/// A command, with the entry of its question.
-fn judge_command<K: Keeps>(
-    alloc: Global,
-    walk: &mut Walk,
-    id: SexprId,
-    made: &mut Option<Problem>,
-    earlier: &mut Earlier,
-    entries: &mut EntryReader,
-    keeps: &mut K,
-) -> Result<Progress, AllocError>
-    requires meaning { HasMeaning walk.old.sexprs id }
-    requires stands { (place : Place Shown) × (before : List Placed)
-        × StandsAt walk.old.number entries.old.count walk.old.state earlier.old place before }
-    requires made { IsMadeStill walk.old.state made.old }
-    requires few { walk.old.number < 2 ^ 64 - 1 }
-    requires suffices { SufficesFrom earlier.old entries.old }
-    ensures turn { IfOk result (λ progress. (place : Place Shown) (before : List Placed) (x : Sexpr)
-        → StandsAt walk.old.number entries.old.count walk.old.state earlier.old place before → Means walk.old.sexprs id x
-        → IsJudgedTurn K.leads keeps.old keeps.new place before entries.old entries.new x walk.new.number walk.new.state
-        earlier.new progress) }
-    ensures made { IfOk result (λ progress. More progress → IsMadeStill walk.new.state made.new) }
-    ensures suffices { IfOk result (λ progress. More progress → SufficesFrom earlier.new entries.new) }
-    ensures lexer { walk.new.lexer ≡ walk.old.lexer }
-    ensures sexprs { walk.new.sexprs ≡ walk.old.sexprs }
-{
-    smt_script::exit_law();
-    smt_script::mode_law();
-    match walk.carry_out(id)? {
-        Event::Told(_, _) => Ok(Progress::Going),
-        Event::Asked(_, question) => {
-            let progress = judge_question(alloc, walk, question, made, earlier, entries, keeps)?;
-            Ok(progress)
-        }
-        Event::Ended => {
-            let judgement = surplus(alloc, entries)?;
-            Ok(Progress::Judged(judgement))
-        }
-        Event::Failed(kind) => Ok(Progress::Judged(Judgement::Script(walk.number, kind))),
-    }
-}
-
 /// Reads what stands next in the script's part.
 fn read_on(walk: &mut Walk) -> Result<Next, AllocError>
     requires fresh { walk.old.lexer.failed ≡ None }
@@ -252,56 +199,118 @@ fn read_on(walk: &mut Walk) -> Result<Next, AllocError>
     Ok(next)
 }
 
-/// What the script comes to with the entries that are read, where no problem was made before.
-fn judge_each<K: Keeps>(
+/// A script's part of a source, judged with the entries of its certificate.
+#[derive(Drop)]
+pub struct Judging<'a> {
     alloc: Global,
-    bytes: &[u8],
-    made: &mut Option<Problem>,
-    entries: &mut EntryReader,
-    keeps: &mut K,
-) -> Result<Judgement, AllocError>
-    requires made { made.old ≡ None }
-    requires first { entries.old.count ≡ 0 }
-    ensures { IfOk result (λ judgement. IsSoOfAll entries.old entries.new
-        (ScriptComesTo K.leads keeps.old keeps.new bytes.now judgement)) }
-{
-    smt_sexpr::one_outcome();
-    let mut walk = Walk::new(alloc, bytes);
-    let mut earlier = Earlier::new(alloc, entries);
-    'script: loop {
-        let id = match read_on(&mut walk)? {
-            Next::Command(id) => id,
-            Next::Ended(PartEnd::Unread(kind)) => {
-                return Ok(Judgement::Script(walk.number, kind));
+    walk: Walk<'a>,
+    /// The problem of the assertions, where it was made.
+    made: Option<Problem>,
+    earlier: Earlier,
+    entries: EntryReader<'a>,
+}
+
+impl<'a, K: Keeps> Visitor<K> for Judging<'a> {
+    ghost use Rattle.dtp_check.specs.code.Judging.{IsPartEvent, IsJudgingSoFar};
+
+    type End = Judgement;
+
+    type Fault = AllocError;
+
+    ghost starts = { λ j _. IsStart j.walk × (j.made ≡ None) × (j.entries.count ≡ 0) × Holds j.earlier []
+        × SufficesFrom j.earlier j.entries };
+
+    ghost so_far = { λ first before now after. IsJudgingSoFar K.leads first.walk.lexer.bytes first.entries before
+        now.walk now.made now.earlier now.entries after };
+
+    ghost comes = { λ before now event. IsPartEvent before.walk now.walk event × (now ≡ record before { walk = now.walk }) };
+
+    ghost ends = { λ first before now after judgement. IsSoOfAll first.entries now.entries
+        (ScriptComesTo K.leads before after first.walk.lexer.bytes judgement) };
+
+    ghost breaks = { λ _ _ _ _ _. Unit {0} };
+
+    ghost left = { λ j. length j.walk.lexer.bytes - j.walk.lexer.place };
+
+    fn begin(&mut self, _keeps: &mut K) -> Result<(), AllocError> {
+        Ok(())
+    }
+
+    fn next(&mut self) -> Result<Event, AllocError> {
+        match read_on(&mut self.walk)? {
+            Next::Command(id) => {
+                let event = self.walk.carry_out(id)?;
+                Ok(event)
             }
-            Next::Ended(_) => {
-                let judgement = surplus(alloc, entries)?;
-                return Ok(judgement);
-            }
-        };
-        let progress = judge_command(alloc, &mut walk, id, made, &mut earlier, entries, keeps)?;
-        match progress {
-            Progress::Going => {}
-            Progress::Judged(judgement) => return Ok(judgement),
+            Next::Ended(PartEnd::Unread(kind)) => Ok(Event::Failed(kind)),
+            Next::Ended(_) => Ok(Event::Ended),
         }
+    }
+
+    fn told(&mut self, _keeps: &mut K, _id: SexprId, _notice: Notice) -> Result<(), AllocError> {
+        smt_sexpr::one_outcome();
+        smt_script::exit_law();
+        smt_script::mode_law();
+        Ok(())
+    }
+
+    fn asked(
+        &mut self,
+        keeps: &mut K,
+        _id: SexprId,
+        question: Question,
+    ) -> Result<Option<Judgement>, AllocError> {
+        smt_sexpr::one_outcome();
+        smt_script::exit_law();
+        smt_script::mode_law();
+        let progress = judge_question(
+            self.alloc,
+            &mut self.walk,
+            question,
+            &mut self.made,
+            &mut self.earlier,
+            &mut self.entries,
+            keeps,
+        )?;
+        match progress {
+            Progress::Going => Ok(None),
+            Progress::Judged(judgement) => Ok(Some(judgement)),
+        }
+    }
+
+    fn ended(&mut self, _keeps: &mut K) -> Result<Judgement, AllocError> {
+        smt_sexpr::one_outcome();
+        let judgement = surplus(self.alloc, &mut self.entries)?;
+        Ok(judgement)
+    }
+
+    fn failed(&mut self, _keeps: &mut K, kind: Kind) -> Result<Judgement, AllocError> {
+        smt_sexpr::one_outcome();
+        Ok(Judgement::Script(self.walk.number, kind))
     }
 }
 
 /// What the script comes to with the entries that the reader gives, each of which is kept where it is right. The script is read
 /// again, command by command, and each entry when its question is asked; what is left of the certificate is read to its end,
 /// since a fault of its text comes before all else.
-pub fn judge_script<K: Keeps>(
+pub fn judge_script<'a, K: Keeps>(
     alloc: Global,
-    bytes: &[u8],
-    entries: &mut EntryReader,
+    bytes: &'a [u8],
+    entries: EntryReader<'a>,
     keeps: &mut K,
 ) -> Result<Judgement, AllocError>
-    requires { entries.old.count ≡ 0 }
-    ensures { IfOk result (IsJudgedBy K.leads keeps.old keeps.new bytes.now entries.old) }
+    requires { entries.count ≡ 0 }
+    ensures { IfOk result (IsJudgedBy K.leads keeps.old keeps.new bytes.now entries.entry) }
 {
-    let mut made = None;
-    let judgement = judge_each(alloc, bytes, &mut made, entries, keeps)?;
-    match entries.skip_rest(alloc) {
+    let mut judging = Judging {
+        alloc,
+        walk: Walk::new(alloc, bytes),
+        made: None,
+        earlier: Earlier::new(alloc, &entries),
+        entries,
+    };
+    let judgement = go_through(&mut judging, keeps)?;
+    match judging.entries.skip_rest(alloc) {
         Ok(()) => Ok(judgement),
         Err(CertReadError::Refused(why)) => Ok(Judgement::Certificate(why)),
         Err(CertReadError::OutOfMemory) => Err(AllocError),

@@ -1,12 +1,12 @@
 -- The entries of a conversion.
-use Rattle.std.specs.Prelude.{◌≡◌, List, [], ◌∷◌, ◌++◌, map}
+use Rattle.std.specs.Prelude.{◌≡◌, List, [], ◌∷◌, ◌++◌, map, Option, Some, None}
 use Rattle.smt_sexpr.specs.Tree.{Sexpr}
 use Rattle.smt_sexpr.specs.Commands.{ended}
 use Rattle.cert_text.specs.declared.entry.Version.TheVariants.{One}
 use Rattle.cert_text.specs.declared.entry.Entry.{Entry}
-use Rattle.cert_text.specs.declared.entry.Entry.TheVariants as certified
 use Rattle.cert_text.specs.declared.entry.FileEntry.{FileEntry}
-use Rattle.cert_text.specs.declared.entry.FileEntry.TheVariants.{Sat, Unsat, Best, Unbounded}
+use Rattle.cert_text.specs.Form.{items_in, with_lemmas}
+use Rattle.kept_lemmas.specs.declared.item.Item.{Item}
 use Rattle.refute_tree.specs.declared.lemma.Lemma.{Lemma}
 use Rattle.refute_tree.specs.Lengths.{lengthened_lemma}
 use Rattle.idl_term.specs.Contexts.{Context}
@@ -15,9 +15,9 @@ use Rattle.lemma_shelf.specs.Lowering.{StandFor}
 use Rattle.smt_script.specs.declared.state.Question.{Question}
 use Rattle.smt_script.specs.States.{State}
 use Rattle.script_walk.specs.Course.{start_with, Turn, Outcome, tells, answers, asks, ends, fails, course, AreAnswered}
-use Rattle.dtp_entry.specs.Entries.{problem_of, problem_below, AtMinimize, verdict_of}
+use Rattle.dtp_entry.specs.Entries.{verdict_of}
 use Rattle.dtp_entry.specs.Transcripts.{DecidesIn}
-use Rattle.dtp_check.specs.Judged.{placed_items, placed}
+use Rattle.dtp_check.specs.Judged.{placed, OfPlaced}
 
 -- the turns of the commands, with these entries as answers
 abbrev pub turns_of : List Sexpr → List Entry → List (Turn Entry)
@@ -33,16 +33,15 @@ abbrev pub StayAs : List Placed → Placed → List Lemma → Type 0
 StayAs before entry shown =
     (lemmas : List Lemma) × (shown ≡ map (lengthened_lemma entry.clauses) lemmas) × StandFor before entry lemmas
 
--- What becomes of the entry of a question, behind these entries. Values stay as they are, and so do a least value and a set
--- of points.
+-- what becomes of an entry, by its items
+abbrev pub StaysBy : FileEntry → Option (List Item) → (List Lemma → Type 0) → Entry → Type 0
+StaysBy entry None Stay shown = shown ≡ with_lemmas entry []
+StaysBy entry (Some items) Stay shown = (lemmas : List Lemma) × (shown ≡ with_lemmas entry lemmas) × Stay lemmas
+
+-- What becomes of the entry of a question, behind these entries: lemmas come in the place of its items, and all else stays as it is.
 abbrev pub StaysAs : List Placed → Question → Context → FileEntry → Entry → Type 0
-StaysAs before question c (Sat values) shown = shown ≡ certified.Sat values
-StaysAs before question c (Unsat items) shown =
-    (lemmas : List Lemma) × (shown ≡ certified.Unsat lemmas) × StayAs before (placed_items c (problem_of c) items) lemmas
-StaysAs before question c (Best m values items) shown =
-    (lemmas : List Lemma) × (shown ≡ certified.Best m values lemmas)
-    × AtMinimize question (λ o. StayAs before (placed_items c (problem_below c o m) items) lemmas)
-StaysAs before question c (Unbounded values set) shown = shown ≡ certified.Unbounded values set
+StaysAs before question c entry shown =
+    StaysBy entry (items_in entry) (λ lemmas. OfPlaced question c entry (λ placed. StayAs before placed lemmas)) shown
 
 -- the first of the shown entries is what becomes of this one
 abbrev pub IsFirst : List Placed → Question → Context → FileEntry → List Entry → (List Entry → Type 0) → Type 0

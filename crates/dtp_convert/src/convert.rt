@@ -1,6 +1,5 @@
 //! The call that converts or refuses.
 ghost use Rattle.std.specs.Prelude.{◌≡◌, ◌≢◌, ◌≤◌, IfOk, OnErr, Err};
-ghost use Rattle.std.specs.Io.KnownBytes.{Appends};
 ghost use Rattle.dtp_io.specs.Faults.{Rose};
 ghost use Rattle.dtp_entry.specs.Written.{Writes};
 ghost use Rattle.dtp_convert.specs.Converted.{IsConversion, IsConversionPart};
@@ -41,9 +40,9 @@ fn examine(alloc: Global, bytes: &[u8]) -> Result<Examined, AllocError>
     }
     let behind = open_behind(alloc, lexer, part.end)?;
     match behind {
-        Behind::Opened(mut entries) => {
+        Behind::Opened(entries) => {
             let mut converting = Converting::new(alloc);
-            let judgement = judge_script(alloc, bytes, &mut entries, &mut converting)?;
+            let judgement = judge_script(alloc, bytes, entries, &mut converting)?;
             match judgement {
                 Judgement::Accepted => Ok(Examined::Converted(converting.entries)),
                 _ => Ok(Examined::Refused(judgement)),

@@ -2,7 +2,7 @@
 -- their problem. For a minimize it is such a refutation; or such a schedule, the value that it gives the term, and a refutation of
 -- any less; or values of the problem's points with a set of points that can be lowered together without end.
 -- The format is that of cert_text; what makes an entry right stands here.
-use Rattle.std.specs.Prelude.{◌≡◌, ℕ, List, [], ◌∷◌, ◌++◌, All, ℤ, ◌-ℤ◌}
+use Rattle.std.specs.Prelude.{◌≡◌, ℕ, List, [], ◌∷◌, ◌++◌, All, ℤ, ◌-ℤ◌, Option, Some, None}
 use Rattle.smt_sexpr.specs.Tree.{Sexpr}
 use Rattle.stn_core.specs.declared.literal.Literal.{Literal}
 use Rattle.stn_core.specs.declared.named.NamedValue.{NamedValue}
@@ -76,6 +76,24 @@ IsRight question x c (Unsat lemmas) = IsRefutation (points_of c) (problem_of c) 
 IsRight question x c (Best m schedule lemmas) = AtMinimize question (λ o. IsLeast c x o m schedule lemmas)
 IsRight question x c (Unbounded values set) = AtMinimize question (λ o. IsUnbounded c o values set)
 
+-- what is so of the lemmas of an entry, where it has any, and of the clauses that they refute
+abbrev pub OfRefuted : Question → Context → Entry → (List (List Literal) → List Lemma → Type 0) → Type 0
+OfRefuted question c (Sat schedule) Holds = Unit {0}
+OfRefuted question c (Unsat lemmas) Holds = Holds (problem_of c) lemmas
+OfRefuted question c (Best m schedule lemmas) Holds = AtMinimize question (λ o. Holds (problem_below c o m) lemmas)
+OfRefuted question c (Unbounded values set) Holds = Unit {0}
+
+-- the clauses that its lemmas refute, where it has any
+abbrev pub clauses_at_minimize : Question → (Objective → List (List Literal)) → Option (List (List Literal))
+clauses_at_minimize CheckSat clauses = None
+clauses_at_minimize (Minimize o) clauses = Some (clauses o)
+
+abbrev pub refuted_clauses : Question → Context → Entry → Option (List (List Literal))
+refuted_clauses question c (Sat schedule) = None
+refuted_clauses question c (Unsat lemmas) = Some (problem_of c)
+refuted_clauses question c (Best m schedule lemmas) = clauses_at_minimize question (λ o. problem_below c o m)
+refuted_clauses question c (Unbounded values set) = None
+
 -- no step of the lemma opens a clause whose cases are all closed by their literal and its negation: it would be a clash
 abbrev pub IsShort : List (List Literal) → Lemma → Type 0
 IsShort clauses lemma = shortened clauses lemma.steps ≡ lemma.steps
@@ -83,10 +101,7 @@ IsShort clauses lemma = shortened clauses lemma.steps ≡ lemma.steps
 -- The form of a version: in the first each clash is written out, which its limits say; in the second each lemma is short.
 abbrev pub IsInForm : Version → Question → Context → Entry → Type 0
 IsInForm One question c entry = Unit {0}
-IsInForm Two question c (Sat schedule) = Unit {0}
-IsInForm Two question c (Unsat lemmas) = All (IsShort (problem_of c)) lemmas
-IsInForm Two question c (Best m schedule lemmas) = AtMinimize question (λ o. All (IsShort (problem_below c o m)) lemmas)
-IsInForm Two question c (Unbounded values set) = Unit {0}
+IsInForm Two question c entry = OfRefuted question c entry (λ clauses lemmas. All (IsShort clauses) lemmas)
 
 -- such an entry in the version's form, whose numbers are within the limits of the format
 pub record IsEntryOf (version : Version) (question : Question) (x : Sexpr) (c : Context) (entry : Entry) : Type 0 where

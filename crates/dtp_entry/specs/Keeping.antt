@@ -1,6 +1,6 @@
 -- How an entry stands in a certificate of the second version: with items in the place of its lemmas. They refute the problem that the
 -- lemmas refute, over the entries before, and may keep lemmas of these; which are kept is free. The format is that of cert_text.
-use Rattle.std.specs.Prelude.{◌≡◌, ℕ, List, [], ◌∷◌, ◌++◌, All}
+use Rattle.std.specs.Prelude.{◌≡◌, ℕ, List, [], ◌∷◌, ◌++◌, All, Option, Some, None}
 use Rattle.stn_core.specs.declared.literal.Literal.{Literal}
 use Rattle.kept_lemmas.specs.declared.item.Item.{Item}
 use Rattle.kept_lemmas.specs.declared.item.Item.TheVariants.{Own, Keep}
@@ -8,22 +8,11 @@ use Rattle.kept_lemmas.specs.Entries.{AreRight}
 use Rattle.kept_lemmas.specs.Facts.{Facts, Shelf, facts_of}
 use Rattle.cert_text.specs.declared.entry.Version.TheVariants.{Two}
 use Rattle.cert_text.specs.declared.entry.Entry.{Entry}
-use Rattle.cert_text.specs.declared.entry.Entry.TheVariants.{Sat, Unsat, Best, Unbounded}
-use Rattle.cert_text.specs.declared.entry.FileEntry.{FileEntry}
-use Rattle.cert_text.specs.declared.entry.FileEntry.TheVariants as file
+use Rattle.cert_text.specs.Form.{shown_by}
 use Rattle.cert_text.specs.Limits.{FileEntryFits}
 use Rattle.idl_term.specs.Contexts.{Context}
-use Rattle.smt_script.specs.declared.objective.Objective.{Objective}
 use Rattle.smt_script.specs.declared.state.Question.{Question}
-use Rattle.smt_script.specs.declared.state.Question.TheVariants.{CheckSat, Minimize}
-use Rattle.dtp_entry.specs.Entries.{points_of, problem_of, problem_below, AtMinimize, IsShort}
-
--- the entry with these items in the place of its lemmas
-abbrev pub shown_by : Entry → List Item → FileEntry
-shown_by (Sat values) items = file.Sat values
-shown_by (Unsat lemmas) items = file.Unsat items
-shown_by (Best m values lemmas) items = file.Best m values items
-shown_by (Unbounded values set) items = file.Unbounded values set
+use Rattle.dtp_entry.specs.Entries.{points_of, OfRefuted, refuted_clauses, IsShort}
 
 -- a lemma of the entry's own is short
 abbrev pub IsShortItem : List (List Literal) → Item → Type 0
@@ -37,23 +26,16 @@ pub record AreInPlace (shelf : Shelf) (points : ℕ) (clauses : List (List Liter
 
 -- they may stand in the place of the entry's lemmas
 abbrev pub StandIn : Shelf → Question → Context → Entry → List Item → Type 0
-StandIn shelf question c (Sat schedule) items = Unit {0}
-StandIn shelf question c (Unsat lemmas) items = AreInPlace shelf (points_of c) (problem_of c) items
-StandIn shelf question c (Best m schedule lemmas) items =
-    AtMinimize question (λ o. AreInPlace shelf (points_of c) (problem_below c o m) items)
-StandIn shelf question c (Unbounded values set) items = Unit {0}
+StandIn shelf question c entry items = OfRefuted question c entry (λ clauses lemmas. AreInPlace shelf (points_of c) clauses items)
 
-abbrev pub facts_at_minimize : Question → (Objective → Facts) → Facts
-facts_at_minimize CheckSat facts = []
-facts_at_minimize (Minimize o) facts = facts o
+-- of clauses, where there are any
+abbrev pub facts_by : Option (List (List Literal)) → (List (List Literal) → Facts) → Facts
+facts_by None facts = []
+facts_by (Some clauses) facts = facts clauses
 
 -- what the items state, for later entries to keep
 abbrev pub facts_shown : Shelf → Question → Context → Entry → List Item → Facts
-facts_shown shelf question c (Sat schedule) items = []
-facts_shown shelf question c (Unsat lemmas) items = facts_of shelf (problem_of c) items
-facts_shown shelf question c (Best m schedule lemmas) items =
-    facts_at_minimize question (λ o. facts_of shelf (problem_below c o m) items)
-facts_shown shelf question c (Unbounded values set) items = []
+facts_shown shelf question c entry items = facts_by (refuted_clauses question c entry) (λ clauses. facts_of shelf clauses items)
 
 -- The entry of a question with these items, behind entries that state what is on the first shelf. On the second stands what is
 -- stated behind it.

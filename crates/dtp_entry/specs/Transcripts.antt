@@ -14,7 +14,7 @@ use Rattle.cert_text.specs.declared.entry.Version.{Version}
 use Rattle.cert_text.specs.declared.entry.Version.TheVariants.{One, Two}
 use Rattle.cert_text.specs.declared.entry.Entry.{Entry}
 use Rattle.cert_text.specs.declared.entry.Entry.TheVariants.{Sat, Unsat, Best, Unbounded}
-use Rattle.cert_text.specs.Form.{header_sexpr, entry_sexpr, file_entry_sexpr, end_sexpr, line_of}
+use Rattle.cert_text.specs.Form.{header_sexpr, entry_sexpr, file_entry_sexpr, shown_by, values_by, end_sexpr, line_of}
 use Rattle.kept_lemmas.specs.declared.item.Item.{Item}
 use Rattle.kept_lemmas.specs.Facts.{Shelf}
 use Rattle.stn_core.specs.declared.named.NamedValue.{NamedValue}
@@ -29,7 +29,7 @@ use Rattle.dtp_entry.specs.Reports.{version_of}
 use Rattle.dtp_entry.specs.Bests.{IsBestFor, HasNoBest}
 use Rattle.dtp_entry.specs.Cores.{cites_assertion, NoneTogether}
 use Rattle.dtp_entry.specs.Entries.{IsEntryOf, verdict_of}
-use Rattle.dtp_entry.specs.Keeping.{shown_by, IsShownBy}
+use Rattle.dtp_entry.specs.Keeping.{IsShownBy}
 use Rattle.script_walk.specs.Course.{start_with, Turn, Outcome, tells, answers, asks, ends, fails, IsCourseOf, status_of, answers_of, IsFit}
 use Rattle.dtp_entry.specs.Written.{IsFront}
 
@@ -58,10 +58,7 @@ Held = Option Entry
 
 -- The schedule of an entry: where it has values of the time points, the one that they give. A refutation has none.
 abbrev pub schedule_in : Context → Entry → Option (List NamedValue)
-schedule_in c (Sat schedule) = Some schedule
-schedule_in c (Unsat lemmas) = None
-schedule_in c (Best m schedule lemmas) = Some schedule
-schedule_in c (Unbounded values set) = Some (restricted (sorts_of c.declared) values)
+schedule_in c entry = values_by (λ values. Some (restricted (sorts_of c.declared) values)) entry
 
 abbrev pub schedule_held : Context → Held → Option (List NamedValue)
 schedule_held c (Some entry) = schedule_in c entry

@@ -1,34 +1,20 @@
 -- The loop over the commands of a script whose answers aren't written.
-use Rattle.std.proofs.Common.{refl, sym, ap, subst, ◌∙◌, ◌≡◌, ℕ, List, [], ◌∷◌, ◌++◌, Option, Some, None}
+use Rattle.std.proofs.Common.{refl, sym, ap, subst, ◌∙◌, ◌≡◌, ℕ, List, [], ◌∷◌, ◌++◌, Option, None}
 use Rattle.std.specs.List.{AllByRecursion}
 use Rattle.std.proofs.lemmas.List.{append_assoc}
 use Rattle.cert_text.specs.declared.entry.Entry.{Entry}
-use Rattle.smt_script.specs.States.{State, start_state}
-use Rattle.script_walk.specs.Course.{Turn, Outcome, status_of, answers_of}
+use Rattle.smt_script.specs.States.{start_state}
+use Rattle.script_walk.specs.Course.{Outcome}
 use Rattle.dtp_entry.specs.declared.report.Report.{Report}
 use Rattle.dtp_entry.specs.declared.report.Report.TheVariants.{Verdicts}
-use Rattle.dtp_entry.specs.Transcripts.{opening, pieces, AreTurns, IsLegal}
+use Rattle.dtp_entry.specs.Transcripts.{opening, pieces, IsLegal}
 use Rattle.dtp_entry.proofs.Pieces.{are_pieces}
 use Rattle.dtp_session.specs.Leasts.{minimum_by, last_minimum, IsLeastOf}
 use Rattle.dtp_session.specs.declared.least.Minimum.{Minimum}
 use Rattle.dtp_session.specs.declared.session.Session.{Session}
-use Rattle.dtp_session.specs.code.Sessions.{Holds, IsStart, Runs}
-use Rattle.dtp_session.specs.code.Leading.{LeadsOn, EndsHere}
+use Rattle.dtp_session.specs.code.Sessions.{IsStart}
+use Rattle.dtp_session.specs.code.Leading.{LeadsOn, EndsHere, IsRunOf, IsLeastSoFar}
 use Rattle.dtp_session.proofs.Looping.{start_are}
-
--- all turns of a script that ends with this status and uses these entries
-pub record IsRunOf (script : List ℕ) (found : List Entry) (status : ℕ) (turns : List (Turn Entry)) : Type 0 where
-  pub are : AreTurns Verdicts script found turns
-  pub over : status_of turns ≡ Some status
-  pub used : answers_of turns ≡ found
-
--- the turns so far go on to those of the whole script, and this is what their last minimize came to
-pub record IsLeastSoFar (script : List ℕ) (p : Session) (least : Option Minimum) : Type 0 where
-  pub s : State
-  pub stands : Holds p s
-  pub found : List Entry
-  pub whole : (rest : List Entry) (status : ℕ) (turns : List (Turn Entry)) → Runs p s rest status turns
-      → (all : List (Turn Entry)) × IsRunOf script (found ++ rest) status all × (last_minimum None all ≡ last_minimum least turns)
 
 pub least_starts : (p : Session) → IsStart p → p.report ≡ Verdicts → IsLeastSoFar p.walk.lexer.bytes p None
 least_starts p start report = record {
@@ -62,8 +48,8 @@ module _ (script : List ℕ) (p : Session) (before : Option Minimum) (h : IsLeas
   }
 
   -- the script has ended without an error
-  pub least_ends : (now : Option Minimum) → EndsHere p h.s 0 × (now ≡ before) → IsLeastOf script now
-  least_ends now (end, same) =
+  pub least_ends : EndsHere p h.s 0 → IsLeastOf script before
+  least_ends end =
       let all = h.whole [] 0 end.turns end.runs in (
         record { text = opening Verdicts ++ pieces Verdicts all.0; found = h.found ++ []; status = 0 },
         record {
@@ -75,12 +61,12 @@ module _ (script : List ℕ) (p : Session) (before : Option Minimum) (h : IsLeas
           writes = are_pieces Verdicts tt [] all.0;
           text = refl;
         },
-        same ∙ sym (all.2 ∙ end.same before),
+        sym (all.2 ∙ end.same before),
       )
 
   -- at an error
-  pub least_stops : (now : Option Minimum) → EndsHere p h.s 1 × (now ≡ before) → IsLeastOf script None
-  least_stops now (end, same) =
+  pub least_stops : EndsHere p h.s 1 → IsLeastOf script None
+  least_stops end =
       let all = h.whole [] 1 end.turns end.runs in (
         record { text = opening Verdicts ++ pieces Verdicts all.0; found = h.found ++ []; status = 1 },
         record {

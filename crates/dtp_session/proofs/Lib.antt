@@ -6,6 +6,7 @@ pub mod Looping
 pub mod Leading
 pub mod Solving
 pub mod Stepping
+pub mod Visiting
 pub mod Transcribing
 pub mod Deciding
 pub mod Telling

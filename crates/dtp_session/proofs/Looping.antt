@@ -5,7 +5,7 @@ use Rattle.std.proofs.KnownBytes.{Appends-trans}
 use Rattle.std.proofs.lemmas.List.{append_assoc}
 use Rattle.cert_text.specs.declared.entry.Entry.{Entry}
 use Rattle.smt_answer.specs.declared.kind.Kind.{Kind}
-use Rattle.smt_script.specs.States.{State, start_state}
+use Rattle.smt_script.specs.States.{start_state}
 use Rattle.script_walk.specs.Course.{Place, Turn, start_with, IsCourseOf}
 use Rattle.script_walk.specs.code.Events.{IsReady as IsWalkReady}
 use Rattle.script_walk.proofs.Turns.{stopped_from}
@@ -18,18 +18,9 @@ use Rattle.dtp_entry.proofs.Written.{appends_nothing}
 use Rattle.dtp_session.specs.declared.piece.Piece.{Piece}
 use Rattle.dtp_session.specs.declared.piece.Piece.TheVariants.{Opening, Decision, Proof, Told, Closing, Error}
 use Rattle.dtp_session.specs.declared.session.Session.{Session}
-use Rattle.dtp_session.specs.code.Sessions.{IsText, Holds, IsStart, place_of, From, PartFrom, behind, IsGoing, Ends, GoesOn, Leads, IsNext}
+use Rattle.dtp_session.specs.code.Answering.{IsSoFar}
+use Rattle.dtp_session.specs.code.Sessions.{IsText, IsStart, place_of, behind, IsGoing, Ends, GoesOn, Leads, IsNext}
 use Rattle.dtp_session.proofs.Transcribing.{nothing_yet, front_more, front_of, front_behind, nothing_front, same_place}
-
--- what was written goes on to what is written of the whole script
-pub record IsSoFar (report : Report) (script : List ℕ) (p : Session) (before now : Option (List ℕ)) : Type 0 where
-  pub s : State
-  pub stands : Holds p s
-  pub written : List ℕ
-  pub found : List Entry
-  pub adds : Appends before now written
-  pub whole : (rest : Output) → From p s rest → IsOutput report script (behind written found rest)
-  pub part : (text : List ℕ) → PartFrom p s text → IsReportPart report script (written ++ text)
 
 -- ---- the start
 
@@ -162,14 +153,6 @@ module _ (report : Report) (script : List ℕ) (p q : Session) (before now after
 pub nothing_more : (report : Report) (script : List ℕ) (p : Session) (before now : Option (List ℕ)) → IsSoFar report script p before now → Writes before now (IsReportPart report script)
 nothing_more report script p before now h =
     (h.written ++ [], Appends-trans before now now h.written [] h.adds (appends_nothing now), h.part [] (nothing_yet p h.s [] refl))
-
-pub is_going : (piece : Piece) → (piece ≡ Closing → ⊥) → ((kind : Kind) → piece ≡ Error kind → ⊥) → IsGoing piece
-is_going Opening f g = tt
-is_going Decision f g = tt
-is_going Proof f g = tt
-is_going Told f g = tt
-is_going Closing f g = f refl
-is_going (Error kind) f g = g kind refl
 
 -- ---- faults
 

@@ -1,7 +1,6 @@
 -- From the event of a walk to the piece that answers it.
-use Rattle.std.proofs.Common.{arith, refl, sym, ap, subst, ◌∙◌, ◌≡◌, ◌≤◌, ◌<◌, ◌-◌, ◌^◌, ℕ, [], Option, Some, None}
+use Rattle.std.proofs.Common.{arith, refl, sym, ap, subst, ◌∙◌, ◌≡◌, ◌≤◌, ◌<◌, ◌-◌, ◌^◌, ℕ, [], Option, Some}
 use Rattle.cert_text.specs.declared.entry.Entry.{Entry}
-use Rattle.smt_lex.specs.code.Lexing.{Lexing}
 use Rattle.smt_answer.specs.declared.kind.Kind.{Kind}
 use Rattle.smt_sexpr.specs.Tree.{Sexpr}
 use Rattle.smt_sexpr.specs.Table.{Means}
@@ -15,7 +14,7 @@ use Rattle.script_walk.specs.code.Events.{IsEvent, GoesOn, Asks, IsReady as IsWa
 use Rattle.script_walk.specs.declared.walk.Event.{Event}
 use Rattle.script_walk.specs.declared.walk.Event.TheVariants.{Told as ToldOf, Asked, Ended, Failed}
 use Rattle.script_walk.specs.declared.walk.Walk.{Walk}
-use Rattle.script_walk.specs.Course.{tells as told_of, answers}
+use Rattle.script_walk.specs.Course.{Outcome, tells as told_of, answers}
 use Rattle.script_walk.proofs.Turns.{ends_with, fails_with, barred_from}
 use Rattle.dtp_entry.specs.Entries.{verdict_of}
 use Rattle.dtp_entry.specs.Transcripts.{Held}
@@ -23,13 +22,16 @@ use Rattle.dtp_session.specs.declared.piece.Piece.{Piece}
 use Rattle.dtp_entry.specs.code.Asking.{IsAskedBy}
 use Rattle.dtp_session.specs.declared.piece.Piece.TheVariants.{Opening, Decision, Proof, Told, Closing, Error}
 use Rattle.dtp_session.specs.declared.session.Session.{Session}
-use Rattle.dtp_session.specs.declared.session.Solved.TheVariants.{Done, ScriptStopped}
 use Rattle.dtp_session.specs.declared.least.Minimum.{Minimum}
-use Rattle.dtp_session.specs.Leasts.{minimum_at}
-use Rattle.dtp_session.specs.code.Leading.{minimum_held, IsNextLeast}
-use Rattle.dtp_session.specs.code.Sessions.{Holds, IsAskedIn, MayTell, place_of, KeepsReading, KeepsPlace, KeepsScript, Tells, IsAnswered, IsGoing, IsNext}
+use Rattle.dtp_session.specs.Leasts.{minimum_at, minimum_by}
+use Rattle.dtp_session.specs.code.Leading.{minimum_held, LeadsOn, EndsHere}
+use Rattle.dtp_session.specs.code.Sessions.{Holds, IsAskedIn, MayTell, place_of, KeepsReading, KeepsPlace, Tells, IsAnswered, IsGoing, IsNext}
 use Rattle.dtp_session.proofs.Answering.{holds_after, may_after, ready_kept, ready_settled}
 use Rattle.dtp_session.proofs.Transcribing.{closing_next, error_next, ends_here, fails_here, told_next, told_leads, checked_next, checked_leads, barred_next}
+
+-- a turn, and what the last minimize came to before and behind it
+abbrev pub IsLed : Session → Session → State → Option Minimum → Option Minimum → Type 0
+IsLed p q s before now = (outcome : Outcome Entry) × LeadsOn p q s outcome × (now ≡ minimum_by before outcome)
 
 -- what the question leaves of what the last minimize came to, where this is held behind its answer
 abbrev pub minimum_told : Question → Option Minimum → Held → Option Minimum
@@ -44,7 +46,7 @@ module _ (p : Session) (w : Walk) (s : State) (event : Event) (h : IsEvent p.wal
   -- ---- something is told
 
   module _ (id : ℕ) (n : Notice) (e : event ≡ ToldOf id n) where
-    told_event : IsEvent p.walk w s (ToldOf id n)
+    pub told_event : IsEvent p.walk w s (ToldOf id n)
     told_event = subst (λ (f : Event). IsEvent p.walk w s f) e h
 
     told_holds : Holds (record p { walk = w }) told_event.carries.1.next
@@ -56,13 +58,13 @@ module _ (p : Session) (w : Walk) (s : State) (event : Event) (h : IsEvent p.wal
 
       module _ (q : Session) (piece : Piece) (keeps : KeepsReading (record p { walk = w }) q)
           (tells : (s : State) (x : Sexpr) → Holds (record p { walk = w }) s → Means w.sexprs id x → MayTell s x n → Tells (record p { walk = w }) q s x n piece) where
-        told_so : Tells (record p { walk = w }) q told_event.carries.1.next told_event.x n piece
+        pub told_so : Tells (record p { walk = w }) q told_event.carries.1.next told_event.x n piece
         told_so = tells told_event.carries.1.next told_event.x told_holds told_event.carries.0 (may_after w s told_event.x n told_event.carries.1 model values proof core assumptions)
 
         pub told_step : w.lexer.bytes ≡ p.walk.lexer.bytes → IsNext p q s piece
         told_step bytes = told_next p q w s bytes keeps id n piece told_event told_so
 
-        pub told_least : w.lexer.bytes ≡ p.walk.lexer.bytes → (before : Option Minimum) → IsNextLeast p q s before before None
+        pub told_least : w.lexer.bytes ≡ p.walk.lexer.bytes → (before : Option Minimum) → IsLed p q s before before
         told_least bytes before = (told_of told_event.x n, told_leads p q w s bytes keeps id n piece told_event told_so, refl)
 
         pub told_ready : (GoesOn event → IsWalkReady w) → IsWalkReady q.walk
@@ -105,12 +107,6 @@ module _ (p : Session) (w : Walk) (s : State) (event : Event) (h : IsEvent p.wal
       barred_step : w.lexer.bytes ≡ p.walk.lexer.bytes → (kind : Kind) → IsAnswered question asked_event.x (record p { walk = w }) q asked_event.carries.1.next (Error kind) → IsNext p q s (Error kind)
       barred_step bytes kind h = barred_next p q w s bytes keeps id question kind asked_event h.0 h.1
 
-      pub asked_forward : (GoesOn event → p.walk.lexer.place < w.lexer.place) → p.walk.lexer.place < q.walk.lexer.place
-      asked_forward forward = subst (λ (l : Lexing). p.walk.lexer.place < l.place) (sym keeps.lexer) (forward (subst GoesOn (sym e) tt))
-
-      pub asked_keeps : w.lexer.bytes ≡ p.walk.lexer.bytes → KeepsScript p q
-      asked_keeps bytes = record { bytes = ap (λ (l : Lexing). l.bytes) keeps.lexer ∙ bytes; report = keeps.report }
-
       -- no error, so it is a decision
       is_decided : (piece : Piece) → ((kind : Kind) → piece ≡ Error kind → ⊥) → IsAnswered question asked_event.x (record p { walk = w }) q asked_event.carries.1.next piece
           → IsAnswered question asked_event.x (record p { walk = w }) q asked_event.carries.1.next Decision
@@ -121,8 +117,16 @@ module _ (p : Session) (w : Walk) (s : State) (event : Event) (h : IsEvent p.wal
       is_decided Told apart h = absurd h
       is_decided Closing apart h = absurd h
 
+      goes_by : (piece : Piece) → ((kind : Kind) → piece ≡ Error kind → ⊥) → IsAnswered question asked_event.x (record p { walk = w }) q asked_event.carries.1.next piece → IsGoing piece
+      goes_by Decision apart h = tt
+      goes_by (Error kind) apart h = apart kind refl
+      goes_by Opening apart h = tt
+      goes_by Proof apart h = tt
+      goes_by Told apart h = tt
+      goes_by Closing apart h = h
+
       checked_least : w.lexer.bytes ≡ p.walk.lexer.bytes → (before : Option Minimum) → IsAnswered question asked_event.x (record p { walk = w }) q asked_event.carries.1.next Decision
-          → IsNextLeast p q s before (minimum_told question before q.held) None
+          → IsLed p q s before (minimum_told question before q.held)
       checked_least bytes before h = (
         answers question asked_event.x h.1.entry,
         checked_leads p q w s bytes keeps id question asked_event h.0 h.1,
@@ -153,29 +157,31 @@ module _ (p : Session) (w : Walk) (s : State) (event : Event) (h : IsEvent p.wal
         asked_step bytes = answered_by bytes piece (answered asked_event.carries.1.next asked_event.x asked_holds asked_in)
 
         pub asked_least : w.lexer.bytes ≡ p.walk.lexer.bytes → (before now : Option Minimum) → ((kind : Kind) → piece ≡ Error kind → ⊥) → now ≡ minimum_told question before q.held
-            → IsNextLeast p q s before now None
+            → IsLed p q s before now
         asked_least bytes before now apart is =
-            subst (λ (m : Option Minimum). IsNextLeast p q s before m None) (sym is)
+            subst (λ (m : Option Minimum). IsLed p q s before m) (sym is)
             (checked_least bytes before (is_decided piece apart (answered asked_event.carries.1.next asked_event.x asked_holds asked_in)))
 
         pub decided_ready : ((kind : Kind) → piece ≡ Error kind → ⊥) → (GoesOn event → IsWalkReady w) → (Asks event → w.number ≤ w.lexer.place) → IsWalkReady q.walk
         decided_ready apart ready counted =
             ready_answered Decision tt ready counted (is_decided piece apart (answered asked_event.carries.1.next asked_event.x asked_holds asked_in))
 
-        pub barred_least : (kind : Kind) → piece ≡ Error kind → (before : Option Minimum) → IsNextLeast p q s before before (Some ScriptStopped)
-        barred_least kind is before =
+        pub barred_least : (kind : Kind) → piece ≡ Error kind → EndsHere p s 1
+        barred_least kind is =
             let to = asked_event.carries.1 in
-            let h = subst (λ (z : Piece). IsAnswered question asked_event.x (record p { walk = w }) q to.next z) is (answered to.next asked_event.x asked_holds asked_in) in (
-              fails_here p s kind to.next
-                  (barred_from verdict_of p.walk.lexer.bytes p.walk.lexer.place w.lexer.place (place_of p s []) asked_event.x asked_event.spells to.next question kind to.leads h.0),
-              refl,
-            )
+            let h = subst (λ (z : Piece). IsAnswered question asked_event.x (record p { walk = w }) q to.next z) is (answered to.next asked_event.x asked_holds asked_in) in
+            fails_here p s kind to.next
+            (barred_from verdict_of p.walk.lexer.bytes p.walk.lexer.place w.lexer.place (place_of p s []) asked_event.x asked_event.spells to.next question kind to.leads h.0)
+
+        pub asked_going : ((kind : Kind) → piece ≡ Error kind → ⊥) → IsGoing piece
+        asked_going apart = goes_by piece apart (answered asked_event.carries.1.next asked_event.x asked_holds asked_in)
 
         pub asked_ready : IsGoing piece → (GoesOn event → IsWalkReady w) → (Asks event → w.number ≤ w.lexer.place) → IsWalkReady q.walk
         asked_ready going ready counted = ready_answered piece going ready counted (answered asked_event.carries.1.next asked_event.x asked_holds asked_in)
 
-  -- ---- the end
+-- ---- the end
 
+module _ (p : Session) (w : Walk) (s : State) (event : Event) (h : IsEvent p.walk w s event) (holds : Holds p s) where
   pub ended_step : event ≡ Ended → IsNext p (record p { walk = w }) s Closing
   ended_step e = closing_next p (record p { walk = w }) s refl (ends_with verdict_of p.walk w (place_of p s []) holds.stands (subst (λ (f : Event). IsEvent p.walk w s f) e h))
 
@@ -184,10 +190,10 @@ module _ (p : Session) (w : Walk) (s : State) (event : Event) (h : IsEvent p.wal
       let last = fails_with verdict_of p.walk w (place_of p s []) holds.stands kind (subst (λ (f : Event). IsEvent p.walk w s f) e h) in
       error_next p (record p { walk = w }) s refl kind last.number last.last last.is
 
-  pub ended_least : event ≡ Ended → (q : Session) (before : Option Minimum) → IsNextLeast p q s before before (Some Done)
-  ended_least e q before = (ends_here p s w (ends_with verdict_of p.walk w (place_of p s []) holds.stands (subst (λ (f : Event). IsEvent p.walk w s f) e h)), refl)
+  pub ended_least : event ≡ Ended → EndsHere p s 0
+  ended_least e = ends_here p s w (ends_with verdict_of p.walk w (place_of p s []) holds.stands (subst (λ (f : Event). IsEvent p.walk w s f) e h))
 
-  pub failed_least : (kind : Kind) → event ≡ Failed kind → (q : Session) (before : Option Minimum) → IsNextLeast p q s before before (Some ScriptStopped)
-  failed_least kind e q before =
+  pub failed_least : (kind : Kind) → event ≡ Failed kind → EndsHere p s 1
+  failed_least kind e =
       let last = fails_with verdict_of p.walk w (place_of p s []) holds.stands kind (subst (λ (f : Event). IsEvent p.walk w s f) e h) in
-      (fails_here p s kind last.last last.is, refl)
+      fails_here p s kind last.last last.is

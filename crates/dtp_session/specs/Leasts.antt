@@ -1,7 +1,8 @@
 -- What the last minimize of a script comes to.
-use Rattle.std.specs.Prelude.{◌≡◌, ℕ, zero, suc, List, [], ◌∷◌, Option, Some, None}
+use Rattle.std.specs.Prelude.{◌≡◌, ℕ, zero, suc, List, [], ◌∷◌, Option, None, option_map, ℤ}
+use Rattle.stn_core.specs.declared.named.NamedValue.{NamedValue}
 use Rattle.cert_text.specs.declared.entry.Entry.{Entry}
-use Rattle.cert_text.specs.declared.entry.Entry.TheVariants.{Sat, Unsat, Best, Unbounded}
+use Rattle.cert_text.specs.Form.{least_in}
 use Rattle.smt_script.specs.declared.state.Question.{Question}
 use Rattle.smt_script.specs.declared.state.Question.TheVariants.{CheckSat, Minimize}
 use Rattle.script_walk.specs.Course.{Turn, Outcome, tells, answers, asks, ends, fails}
@@ -11,10 +12,7 @@ use Rattle.dtp_session.specs.declared.least.Minimum.{Minimum}
 
 -- the least value that an entry tells, and its schedule
 abbrev pub minimum_of : Entry → Option Minimum
-minimum_of (Sat schedule) = None
-minimum_of (Unsat lemmas) = None
-minimum_of (Best m schedule lemmas) = Some (record { value = m; schedule = schedule })
-minimum_of (Unbounded values set) = None
+minimum_of entry = option_map (λ (p : ℤ × List NamedValue). record { value = p.0; schedule = p.1 }) (least_in entry)
 
 -- a check-sat leaves what the last minimize came to
 abbrev pub minimum_at : Question → Option Minimum → Entry → Option Minimum

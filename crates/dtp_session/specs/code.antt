@@ -6,3 +6,5 @@ pub mod Keeping
 pub mod Decisions
 pub mod Sessions
 pub mod Leading
+pub mod Answering
+pub mod Asking

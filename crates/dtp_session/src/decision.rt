@@ -1,5 +1,5 @@
 //! What decides a question.
-ghost use Rattle.std.specs.Prelude.{◌≡◌, ◌≤◌, IfOk};
+ghost use Rattle.std.specs.Prelude.{◌≡◌, IfOk};
 ghost use Rattle.smt_sexpr.specs.Tree.{Sexpr};
 ghost use Rattle.smt_script.specs.States.{State as Meaning};
 ghost use Rattle.smt_script.specs.declared.state.Question.TheVariants as asked;
@@ -19,7 +19,7 @@ use book_search::{decide_units, refute_along};
 use cert_text::Entry;
 use clause_form::restrict;
 use kept_schedule::KeptSchedule;
-use learned_lemmas::Taken;
+use learned_lemmas::TakenOver;
 use refute_tree::Batch;
 use smt_script::{Question, State};
 use std::alloc::{AllocError, Global};
@@ -90,8 +90,8 @@ fn search<R: Threads + Wait + Sync, G: Gate>(
         return Ok(verdict);
     }
     match earlier.taken(alloc, problem)? {
-        Taken::Refutes(refutation) => Ok(Verdict::Unsat(refutation)),
-        Taken::Opens(opening) => {
+        TakenOver::Refutes(refutation) => Ok(Verdict::Unsat(refutation)),
+        TakenOver::Opens(opening) => {
             let phases = phases_of(alloc, kept)?;
             search_from(rt, alloc, problem, opening, &phases, options, gate)
         }

@@ -16,7 +16,7 @@ use crate::waiting::Waiting;
 use cert_text::{Entry, NUMBER_LIMIT, Version};
 use indexmap::IndexMap;
 use kept_lemmas::{Item, Items, Kept};
-use learned_lemmas::{Choice, Learned, Taken};
+use learned_lemmas::{Choice, Learned, TakenOver};
 use lemma_shelf::Shelf;
 use refute_tree::{Batch, Lemma};
 use std::alloc::{AllocError, Global};
@@ -227,12 +227,12 @@ impl Earlier {
     }
 
     /// What the problem takes over of an earlier one's refutation.
-    pub fn taken(&self, alloc: Global, problem: &Problem) -> Result<Taken, AllocError>
+    pub fn taken(&self, alloc: Global, problem: &Problem) -> Result<TakenOver, AllocError>
         ensures { IfOk result (IsTakenOver problem.now) }
     {
         match &self.learned {
             Some(learned) => learned.taken(alloc, problem, CHOICE),
-            None => Ok(Taken::Opens(Batch::new(0, Vec::new(alloc)))),
+            None => Ok(TakenOver::Opens(Batch::new(0, Vec::new(alloc)))),
         }
     }
 
@@ -312,10 +312,9 @@ impl Earlier {
         if let Version::One = version {
             return Ok(ShownItems::none());
         }
-        match entry {
-            Entry::Unsat(refutation) => self.cite(alloc, problem, refutation.as_slice()),
-            Entry::Best(_, _, refutation) => self.cite(alloc, problem, refutation.as_slice()),
-            Entry::Sat(_) | Entry::Unbounded(_, _) => {
+        match entry.refutation() {
+            Some(refutation) => self.cite(alloc, problem, refutation.as_slice()),
+            None => {
                 self.pass(alloc, version)?;
                 Ok(ShownItems::none())
             }

@@ -1,12 +1,11 @@
 //! What decided a question, as it is held until the next one.
-ghost use Rattle.std.specs.Prelude.{◌≡◌, ◌≢◌, ◌++◌, ℕ, List, Some, None, MatchOption, IfOk, OnOk};
+ghost use Rattle.std.specs.Prelude.{◌≡◌, ◌≢◌, ◌++◌, List, Some, None, MatchOption, IfOk, OnOk};
 ghost use Rattle.stn_core.specs.declared.named.NamedValue.{NamedValue};
 ghost use Rattle.cert_text.specs.declared.entry.Version.TheVariants.{One};
 ghost use Rattle.cert_text.specs.declared.entry.Entry.TheVariants.{Sat, Unsat};
-ghost use Rattle.cert_text.specs.Form.{entry_sexpr, file_entry_sexpr, line_of};
+ghost use Rattle.cert_text.specs.Form.{entry_sexpr, file_entry_sexpr, line_of, shown_by};
 ghost use Rattle.dtp_entry.specs.declared.report.Report.TheVariants.{Verdicts};
 ghost use Rattle.dtp_entry.specs.Entries.{verdict_of};
-ghost use Rattle.dtp_entry.specs.Keeping.{shown_by};
 ghost use Rattle.dtp_entry.specs.Transcripts.{decision_line};
 ghost use Rattle.dtp_entry.specs.Written.{WritesOne};
 ghost use Rattle.refute_tree.specs.declared.lemma.Lemma.{Lemma};

@@ -1,18 +1,19 @@
 //! What the last minimize of a script comes to, for whoever wants the value and no text.
-ghost use Rattle.std.specs.Prelude.{◌≡◌, ◌<◌, None, IfOk};
-ghost use Rattle.smt_script.specs.States.{State as Meaning};
-ghost use Rattle.script_walk.specs.code.Events.{IsReady as IsWalkReady};
+ghost use Rattle.std.specs.Prelude.{◌≡◌, ◌-◌, length, None, IfOk};
 ghost use Rattle.dtp_entry.specs.declared.report.Report.TheVariants.{Verdicts};
 ghost use Rattle.dtp_session.specs.Leasts.{IsLeastOf};
-ghost use Rattle.dtp_session.specs.code.Leading.{minimum_held, IsNextLeast};
-ghost use Rattle.dtp_session.specs.code.Sessions.{Holds, IsReady, IsStart, KeepsScript};
+ghost use Rattle.dtp_session.specs.code.Asking.{TakesAt, GivesAt, IsAsker, MayAsk, Answers};
+ghost use Rattle.dtp_session.specs.code.Leading.{minimum_held};
 
 use crate::options::SearchOptions;
 use crate::piece::Piece;
-use crate::session::{Session, Solved};
+use crate::session::Session;
+use crate::writing::ask_by;
 use dtp_entry::Report;
-use script_walk::Event;
-use smt_script::Question;
+use script_walk::{Event, Visitor, go_through};
+use smt_answer::Kind;
+use smt_script::{Notice, Question};
+use smt_sexpr::SexprId;
 use std::alloc::{AllocError, Global};
 use std::sync::Wait;
 use std::thread::Threads;
@@ -36,61 +37,81 @@ impl<'a> Session<'a> {
             None => Ok(None),
         }
     }
+}
 
-    /// Goes on to the next event, and puts what a minimize comes to in the place of what the one before came to. At the
-    /// script's end it tells how it ended.
-    fn next_least<R: Threads + Wait + Sync, G: Gate>(
+/// A session that writes nothing, and what the last minimize came to. Its questions are answered by what is handed in.
+#[derive(Drop)]
+struct Seeking<'a, D> {
+    session: Session<'a>,
+    least: Option<Minimum>,
+    ask: D,
+}
+
+impl<'a, D: Fn(&mut Session<'a>, Question) -> Result<Piece, AllocError>> Visitor<()>
+    for Seeking<'a, D> {
+    ghost use Rattle.dtp_session.specs.code.Sessions.{IsStart};
+    ghost use Rattle.dtp_session.specs.code.Answering.{IsWalkedOn};
+    ghost use Rattle.dtp_session.specs.code.Leading.{IsSeeking};
+    ghost use Rattle.dtp_session.specs.Leasts.{IsLeastOf};
+
+    type End = Option<Minimum>;
+
+    type Fault = AllocError;
+
+    ghost starts = { λ s _. IsStart s.session × (s.session.report ≡ Verdicts) × (s.least ≡ None)
+        × IsAsker (TakesAt D.Fn s.ask) (GivesAt D.Fn s.ask) };
+
+    ghost so_far = { λ first _ now _. IsSeeking first.session now.session now.least
+        × IsAsker (TakesAt D.Fn now.ask) (GivesAt D.Fn now.ask) };
+
+    ghost comes = { λ before now event. IsWalkedOn before.session now.session event × (now.least ≡ before.least)
+        × (now.ask ≡ before.ask) };
+
+    ghost ends = { λ first _ _ _ least. IsLeastOf first.session.walk.lexer.bytes least };
+
+    ghost breaks = { λ _ _ _ _ _. Unit {0} };
+
+    ghost left = { λ s. length s.session.walk.lexer.bytes - s.session.walk.lexer.place };
+
+    fn begin(&mut self, _lent: &mut ()) -> Result<(), AllocError> {
+        Ok(())
+    }
+
+    fn next(&mut self) -> Result<Event, AllocError> {
+        self.session.walk.next()
+    }
+
+    fn told(&mut self, _lent: &mut (), id: SexprId, notice: Notice) -> Result<(), AllocError> {
+        smt_script::mode_law();
+        self.session.tell(id, notice)?;
+        Ok(())
+    }
+
+    fn asked(
         &mut self,
-        rt: &R,
-        gate: &G,
-        least: &mut Option<Minimum>,
-    ) -> Result<Option<Solved>, AllocError>
-        requires { IsReady self.old }
-        ensures next { IfOk result (λ end. (s : Meaning) → Holds self.old s
-            → IsNextLeast self.old self.new s least.old least.new end) }
-        ensures ready { IfOk result (λ end. end ≡ None → IsWalkReady self.new.walk) }
-        ensures forward { IfOk result (λ end. end ≡ None → self.old.walk.lexer.place < self.new.walk.lexer.place) }
-        ensures keeps { KeepsScript self.old self.new }
-    {
+        _lent: &mut (),
+        _id: SexprId,
+        question: Question,
+    ) -> Result<Option<Option<Minimum>>, AllocError> {
         smt_script::mode_law();
         smt_script::objective_law();
-        match self.walk.next()? {
-            Event::Told(id, notice) => {
-                self.tell(id, notice)?;
+        let piece = ask_by(&mut self.session, &self.ask, question)?;
+        match (piece, question) {
+            (Piece::Error(_), _) => Ok(Some(None)),
+            (_, Question::CheckSat) => Ok(None),
+            (_, Question::Minimize(_)) => {
+                self.least = self.session.minimum()?;
                 Ok(None)
             }
-            Event::Asked(_, question) => {
-                let piece = self.ask(rt, gate, question)?;
-                match (piece, question) {
-                    (Piece::Error(_), _) => return Ok(Some(Solved::ScriptStopped)),
-                    (_, Question::CheckSat) => {}
-                    (_, Question::Minimize(_)) => *least = self.minimum()?,
-                }
-                Ok(None)
-            }
-            Event::Ended => Ok(Some(Solved::Done)),
-            Event::Failed(_) => Ok(Some(Solved::ScriptStopped)),
         }
     }
 
-    /// Answers the script's commands without writing anything.
-    fn least<R: Threads + Wait + Sync, G: Gate>(
-        &mut self,
-        rt: &R,
-        gate: &G,
-    ) -> Result<Option<Minimum>, AllocError>
-        requires start { IsStart self.old }
-        requires report { self.old.report ≡ Verdicts }
-        ensures { IfOk result (IsLeastOf self.old.walk.lexer.bytes) }
-    {
-        let mut least = None;
-        'commands: loop {
-            match self.next_least(rt, gate, &mut least)? {
-                Some(Solved::Done) => return Ok(least),
-                Some(Solved::ScriptStopped) => return Ok(None),
-                None => {}
-            }
-        }
+    fn ended(&mut self, _lent: &mut ()) -> Result<Option<Minimum>, AllocError> {
+        Ok(self.least.take())
+    }
+
+    fn failed(&mut self, _lent: &mut (), _kind: Kind) -> Result<Option<Minimum>, AllocError> {
+        Ok(None)
     }
 }
 
@@ -107,6 +128,13 @@ pub fn least_of<R: Threads + Wait + Sync, G: Gate>(
 ) -> Result<Option<Minimum>, AllocError>
     ensures { IfOk result (IsLeastOf bytes.now) }
 {
-    let mut session = Session::new(alloc, bytes, Report::Verdicts, options);
-    session.least(rt, gate)
+    let mut seeking = Seeking {
+        session: Session::new(alloc, bytes, Report::Verdicts, options),
+        least: None,
+        ask: |session: &mut Session<'_>, question: Question|
+            requires { MayAsk session.old question }
+            ensures { Answers session.old question result session.new }
+        { session.ask(rt, gate, question) },
+    };
+    go_through(&mut seeking, &mut ())
 }

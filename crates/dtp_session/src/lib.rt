@@ -27,6 +27,7 @@ mod shown_items;
 mod solve;
 mod waiting;
 mod wanted;
+mod writing;
 
 pub use dtp_entry::{Report, SessionError};
 pub use least::{Minimum, least_of};

@@ -21,7 +21,7 @@ use best_values::question;
 use cert_text::Entry;
 use clause_form::restrict;
 use kept_schedule::KeptSchedule;
-use learned_lemmas::Taken;
+use learned_lemmas::TakenOver;
 use refute_tree::{Batch, Refutation};
 use smt_script::{Objective, State};
 use std::alloc::{AllocError, Global};
@@ -77,8 +77,8 @@ fn search<R: Threads + Wait + Sync, G: Gate>(
     ensures { IfOk result (IsBestAnswer problem.now objective.x objective.y) }
 {
     match earlier.taken(alloc, problem)? {
-        Taken::Refutes(refutation) => Ok(Best::Nothing(refutation)),
-        Taken::Opens(opening) => {
+        TakenOver::Refutes(refutation) => Ok(Best::Nothing(refutation)),
+        TakenOver::Opens(opening) => {
             let phases = phases_of(alloc, kept)?;
             search_from(
                 rt, alloc, problem, objective, opening, &phases, options, gate,

@@ -1,12 +1,10 @@
-//! A script that is being answered: the loop of the program.
-ghost use Rattle.std.specs.Prelude.{◌≡◌, ◌≢◌, ◌≤◌, ◌<◌, ◌-◌, ◌^◌, List, false, IsTrue, IfOk, IfSome, OnOk, OnErr, Err, None};
-ghost use Rattle.dtp_io.specs.Faults.{Rose};
+//! A script that is being answered: how its questions are.
+ghost use Rattle.std.specs.Prelude.{◌≡◌, ◌≢◌, ◌<◌, ◌-◌, ◌^◌, List, false, IsTrue, IfOk, IfSome, OnOk, None};
 ghost use Rattle.smt_sexpr.specs.Tree.{Sexpr};
 ghost use Rattle.smt_script.specs.States.{State as Meaning};
 ghost use Rattle.smt_script.specs.declared.state.Mode.TheVariants as mode;
 ghost use Rattle.smt_script.specs.declared.state.Question.{Question as Asked};
 ghost use Rattle.smt_script.specs.declared.state.Question.TheVariants as asked;
-ghost use Rattle.script_walk.specs.code.Events.{IsReady as IsWalkReady};
 ghost use Rattle.script_walk.specs.code.Standing.{Stands};
 ghost use Rattle.refute_tree.specs.declared.lemma.Lemma.{Lemma};
 ghost use Rattle.cert_text.specs.declared.entry.Entry.TheVariants.{Unsat};
@@ -14,11 +12,8 @@ ghost use Rattle.cert_text.specs.declared.entry.Version.TheVariants.{Two};
 ghost use Rattle.stn_core.specs.Named.{AreWithinLimit};
 ghost use Rattle.dtp_entry.specs.Bests.{Satisfies};
 ghost use Rattle.dtp_entry.specs.Reports.{version_of};
-ghost use Rattle.dtp_entry.specs.Transcripts.{IsReport, IsReportPart};
-ghost use Rattle.dtp_entry.specs.Written.{Writes};
 ghost use Rattle.dtp_session.specs.code.Decisions.{IsTaken};
-ghost use Rattle.dtp_session.specs.code.Sessions.{Holds, IsReady, IsStart, IsAskedIn, AreCitedIn, KeepsPlace, KeepsScript, IsChecked, IsAnswered, IsGoing, IsNext};
-ghost use Rattle.dtp_session.specs.Ends.{status_of};
+ghost use Rattle.dtp_session.specs.code.Sessions.{Holds, IsStart, IsAskedIn, AreCitedIn, KeepsPlace, IsChecked, IsAnswered};
 ghost use Rattle.dtp_session.specs.code.Forms.{version_wanted};
 ghost use Rattle.dtp_session.specs.code.Keeping.{IsLastOf};
 
@@ -31,12 +26,11 @@ use crate::shown::Shown;
 use crate::shown_items::ShownItems;
 use crate::wanted::{LastWords, Wanted};
 use cert_text::{Entry, Version};
-use dtp_entry::{Report, SessionError, problem};
-use dtp_io::Sink;
+use dtp_entry::{Report, problem};
 use idl_term::context_law;
 use kept_lemmas::Kept;
 use kept_schedule::KeptSchedule;
-use script_walk::{Event, Walk, refusal_of};
+use script_walk::{Walk, refusal_of};
 use smt_script::{Mode, Question, Satisfiability};
 use std::alloc::{AllocError, Global};
 use std::sync::Wait;
@@ -114,65 +108,6 @@ impl<'a> Session<'a> {
             last: None,
             cited: Vec::new(alloc),
             text: Vec::new(alloc),
-        }
-    }
-
-    /// Writes the report of the script: what opens it, the commands' answers in order, and what closes it or the line of
-    /// the first error. Each piece goes out by a write of its own.
-    pub fn answer<R: Threads + Wait + Sync, K: Sink, G: Gate>(
-        &mut self,
-        rt: &R,
-        sink: &mut K,
-        gate: &G,
-    ) -> Result<Solved, SessionError>
-        requires { IsStart self.old }
-        ensures whole { IfOk result (λ end. Writes (K.holds sink.old) (K.holds sink.new)
-            (λ added. IsReport self.old.report self.old.walk.lexer.bytes added (status_of end))) }
-        ensures part { OnErr result (Writes (K.holds sink.old) (K.holds sink.new)
-            (IsReportPart self.old.report self.old.walk.lexer.bytes)) }
-        ensures fault { result ≡ Err SessionError.WriteFault → Rose (K.faults sink.old) (K.faults sink.new) }
-        ensures quiet { result ≢ Err SessionError.WriteFault → K.faults sink.new ≡ K.faults sink.old }
-        ensures later { K.faults sink.old ≤ K.faults sink.new }
-    {
-        self.write(Piece::Opening, sink)?;
-        'commands: loop {
-            let piece = self.next_piece(rt, gate)?;
-            self.write(piece, sink)?;
-            match piece {
-                Piece::Closing => return Ok(Solved::Done),
-                Piece::Error(_) => return Ok(Solved::ScriptStopped),
-                _ => {}
-            }
-        }
-    }
-
-    /// Goes on to the next event, and gives the piece that answers it.
-    fn next_piece<R: Threads + Wait + Sync, G: Gate>(
-        &mut self,
-        rt: &R,
-        gate: &G,
-    ) -> Result<Piece, AllocError>
-        requires { IsReady self.old }
-        ensures next { IfOk result (λ piece. (s : Meaning) → Holds self.old s
-            → IsNext self.old self.new s piece) }
-        ensures ready { IfOk result (λ piece. IsGoing piece → IsWalkReady self.new.walk) }
-        ensures forward { IfOk result (λ piece. IsGoing piece
-            → self.old.walk.lexer.place < self.new.walk.lexer.place) }
-        ensures keeps { KeepsScript self.old self.new }
-    {
-        smt_script::mode_law();
-        smt_script::objective_law();
-        match self.walk.next()? {
-            Event::Told(id, notice) => {
-                let piece = self.tell(id, notice)?;
-                Ok(piece)
-            }
-            Event::Asked(_, question) => {
-                let piece = self.ask(rt, gate, question)?;
-                Ok(piece)
-            }
-            Event::Ended => Ok(Piece::Closing),
-            Event::Failed(kind) => Ok(Piece::Error(kind)),
         }
     }
 

@@ -1,12 +1,16 @@
 //! The calls that decide a script.
 ghost use Rattle.dtp_entry.specs.declared.report.Report.TheVariants.{Verdicts, Certificate};
 ghost use Rattle.dtp_session.specs.Solving.{IsSolved};
+ghost use Rattle.dtp_session.specs.code.Asking.{MayAsk, Answers};
 
 use crate::options::SearchOptions;
 use crate::session::{Session, Solved};
+use crate::writing::Writing;
 use cert_text::Version;
 use dtp_entry::{Report, SessionError};
 use dtp_io::Sink;
+use script_walk::go_through;
+use smt_script::Question;
 use std::alloc::Global;
 use std::sync::Wait;
 use std::thread::Threads;
@@ -25,8 +29,14 @@ fn write_report<R: Threads + Wait + Sync, K: Sink, G: Gate>(
     ensures solved { IsSolved report bytes.now (K.holds sink.old) (K.holds sink.new)
         (K.faults sink.old) (K.faults sink.new) result }
 {
-    let mut session = Session::new(alloc, bytes, report, options);
-    session.answer(rt, sink, gate)
+    let mut writing = Writing {
+        session: Session::new(alloc, bytes, report, options),
+        ask: |session: &mut Session<'_>, question: Question|
+            requires { MayAsk session.old question }
+            ensures { Answers session.old question result session.new }
+        { session.ask(rt, gate, question) },
+    };
+    go_through(&mut writing, sink)
 }
 
 /// Writes the transcript of a script: the answers to its commands in order, each a line, up to the end, to `(exit)` or

@@ -20,7 +20,7 @@ const LONGEST: usize = 4_096;
 
 /// What a problem takes over of an earlier one's refutation.
 #[derive(Drop)]
-pub enum Taken {
+pub enum TakenOver {
     /// All of it: the problem has the clauses that it rests on, and so no solution.
     Refutes(Refutation),
     /// Lemmas for the problem's search to open with, perhaps none.
@@ -97,16 +97,16 @@ impl Learned {
         alloc: Global,
         problem: &Problem,
         choice: Choice,
-    ) -> Result<Taken, AllocError>
+    ) -> Result<TakenOver, AllocError>
         ensures { IfOk result (IsTakenOver problem.now) }
     {
         let batch = carry(alloc, &self.problem, self.lemmas.as_slice(), problem)?;
         if refutes(batch.lemmas()) {
-            return Ok(Taken::Refutes(Refutation::new(batch.into_lemmas())));
+            return Ok(TakenOver::Refutes(Refutation::new(batch.into_lemmas())));
         }
         let wanted = wanted(alloc, batch.lemmas(), choice)?;
         let left = trimmed_batch(alloc, batch, wanted)?;
         let TrimmedBatch { batch, needed: _ } = left;
-        Ok(Taken::Opens(batch))
+        Ok(TakenOver::Opens(batch))
     }
 }

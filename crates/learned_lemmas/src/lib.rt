@@ -9,4 +9,4 @@ mod choice;
 mod learned;
 
 pub use choice::Choice;
-pub use learned::{Learned, Taken};
+pub use learned::{Learned, TakenOver};

@@ -1,31 +1,21 @@
 -- Where a walk without answers leads.
-use Rattle.std.proofs.Common.{arith, refl, sym, subst, ◌≡◌, ◌∙◌, ◌≤◌, ◌+◌, length, ℕ, List, [], ◌∷◌, Option, Some, None}
+use Rattle.std.proofs.Common.{arith, refl, subst, ◌≡◌, ◌∙◌, ℕ, List, [], ◌∷◌, Option, Some, None}
 use Rattle.smt_script.specs.declared.state.Notice.{Notice}
 use Rattle.smt_script.specs.declared.state.Question.{Question}
 use Rattle.smt_script.specs.declared.state.Satisfiability.{Satisfiability}
-use Rattle.smt_script.specs.States.{State, start_state}
+use Rattle.smt_script.specs.States.{start_state}
 use Rattle.smt_answer.specs.declared.kind.Kind.{Kind}
 use Rattle.script_walk.specs.Questions.{refusal_of}
-use Rattle.script_walk.specs.Course.{Place, start_with, Turn, tells, asks, ends, fails, turn, behind_told, IsCourseOf}
-use Rattle.script_walk.specs.code.Events.{IsStart, IsReady, IsEvent}
-use Rattle.script_walk.specs.code.Standing.{Stands}
-use Rattle.script_walk.specs.declared.walk.Event.{Event}
+use Rattle.script_walk.specs.Course.{start_with, tells, asks, ends, fails, turn, behind_told, IsCourseOf}
+use Rattle.script_walk.specs.code.Events.{IsStart, IsReady, IsEvent, IsNextEvent}
 use Rattle.script_walk.specs.declared.walk.Event.TheVariants.{Told, Asked, Ended, Failed}
 use Rattle.script_walk.specs.declared.walk.Walk.{Walk}
 use Rattle.script_walk.proofs.Turns.{told_from, unanswered_from, barred_from, ends_with, fails_with}
-use Rattle.script_counts.specs.Counting.{IsLast, last_state}
-use Rattle.script_counts.specs.code.Walking.{Leads}
+use Rattle.script_counts.specs.Counting.{IsLast}
+use Rattle.script_counts.specs.code.Walking.{IsSoFar, IsBetween, Leads}
 
 abbrev says : Satisfiability → Satisfiability
 says verdict = verdict
-
--- what the course from here on ends in is what the script ends in
-pub record IsSoFar (script : List ℕ) (w : Walk) : Type 0 where
-  pub here : Place Satisfiability
-  pub none : here.left ≡ []
-  pub stands : Stands w.state here.state
-  pub leads : (turns : List (Turn Satisfiability)) → IsCourseOf says w.lexer.bytes w.lexer.place here turns
-      → (last : State) → last_state turns ≡ Some last → IsLast script last
 
 pub ready_at_start : (w : Walk) → IsStart w → IsReady w
 ready_at_start w start =
@@ -53,9 +43,6 @@ so_far_starts w start = record {
 }
 
 module _ (script : List ℕ) (v w : Walk) (h : IsSoFar script v) where
-  pub event_as : (event other : Event) → event ≡ other → IsEvent v w h.here.state event → IsEvent v w h.here.state other
-  event_as event other e is = subst (λ (f : Event). IsEvent v w h.here.state f) e is
-
   pub so_far_goes : (id : ℕ) (notice : Notice) → IsEvent v w h.here.state (Told id notice) → w.lexer.bytes ≡ v.lexer.bytes → IsSoFar script w
   so_far_goes id notice event bytes =
       let to = event.carries.1 in record {
@@ -98,3 +85,25 @@ module _ (script : List ℕ) (v w : Walk) (h : IsSoFar script v) where
   failed_leads kind event =
       let end = fails_with says v w h.here h.stands kind event in
       record { last = end.last; stands = end.stands; is = h.leads (turn h.here end.last (fails kind) ∷ []) end.is end.last refl }
+
+-- ---- between two events
+
+pub between_at_start : (w : Walk) → IsStart w → IsBetween w w
+between_at_start w start = record { ready = ready_at_start w start; bytes = refl; so_far = so_far_starts w start }
+
+module _ (first v w : Walk) (h : IsBetween first v) where
+  pub told_between : (id : ℕ) (notice : Notice) → IsNextEvent v w (Told id notice) → IsBetween first w
+  told_between id notice next = record {
+    ready = next.ready tt;
+    bytes = next.bytes ∙ h.bytes;
+    so_far = so_far_goes first.lexer.bytes v w h.so_far id notice (next.is h.so_far.here.state h.so_far.stands) next.bytes;
+  }
+
+  pub asked_between : (id : ℕ) (question : Question) → IsNextEvent v w (Asked id question) → Leads first.lexer.bytes w
+  asked_between id question next = asked_leads first.lexer.bytes v w h.so_far id question (next.is h.so_far.here.state h.so_far.stands)
+
+  pub ended_between : IsNextEvent v w Ended → Leads first.lexer.bytes w
+  ended_between next = ended_leads first.lexer.bytes v w h.so_far (next.is h.so_far.here.state h.so_far.stands)
+
+  pub failed_between : (kind : Kind) → IsNextEvent v w (Failed kind) → Leads first.lexer.bytes w
+  failed_between kind next = failed_leads first.lexer.bytes v w h.so_far kind (next.is h.so_far.here.state h.so_far.stands)

@@ -1,11 +1,12 @@
 //! Counts a script's names and clauses. No question is answered for it.
-ghost use Rattle.std.specs.Prelude.{IfOk, OnOk};
-ghost use Rattle.script_walk.specs.code.Events.{IsStart};
+ghost use Rattle.std.specs.Prelude.{IfOk};
 ghost use Rattle.script_counts.specs.Counting.{AreCounts};
-ghost use Rattle.script_counts.specs.code.Walking.{Leads};
 
 use dtp_entry::problem;
-use script_walk::{Event, Walk};
+use script_walk::{Event, Visitor, Walk, go_through};
+use smt_answer::Kind;
+use smt_script::{Notice, Question};
+use smt_sexpr::SexprId;
 use std::alloc::{AllocError, Global};
 
 /// How much there is before the first verdict is asked for.
@@ -17,18 +18,60 @@ pub struct ScriptCounts {
     pub clauses: u64,
 }
 
-/// Walks up to the first question, or to where the script ends before it.
-fn walk_on(walk: &mut Walk) -> Result<(), AllocError>
-    requires { IsStart walk.old }
-    ensures { OnOk result (Leads walk.old.lexer.bytes walk.new) }
-{
-    'events: loop {
-        match walk.next()? {
-            Event::Told(_, _) => {}
-            Event::Asked(_, _) => return Ok(()),
-            Event::Ended => return Ok(()),
-            Event::Failed(_) => return Ok(()),
-        }
+/// Goes up to the first question, or to where the script ends before it.
+#[derive(Drop)]
+struct Counting<'a> {
+    walk: Walk<'a>,
+}
+
+impl<'a> Visitor<()> for Counting<'a> {
+    ghost use Rattle.std.specs.Prelude.{◌-◌, length};
+    ghost use Rattle.script_walk.specs.code.Events.{IsStart, IsNextEvent};
+    ghost use Rattle.script_counts.specs.code.Walking.{IsBetween, Leads};
+
+    type End = ();
+
+    type Fault = AllocError;
+
+    ghost starts = { λ c _. IsStart c.walk };
+
+    ghost so_far = { λ first _ now _. IsBetween first.walk now.walk };
+
+    ghost comes = { λ before now event. IsNextEvent before.walk now.walk event };
+
+    ghost ends = { λ first _ now _ _. Leads first.walk.lexer.bytes now.walk };
+
+    ghost breaks = { λ _ _ _ _ _. Unit {0} };
+
+    ghost left = { λ c. length c.walk.lexer.bytes - c.walk.lexer.place };
+
+    fn begin(&mut self, _lent: &mut ()) -> Result<(), AllocError> {
+        Ok(())
+    }
+
+    fn next(&mut self) -> Result<Event, AllocError> {
+        self.walk.next()
+    }
+
+    fn told(&mut self, _lent: &mut (), _id: SexprId, _notice: Notice) -> Result<(), AllocError> {
+        Ok(())
+    }
+
+    fn asked(
+        &mut self,
+        _lent: &mut (),
+        _id: SexprId,
+        _question: Question,
+    ) -> Result<Option<()>, AllocError> {
+        Ok(Some(()))
+    }
+
+    fn ended(&mut self, _lent: &mut ()) -> Result<(), AllocError> {
+        Ok(())
+    }
+
+    fn failed(&mut self, _lent: &mut (), _kind: Kind) -> Result<(), AllocError> {
+        Ok(())
     }
 }
 
@@ -39,11 +82,13 @@ fn walk_on(walk: &mut Walk) -> Result<(), AllocError>
 pub fn counts(alloc: Global, script: &[u8]) -> Result<ScriptCounts, AllocError>
     ensures { IfOk result (AreCounts script.now) }
 {
-    let mut walk = Walk::new(alloc, script);
-    walk_on(&mut walk)?;
-    let problem = problem(alloc, &walk.state)?;
+    let mut counting = Counting {
+        walk: Walk::new(alloc, script),
+    };
+    go_through(&mut counting, &mut ())?;
+    let problem = problem(alloc, &counting.walk.state)?;
     Ok(ScriptCounts {
-        names: walk.state.names().len() as u64,
+        names: counting.walk.state.names().len() as u64,
         clauses: problem.clauses.as_slice().len() as u64,
     })
 }

@@ -18,7 +18,8 @@ use Rattle.dtp_check.specs.Whole.{IsWhole, IsWholeFrom}
 use Rattle.dtp_check.proofs.Judging.{not_exit, told_apart, ask_apart}
 use Rattle.job_shop.specs.Scripts.{exit}
 use Rattle.script_law.specs.Laws.{CertificateIsAccepted}
-use Rattle.script_law.specs.Told.{step_of, Tells}
+use Rattle.script_law.specs.Told.{step_of}
+use Rattle.script_law.proofs.Leading.{Leads, leads_of}
 use Rattle.script_law.proofs.Reading.{script_back}
 use Rattle.script_law.proofs.Decided.{decided}
 
@@ -44,7 +45,7 @@ module _ (bytes : List ℕ) where
         let there : IsClosedGap (drop later bytes) = subst (λ (k : ℕ). IsClosedGap (drop k bytes)) (sym at) closed in
         (mid, asked, goes_on ask mid (exit ∷ []) asks_on (later, exits, ends exit later [] exit_ends refl there))
 
-    whole : (done : List Sexpr) (s t : State) → Tells s done t → (place : ℕ) → Commands bytes place (done ++ (ask ∷ exit ∷ [])) here → IsWholeFrom bytes place (done ++ (ask ∷ exit ∷ []))
+    whole : (done : List Sexpr) (s t : State) → Leads s done t → (place : ℕ) → Commands bytes place (done ++ (ask ∷ exit ∷ [])) here → IsWholeFrom bytes place (done ++ (ask ∷ exit ∷ []))
     whole [] s t tells place reads = whole_end place reads
     whole (x ∷ done) s t (next, notice, e, tells) place (mid, spells, reads) =
         (mid, spells, goes_on x mid (done ++ (ask ∷ exit ∷ [])) (not_exit only s x (step_of next (Tell notice)) e (told_apart notice)) (whole done next t tells mid reads))
@@ -54,7 +55,7 @@ accepted back one only law script done ask question t once version certificate s
     let mine = script_back back script done ask once.text once.lines in
     let closed : IsClosedGap (drop mine.here script) = subst IsClosedGap (sym mine.left) line_feed in
     let on : is_exit ask ≡ false = not_exit only t ask (step_of t (Ask question)) once.asks (ask_apart question) in
-    let is_whole : IsWhole script = (done ++ (ask ∷ exit ∷ []), whole script only mine.here closed ask on done start_state t once.tells 0 mine.reads) in
+    let is_whole : IsWhole script = (done ++ (ask ∷ exit ∷ []), whole script only mine.here closed ask on done start_state t (leads_of done start_state t once.tells) 0 mine.reads) in
     let well = decided back one script done ask question t once (Certificate version) (record { text = certificate; found = found; status = status }) output in
     let report : IsReport (Certificate version) script certificate 0 = subst (λ (n : ℕ). IsReport (Certificate version) script certificate n) well.status (found, output) in
     law version script certificate report is_whole

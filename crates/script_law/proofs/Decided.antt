@@ -5,7 +5,7 @@ use Rattle.smt_sexpr.specs.Tree.{Sexpr}
 use Rattle.smt_sexpr.specs.Laws.{OneOutcome, SexprReadsBack}
 use Rattle.cert_text.specs.declared.entry.Entry.{Entry}
 use Rattle.smt_script.specs.declared.state.Question.{Question}
-use Rattle.smt_script.specs.States.{State}
+use Rattle.smt_script.specs.States.{State, start_state}
 use Rattle.script_walk.specs.Course.{start_with, Turn, turn, answers, last_of, status_at, status_of}
 use Rattle.dtp_entry.specs.declared.report.Report.{Report}
 use Rattle.dtp_entry.specs.Entries.{verdict_of}
@@ -13,6 +13,7 @@ use Rattle.dtp_entry.specs.Reports.{version_of}
 use Rattle.dtp_entry.specs.Transcripts.{Output, IsOutput, IsLegal, Decides}
 use Rattle.script_law.specs.Laws.{IsDecided, OneQuestionIsDecided}
 use Rattle.script_law.specs.Told.{AsksOnce}
+use Rattle.script_law.proofs.Leading.{leads_of}
 use Rattle.script_law.proofs.Lists.{all_back}
 use Rattle.script_law.proofs.Reading.{script_back}
 use Rattle.script_law.proofs.Ending.{IsOver, IsAnswered, ends_asked, ends_answered}
@@ -47,11 +48,11 @@ module _ (back : SexprReadsBack) (one : OneOutcome) (script : List ℕ) (done : 
   decided_by : (found : List Entry) → out.found ≡ found → IsDecided report ask question t.context out
   decided_by [] e =
       let mine = script_back back script done ask once.text once.lines in
-      let last = ends_asked verdict_of ask question t once.asks once.taken one script done mine.here (start_with out.found) once.tells mine.reads h.turns h.are.are (some_status h.turns out.status h.over) e in
+      let last = ends_asked verdict_of ask question t once.asks once.taken one script done mine.here (start_with out.found) (leads_of done start_state t once.tells) mine.reads h.turns h.are.are (some_status h.turns out.status h.over) e in
       absurd (no_answer h.turns out.status h.over last.3)
   decided_by (a ∷ left) e =
       let mine = script_back back script done ask once.text once.lines in
-      let w = ends_answered verdict_of ask question t once.asks once.taken one script done mine.here (start_with out.found) once.tells mine.reads h.turns h.are.are (some_status h.turns out.status h.over) a left e in
+      let w = ends_answered verdict_of ask question t once.asks once.taken one script done mine.here (start_with out.found) (leads_of done start_state t once.tells) mine.reads h.turns h.are.are (some_status h.turns out.status h.over) a left e in
       record { status = same_status out.status 0 (sym h.over ∙ w.status); entry = a; found = sym h.used ∙ w.used; decides = decides a w }
 
 pub decided : SexprReadsBack → OneOutcome → OneQuestionIsDecided

@@ -17,7 +17,8 @@ use Rattle.script_walk.specs.Questions.{refusal_of}
 use Rattle.script_walk.specs.Course.{Place, Turn, turn, tells, answers, asks, ends, behind_told, behind_answer, asked, taken, by_effect, by_command, last_turn, course, IsCourseOf, last_of, status_at, status_of, answers_of}
 use Rattle.script_walk.proofs.Turns.{told_turn, answered_turn, unanswered_turn, exit_turn}
 use Rattle.job_shop.specs.Scripts.{exit}
-use Rattle.script_law.specs.Told.{step_of, Tells}
+use Rattle.script_law.specs.Told.{step_of}
+use Rattle.script_law.proofs.Leading.{Leads}
 
 pub after_exit : (s : State) → after s exit ≡ Ok (step_of s Exit)
 unfolding after command_of naming_command changing_command asking_command
@@ -98,7 +99,7 @@ module _ {A : Type 0} (says : A → Satisfiability) where
     last : last_of (course says p (done ++ ys) ending) ≡ last_of (course says q ys ending)
     answered : answers_of (course says p (done ++ ys) ending) ≡ answers_of (course says q ys ending)
 
-  told_course : (done ys : List Sexpr) (ending : Ending) (p : Place A) (t : State) → Tells p.state done t → IsTold p done ys ending t
+  told_course : (done ys : List Sexpr) (ending : Ending) (p : Place A) (t : State) → Leads p.state done t → IsTold p done ys ending t
   told_course [] ys ending p t e = record { q = p; state = e; left = refl; front = []; whole = refl; last = refl; answered = refl }
   told_course (x ∷ done) ys ending p t (next, notice, e, leading) =
       let w = told_course done ys ending (behind_told p next) t leading in
@@ -147,7 +148,7 @@ module _ {A : Type 0} (says : A → Satisfiability) where
       pub among : turns ≡ front ++ (turn q q.state (answers question ask a) ∷ behind)
 
     -- the course of a text of tells, the question and an exit
-    module _ (one : OneOutcome) (bytes : List ℕ) (done : List Sexpr) (there : ℕ) (p : Place A) (leading : Tells p.state done t) (reads : Commands bytes 0 (done ++ (ask ∷ exit ∷ [])) there) (turns : List (Turn A)) (are : IsCourseOf says bytes 0 p turns) (over : IsOver turns) where
+    module _ (one : OneOutcome) (bytes : List ℕ) (done : List Sexpr) (there : ℕ) (p : Place A) (leading : Leads p.state done t) (reads : Commands bytes 0 (done ++ (ask ∷ exit ∷ [])) there) (turns : List (Turn A)) (are : IsCourseOf says bytes 0 p turns) (over : IsOver turns) where
       is_mine : IsOver (course says p (done ++ (ask ∷ exit ∷ [])) stopped) → turns ≡ course says p (done ++ (ask ∷ exit ∷ [])) stopped
       is_mine mine = are.are ∙ one_course one bytes (done ++ (ask ∷ exit ∷ [])) are.commands 0 there are.behind are.ending p reads are.reads are.ends (subst IsOver are.are over) mine
 

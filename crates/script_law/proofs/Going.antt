@@ -7,19 +7,20 @@ use Rattle.smt_script.specs.declared.state.Effect.TheVariants.{Tell}
 use Rattle.smt_script.specs.declared.state.Notice.{Notice}
 use Rattle.smt_script.specs.States.{State, after}
 use Rattle.job_shop.specs.Scripts.{each}
-use Rattle.script_law.specs.Told.{step_of, Tells}
+use Rattle.script_law.specs.Told.{step_of}
+use Rattle.script_law.proofs.Leading.{Leads}
 
-pub tells_append : (xs ys : List Sexpr) (s t u : State) → Tells s xs t → Tells t ys u → Tells s (xs ++ ys) u
-tells_append [] ys s t u h k = subst (λ (v : State). Tells v ys u) (sym h) k
+pub tells_append : (xs ys : List Sexpr) (s t u : State) → Leads s xs t → Leads t ys u → Leads s (xs ++ ys) u
+tells_append [] ys s t u h k = subst (λ (v : State). Leads v ys u) (sym h) k
 tells_append (x ∷ xs) ys s t u (next, notice, e, h) k = (next, notice, e, tells_append xs ys next t u h k)
 
-pub tells_one : (x : Sexpr) (s t : State) (notice : Notice) → after s x ≡ Ok (step_of t (Tell notice)) → Tells s (x ∷ []) t
+pub tells_one : (x : Sexpr) (s t : State) (notice : Notice) → after s x ≡ Ok (step_of t (Tell notice)) → Leads s (x ∷ []) t
 tells_one x s t notice e = (t, notice, e, refl)
 
 -- the commands are told of, and lead to a state of which this holds
 pub record Goes (s : State) (xs : List Sexpr) (P : State → Type 0) : Type 0 where
   pub t : State
-  pub tells : Tells s xs t
+  pub tells : Leads s xs t
   pub holds : P t
 
 pub goes_append : (s : State) (xs ys : List Sexpr) (P Q : State → Type 0) → Goes s xs P → ((t : State) → P t → Goes t ys Q) → Goes s (xs ++ ys) Q

@@ -1,3 +1,4 @@
+pub mod Leading
 pub mod Lists
 pub mod Reading
 pub mod Ending

@@ -1,3 +1,4 @@
 -- Words of the code alone, which contracts of the code's own calls cite: no part of the meaning.
 pub mod Events
 pub mod Standing
+pub mod Visiting

@@ -1,9 +1,9 @@
 //! A script that is walked through, command by command.
-ghost use Rattle.std.specs.Prelude.{◌≡◌, ◌<◌, ◌≤◌, ◌+◌, ◌-◌, ◌^◌, IfOk};
+ghost use Rattle.std.specs.Prelude.{◌≡◌, ◌<◌, ◌+◌, ◌-◌, ◌^◌, IfOk};
 ghost use Rattle.smt_sexpr.specs.Tree.{Sexpr};
 ghost use Rattle.smt_sexpr.specs.Table.{Means, HasMeaning};
-ghost use Rattle.smt_script.specs.States.{State as Meaning, start_state, settled};
-ghost use Rattle.script_walk.specs.code.Events.{IsStart, IsReady, Carries, IsEvent, GoesOn, Asks};
+ghost use Rattle.smt_script.specs.States.{State as Meaning, settled};
+ghost use Rattle.script_walk.specs.code.Events.{IsStart, IsReady, Carries, IsNextEvent};
 ghost use Rattle.script_walk.specs.code.Standing.{Stands};
 
 use crate::kind::kind_of;
@@ -95,12 +95,7 @@ impl<'a> Walk<'a> {
     /// Reads the next command and carries it out.
     pub fn next(&mut self) -> Result<Event, AllocError>
         requires { IsReady self.old }
-        ensures event { IfOk result (λ event. (s : Meaning) → Stands self.old.state s
-            → IsEvent self.old self.new s event) }
-        ensures ready { IfOk result (λ event. GoesOn event → IsReady self.new) }
-        ensures counted { IfOk result (λ event. Asks event → self.new.number ≤ self.new.lexer.place) }
-        ensures forward { IfOk result (λ event. GoesOn event → self.old.lexer.place < self.new.lexer.place) }
-        ensures bytes { self.new.lexer.bytes ≡ self.old.lexer.bytes }
+        ensures { IfOk result (IsNextEvent self.old self.new) }
     {
         match read_next(&mut self.sexprs, &mut self.lexer)? {
             Next::Command(id) => {

@@ -14,6 +14,7 @@ use Rattle.script_law.proofs.Going.{Goes}
 use Rattle.script_law.proofs.Lowering.{before_formula}
 use Rattle.script_law.proofs.Orders.{HasPoint, has_point, less_is, more_few, begins_accepted, later_accepted, apart_accepted}
 use Rattle.script_law.proofs.Starts.{name_usual, starts_new, starts_few, start_among}
+use Rattle.script_law.proofs.Leading.{tells_of}
 use Rattle.script_law.proofs.States.{IsUsual, IsReady, AreNew, IsAccepted, scope_with, script_goes}
 use Rattle.shop_law.proofs.Machines.{on_is}
 
@@ -143,4 +144,4 @@ module _ (s : Shop) (is : IsShop s) where
   stands = record { declared = ready.holds.declared; defined = ready.holds.defined; assertions = ready.holds.assertions }
 
 pub state_of_script : StateOfScript
-state_of_script s is = ((ready s is).t, (ready s is).tells, stands s is)
+state_of_script s is = ((ready s is).t, tells_of (commands_before s) start_state (ready s is).t (ready s is).tells, stands s is)

@@ -14,11 +14,12 @@ use Rattle.smt_script.specs.Objectives.{objective, objective_by, minimized_by}
 use Rattle.smt_script.specs.declared.objective.Objective.{Objective}
 use Rattle.smt_script.specs.declared.state.Effect.TheVariants.{Ask}
 use Rattle.smt_script.specs.declared.state.Question.TheVariants.{Minimize}
-use Rattle.smt_script.specs.States.{State, Assumed, after, asking_for, without_assumptions}
+use Rattle.smt_script.specs.States.{State, Assumed, start_state, after, asking_for, without_assumptions}
 use Rattle.script_walk.specs.Questions.{refusal_of}
 use Rattle.job_shop.specs.Shops.{Shop, IsShop}
 use Rattle.job_shop.specs.Scripts.{bound, terms_of, minimize, commands_before, script}
 use Rattle.script_law.specs.Told.{step_of, AsksOnce}
+use Rattle.script_law.proofs.Leading.{tells_of}
 use Rattle.script_law.proofs.Lowering.{near_pos, point_number, point_short, short_difference}
 use Rattle.script_law.proofs.States.{IsReady, ints_length, scope_is, scope_with}
 use Rattle.shop_law.proofs.Accepted.{all_names, few_names, m_point, ready}
@@ -64,7 +65,7 @@ module _ (s : Shop) (is : IsShop s) where
   asks_once = record {
     text = refl;
     lines = lines s is;
-    tells = (ready s is).tells;
+    tells = tells_of (commands_before s) start_state (ready s is).t (ready s is).tells;
     asks = asks_by asked_in (m_point s is).at bound_made holds.alone;
     taken = free;
   }

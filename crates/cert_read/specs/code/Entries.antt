@@ -1,12 +1,12 @@
 -- How the code reads a certificate entry by entry.
 -- These are words of the code's contracts, and no part of the meaning.
-use Rattle.std.specs.Prelude.{◌≡◌, ◌≤◌, ◌<◌, ◌^◌, ℕ, ◌+◌, List, length, All, None}
+use Rattle.std.specs.Prelude.{◌≡◌, ◌≤◌, ◌<◌, ◌^◌, ℕ, ◌+◌, List, length, All, None, IfSome}
 use Rattle.smt_lex.specs.code.Lexing.{Lexing}
 use Rattle.smt_sexpr.specs.Table.{Table}
 use Rattle.kept_lemmas.specs.Entries.{IsOwn}
 use Rattle.cert_text.specs.declared.entry.Version.{Version}
 use Rattle.cert_text.specs.declared.entry.FileEntry.{FileEntry}
-use Rattle.cert_text.specs.declared.entry.FileEntry.TheVariants.{Sat, Unsat, Best, Unbounded}
+use Rattle.cert_text.specs.Form.{items_in}
 use Rattle.cert_read.specs.declared.error.CertificateRefusal.{CertificateRefusal}
 use Rattle.cert_read.specs.Certificates.{CertificateOutcome, certificate, HoldsEntries, RefusesBehind, ReadsEntries}
 
@@ -48,7 +48,4 @@ IsRefusedFrom e why =
 
 -- the entry keeps no lemma
 abbrev pub KeepsNone : FileEntry → Type 0
-KeepsNone (Sat values) = Unit {0}
-KeepsNone (Unsat items) = All IsOwn items
-KeepsNone (Best m values items) = All IsOwn items
-KeepsNone (Unbounded values set) = Unit {0}
+KeepsNone entry = IfSome (items_in entry) (λ items. All IsOwn items)

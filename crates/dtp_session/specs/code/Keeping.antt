@@ -1,6 +1,6 @@
 -- Items in the place of a found entry's lemmas, by version: in the first there are none, and nothing is kept.
 -- These are words of the code's inner contracts, and no part of the meaning.
-use Rattle.std.specs.Prelude.{◌≡◌, ◌≤◌, ◌-◌, ◌⊎◌, ℕ, List, [], ◌∷◌, ◌++◌, length, All, Option, Some, None}
+use Rattle.std.specs.Prelude.{◌≡◌, ◌≤◌, ◌-◌, ◌⊎◌, ℕ, List, [], ◌∷◌, ◌++◌, length, All, Option, Some, None, IfSome}
 use Rattle.std.specs.List.{AllZip}
 use Rattle.stn_core.specs.declared.literal.Literal.{Literal}
 use Rattle.refute_tree.specs.declared.lemma.Lemma.{Lemma}
@@ -14,15 +14,14 @@ use Rattle.lemma_shelf.specs.InPlace.{StandsInPlace}
 use Rattle.cert_text.specs.declared.entry.Version.{Version}
 use Rattle.cert_text.specs.declared.entry.Version.TheVariants.{One, Two}
 use Rattle.cert_text.specs.declared.entry.Entry.{Entry}
-use Rattle.cert_text.specs.declared.entry.Entry.TheVariants.{Sat, Unsat, Best, Unbounded}
-use Rattle.cert_text.specs.Form.{file_entry_sexpr, line_of}
+use Rattle.cert_text.specs.Form.{lemmas_in, file_entry_sexpr, line_of, shown_by}
 use Rattle.cert_text.specs.Limits.{limit}
 use Rattle.idl_term.specs.Contexts.{Context}
 use Rattle.smt_script.specs.declared.state.Question.{Question}
 use Rattle.dtp_entry.specs.declared.report.Report.{Report}
 use Rattle.dtp_entry.specs.declared.report.Report.TheVariants.{Verdicts, Certificate}
-use Rattle.dtp_entry.specs.Entries.{points_of, problem_of, problem_below, AtMinimize}
-use Rattle.dtp_entry.specs.Keeping.{shown_by, IsShownBy}
+use Rattle.dtp_entry.specs.Entries.{points_of, OfRefuted}
+use Rattle.dtp_entry.specs.Keeping.{IsShownBy}
 use Rattle.dtp_entry.specs.Transcripts.{decision_line}
 
 -- the format can name the place, and what an item keeps
@@ -35,10 +34,7 @@ IsItemNamed (Keep kept) = IsNamed kept
 
 -- the lemmas of the entry refute the problem
 abbrev pub RefutesBy : ℕ → List (List Literal) → Entry → Type 0
-RefutesBy points clauses (Sat schedule) = Unit {0}
-RefutesBy points clauses (Unsat lemmas) = IsRefutation points clauses lemmas
-RefutesBy points clauses (Best m schedule lemmas) = IsRefutation points clauses lemmas
-RefutesBy points clauses (Unbounded values set) = Unit {0}
+RefutesBy points clauses entry = IfSome (lemmas_in entry) (λ lemmas. IsRefutation points clauses lemmas)
 
 -- an entry that keeps one item
 pub record IsOneKept (shelf : Shelf) (points : ℕ) (clauses : List (List Literal)) (items : List Item) (now : Shelf) : Type 0 where
@@ -58,16 +54,14 @@ pub record AreForEach (shelf : Shelf) (points : ℕ) (clauses : List (List Liter
 abbrev pub AreEntered : Shelf → ℕ → List (List Literal) → List Lemma → List Item → Shelf → Type 0
 AreEntered shelf points clauses lemmas items now = AreForEach shelf points clauses lemmas items now ⊎ IsOneKept shelf points clauses items now
 
--- in the second version
-abbrev pub IsEnteredAnew : Shelf → ℕ → List (List Literal) → Entry → List Item → Shelf → Type 0
-IsEnteredAnew shelf points clauses (Sat schedule) items now = now ≡ shelf ++ [] ∷ []
-IsEnteredAnew shelf points clauses (Unsat lemmas) items now = AreEntered shelf points clauses lemmas items now
-IsEnteredAnew shelf points clauses (Best m schedule lemmas) items now = AreEntered shelf points clauses lemmas items now
-IsEnteredAnew shelf points clauses (Unbounded values set) items now = now ≡ shelf ++ [] ∷ []
+-- in the second version, by the entry's lemmas
+abbrev pub IsEnteredAnew : Shelf → ℕ → List (List Literal) → Option (List Lemma) → List Item → Shelf → Type 0
+IsEnteredAnew shelf points clauses None items now = now ≡ shelf ++ [] ∷ []
+IsEnteredAnew shelf points clauses (Some lemmas) items now = AreEntered shelf points clauses lemmas items now
 
 abbrev pub IsEntered : Version → Shelf → ℕ → List (List Literal) → Entry → List Item → Shelf → Type 0
 IsEntered One shelf points clauses entry items now = now ≡ shelf
-IsEntered Two shelf points clauses entry items now = IsEnteredAnew shelf points clauses entry items now
+IsEntered Two shelf points clauses entry items now = IsEnteredAnew shelf points clauses (lemmas_in entry) items now
 
 abbrev pub IsAgain : Shelf → ℕ → List (List Literal) → Shelf → Option (List Item) → Type 0
 IsAgain shelf points clauses now None = now ≡ shelf
@@ -82,11 +76,8 @@ IsLastOf version now items (Some place) = (version ≡ Two) × (place.entry ≡ 
 
 -- the problem that the entry's lemmas refute
 abbrev pub IsProblemFor : Question → Context → ℕ → List (List Literal) → Entry → Type 0
-IsProblemFor question c points clauses (Sat schedule) = Unit {0}
-IsProblemFor question c points clauses (Unsat lemmas) = (points ≡ points_of c) × (clauses ≡ problem_of c)
-IsProblemFor question c points clauses (Best m schedule lemmas) =
-    AtMinimize question (λ o. (points ≡ points_of c) × (clauses ≡ problem_below c o m))
-IsProblemFor question c points clauses (Unbounded values set) = Unit {0}
+IsProblemFor question c points clauses entry =
+    OfRefuted question c entry (λ refuted lemmas. (points ≡ points_of c) × (clauses ≡ refuted))
 
 -- the entry with the items where the version has them
 abbrev pub IsShownIn : Version → Shelf → Question → Context → Entry → List Item → Shelf → Type 0

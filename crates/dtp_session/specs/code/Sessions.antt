@@ -27,7 +27,7 @@ use Rattle.smt_script.specs.declared.state.Question.{Question}
 use Rattle.smt_script.specs.States.{State, Assumed, start_state, terms_refusal, settled, asked_by, asked_of}
 use Rattle.script_walk.specs.Questions.{refusal_of}
 use Rattle.script_walk.specs.Course.{Place, Turn, IsCourseOf, status_of, answers_of}
-use Rattle.script_walk.specs.code.Events.{IsStart as IsWalkStart, IsReady as IsWalkReady}
+use Rattle.script_walk.specs.code.Events.{IsStart as IsWalkStart}
 use Rattle.dtp_entry.specs.Bests.{Satisfies}
 use Rattle.dtp_entry.specs.Cores.{cites_assertion}
 use Rattle.dtp_entry.specs.code.Asking.{IsAskedBy}
@@ -116,11 +116,6 @@ pub record MayTell (s : State) (x : Sexpr) (n : Notice) : Type 0 where
   pub core : n ≡ notice.Core → s.mode ≡ mode.Unsat
   pub assumptions : n ≡ notice.Assumptions → (s.mode ≡ mode.Unsat) × (s.assumed ≢ None)
 
--- ready to go on
-pub record IsReady (p : Session) : Type 0 where
-  pub walk : IsWalkReady p.walk
-  pub stands : (s : State) × Holds p s
-
 -- before the first command
 pub record IsStart (p : Session) : Type 0 where
   pub walk : IsWalkStart p.walk
@@ -149,11 +144,6 @@ pub record KeepsVerdict (p q : Session) : Type 0 where
 pub record KeepsPlace (p q : Session) : Type 0 where
   pub lexer : q.walk.lexer ≡ p.walk.lexer
   pub sexprs : q.walk.sexprs ≡ p.walk.sexprs
-  pub report : q.report ≡ p.report
-
--- the script and its report are the same
-pub record KeepsScript (p q : Session) : Type 0 where
-  pub bytes : q.walk.lexer.bytes ≡ p.walk.lexer.bytes
   pub report : q.report ≡ p.report
 
 -- ---- what is written from here on

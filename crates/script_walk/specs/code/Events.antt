@@ -116,3 +116,11 @@ abbrev pub IsEvent : Walk → Walk → State → Event → Type 0
 IsEvent v w s Ended = IsCommand v w s Ended ⊎ IsEnd v w
 IsEvent v w s (Failed kind) = IsCommand v w s (Failed kind) ⊎ IsUnread v w kind
 IsEvent v w s event = IsCommand v w s event
+
+-- the next event of a walk
+pub record IsNextEvent (v w : Walk) (event : Event) : Type 0 where
+  pub is : (s : State) → Stands v.state s → IsEvent v w s event
+  pub ready : GoesOn event → IsReady w
+  pub counted : Asks event → w.number ≤ w.lexer.place
+  pub forward : GoesOn event → v.lexer.place < w.lexer.place
+  pub bytes : w.lexer.bytes ≡ v.lexer.bytes

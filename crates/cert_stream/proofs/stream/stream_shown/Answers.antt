@@ -1,8 +1,7 @@
 use Rattle.std.proofs.Common.{sym, ap}
 use Rattle.smt_lex.specs.Bytes.{is_symbol_byte}
 use Rattle.cert_text.specs.declared.entry.Entry.{Entry}
-use Rattle.cert_text.specs.Form.{file_entry_sexpr, line_of}
-use Rattle.dtp_entry.specs.Keeping.{shown_by}
+use Rattle.cert_text.specs.Form.{file_entry_sexpr, line_of, shown_by}
 use Rattle.cert_stream.proofs.Pieces.{streams_text}
 use Rattle.cert_stream.proofs.stream.stream_shown.Goals as goal
 

@@ -35,8 +35,8 @@ returns-in-Accepted c =
           (all_stay c.new-converting.result c.judge_script.new.keeps p.0 comes.entries c.new-converting.ensures (turns.kept c.in-Accepted.is)),
     )
 
-pub returns-in-Opened : goal.returns-in-Opened
-returns-in-Opened c =
+pub returns-in_default-judgement : goal.returns-in_default-judgement
+returns-in_default-judgement c =
     let bytes = c.args.bytes.now in
     let same : c.new-lexer.result.bytes ≡ bytes = rw c.new-lexer.ensures refl in
     let end = c.in_ok-part.part.end in
@@ -50,8 +50,8 @@ returns-in-Opened c =
       c.in_default-judgement.not-Accepted,
     )
 
-pub returns : goal.returns
-returns c =
+pub returns-in-Refused : goal.returns-in-Refused
+returns-in-Refused c =
     let bytes = c.args.bytes.now in
     let same : c.new-lexer.result.bytes ≡ bytes = rw c.new-lexer.ensures refl in
     let end = c.in_ok-part.part.end in
