@@ -20,7 +20,7 @@ HEADING = "## Where want of memory is answered"
 ANSWER = re.compile(r"\bAllocError\b(?!::from|>)|\bAllocFailed\b(?!::from|<)|\b\w+::OutOfMemory\b")
 FUNCTION = re.compile(r"\bfn (\w+)")
 PATTERN = re.compile(r"\blet [^=]*=(?!=)")
-CLAUSE = re.compile(r"^\s*(//|ghost\b|use\b|requires\b|ensures\b|pub use\b|#\[)")
+CLAUSE = re.compile(r"^\s*(//|ghost\b|use\b|type\b|requires\b|ensures\b|pub use\b|#\[)")
 
 
 def answers(line):

@@ -14,7 +14,7 @@ ghost use Rattle.book_core.specs.Verdicts.{Concludes};
 use crate::answer::Answer;
 use crate::delivery::{Delivery, Refused};
 use crate::event::{Event, Outcome, Taken};
-use crate::prepared::{Prepared, prepare, publish, settle, share};
+use crate::prepared::{Prepared, check_room, closing_number, prepare, publish, settle, share};
 use crate::refutation::{copies, into_refutation, refutation_of};
 use crate::verdict::Verdict;
 use cover_tree::Cover;
@@ -303,48 +303,44 @@ impl Book {
         ensures err { OnErr result (self.new ≡ self.old) }
         ensures refused { IfErr result (λ refused. (refused.batch ≡ batch) × (refused.outcome ≡ outcome)) }
     {
-        let delivery = Delivery::new(batch, outcome)?;
-        self.receive(seat, id, delivery)
+        let Ok(delivery) = Delivery::of_copies(&batch, &outcome) else {
+            return Err(Refused { batch, outcome });
+        };
+        match self.enter(seat, id, delivery) {
+            Ok(()) => Ok(()),
+            Err(_) => Err(Refused { batch, outcome }),
+        }
     }
 
-    /// As `deliver`, of a delivery whose copies were made before. It takes time in its lemmas' length.
-    pub fn receive(&mut self, seat: u32, id: usize, delivery: Delivery) -> Result<(), Refused>
+    /// As `deliver`, of a delivery that nobody wants back: its batch goes into the book without a copy. It takes time in its
+    /// lemmas' length. At the one error, want of memory, the book is as it was, and the delivery is gone.
+    pub fn enter(&mut self, seat: u32, id: usize, delivery: Delivery) -> Result<(), AllocError>
         requires held { IsHeldBy (state_of self.old) id seat }
         requires justified { IsJustifiedIn self.old.problem (state_of self.old) id
             delivery.batch delivery.outcome }
         ensures ok { OnOk result (self.new
             ≡ with_event self.old (Deliver seat id delivery.batch delivery.outcome)) }
         ensures err { OnErr result (self.new ≡ self.old) }
-        ensures refused { IfErr result (λ refused.
-            (refused.batch ≡ delivery.batch) × (refused.outcome ≡ delivery.outcome)) }
     {
         let Delivery {
             batch,
             outcome,
-            copied,
             schedule,
         } = delivery;
         let alloc = *self.lemmas.allocator();
         let base = self.lemmas.len();
-        let Ok(prepared) = prepare(alloc, base, copied) else {
-            return Err(Refused { batch, outcome });
-        };
-        let Prepared { shared, handed } = prepared;
-        if self.lemmas.reserve(shared.len()).is_err() {
-            return Err(Refused { batch, outcome });
-        }
-        match settle(
+        check_room(base, &batch)?;
+        let number = closing_number(&batch, base, &outcome);
+        let Prepared { shared, handed } = prepare(alloc, base, batch)?;
+        self.lemmas.reserve(shared.len())?;
+        self.halves = settle(
             &mut self.cover,
             &mut self.found,
             id,
-            &batch,
-            base,
+            number,
             &outcome,
             schedule,
-        ) {
-            Ok(halves) => self.halves = halves,
-            Err(_) => return Err(Refused { batch, outcome }),
-        }
+        )?;
         publish(&mut self.lemmas, shared);
         self.journal
             .push_reserved(Event::Deliver(seat, id, handed, outcome));

@@ -1,9 +1,10 @@
 //! What is handed in of a cube, with the memory that it takes.
-ghost use Rattle.std.specs.Prelude.{◌≡◌, IfOk, IfErr};
+ghost use Rattle.std.specs.Prelude.{◌≡◌, IfOk};
 ghost use Rattle.book_core.specs.Deliveries.{handing};
 
 use crate::event::Outcome;
 use refute_tree::Batch;
+use std::alloc::AllocError;
 use std::marker::Model;
 use stn_core::Schedule;
 
@@ -14,13 +15,12 @@ pub struct Refused {
     pub outcome: Outcome,
 }
 
-/// What is handed in of a cube. The copies that a book needs of it are made before the book is at hand, so that
-/// whoever shares a book with others keeps them waiting for less.
+/// What is handed in of a cube, to be put into a book. The schedule that the book needs for itself is copied before the book
+/// is at hand, so that whoever shares a book with others keeps them waiting for less.
 #[derive(Drop)]
 pub struct Delivery {
     pub(crate) batch: Batch,
     pub(crate) outcome: Outcome,
-    pub(crate) copied: Batch,
     pub(crate) schedule: Option<Schedule>,
 }
 
@@ -33,26 +33,28 @@ impl Model for Delivery {
 
     ghost view = { λ d. handing d.batch d.outcome };
 
-    ghost invariant = { λ d. (d.copied ≡ d.batch) × (d.schedule ≡ given_schedule d.outcome) };
+    ghost invariant = { λ d. d.schedule ≡ given_schedule d.outcome };
 }
 
 impl Delivery {
-    /// Copies the batch, and the schedule where one was found.
-    pub fn new(batch: Batch, outcome: Outcome) -> Result<Self, Refused>
-        ensures ok { IfOk result (λ delivery. delivery ≡ handing batch outcome) }
-        ensures refused { IfErr result (λ refused. (refused.batch ≡ batch) × (refused.outcome ≡ outcome)) }
+    /// A delivery of these, which go into the book without a copy. Without memory for the schedule they are gone.
+    pub fn new(batch: Batch, outcome: Outcome) -> Result<Self, AllocError>
+        ensures { IfOk result (λ delivery. delivery ≡ handing batch outcome) }
     {
-        let Ok(copied) = batch.copy() else {
-            return Err(Refused { batch, outcome });
-        };
-        let Ok(schedule) = outcome.schedule() else {
-            return Err(Refused { batch, outcome });
-        };
+        let schedule = outcome.schedule()?;
         Ok(Delivery {
             batch,
             outcome,
-            copied,
             schedule,
         })
+    }
+
+    /// A delivery of copies, so that these are there still where the book refuses it.
+    pub fn of_copies(batch: &Batch, outcome: &Outcome) -> Result<Self, AllocError>
+        ensures { IfOk result (λ delivery. delivery ≡ handing batch.now outcome.now) }
+    {
+        let batch_copy = batch.copy()?;
+        let outcome_copy = outcome.copy()?;
+        Delivery::new(batch_copy, outcome_copy)
     }
 }

@@ -8,7 +8,7 @@ ghost use Rattle.cover_tree.specs.Covers.{node_at};
 ghost use Rattle.book_core.specs.declared.event.Outcome.TheVariants.{Shut};
 ghost use Rattle.book_core.specs.Books.{cover_delivered, found_delivered};
 ghost use Rattle.book_core.specs.Shared.{lemmas_of};
-ghost use Rattle.book_core.specs.code.Prepared.{given_schedule};
+ghost use Rattle.book_core.specs.code.Prepared.{given_schedule, IsClosingNumber};
 ghost use Rattle.book_core.specs.Halves.{halves_made};
 
 use crate::event::Outcome;
@@ -26,17 +26,24 @@ pub(crate) struct Prepared {
     pub(crate) handed: HandedBatch,
 }
 
-/// The batch's lemmas as they stand behind the first `base` ones.
-pub(crate) fn prepare(alloc: Global, base: usize, batch: Batch) -> Result<Prepared, AllocError>
-    requires seen { batch.seen ≤ base }
-    requires below { All (LemmaRefersBelow (batch.seen + length batch.lemmas)) batch.lemmas }
-    ensures lemmas { IfOk result (λ p. lemmas_of p.shared.items ≡ (moved base batch).lemmas) }
-    ensures handed { IfOk result (λ p. p.handed ≡ batch) }
-    ensures fits { IfOk result (λ p. base + length batch.lemmas ≤ lemmas_limit) }
+/// Whether a book may have the batch's lemmas behind the first `base` ones: more than the limit are want of memory.
+pub(crate) fn check_room(base: usize, batch: &Batch) -> Result<(), AllocError>
+    ensures { OnOk result (base + length batch.now.lemmas ≤ lemmas_limit) }
 {
     if base.saturating_add(batch.lemmas().len()) > LEMMAS_LIMIT {
         return Err(AllocError);
     }
+    Ok(())
+}
+
+/// The batch's lemmas as they stand behind the first `base` ones.
+pub(crate) fn prepare(alloc: Global, base: usize, batch: Batch) -> Result<Prepared, AllocError>
+    requires seen { batch.seen ≤ base }
+    requires below { All (LemmaRefersBelow (batch.seen + length batch.lemmas)) batch.lemmas }
+    requires fits { base + length batch.lemmas ≤ lemmas_limit }
+    ensures lemmas { IfOk result (λ p. lemmas_of p.shared.items ≡ (moved base batch).lemmas) }
+    ensures handed { IfOk result (λ p. p.handed ≡ batch) }
+{
     let seen = batch.seen();
     let mut moved = batch;
     moved.move_to(base);
@@ -76,21 +83,31 @@ pub(crate) fn publish(lemmas: &mut Vec<Arc<Lemma>>, mut shared: Vec<Arc<Lemma>>)
     lemmas.append(&mut shared).unwrap();
 }
 
-/// What the outcome makes of the cover, and of the schedule found; the two halves where it divides the cube. At
-/// `Err` both are as before.
+/// The number in the book of the lemma that excludes the cube, behind the first `base` ones, where one does.
+pub(crate) fn closing_number(batch: &Batch, base: usize, outcome: &Outcome) -> usize
+    requires { (j : ℕ) → outcome.now ≡ Shut j → moved_number batch.now.seen base j < 2 ^ 64 }
+    ensures { IsClosingNumber batch.now.seen base outcome.now result }
+{
+    match outcome {
+        Outcome::Shut(j) => batch.moved_number(*j, base),
+        _ => 0,
+    }
+}
+
+/// What the outcome makes of the cover, and of the schedule found; the two halves where it divides the cube. The number is that
+/// of the lemma that excludes the cube, where one does. At `Err` both are as before.
 pub(crate) fn settle(
     cover: &mut Cover,
     found: &mut Option<Schedule>,
     id: usize,
-    batch: &Batch,
-    base: usize,
+    number: usize,
     outcome: &Outcome,
     schedule: Option<Schedule>,
 ) -> Result<Option<(usize, usize)>, AllocError>
     requires held { (seat : ℕ) × (node_at cover.old id ≡ Some (Held seat)) }
-    requires number { (j : ℕ) → outcome.now ≡ Shut j → moved_number batch.now.seen base j < 2 ^ 64 }
     requires schedule { schedule ≡ given_schedule outcome.now }
-    ensures cover { OnOk result (cover.new ≡ cover_delivered cover.old id batch.now.seen base outcome.now) }
+    ensures cover { OnOk result ((seen base : ℕ) → IsClosingNumber seen base outcome.now number
+        → cover.new ≡ cover_delivered cover.old id seen base outcome.now) }
     ensures found { OnOk result (found.new ≡ found_delivered found.old outcome.now) }
     ensures halves { IfOk result (λ h. h ≡ halves_made cover.old outcome.now) }
     ensures cover_err { OnErr result (cover.new ≡ cover.old) }
@@ -104,8 +121,8 @@ pub(crate) fn settle(
             }
             Ok(None)
         }
-        Outcome::Shut(j) => {
-            cover.close(id, batch.moved_number(*j, base));
+        Outcome::Shut(_) => {
+            cover.close(id, number);
             Ok(None)
         }
         Outcome::Split(literal) => {

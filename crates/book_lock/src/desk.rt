@@ -245,11 +245,34 @@ impl Desk {
         ensures err { OnErr result (seat.new ≡ seat.old) }
         ensures refused { IfErr result (λ refused. (refused.batch ≡ batch) × (refused.outcome ≡ outcome)) }
     {
-        let delivery = Delivery::new(batch, outcome)?;
+        let Ok(delivery) = Delivery::of_copies(&batch, &outcome) else {
+            return Err(Refused { batch, outcome });
+        };
+        match self.enter(rt, seat, delivery) {
+            Ok(()) => Ok(()),
+            Err(_) => Err(Refused { batch, outcome }),
+        }
+    }
+
+    /// As `deliver`, of a delivery that nobody wants back: its batch goes into the book without a copy. At the one error,
+    /// want of memory, the seat and the book are as they were, and the delivery is gone.
+    pub fn enter<R: Wait>(
+        &self,
+        rt: &R,
+        seat: &mut Seat,
+        delivery: Delivery,
+    ) -> Result<(), AllocError>
+        requires desk { seat.old.desk ≡ self.now.id }
+        requires justified { (cube : HeldCube) × (seat.old.cube ≡ Some cube)
+            × IsJustified seat.old.view.begun.problem seat.old.lemmas cube.literals delivery.batch delivery.outcome }
+        ensures ok { OnOk result (IfSome seat.old.cube (λ cube.
+            Ends seat.old seat.new (Deliver seat.old.view.number cube.id delivery.batch delivery.outcome))) }
+        ensures err { OnErr result (seat.new ≡ seat.old) }
+    {
         let id = seat.cube.as_ref().unwrap().id;
         let top = &self.table.shared;
         let mut book = take_turn(rt, top, &mut seat.token);
-        match book.receive(seat.number, id, delivery) {
+        match book.enter(seat.number, id, delivery) {
             Ok(()) => {
                 seat.halves = book.halves();
                 seat.place = tell(top, &mut seat.token, book);
@@ -257,9 +280,9 @@ impl Desk {
                 put(&mut seat.cube, None);
                 Ok(())
             }
-            Err(refused) => {
+            Err(error) => {
                 leave(top, &mut seat.token, book);
-                Err(refused)
+                Err(error)
             }
         }
     }

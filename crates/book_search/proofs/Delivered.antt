@@ -134,3 +134,16 @@ justified_there shown problem xs lemmas given cube batch outcome a b c h =
 pub lemmas_over : (shown problem : Problem) (xs lemmas : List Lemma) → shown ≡ problem → xs ≡ lemmas → All (LemmaIsOver problem.points) lemmas → All (LemmaIsOver shown.points) xs
 lemmas_over shown problem xs lemmas a b h =
     subst (λ (p : Problem). All (LemmaIsOver p.points) xs) (sym a) (subst (λ (ls : List Lemma). All (LemmaIsOver problem.points) ls) (sym b) h)
+
+-- a schedule without a lemma
+pub found_alone : (problem : Problem) (lemmas : List Lemma) (cube : List Literal) (batch : LemmaBatch) (values : List ℤ) → batch.seen ≡ 0 → batch.lemmas ≡ [] → IsSolution problem values → IsJustified problem lemmas cube batch (Found values)
+found_alone problem lemmas cube batch values none empty found = record {
+  seen = omega (arith, none);
+  refuted = subst (λ (ls : List Lemma). AreRefuted problem.points problem.clauses (map stated (take batch.seen lemmas)) ls) (sym empty) tt;
+  over = subst (λ (ls : List Lemma). All (LemmaIsOver problem.points) ls) (sym empty) (λ k d lt. absurd (omega arith));
+  fits = found;
+}
+
+-- a schedule in the place of what was found
+pub found_instead : (problem : Problem) (lemmas : List Lemma) (cube : List Literal) (batch : LemmaBatch) (was : Outcome) (values : List ℤ) → IsJustified problem lemmas cube batch was → IsSolution problem values → IsJustified problem lemmas cube batch (Found values)
+found_instead problem lemmas cube batch was values before found = record { seen = before.seen; refuted = before.refuted; over = before.over; fits = found }

@@ -9,6 +9,7 @@ mod solve;
 mod solved;
 mod tools;
 mod units;
+mod walk;
 
 pub use base::{decide_units, refute_along};
 pub use finding::Finding;

@@ -13,7 +13,7 @@ use crate::base::decide_units;
 use crate::pacing::Pacing;
 use crate::solved::{Solved, conclude};
 use crate::tools::Tools;
-use book_core::{Answer, Book, Verdict};
+use book_core::{Answer, Book, Delivery, Verdict};
 use refute_tree::Batch;
 use std::alloc::{AllocError, Global};
 use stn_core::{Literal, Problem, Value};
@@ -37,12 +37,11 @@ fn work(
 {
     book.sound();
     book_core::ends_law();
-    let delivery = tools.search(alloc, book.problem(), book.lemmas(), cube, budget)?;
-    let divides = delivery.divides;
-    match book.deliver(0, id, delivery.batch, delivery.outcome) {
-        Ok(()) => Ok(divides),
-        Err(_) => Err(AllocError),
-    }
+    let found = tools.search(alloc, book.problem(), book.lemmas(), cube, budget)?;
+    let divides = found.divides;
+    let delivery = Delivery::new(found.batch, found.outcome)?;
+    book.enter(0, id, delivery)?;
+    Ok(divides)
 }
 
 /// One turn: a cube is taken and worked on. The answer says whether it was divided, and is `None` where

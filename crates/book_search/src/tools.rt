@@ -1,32 +1,40 @@
 //! What one worker searches with.
-ghost use Rattle.std.specs.Prelude.{◌≡◌, All, IfOk};
+ghost use Rattle.std.specs.Prelude.{◌≡◌, All, IfOk, IfSome};
 ghost use Rattle.std.specs.Arc.{arc_value};
 ghost use Rattle.refute_tree.specs.Batches.{LemmaIsOver};
 ghost use Rattle.stn_core.specs.Literal.{IsOver};
+ghost use Rattle.stn_core.specs.Solution.{IsSolution};
 ghost use Rattle.book_core.specs.Shared.{lemmas_of};
 ghost use Rattle.book_core.specs.Books.{IsJustified};
 
-use crate::finding::{Finding, finding_of};
+use crate::finding::{Finding, finding_of, found_alone, found_instead};
+use crate::walk::Walk;
 use branch_search::Searcher;
 use inc_paths::Network;
 use refute_tree::Lemma;
 use std::alloc::{AllocError, Global};
 use std::marker::Model;
 use std::sync::Arc;
-use stn_core::{Literal, Problem, Value};
+use stn_core::{Literal, Problem, Schedule, Value};
 use worker_calls::Calls;
 
-/// A worker's searcher and its net, which are kept from slice to slice. Contracts see the net's points.
+/// A worker's searcher, its net and its local search, which are kept from slice to slice. Contracts see the net's points.
 pub struct Tools {
     searcher: Searcher,
     net: Network,
+    walk: Walk,
 }
 
 impl Drop for Tools {
     fn drop(self) {
-        let Tools { searcher, net } = self;
+        let Tools {
+            searcher,
+            net,
+            walk,
+        } = self;
         drop(searcher);
         drop(net);
+        drop(walk);
     }
 }
 
@@ -48,6 +56,7 @@ impl Tools {
         Ok(Tools {
             searcher: Searcher::beside(alloc, problem, calls)?,
             net: Network::new(alloc, problem.points)?,
+            walk: Walk::never(),
         })
     }
 
@@ -59,14 +68,17 @@ impl Tools {
         Ok(Tools {
             searcher: Searcher::alone(alloc, problem)?,
             net: Network::new(alloc, problem.points)?,
+            walk: Walk::never(),
         })
     }
 
-    /// Literals that were never decided are decided as they hold on these values of the first time points: a hint.
+    /// Literals that were never decided are decided as they hold on these values of the first time points: a hint. These tools
+    /// look for a schedule by local search, and where there are no values before the first slice.
     pub fn follow(&mut self, values: &[Value])
         ensures { self.new ≡ self.old }
     {
         self.searcher.follow(values);
+        self.walk = Walk::new(values.is_empty());
     }
 
     /// Whether a slice met a conflict yet.
@@ -74,8 +86,8 @@ impl Tools {
         self.searcher.conflicts() > 0
     }
 
-    /// One slice of search under the cube, over these lemmas, as a delivery. The one error is want of memory.
-    pub fn search(
+    // One slice of search under the cube, over these lemmas, as a delivery.
+    fn slice(
         &mut self,
         alloc: Global,
         problem: &Problem,
@@ -95,5 +107,69 @@ impl Tools {
             .slice(alloc, problem, &lemmas, cube, budget, &mut self.net)?;
         let delivery = finding_of(found)?;
         Ok(delivery)
+    }
+
+    // A schedule, where local search comes before the first slice and finds one.
+    fn look_first(
+        &mut self,
+        alloc: Global,
+        problem: &Problem,
+    ) -> Result<Option<Schedule>, AllocError>
+        ensures points { self.new ≡ self.old }
+        ensures found { IfOk result (λ found. IfSome found (IsSolution problem.now)) }
+    {
+        if self.walk.is_first() {
+            self.walk.look(alloc, problem, 0)
+        } else {
+            Ok(None)
+        }
+    }
+
+    // A schedule, where a slice of this budget ended undecided, there was a conflict, and local search finds one.
+    fn look_later(
+        &mut self,
+        alloc: Global,
+        problem: &Problem,
+        finding: &Finding,
+        budget: u64,
+    ) -> Result<Option<Schedule>, AllocError>
+        ensures points { self.new ≡ self.old }
+        ensures found { IfOk result (λ found. IfSome found (IsSolution problem.now)) }
+    {
+        if finding.divides && self.met_conflict() {
+            self.walk.look(alloc, problem, budget)
+        } else {
+            Ok(None)
+        }
+    }
+
+    /// One slice of search under the cube, over these lemmas, as a delivery. Where it ends undecided, a schedule is looked for
+    /// by local search once there was a conflict, and by who follows no values before a first slice over no lemmas. The one
+    /// error is want of memory.
+    pub fn search(
+        &mut self,
+        alloc: Global,
+        problem: &Problem,
+        lemmas: &[Arc<Lemma>],
+        cube: &[Literal],
+        budget: u64,
+    ) -> Result<Finding, AllocError>
+        requires points { self.old ≡ problem.now.points }
+        requires lemmas { All (LemmaIsOver problem.now.points) (lemmas_of lemmas.now) }
+        requires cube { All (IsOver problem.now.points) cube.now }
+        ensures points { self.new ≡ self.old }
+        ensures justified { IfOk result (λ d.
+            IsJustified problem.now (lemmas_of lemmas.now) cube.now d.batch d.outcome) }
+    {
+        if lemmas.is_empty() {
+            if let Some(schedule) = self.look_first(alloc, problem)? {
+                return Ok(found_alone(alloc, schedule));
+            }
+        }
+        let finding = self.slice(alloc, problem, lemmas, cube, budget)?;
+        match self.look_later(alloc, problem, &finding, budget)? {
+            Some(schedule) => Ok(found_instead(finding, schedule)),
+            None => Ok(finding),
+        }
     }
 }

@@ -33,13 +33,6 @@ fn settle<K: Sink>(text: &mut Vec<u8>, sink: &mut K) -> Result<(), SessionError>
     Ok(())
 }
 
-fn append_item<T: Part>(item: &T, text: &mut Vec<u8>) -> Result<(), AllocError>
-    ensures { OnOk result (text.new.items ≡ text.old.items ++ 32 ∷ text_of (T.sexpr item.now)) }
-{
-    text.push_str(b" ")?;
-    item.write(text)
-}
-
 // The same as `write_behind` of `cert_text`: the items, each behind a space, and the closing parenthesis.
 fn stream_behind<T: Part, K: Sink>(
     items: &[T],
@@ -51,7 +44,7 @@ fn stream_behind<T: Part, K: Sink>(
         (K.faults sink.old) (K.faults sink.new) result }
 {
     for item in items {
-        append_item(item, text)?;
+        item.write_next(text)?;
         settle(text, sink)?;
     }
     text.push_str(b")")?;

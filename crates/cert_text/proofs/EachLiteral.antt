@@ -12,13 +12,11 @@ abbrev behind : List Literal → List ℕ
 behind ls = text_behind (items_of (map literal_sexpr ls))
 
 -- a literal more
-pub each_more : (ls : List Literal) (k : ℕ) (x : Literal) (before spaced after whole : List ℕ) → k < length ls → slice_get ls k ≡ Some x → spaced ≡ before ++ 32 ∷ [] → after ≡ spaced ++ text_of (literal_sexpr x) → before ++ text_behind (items_of (map literal_sexpr (drop k ls))) ≡ whole → after ++ text_behind (items_of (map literal_sexpr (drop (k + 1) ls))) ≡ whole
-each_more ls k x before spaced after whole lt at e f h =
+pub each_more : (ls : List Literal) (k : ℕ) (x : Literal) (before after whole : List ℕ) → k < length ls → slice_get ls k ≡ Some x → after ≡ before ++ 32 ∷ text_of (literal_sexpr x) → before ++ text_behind (items_of (map literal_sexpr (drop k ls))) ≡ whole → after ++ text_behind (items_of (map literal_sexpr (drop (k + 1) ls))) ≡ whole
+each_more ls k x before after whole lt at e h =
     let rest : List Literal = drop (k + 1) ls in
     let here : behind (drop k ls) ≡ behind (x ∷ rest) = ap behind (drop_more ls k x lt) ∙ ap (λ (y : Literal). behind (y ∷ rest)) (get_or_from_slice_get ls k x x at) in
-    ap (λ (xs : List ℕ). xs ++ behind rest) f
-    ∙ ap (λ (xs : List ℕ). (xs ++ text_of (literal_sexpr x)) ++ behind rest) e
-    ∙ append_assoc (before ++ 32 ∷ []) (text_of (literal_sexpr x)) (behind rest)
-    ∙ append_assoc before (32 ∷ []) (text_of (literal_sexpr x) ++ behind rest)
+    ap (λ (xs : List ℕ). xs ++ behind rest) e
+    ∙ append_assoc before (32 ∷ text_of (literal_sexpr x)) (behind rest)
     ∙ sym (ap (λ (xs : List ℕ). before ++ xs) here)
     ∙ h

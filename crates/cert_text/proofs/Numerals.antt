@@ -1,5 +1,5 @@
 -- The digits of a numeral, and the minus form of a number.
-use Rattle.std.proofs.Common.{◌≡◌, ℕ, ◌<◌, ◌^◌, ◌+◌, ◌/◌, ◌%◌, map, ap, false, ℤ, pos, negsuc, [], ◌∷◌, ◌++◌, refl, sym, ◌∙◌, arith, int_le, unsigned_abs, true≢false, decimal, eq-zero-or-pos, inl, inr, List, append_assoc}
+use Rattle.std.proofs.Common.{◌≡◌, ℕ, ◌<◌, ◌^◌, ◌+◌, ◌/◌, ◌%◌, map, ap, false, true, ℤ, pos, negsuc, [], ◌∷◌, ◌++◌, refl, sym, ◌∙◌, arith, int_le, unsigned_abs, true≢false, decimal, eq-zero-or-pos, inl, inr, List, append_assoc}
 use Rattle.std.proofs.lemmas.Bool.{ne_eqb}
 use Rattle.std.proofs.lemmas.Fmt.{decimal_digit, decimal_by_steps_wide}
 use Rattle.std.proofs.lemmas.Int.Digits.{digits_of_step}
@@ -28,6 +28,10 @@ numeral_from_decimal n small =
 -- one digit
 pub numeral_of_digit : (n : ℕ) → n < 10 → numeral_text n ≡ (48 + n) ∷ []
 numeral_of_digit n digit = sym (numeral_from_decimal n (omega arith)) ∙ decimal_digit n digit
+
+pub digit_text : (n : ℤ) (m : ℕ) → int_le (pos 0) n ≡ true → m ≡ unsigned_abs n → m < 10 → text_of (number_of_value n) ≡ (48 + m) ∷ []
+digit_text (pos n) m at_least is digit = ap numeral_text (sym is) ∙ numeral_of_digit m digit
+digit_text (negsuc n) m at_least is digit = absurd (true≢false (sym at_least))
 
 pub minus_text : (n : ℤ) → int_le (pos 0) n ≡ false → text_of (number_of_value n) ≡ 40 ∷ 45 ∷ 32 ∷ (numeral_text (unsigned_abs n) ++ 41 ∷ [])
 unfolding is_symbol_byte

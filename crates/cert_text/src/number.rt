@@ -46,6 +46,36 @@ pub(crate) fn write_number(n: Value, out: &mut Vec<u8>) -> Result<(), AllocError
     out.push_str(b")")
 }
 
+/// Appends a space and a number of one digit at once, others by a call.
+#[inline(always)]
+pub(crate) fn write_number_next(n: Value, out: &mut Vec<u8>) -> Result<(), AllocError>
+    ensures ok { OnOk result (out.new.items ≡ out.old.items ++ 32 ∷ text_of (number_of_value n)) }
+    ensures front { take (vec_len out.old) out.new.items ≡ out.old.items }
+{
+    let size = n.unsigned_abs();
+    if n >= 0 && size < 10 {
+        let text = [b' ', b'0' + size as u8];
+        return out.push_str(text.as_slice());
+    }
+    write_any_next(n, out)
+}
+
+// Appends a space and any number. It isn't taken in whole, so that its callers' way for one digit stays short.
+#[inline(never)]
+fn write_any_next(n: Value, out: &mut Vec<u8>) -> Result<(), AllocError>
+    ensures ok { OnOk result (out.new.items ≡ out.old.items ++ 32 ∷ text_of (number_of_value n)) }
+    ensures front { take (vec_len out.old) out.new.items ≡ out.old.items }
+{
+    if let Ok(small) = i64::try_from(n) {
+        let mut text = [0u8; 25];
+        let at = number_before(small, &mut text, 25);
+        let at = byte_before(b' ', &mut text, at);
+        return out.push_str(&text[at..]);
+    }
+    out.push_str(b" ")?;
+    write_number(n, out)
+}
+
 /// Puts a byte into the text before what stands from a place on. Where it begins.
 pub(crate) fn byte_before(byte: u8, text: &mut [u8], end: usize) -> usize
     requires { (0 < end) × (end ≤ length text.old) }

@@ -5,12 +5,15 @@ ghost use Rattle.std.specs.Prelude.{◌≡◌, ◌<◌, ◌≤◌, ◌++◌, ◌
 ghost use Rattle.std.specs.Vec.{vec_len};
 ghost use Rattle.smt_sexpr.specs.Tree.{Sexpr};
 ghost use Rattle.smt_sexpr.specs.Printing.{text_of, text_behind};
-ghost use Rattle.cert_text.specs.Form.{numeral, number_of_value, clause_sexpr, literal_sexpr, step_sexpr, kept_sexpr};
+ghost use Rattle.cert_text.specs.Form.{numeral, number_of_value, clause_sexpr, literal_sexpr, step_sexpr, kept_sexpr, value_sexpr};
+ghost use Rattle.stn_core.specs.declared.named.NamedValue.TheVariants.{Truth};
 ghost use Rattle.refute_tree.specs.declared.step.Step.TheVariants.{Cycle as CycleStep};
 ghost use Rattle.refute_tree.specs.code.Views.{literals_of, step_seen};
 ghost use Rattle.smt_sexpr.specs.Shapes.{items_of};
 
-use crate::number::{byte_before, number_before, numeral_before, write_number, write_numeral};
+use crate::number::{
+    byte_before, number_before, numeral_before, write_number, write_number_next, write_numeral,
+};
 use bstr::ByteVec;
 use kept_lemmas::{Item, Kept};
 use refute_tree::{Cycle, Lemma, Reader, StepView};
@@ -28,6 +31,11 @@ pub trait Part {
     fn write(&self, out: &mut Vec<u8>) -> Result<(), AllocError>
         ensures ok { OnOk result (out.new.items ≡ out.old.items ++ text_of (sexpr self.now)) }
         ensures front { take (vec_len out.old) out.new.items ≡ out.old.items };
+
+    /// Appends a space and its text; when memory ends, perhaps a part of them.
+    fn write_next(&self, out: &mut Vec<u8>) -> Result<(), AllocError>
+        ensures ok { OnOk result (out.new.items ≡ out.old.items ++ 32 ∷ text_of (sexpr self.now)) }
+        ensures front { take (vec_len out.old) out.new.items ≡ out.old.items };
 }
 
 /// Appends what stands in a list behind its first item: the other items, each behind a space, and the closing
@@ -38,8 +46,7 @@ fn write_behind<T: Part>(items: &[T], out: &mut Vec<u8>) -> Result<(), AllocErro
     ensures front { take (vec_len out.old) out.new.items ≡ out.old.items }
 {
     for item in items {
-        out.push_str(b" ")?;
-        item.write(out)?;
+        item.write_next(out)?;
     }
     out.push_str(b")")
 }
@@ -47,7 +54,7 @@ fn write_behind<T: Part>(items: &[T], out: &mut Vec<u8>) -> Result<(), AllocErro
 /// The points and the bound of a literal, and the closing parenthesis, at the end of the text. Where they begin.
 fn bound_before(literal: Literal, text: &mut [u8]) -> usize
     requires { length text.old ≡ ROOM }
-    ensures start { (0 < result) × (result ≤ ROOM) }
+    ensures start { (1 < result) × (result ≤ ROOM) }
     ensures written { drop result text.new ≡ text_of (numeral literal.x)
         ++ text_behind (items_of (numeral literal.y ∷ number_of_value literal.c ∷ [])) }
 {
@@ -57,6 +64,16 @@ fn bound_before(literal: Literal, text: &mut [u8]) -> usize
     let at = numeral_before(u64::from(literal.y), text, at);
     let at = byte_before(b' ', text, at);
     numeral_before(u64::from(literal.x), text, at)
+}
+
+/// A literal at the end of the text. Where it begins.
+fn literal_before(literal: Literal, text: &mut [u8]) -> usize
+    requires { length text.old ≡ ROOM }
+    ensures start { (0 < result) × (result ≤ ROOM) }
+    ensures written { drop result text.new ≡ text_of (literal_sexpr literal) }
+{
+    let at = bound_before(literal, text);
+    byte_before(b'(', text, at)
 }
 
 /// Appends the points and the bound of a literal, and the closing parenthesis.
@@ -77,8 +94,14 @@ impl Part for Literal {
 
     fn write(&self, out: &mut Vec<u8>) -> Result<(), AllocError> {
         let mut text = [0u8; ROOM];
-        let at = bound_before(*self, &mut text);
-        let at = byte_before(b'(', &mut text, at);
+        let at = literal_before(*self, &mut text);
+        out.push_str(&text[at..])
+    }
+
+    fn write_next(&self, out: &mut Vec<u8>) -> Result<(), AllocError> {
+        let mut text = [0u8; ROOM];
+        let at = literal_before(*self, &mut text);
+        let at = byte_before(b' ', &mut text, at);
         out.push_str(&text[at..])
     }
 }
@@ -147,8 +170,7 @@ fn write_each_behind(cycle: Cycle<'_>, out: &mut Vec<u8>) -> Result<(), AllocErr
     ensures front { take (vec_len out.old) out.new.items ≡ out.old.items }
 {
     for place in 0..cycle.len() {
-        out.push_str(b" ")?;
-        cycle.at(place).write(out)?;
+        cycle.at(place).write_next(out)?;
     }
     out.push_str(b")")
 }
@@ -176,6 +198,11 @@ impl Part for Lemma {
         write_clause(self.clause.as_slice(), out)?;
         write_steps(self.steps.reader(), out)
     }
+
+    fn write_next(&self, out: &mut Vec<u8>) -> Result<(), AllocError> {
+        out.push_str(b" ")?;
+        self.write(out)
+    }
 }
 
 /// Appends a lemma of an earlier entry, by its place.
@@ -201,6 +228,11 @@ impl Part for Item {
             Item::Keep(kept) => write_kept(*kept, out),
         }
     }
+
+    fn write_next(&self, out: &mut Vec<u8>) -> Result<(), AllocError> {
+        out.push_str(b" ")?;
+        self.write(out)
+    }
 }
 
 impl Part for Value {
@@ -210,6 +242,10 @@ impl Part for Value {
 
     fn write(&self, out: &mut Vec<u8>) -> Result<(), AllocError> {
         write_number(*self, out)
+    }
+
+    fn write_next(&self, out: &mut Vec<u8>) -> Result<(), AllocError> {
+        write_number_next(*self, out)
     }
 }
 
@@ -221,6 +257,11 @@ impl Part for u32 {
 
     fn write(&self, out: &mut Vec<u8>) -> Result<(), AllocError> {
         write_numeral(u128::from(*self), out)
+    }
+
+    fn write_next(&self, out: &mut Vec<u8>) -> Result<(), AllocError> {
+        out.push_str(b" ")?;
+        self.write(out)
     }
 }
 
@@ -235,5 +276,25 @@ impl Part for NamedValue {
             NamedValue::Truth(true) => out.push_str(b"true"),
             NamedValue::Truth(false) => out.push_str(b"false"),
         }
+    }
+
+    fn write_next(&self, out: &mut Vec<u8>) -> Result<(), AllocError> {
+        match self {
+            NamedValue::Int(n) => write_number_next(*n, out),
+            NamedValue::Truth(truth) => write_truth_next(*truth, out),
+        }
+    }
+}
+
+// Appends a space and a truth.
+#[inline(never)]
+fn write_truth_next(truth: bool, out: &mut Vec<u8>) -> Result<(), AllocError>
+    ensures ok { OnOk result (out.new.items ≡ out.old.items ++ 32 ∷ text_of (value_sexpr (Truth truth))) }
+    ensures front { take (vec_len out.old) out.new.items ≡ out.old.items }
+{
+    if truth {
+        out.push_str(b" true")
+    } else {
+        out.push_str(b" false")
     }
 }

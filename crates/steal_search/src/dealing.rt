@@ -1,8 +1,9 @@
 //! How a worker deals with the cube that its seat holds.
-ghost use Rattle.std.specs.Prelude.{◌≡◌, IfOk, None};
+ghost use Rattle.std.specs.Prelude.{◌≡◌, IfOk, OnOk, OnErr, None};
 ghost use Rattle.steal_search.specs.Workers.{GoesOn, IsJustifiedThere, IsSearching};
 
 use crate::team::Team;
+use book_core::Delivery;
 use book_lock::{Desk, Seat};
 use book_search::{Finding, Pacing, Tools};
 use std::alloc::{AllocError, Global};
@@ -56,25 +57,37 @@ fn search(
     )
 }
 
+// What was found goes into the book. Without memory the seat holds its cube still.
+fn enter<R: Wait>(rt: &R, desk: &Desk, seat: &mut Seat, found: Finding) -> Result<(), AllocError>
+    requires desk { seat.old.desk ≡ desk.now.id }
+    requires justified { IsJustifiedThere seat.old.view.begun.problem seat.old found.batch found.outcome }
+    ensures ok { OnOk result (GoesOn seat.old seat.new × (seat.new.cube ≡ None)) }
+    ensures err { OnErr result (seat.new ≡ seat.old) }
+{
+    let delivery = Delivery::new(found.batch, found.outcome)?;
+    desk.enter(rt, seat, delivery)
+}
+
 // What was found is delivered, or else the cube is given back: whether it was divided.
 fn deliver<R: Wait>(
     rt: &R,
     desk: &Desk,
     seat: &mut Seat,
-    delivery: Finding,
+    found: Finding,
 ) -> Result<bool, AllocError>
     requires desk { seat.old.desk ≡ desk.now.id }
-    requires justified { IsJustifiedThere seat.old.view.begun.problem seat.old delivery.batch delivery.outcome }
+    requires justified { IsJustifiedThere seat.old.view.begun.problem seat.old found.batch found.outcome }
     ensures seat { GoesOn seat.old seat.new }
     ensures none { seat.new.cube ≡ None }
 {
-    let divides = delivery.divides;
-    match desk.deliver(rt, seat, delivery.batch, delivery.outcome) {
-        Ok(()) => return Ok(divides),
-        Err(_) => {}
+    let divides = found.divides;
+    match enter(rt, desk, seat, found) {
+        Ok(()) => Ok(divides),
+        Err(error) => {
+            desk.release(rt, seat);
+            Err(error)
+        }
     }
-    desk.release(rt, seat);
-    Err(AllocError)
 }
 
 /// One slice, the gate, and the delivery of what was found: whether it divided the cube, and then the next
@@ -94,14 +107,14 @@ pub(crate) fn deal<R: Wait, G: Gate>(
     ensures tools { pace.new.tools ≡ pace.old.tools }
 {
     match search(team.alloc(), team.problem(), seat, pace) {
-        Ok(delivery) => {
+        Ok(found) => {
             team.gate().pass(pace.worker, pace.slices);
             pace.slices = pace.slices.saturating_add(1);
-            if delivery.divides {
+            if found.divides {
                 let met_conflict = pace.tools.met_conflict();
                 pace.pacing.grow(met_conflict);
             }
-            deliver(rt, desk, seat, delivery)
+            deliver(rt, desk, seat, found)
         }
         Err(error) => {
             desk.release(rt, seat);

@@ -1,7 +1,8 @@
 -- Of the code and not of the meaning: from a slice's answer to a delivery, and from one turn to the next.
-use Rattle.std.specs.Prelude.{◌≡◌, ◌<◌, ℕ, List, map, Bool, Option, Some, None}
+use Rattle.std.specs.Prelude.{◌≡◌, ◌<◌, ℕ, ℤ, List, map, Bool, Option, Some, None}
 use Rattle.stn_core.specs.declared.literal.Literal.{Literal}
 use Rattle.stn_core.specs.declared.problem.Problem.{Problem}
+use Rattle.stn_core.specs.Solution.{IsSolution}
 use Rattle.refute_tree.specs.declared.lemma.Lemma.{Lemma}
 use Rattle.refute_tree.specs.Trees.{stated}
 use Rattle.refute_tree.specs.Batches.{LemmaBatch}
@@ -20,6 +21,18 @@ Delivers slice batch outcome =
     (problem : Problem) (lemmas : List Lemma) (cube : List Literal)
     → IsSlice (question_of problem (map stated lemmas) cube) slice
     → IsJustified problem lemmas cube batch outcome
+
+-- the delivery is justified wherever the values are a schedule
+abbrev pub FindsIt : List ℤ → LemmaBatch → Outcome → Type 0
+FindsIt values batch outcome =
+    (problem : Problem) (lemmas : List Lemma) (cube : List Literal)
+    → IsSolution problem values → IsJustified problem lemmas cube batch outcome
+
+-- it is justified wherever the one before is and the values are a schedule
+abbrev pub FindsInstead : LemmaBatch → Outcome → List ℤ → LemmaBatch → Outcome → Type 0
+FindsInstead before was values batch outcome =
+    (problem : Problem) (lemmas : List Lemma) (cube : List Literal)
+    → IsJustified problem lemmas cube before was → IsSolution problem values → IsJustified problem lemmas cube batch outcome
 
 -- the leaf's seat, number 0, delivered something
 abbrev pub IsDelivered : Ledger → ℕ → Ledger → Type 0

@@ -11,10 +11,8 @@ pub new-handed-requires : goal.new-handed-requires
 new-handed-requires c =
     let published : lemmas_of c.in_ok-share_again.field-0.items ≡ (moved c.args.base c.args.batch).lemmas =
     c.in_ok-share_again.ensures ∙ (ap lemmas_of c.as_slice.ensures.value ∙ (c.in_ok-shared.ensures ∙ (c.into_lemmas.ensures ∙ ap (λ (b : LemmaBatch). b.lemmas) c.move_to.ensures))) in
-    let count : length c.lemmas.result.now ≡ length c.args.batch.lemmas = ap (λ (ls : List Stated). length ls) c.lemmas.ensures in
-    let small : c.args.base + length c.args.batch.lemmas ≤ lemmas_limit = omega (arith, count) in
     subst (λ (n : ℕ). IsMovable n c.args.base (lemmas_of c.in_ok-share_again.field-0.items)) (sym c.seen-seen.ensures)
-    (movable c.args.batch c.args.base (lemmas_of c.in_ok-share_again.field-0.items) c.requires.seen c.requires.below small published)
+    (movable c.args.batch c.args.base (lemmas_of c.in_ok-share_again.field-0.items) c.requires.seen c.requires.below c.requires.fits published)
 
 pub returns-clause-handed : goal.returns-clause-handed
 returns-clause-handed c =

@@ -1,8 +1,11 @@
+use Rattle.std.proofs.Common.{sym, subst}
+use Rattle.book_core.specs.Books.{IsJustifiedIn}
+use Rattle.book_core.specs.Deliveries.{Handing}
 use Rattle.book_core.specs.Runs.{state_of}
 use Rattle.book_core.specs.Shared.{lemmas_of}
 use Rattle.book_search.proofs.Delivered.{cube_over, justified_there, lemmas_over}
 use Rattle.book_search.proofs.Waiting.{delivered_less}
-use Rattle.book_search.proofs.solve.work.Goals.{in-Ok, in-Err}
+use Rattle.book_search.proofs.solve.work.Goals.{In_ok-delivery}
 use Rattle.book_search.proofs.solve.work.Goals as goal
 
 pub search-requires-clause-lemmas : goal.search-requires-clause-lemmas
@@ -11,13 +14,15 @@ search-requires-clause-lemmas c = lemmas_over c.problem.result.now c.args.book.n
 pub search-requires-clause-cube : goal.search-requires-clause-cube
 search-requires-clause-cube c = cube_over c.problem.result.now c.args.book.now.problem (state_of c.args.book.now) c.args.cube.now c.args.id c.problem.ensures c.requires.cube c.sound.ensures.sound
 
-pub deliver-requires-clause-justified : goal.deliver-requires-clause-justified
-deliver-requires-clause-justified c = justified_there c.problem.result.now c.args.book.now.problem (lemmas_of c.lemmas.result.now) _ c.args.cube.now _ c.in_ok-delivery.delivery.batch c.in_ok-delivery.delivery.outcome c.problem.ensures c.lemmas.ensures c.requires.cube c.in_ok-delivery.ensures.justified
+-- what is delivered is justified, as what was found is
+justified : (c : In_ok-delivery) → IsJustifiedIn c.args.book.now.problem (state_of c.args.book.now) c.args.id c.in_ok-delivery.delivery.batch c.in_ok-delivery.delivery.outcome
+justified c = subst (λ (h : Handing). IsJustifiedIn c.args.book.now.problem (state_of c.args.book.now) c.args.id h.batch h.outcome) (sym c.in_ok-delivery.ensures)
+    (justified_there c.problem.result.now c.args.book.now.problem (lemmas_of c.lemmas.result.now) _ c.args.cube.now _ c.in_ok-found.found.batch c.in_ok-found.found.outcome c.problem.ensures c.lemmas.ensures c.requires.cube c.in_ok-found.ensures.justified)
+
+pub enter-requires-clause-justified : goal.enter-requires-clause-justified
+enter-requires-clause-justified c = justified (goal.at.enter-requires-clause-justified c).In_ok-delivery
 
 pub returns-clause-less : goal.returns-clause-less
 returns-clause-less c =
-    let justified = justified_there c.problem.result.now c.args.book.now.problem (lemmas_of c.lemmas.result.now) _ c.args.cube.now _ c.in_ok-delivery.delivery.batch c.in_ok-delivery.delivery.outcome c.problem.ensures c.lemmas.ensures c.requires.cube c.in_ok-delivery.ensures.justified in
-    elim c.match-deliver.branch [
-      | in-Ok w ↦ rw w.result-is (delivered_less c.ends_law.ensures.ends c.args.book.now c.deliver.new.self c.args.id c.in_ok-delivery.delivery.batch c.in_ok-delivery.delivery.outcome c.sound.ensures.opening c.sound.ensures.run c.requires.held justified c.requires.unfound w.in-Ok.ensures.ok)
-      | in-Err w ↦ rw w.result-is tt
-    ]
+    let d = c.in_ok-delivery.delivery in
+    delivered_less c.ends_law.ensures.ends c.args.book.now c.enter.new.self c.args.id d.batch d.outcome c.sound.ensures.opening c.sound.ensures.run c.requires.held (justified (goal.at.returns-clause-less c).In_ok-delivery) c.requires.unfound c.in_ok-enter.ensures.ok

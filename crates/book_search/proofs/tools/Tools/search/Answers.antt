@@ -1,13 +1,15 @@
-use Rattle.std.proofs.Common.{refl}
-use Rattle.std.specs.Arc.{arc_value}
-use Rattle.refute_tree.specs.declared.lemma.Lemma.{Lemma as Stated}
+use Rattle.std.proofs.Common.{subst, List, ℤ, Option}
+use Rattle.std.specs.Prelude.{IfSome}
+use Rattle.stn_core.specs.Solution.{IsSolution}
 use Rattle.book_core.specs.Shared.{lemmas_of}
-use Rattle.book_search.proofs.Delivered.{clauses_over, justified_by}
 use Rattle.book_search.proofs.tools.Tools.search.Goals as goal
 
-pub slice-requires-clause-lemmas : goal.slice-requires-clause-lemmas
-slice-requires-clause-lemmas c = clauses_over (λ a. arc_value {X = Stated} a) c.args.lemmas.now _ c.args.problem.now c.args.problem.now refl refl c.requires.lemmas
+pub returns-in-Some-clause-justified : goal.returns-in-Some-clause-justified
+returns-in-Some-clause-justified c =
+    let found : IsSolution c.args.problem.now c.in-Some.schedule = subst (λ (o : Option (List ℤ)). IfSome o (IsSolution c.args.problem.now)) c.in-Some.is c.in_ok-schedule.ensures.found in
+    c.found_alone.ensures c.args.problem.now (lemmas_of c.args.lemmas.now) c.args.cube.now found
 
-pub returns-clause-justified : goal.returns-clause-justified
-returns-clause-justified c = justified_by (λ a. arc_value {X = Stated} a) c.args.lemmas.now _ c.args.problem.now c.args.problem.now c.args.cube.now c.args.cube.now c.in_ok-found.found c.in_ok-delivery.delivery.batch c.in_ok-delivery.delivery.outcome
-    refl refl refl c.in_ok-found.ensures.answer c.in_ok-delivery.ensures
+pub returns-in-Some-2-clause-justified : goal.returns-in-Some-2-clause-justified
+returns-in-Some-2-clause-justified c =
+    let found : IsSolution c.args.problem.now c.in-Some-2.schedule = subst (λ (o : Option (List ℤ)). IfSome o (IsSolution c.args.problem.now)) c.in-Some-2.is c.in_ok-schedule-2.ensures.found in
+    c.found_instead.ensures c.args.problem.now (lemmas_of c.args.lemmas.now) c.args.cube.now c.in_ok-finding.ensures.justified found

@@ -13,8 +13,8 @@ use Rattle.book_core.specs.Shared.{lemmas_of}
 use Rattle.book_core.specs.Runs.{state_of}
 use Rattle.book_core.specs.Books.{State, state_with, IsJustified, cover_delivered}
 use Rattle.book_core.proofs.Runs.{at_inside, inside, some_held, refers_below, number_of, published, state_is, count_delivered, kept_more}
-use Rattle.book_core.proofs.book.Book.receive.Goals.{After-len-base}
-use Rattle.book_core.proofs.book.Book.receive.Goals as goal
+use Rattle.book_core.proofs.book.Book.enter.Goals.{After-len-base}
+use Rattle.book_core.proofs.book.Book.enter.Goals as goal
 
 -- the delivery's parts are justified in the state that the book's parts show
 justified_inside : (c : After-len-base)
@@ -31,20 +31,18 @@ pub prepare-requires-clause-below : goal.prepare-requires-clause-below
 prepare-requires-clause-below c =
     let t = (goal.at.prepare-requires-clause-below c).After-len-base in
     let s : State = state_with c.self.inside.cover (lemmas_of c.self.inside.lemmas.items) c.self.inside.found in
-    subst (λ (b : LemmaBatch). All (LemmaRefersBelow (b.seen + length b.lemmas)) b.lemmas) (sym c.delivery.invariant.0)
-    (refers_below c.self.inside.problem s _ c.delivery.inside.batch c.delivery.inside.outcome (justified_inside t))
+    refers_below c.self.inside.problem s _ c.delivery.inside.batch c.delivery.inside.outcome (justified_inside t)
+
+pub closing_number-number-requires : goal.closing_number-number-requires
+closing_number-number-requires c =
+    let t = (goal.at.closing_number-number-requires c).After-len-base in
+    let s : State = state_with c.self.inside.cover (lemmas_of c.self.inside.lemmas.items) c.self.inside.found in
+    let base = base_is t in
+    subst (λ (n : ℕ). (j : ℕ) → c.delivery.inside.outcome ≡ Shut j → moved_number c.delivery.inside.batch.seen n j < 2 ^ 64) (sym base)
+    (number_of c.self.inside.problem s _ c.delivery.inside.batch c.delivery.inside.outcome (justified_inside t) (omega (arith, base, c.in_ok-check_room.ensures)))
 
 pub settle-requires-clause-held : goal.settle-requires-clause-held
 settle-requires-clause-held c = (c.args.seat, at_inside _ _ _ _ _ c.args.id _ c.self.view_is c.self.invariant.same c.requires.held)
-
-pub settle-requires-clause-number : goal.settle-requires-clause-number
-settle-requires-clause-number c =
-    let t = (goal.at.settle-requires-clause-number c).After-len-base in
-    let s : State = state_with c.self.inside.cover (lemmas_of c.self.inside.lemmas.items) c.self.inside.found in
-    let base = base_is t in
-    let count : length c.delivery.inside.copied.lemmas ≡ length c.delivery.inside.batch.lemmas = ap (λ (b : LemmaBatch). length b.lemmas) c.delivery.invariant.0 in
-    subst (λ (n : ℕ). (j : ℕ) → c.delivery.inside.outcome ≡ Shut j → moved_number c.delivery.inside.batch.seen n j < 2 ^ 64) (sym base)
-    (number_of c.self.inside.problem s _ c.delivery.inside.batch c.delivery.inside.outcome (justified_inside t) (omega (arith, base, count, c.in-Ok.ensures.fits)))
 
 pub push_reserved-requires : goal.push_reserved-requires
 push_reserved-requires c =
@@ -57,12 +55,13 @@ invariant_of-self-2 c =
     let here = at_inside _ _ _ _ _ c.args.id _ c.self.view_is c.self.invariant.same c.requires.held in
     let s : State = state_with c.self.inside.cover (lemmas_of c.self.inside.lemmas.items) c.self.inside.found in
     let base = base_is t in
-    let handed = c.in-Ok.ensures.handed ∙ c.delivery.invariant.0 in
-    let shared = c.in-Ok.ensures.lemmas ∙ ap (λ (b : LemmaBatch). (moved c.len-base.result b).lemmas) c.delivery.invariant.0 in
+    let handed = c.in_ok-shared.ensures.handed in
+    let shared = c.in_ok-shared.ensures.lemmas in
+    let cover = c.in_ok-self-inside.ensures.cover c.delivery.inside.batch.seen c.len-base.result c.closing_number-number.ensures in
     kept_more _ _ _ _ s _ (Deliver c.args.seat c.args.id c.delivery.inside.batch c.delivery.inside.outcome) _ _ _ _ c.self.invariant (here, justified_inside t)
     (c.push_reserved.ensures.items ∙ ap (λ (b : LemmaBatch). c.self.inside.journal.items ++ Deliver c.args.seat c.args.id b c.delivery.inside.outcome ∷ []) handed)
-    (state_is _ _ (c.in-Ok-settle.ensures.cover ∙ ap (λ (n : ℕ). cover_delivered c.self.inside.cover c.args.id c.delivery.inside.batch.seen n c.delivery.inside.outcome) base)
+    (state_is _ _ (cover ∙ ap (λ (n : ℕ). cover_delivered c.self.inside.cover c.args.id c.delivery.inside.batch.seen n c.delivery.inside.outcome) base)
     (published (λ a. arc_value {X = Stated} a) c.self.inside.lemmas.items _ _ _ c.len-base.result c.delivery.inside.batch c.publish.ensures c.reserve.ensures.items shared base)
-    c.in-Ok-settle.ensures.found)
-    c.in-Ok-settle.ensures.halves
-    (omega (arith, count_delivered c.self.inside.cover c.settle.new.cover c.len-base.result c.args.id c.args.seat c.delivery.inside.batch.seen c.delivery.inside.outcome here c.in-Ok-settle.ensures.cover, c.self.invariant.reserved, c.push_reserved.ensures.capacity))
+    c.in_ok-self-inside.ensures.found)
+    c.in_ok-self-inside.ensures.halves
+    (omega (arith, count_delivered c.self.inside.cover c.settle.new.cover c.len-base.result c.args.id c.args.seat c.delivery.inside.batch.seen c.delivery.inside.outcome here cover, c.self.invariant.reserved, c.push_reserved.ensures.capacity))
