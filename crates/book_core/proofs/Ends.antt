@@ -1,4 +1,4 @@
--- Each delivery leaves less to do.
+-- Each delivery that says something of its cube leaves less to do.
 use Rattle.std.proofs.Common.{arith, ◌≡◌, ℕ, zero, suc, ◌<◌, ◌≤◌, ◌+◌, ◌-◌, ◌⊎◌, inl, inr, List, [], ◌∷◌, ◌++◌, length, flat_map, get_or, set, Option, Some, None, All, Contains, ℤ, refl, sym, ap, ◌∙◌, subst, length-append}
 use Rattle.std.specs.Prelude.{slice_get, AllPairs, IsSome}
 use Rattle.std.proofs.lemmas.List.{length-set}
@@ -16,7 +16,7 @@ use Rattle.refute_tree.specs.declared.lemma.Lemma.{Lemma}
 use Rattle.book_core.specs.declared.event.Event.{Event}
 use Rattle.book_core.specs.declared.event.Event.TheVariants.{Take, Deliver, Release}
 use Rattle.book_core.specs.declared.event.Taken.TheVariants.{Done, Idle, Cube}
-use Rattle.book_core.specs.declared.event.Outcome.TheVariants.{Found, Shut as ShutBy, Split as SplitBy}
+use Rattle.book_core.specs.declared.event.Outcome.TheVariants.{Found, Shut as ShutBy, Split as SplitBy, Open}
 use Rattle.refute_tree.specs.Moves.{moved_number}
 use Rattle.refute_tree.specs.Batches.{MovedBatchLaw, JoinedLaw}
 use Rattle.book_core.specs.Books.{State, opened, IsOpening, IsDecidable, IsAllowed, after, first_found}
@@ -160,16 +160,19 @@ leaves problem s (Release seat id) h now a none =
     omega (arith, left_changed (length (all_literals problem)) s.cover id (as_long s.cover h.cover) (Held seat) a Free)
 leaves problem s (Deliver seat id batch (Found values)) h now a none =
     let before : schedules_left s.found ≡ 1 = ap schedules_left none in
-    omega (arith, before, found_first s.found values, left_changed (length (all_literals problem)) s.cover id (as_long s.cover h.cover) (Held seat) a.0 Free)
+    (omega (arith, before, found_first s.found values, left_changed (length (all_literals problem)) s.cover id (as_long s.cover h.cover) (Held seat) a.0 Free), λ said. absurd cc)
 leaves problem s (Deliver seat id batch (ShutBy j)) h now a none =
     let most : ℕ = length (all_literals problem) in
-    omega (arith, some_node (most - length (cube_at s.cover id)), left_changed most s.cover id (as_long s.cover h.cover) (Held seat) a.0 (Shut (moved_number batch.seen (length s.lemmas) j)))
+    (omega (arith, some_node (most - length (cube_at s.cover id)), left_changed most s.cover id (as_long s.cover h.cover) (Held seat) a.0 (Shut (moved_number batch.seen (length s.lemmas) j))), λ said. absurd cc)
 leaves problem s (Deliver seat id batch (SplitBy l)) h now a none =
     let most : ℕ = length (all_literals problem) in
     let long = as_long s.cover h.cover in
     let longer : length (cube_at (divided s.cover id l) (length s.cover.nodes)) ≤ most = short problem (after s (Deliver seat id batch (SplitBy l))) now (length s.cover.nodes) in
     let count : length (cube_at (divided s.cover id l) (length s.cover.nodes)) ≡ length (cube_at s.cover id) + 1 = ap (λ (p : List Literal). length p) (cube_first s.cover id l long) ∙ length-append (cube_at s.cover id) (l ∷ []) in
-    omega (arith, left_divided most s.cover id long (Held seat) a.0 l (omega (arith, longer, count)) refl)
+    (omega (arith, left_divided most s.cover id long (Held seat) a.0 l (omega (arith, longer, count)) refl), λ said. absurd cc)
+leaves problem s (Deliver seat id batch Open) h now a none =
+    let as_much : left_to_do problem (after s (Deliver seat id batch Open)) ≡ left_to_do problem s = omega (arith, left_changed (length (all_literals problem)) s.cover id (as_long s.cover h.cover) (Held seat) a.0 Free) in
+    (omega (arith, as_much), λ said. as_much)
 
 found_after : (s : State) (e : Event) → IsSome s.found → IsSome (after s e).found
 found_after s (Take seat taken) h = h
@@ -191,7 +194,7 @@ unfound_start s (e ∷ events) none = unfound_before s e (unfound_start (after s
 
 counted : (e : Event) (events : List Event) (before now end : ℕ) → Leaves e before now → deliveries events + end ≤ now → deliveries (e ∷ events) + end ≤ before
 counted (Take seat taken) events before now end l h = omega (arith, l, h)
-counted (Deliver seat id batch outcome) events before now end l h = omega (arith, l, h)
+counted (Deliver seat id batch outcome) events before now end l h = omega (arith, l.0, h)
 counted (Release seat id) events before now end l h = omega (arith, l, h)
 
 module _ (problem : Problem) (moved_batch : MovedBatchLaw) (joined : JoinedLaw) where

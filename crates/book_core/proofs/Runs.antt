@@ -11,7 +11,7 @@ use Rattle.refute_tree.specs.Moves.{moved_number}
 use Rattle.refute_tree.specs.Batches.{LemmaBatch, moved, LemmaRefersBelow}
 use Rattle.refute_tree.proofs.References.{all_below}
 use Rattle.book_core.specs.declared.event.Outcome.{Outcome}
-use Rattle.book_core.specs.declared.event.Outcome.TheVariants.{Found, Shut as ShutBy, Split as SplitBy}
+use Rattle.book_core.specs.declared.event.Outcome.TheVariants.{Found, Shut as ShutBy, Split as SplitBy, Open}
 use Rattle.stn_core.specs.declared.literal.Literal.{Literal}
 use Rattle.stn_core.specs.declared.problem.Problem.{Problem}
 use Rattle.cover_tree.specs.declared.node.Node.{Node}
@@ -128,6 +128,7 @@ pub count_delivered : (c now : Cubes) (n k seat seen : ℕ) (outcome : Outcome) 
 count_delivered c now n k seat seen (Found values) e is = count_freed c now k seat e is
 count_delivered c now n k seat seen (ShutBy j) e is = count_shut c now k seat (moved_number seen n j) e is
 count_delivered c now n k seat seen (SplitBy l) e is = count_divided c now k seat l e is
+count_delivered c now n k seat seen Open e is = count_freed c now k seat e is
 
 -- the number of the excluding lemma fits
 pub number_fits : (s : State) (batch : LemmaBatch) (j : ℕ) (clause : List Literal) → batch.seen ≤ length s.lemmas → slice_get (map stated (take batch.seen s.lemmas ++ batch.lemmas)) j ≡ Some clause → length s.lemmas + length batch.lemmas < 2 ^ 64 → moved_number batch.seen (length s.lemmas) j < 2 ^ 64
@@ -142,6 +143,7 @@ number_fits s batch j clause le e small =
 pub number_of : (problem : Problem) (s : State) (cube : List Literal) (batch : LemmaBatch) (outcome : Outcome) → IsJustified problem s.lemmas cube batch outcome → length s.lemmas + length batch.lemmas < 2 ^ 64 → (j : ℕ) → outcome ≡ ShutBy j → moved_number batch.seen (length s.lemmas) j < 2 ^ 64
 number_of problem s cube batch (Found values) h small j e = absurd cc
 number_of problem s cube batch (SplitBy l) h small j e = absurd cc
+number_of problem s cube batch Open h small j e = absurd cc
 number_of problem s cube batch (ShutBy i) h small j e =
     let same : i ≡ j = cc in
     subst (λ (n : ℕ). moved_number batch.seen (length s.lemmas) n < 2 ^ 64) same (number_fits s batch i h.fits.0 h.seen h.fits.1 small)

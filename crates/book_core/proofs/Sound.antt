@@ -24,7 +24,7 @@ use Rattle.book_core.specs.declared.event.Event.{Event}
 use Rattle.book_core.specs.declared.event.Event.TheVariants.{Take, Deliver, Release}
 use Rattle.book_core.specs.declared.event.Taken.TheVariants.{Done, Idle, Cube}
 use Rattle.book_core.specs.declared.event.Outcome.{Outcome}
-use Rattle.book_core.specs.declared.event.Outcome.TheVariants.{Found, Shut as ShutBy, Split as SplitBy}
+use Rattle.book_core.specs.declared.event.Outcome.TheVariants.{Found, Shut as ShutBy, Split as SplitBy, Open}
 use Rattle.book_core.specs.Books.{State, opened, IsOpening, IsDone, IsDecidable, IsShutBy, IsJustified, IsAllowed, first_found, found_delivered, lemmas_delivered, after}
 use Rattle.stn_core.specs.Solution.{IsSolution, IsAtom}
 use Rattle.book_core.specs.Runs.{IsRun, IsRunFrom, replayed_from, replayed}
@@ -202,6 +202,8 @@ module _ (problem : Problem)
         shut = shut_divided s.cover (map stated (lemmas_delivered s.lemmas batch)) id (Held seat) l long e added.shut;
         found = added.found;
       }
+  delivered_sound s seat id batch Open h e j =
+      leaf_sound (record { cover = s.cover; lemmas = lemmas_delivered s.lemmas batch; found = s.found }) id (Held seat) Free (added_sound s id batch Open h j) e tt tt (λ i is. absurd cc)
 
   pub event_sound : (s : State) (e : Event) → IsSound problem s → IsAllowed problem s e → IsSound problem (after s e)
   event_sound s (Take seat Done) h a = h
@@ -225,6 +227,7 @@ pub found_stays : (s : State) (outcome : Outcome) → IsSome s.found → IsSome 
 found_stays s (Found values) h = some_first s.found values
 found_stays s (ShutBy j) h = h
 found_stays s (SplitBy l) h = h
+found_stays s Open h = h
 
 pub not_some : (found : Option (List ℤ)) → found ≡ None → IsSome found → ⊥
 not_some None e h = absurd cc

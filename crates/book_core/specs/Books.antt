@@ -17,7 +17,7 @@ use Rattle.book_core.specs.declared.event.Event.TheVariants.{Take, Deliver, Rele
 use Rattle.book_core.specs.declared.event.Taken.{Taken}
 use Rattle.book_core.specs.declared.event.Taken.TheVariants.{Done, Idle, Cube}
 use Rattle.book_core.specs.declared.event.Outcome.{Outcome}
-use Rattle.book_core.specs.declared.event.Outcome.TheVariants.{Found, Shut as ShutBy, Split as SplitBy}
+use Rattle.book_core.specs.declared.event.Outcome.TheVariants.{Found, Shut as ShutBy, Split as SplitBy, Open}
 
 -- the cover, the lemmas, and the schedule that was found first
 pub record State : Type 0 where
@@ -58,6 +58,7 @@ abbrev pub Fits : Problem → List Lemma → List Literal → Outcome → Type 0
 Fits problem lemmas cube (Found values) = IsSolution problem values
 Fits problem lemmas cube (ShutBy j) = IsShutBy (map stated lemmas) cube j
 Fits problem lemmas cube (SplitBy l) = IsDecidable problem l × IsUndecided cube l
+Fits problem lemmas cube Open = Unit {0}
 
 -- A delivery is justified over the lemmas that are known: the batch was made over the first of these, each of
 -- its lemmas is refuted over them and those before it, its literals are within the limits, and the outcome
@@ -98,11 +99,12 @@ cover_taken c seat Idle = c
 cover_taken c seat (Cube id) = with_node c id (Held seat)
 
 -- the cover after a delivery whose batch, made over `seen` lemmas, comes behind `count` ones: a found
--- schedule frees the leaf, a lemma shuts it, and a literal divides it
+-- schedule frees the leaf, a lemma shuts it, a literal divides it, and it is free again where nothing is said of it
 abbrev pub cover_delivered : Cubes → ℕ → ℕ → ℕ → Outcome → Cubes
 cover_delivered c id seen count (Found values) = with_node c id Free
 cover_delivered c id seen count (ShutBy j) = with_node c id (Shut (moved_number seen count j))
 cover_delivered c id seen count (SplitBy l) = divided c id l
+cover_delivered c id seen count Open = with_node c id Free
 
 -- the schedule that was found first stays
 abbrev pub first_found : Option (List ℤ) → List ℤ → Option (List ℤ)

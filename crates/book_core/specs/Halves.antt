@@ -4,7 +4,7 @@ use Rattle.cover_tree.specs.Covers.{Cubes}
 use Rattle.book_core.specs.declared.event.Event.{Event}
 use Rattle.book_core.specs.declared.event.Event.TheVariants.{Take, Deliver, Release}
 use Rattle.book_core.specs.declared.event.Outcome.{Outcome}
-use Rattle.book_core.specs.declared.event.Outcome.TheVariants.{Found, Shut, Split}
+use Rattle.book_core.specs.declared.event.Outcome.TheVariants.{Found, Shut, Split, Open}
 use Rattle.refute_tree.specs.declared.lemma.Lemma.{Lemma}
 use Rattle.book_core.specs.Books.{State, opened, after}
 
@@ -13,6 +13,7 @@ abbrev pub halves_made : Cubes → Outcome → Option (ℕ × ℕ)
 halves_made c (Found values) = None
 halves_made c (Shut j) = None
 halves_made c (Split l) = Some (length c.nodes, length c.nodes + 1)
+halves_made c Open = None
 
 -- a delivery takes the place of those before it
 abbrev pub halves_after : State → Event → Option (ℕ × ℕ) → Option (ℕ × ℕ)

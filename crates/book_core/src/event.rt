@@ -22,6 +22,8 @@ pub enum Outcome {
     Shut(usize),
     /// The cube is to be divided by this literal.
     Split(Literal),
+    /// Nothing is said of the cube, which is free again.
+    Open,
 }
 
 impl Outcome {
@@ -33,6 +35,7 @@ impl Outcome {
             Outcome::Found(schedule) => Ok(Outcome::Found(schedule.copy()?)),
             Outcome::Shut(j) => Ok(Outcome::Shut(*j)),
             Outcome::Split(literal) => Ok(Outcome::Split(*literal)),
+            Outcome::Open => Ok(Outcome::Open),
         }
     }
 

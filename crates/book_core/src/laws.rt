@@ -24,8 +24,9 @@ pub fn done_kept_law()
     ensures { DoneKeptLaw }
 {}
 
-/// No cube has more literals than the clauses have together, and so, until a schedule is found, each delivery
-/// leaves less to do, while a `take` or a `release` leaves as much: whoever goes on delivering comes to Done.
+/// No cube has more literals than the clauses have together, and so, until a schedule is found, each delivery that says
+/// something of its cube leaves less to do, while any other call leaves as much: whoever goes on saying something comes to
+/// Done.
 pub fn ends_law()
     ensures short { ShortLaw }
     ensures ends { EndsLaw }

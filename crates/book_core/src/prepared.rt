@@ -129,5 +129,9 @@ pub(crate) fn settle(
             let halves = cover.split(id, *literal)?;
             Ok(Some(halves))
         }
+        Outcome::Open => {
+            cover.release(id);
+            Ok(None)
+        }
     }
 }

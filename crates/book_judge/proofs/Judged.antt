@@ -23,7 +23,7 @@ use Rattle.refute_tree.proofs.Moved.{joined}
 use Rattle.book_core.specs.Books.{IsShutBy, IsJustified, Fits}
 use Rattle.stn_core.specs.Solution.{IsAtom}
 use Rattle.book_core.specs.declared.event.Outcome.{Outcome}
-use Rattle.book_core.specs.declared.event.Outcome.TheVariants.{Found, Shut as ShutBy, Split as SplitBy}
+use Rattle.book_core.specs.declared.event.Outcome.TheVariants.{Found, Shut as ShutBy, Split as SplitBy, Open}
 use Rattle.book_judge.specs.declared.judging.Fault.{Fault}
 use Rattle.book_judge.specs.declared.judging.Fault.TheVariants.{NoSuchClause, BoundOutOfRange, NotRefuted, NotASchedule, DoesNotExclude, AlreadyDecided, OutOfMemory}
 use Rattle.book_judge.specs.Faults.{fault_of, Misfits, IsFaultOf, IsFaultOfLemma, IsFaultOfLemmas}
@@ -181,20 +181,23 @@ batch_fault problem lemmas cube batch outcome seen own known DoesNotExclude es e
 batch_fault problem lemmas cube batch outcome seen own known AlreadyDecided es eo ek f = absurd f
 batch_fault problem lemmas cube batch outcome seen own known OutOfMemory es eo ek f = tt
 
-not_missing : (outcome : Outcome) → NoSuchClause ≢ fault_of outcome
+not_missing : (outcome : Outcome) → fault_of outcome ≢ Some NoSuchClause
 not_missing (Found values) e = absurd (cc e)
 not_missing (ShutBy j) e = absurd (cc e)
 not_missing (SplitBy l) e = absurd (cc e)
+not_missing Open e = absurd (cc e)
 
-not_over : (outcome : Outcome) → BoundOutOfRange ≢ fault_of outcome
+not_over : (outcome : Outcome) → fault_of outcome ≢ Some BoundOutOfRange
 not_over (Found values) e = absurd (cc e)
 not_over (ShutBy j) e = absurd (cc e)
 not_over (SplitBy l) e = absurd (cc e)
+not_over Open e = absurd (cc e)
 
-not_unrefuted : (outcome : Outcome) (fault : Fault) → fault ≡ fault_of outcome → (kind : FlawKind) → fault ≢ NotRefuted kind
-not_unrefuted (Found values) fault e kind is = let t : NotRefuted kind ≡ NotASchedule = sym is ∙ e in absurd (cc t)
-not_unrefuted (ShutBy j) fault e kind is = let t : NotRefuted kind ≡ DoesNotExclude = sym is ∙ e in absurd (cc t)
-not_unrefuted (SplitBy l) fault e kind is = let t : NotRefuted kind ≡ AlreadyDecided = sym is ∙ e in absurd (cc t)
+not_unrefuted : (outcome : Outcome) (kind : FlawKind) → fault_of outcome ≢ Some (NotRefuted kind)
+not_unrefuted (Found values) kind e = absurd (cc e)
+not_unrefuted (ShutBy j) kind e = absurd (cc e)
+not_unrefuted (SplitBy l) kind e = absurd (cc e)
+not_unrefuted Open kind e = absurd (cc e)
 
 -- a fault of the outcome is one of the delivery
 pub outcome_fault : (problem : Problem) (lemmas : List Lemma) (cube : List Literal) (batch : LemmaBatch) (outcome : Outcome) (seen : ℕ) (own known all : List Lemma) (fault : Fault) → seen ≡ batch.seen → own ≡ batch.lemmas → known ≡ take seen lemmas → all ≡ known ++ own → Misfits problem all cube outcome fault → IsFaultOf problem lemmas cube batch outcome fault
@@ -206,7 +209,7 @@ outcome_fault problem lemmas cube batch outcome seen own known all fault es eo e
     by_fault : (fault : Fault) → Misfits problem (take batch.seen lemmas ++ batch.lemmas) cube outcome fault → IsFaultOf problem lemmas cube batch outcome fault
     by_fault NoSuchClause h = absurd (not_missing outcome h.0)
     by_fault BoundOutOfRange h = absurd (not_over outcome h.0)
-    by_fault (NotRefuted kind) h = absurd (not_unrefuted outcome (NotRefuted kind) h.0 kind refl)
+    by_fault (NotRefuted kind) h = absurd (not_unrefuted outcome kind h.0)
     by_fault NotASchedule h = h
     by_fault DoesNotExclude h = h
     by_fault AlreadyDecided h = h

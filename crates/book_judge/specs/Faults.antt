@@ -1,25 +1,26 @@
 -- What a fault says of a delivery.
-use Rattle.std.specs.Prelude.{◌≡◌, ◌<◌, List, ◌++◌, length, map, take, All}
+use Rattle.std.specs.Prelude.{◌≡◌, ◌<◌, List, ◌++◌, length, map, take, All, Option, Some, None}
 use Rattle.stn_core.specs.declared.literal.Literal.{Literal}
 use Rattle.stn_core.specs.declared.problem.Problem.{Problem}
 use Rattle.refute_tree.specs.declared.lemma.Lemma.{Lemma}
 use Rattle.refute_tree.specs.Trees.{IsRefuted, stated}
 use Rattle.refute_tree.specs.Batches.{LemmaBatch, AreRefuted, LemmaIsOver}
 use Rattle.book_core.specs.declared.event.Outcome.{Outcome}
-use Rattle.book_core.specs.declared.event.Outcome.TheVariants.{Found, Shut as ShutBy, Split as SplitBy}
+use Rattle.book_core.specs.declared.event.Outcome.TheVariants.{Found, Shut as ShutBy, Split as SplitBy, Open}
 use Rattle.book_core.specs.Books.{Fits}
 use Rattle.book_judge.specs.declared.judging.Fault.{Fault}
 use Rattle.book_judge.specs.declared.judging.Fault.TheVariants.{NoSuchClause, BoundOutOfRange, NotRefuted, NotASchedule, DoesNotExclude, AlreadyDecided, OutOfMemory}
 
--- the fault of an outcome that doesn't hold of its cube
-abbrev pub fault_of : Outcome → Fault
-fault_of (Found values) = NotASchedule
-fault_of (ShutBy j) = DoesNotExclude
-fault_of (SplitBy l) = AlreadyDecided
+-- the fault of an outcome that doesn't hold of its cube, where it says something of it
+abbrev pub fault_of : Outcome → Option Fault
+fault_of (Found values) = Some NotASchedule
+fault_of (ShutBy j) = Some DoesNotExclude
+fault_of (SplitBy l) = Some AlreadyDecided
+fault_of Open = None
 
 -- the outcome doesn't hold of the cube where these lemmas are known, and this is the fault for it
 abbrev pub Misfits : Problem → List Lemma → List Literal → Outcome → Fault → Type 0
-Misfits problem known cube outcome fault = (fault ≡ fault_of outcome) × ¬ Fits problem known cube outcome
+Misfits problem known cube outcome fault = (fault_of outcome ≡ Some fault) × ¬ Fits problem known cube outcome
 
 -- what a fault says of a delivery: each but want of memory denies a part of its justification
 abbrev pub IsFaultOf : Problem → List Lemma → List Literal → LemmaBatch → Outcome → Fault → Type 0

@@ -131,5 +131,6 @@ pub(crate) fn check_outcome(
                 Err(Fault::AlreadyDecided)
             }
         }
+        Outcome::Open => Ok(()),
     }
 }

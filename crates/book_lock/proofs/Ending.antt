@@ -16,7 +16,7 @@ use Rattle.book_core.specs.declared.event.Event.{Event}
 use Rattle.book_core.specs.declared.event.Event.TheVariants.{Take, Deliver, Release}
 use Rattle.book_core.specs.declared.event.Taken.TheVariants.{Done, Idle, Cube as TakenCube}
 use Rattle.book_core.specs.declared.event.Outcome.{Outcome}
-use Rattle.book_core.specs.declared.event.Outcome.TheVariants.{Found, Shut as ShutBy, Split as SplitBy}
+use Rattle.book_core.specs.declared.event.Outcome.TheVariants.{Found, Shut as ShutBy, Split as SplitBy, Open}
 use Rattle.book_core.specs.Books.{State, opened, IsAllowed, IsDone, after, cover_delivered}
 use Rattle.book_core.specs.Runs.{Ledger, IsRunFrom, replayed_from}
 use Rattle.book_lock.specs.Begun.{Runs, reached}
@@ -58,6 +58,7 @@ elsewhere_set xs k old new was not id n h = ⊎_elim
 
 elsewhere_deliver : (s : State) (seat k : ℕ) (batch : LemmaBatch) (outcome : Outcome) → node_at s.cover k ≡ Some (Held seat) → Elsewhere s.cover (cover_delivered s.cover k batch.seen (length s.lemmas) outcome) k
 elsewhere_deliver s seat k batch (Found values) was id n h = elsewhere_set s.cover.nodes k (Held seat) Free was (λ m e. cc (e)) id n h
+elsewhere_deliver s seat k batch Open was id n h = elsewhere_set s.cover.nodes k (Held seat) Free was (λ m e. cc (e)) id n h
 elsewhere_deliver s seat k batch (ShutBy j) was id n h = elsewhere_set s.cover.nodes k (Held seat) (Shut (moved_number batch.seen (length s.lemmas) j)) was (λ m e. cc (e)) id n h
 elsewhere_deliver s seat k batch (SplitBy l) was id n h =
     elsewhere_set s.cover.nodes k (Held seat) (Split l (length s.cover.nodes)) was (λ m e. cc (e)) id n (held_in_front (set s.cover.nodes k (Split l (length s.cover.nodes))) id n h)

@@ -20,7 +20,7 @@ use Rattle.book_core.specs.declared.event.Event.{Event}
 use Rattle.book_core.specs.declared.event.Event.TheVariants.{Take, Deliver, Release}
 use Rattle.book_core.specs.declared.event.Taken.TheVariants.{Done, Idle, Cube as TakenCube}
 use Rattle.book_core.specs.declared.event.Outcome.{Outcome}
-use Rattle.book_core.specs.declared.event.Outcome.TheVariants.{Found, Shut as ShutBy, Split as SplitBy}
+use Rattle.book_core.specs.declared.event.Outcome.TheVariants.{Found, Shut as ShutBy, Split as SplitBy, Open}
 use Rattle.book_core.specs.Books.{State, opened, IsAllowed, after, cover_delivered}
 use Rattle.book_core.specs.Runs.{Ledger, IsRunFrom, replayed_from}
 use Rattle.book_lock.specs.Begun.{Runs, reached}
@@ -69,6 +69,7 @@ stands_deliver : (s : State) (seat k id n : ℕ) (batch : LemmaBatch) (outcome :
 stands_deliver s seat k id n batch (Found values) cube ne h = stands_set s.cover k id Free (Held n) cube ne h
 stands_deliver s seat k id n batch (ShutBy j) cube ne h = stands_set s.cover k id (Shut (moved_number batch.seen (length s.lemmas) j)) (Held n) cube ne h
 stands_deliver s seat k id n batch (SplitBy l) cube ne h = stands_divided s.cover k id l (Held n) cube ne h
+stands_deliver s seat k id n batch Open cube ne h = stands_set s.cover k id Free (Held n) cube ne h
 
 held_apart : (c : Cubes) (k id seat n : ℕ) → node_at c k ≡ Some (Held seat) → node_at c id ≡ Some (Held n) → seat ≢ n → id ≢ k
 held_apart c k id seat n a b ne e = let same : node_at c k ≡ Some (Held n) = ap (λ (j : ℕ). node_at c j) (sym e) ∙ b in ne cc
@@ -98,6 +99,7 @@ covered_deliver : (s : State) (seat k : ℕ) (batch : LemmaBatch) (outcome : Out
 covered_deliver s seat k batch (Found values) c e = changes s.cover k (Held seat) Free c e tt tt
 covered_deliver s seat k batch (ShutBy j) c e = changes s.cover k (Held seat) (Shut (moved_number batch.seen (length s.lemmas) j)) c e tt tt
 covered_deliver s seat k batch (SplitBy l) c e = divides s.cover k (Held seat) l c e tt
+covered_deliver s seat k batch Open c e = changes s.cover k (Held seat) Free c e tt tt
 
 covered_step : (p : Problem) (s : State) (e : Event) → IsCover s.cover → IsAllowed p s e → IsCover (after s e).cover
 covered_step p s (Take seat Done) c a = c

@@ -12,19 +12,21 @@ use Rattle.refute_tree.specs.Trees.{IsDenied, stated}
 use Rattle.refute_tree.specs.Batches.{LemmaBatch, AreRefuted, LemmaIsOver}
 use Rattle.branch_search.specs.declared.answer.Slice.{Slice}
 use Rattle.branch_search.specs.declared.answer.Slice.TheVariants.{Model, Refuted, Split}
+use Rattle.branch_search.specs.declared.answer.Part.{Part}
+use Rattle.branch_search.specs.declared.answer.Part.TheVariants.{Ended, Paused}
 use Rattle.conflict_analysis.specs.Proved.{IsClauseOver}
-use Rattle.branch_search.specs.Slices.{question_of, Excludes, IsSlice, IsSplit, IsBatch}
+use Rattle.branch_search.specs.Slices.{question_of, Excludes, IsPart, IsSlice, IsSplit, IsBatch}
 use Rattle.cover_tree.proofs.Sets.{get_behind}
 use Rattle.cover_tree.proofs.Tables.{get_map}
 use Rattle.book_core.specs.declared.event.Outcome.{Outcome}
-use Rattle.book_core.specs.declared.event.Outcome.TheVariants.{Found, Shut as ShutBy, Split as SplitBy}
+use Rattle.book_core.specs.declared.event.Outcome.TheVariants.{Found, Shut as ShutBy, Split as SplitBy, Open}
 use Rattle.cover_tree.specs.Covers.{cube_at}
 use Rattle.book_core.specs.Facts.{IsSound}
 use Rattle.book_core.proofs.Concluding.{shared_clauses, cubes_over}
 use Rattle.book_core.specs.Books.{State, IsJustified, IsShutBy, IsDecidable, IsUndecided, Fits}
 use Rattle.stn_core.specs.Solution.{IsSolution}
 use Rattle.book_core.proofs.Sound.{negation_twice}
-use Rattle.book_search.specs.code.Deliveries.{Delivers}
+use Rattle.book_search.specs.code.Deliveries.{Delivers, DeliversPart}
 
 take_all : {A : Type 0} (n : ℕ) (xs : List A) → n ≡ length xs → take n xs ≡ xs
 take_all zero [] e = refl
@@ -88,6 +90,7 @@ delivers exact (Model values own) batch (Found schedule) m problem lemmas cube h
     justified problem lemmas cube batch same (Found schedule) (subst (IsSolution problem) (sym m.1) h.0)
 delivers exact (Model values own) batch (ShutBy j) m problem lemmas cube h = absurd m
 delivers exact (Model values own) batch (SplitBy l) m problem lemmas cube h = absurd m
+delivers exact (Model values own) batch Open m problem lemmas cube h = absurd m
 delivers exact (Refuted own j) batch (Found schedule) m problem lemmas cube h = absurd m
 delivers exact (Refuted own j) batch (ShutBy k) m problem lemmas cube h =
     let same : IsBatch (question_of problem (map stated lemmas) cube) batch = subst (IsBatch (question_of problem (map stated lemmas) cube)) (sym m.0) h.1 in
@@ -95,14 +98,24 @@ delivers exact (Refuted own j) batch (ShutBy k) m problem lemmas cube h =
     let shut : IsShutBy (map stated (lemmas ++ batch.lemmas)) cube (batch.seen + j) = shut_behind lemmas batch.lemmas cube batch.seen j (same.seen ∙ length-map lemmas stated) excludes in
     justified problem lemmas cube batch same (ShutBy k) (subst (IsShutBy (map stated (lemmas ++ batch.lemmas)) cube) (sym m.1) shut)
 delivers exact (Refuted own j) batch (SplitBy l) m problem lemmas cube h = absurd m
+delivers exact (Refuted own j) batch Open m problem lemmas cube h = absurd m
 delivers exact (Split l own) batch (Found schedule) m problem lemmas cube h = absurd m
 delivers exact (Split l own) batch (ShutBy j) m problem lemmas cube h = absurd m
+delivers exact (Split l own) batch Open m problem lemmas cube h = absurd m
 delivers exact (Split l own) batch (SplitBy k) m problem lemmas cube h =
     let same : IsBatch (question_of problem (map stated lemmas) cube) batch = subst (IsBatch (question_of problem (map stated lemmas) cube)) (sym m.0) h.1 in
     justified problem lemmas cube batch same (SplitBy k) (subst (λ (n : Literal). IsDecidable problem n × IsUndecided cube n) (sym m.1) (split_fits problem exact (map stated lemmas) cube l h.0))
 
 pub delivers_as : (exact : (values : List ℤ) (l : Literal) → Holds values l → Holds values (negation_of l) → ⊥) (slice given : Slice) (batch : LemmaBatch) (outcome : Outcome) → given ≡ slice → Matches slice batch outcome → Delivers given batch outcome
 delivers_as exact slice given batch outcome e m = subst (λ (s : Slice). Delivers s batch outcome) (sym e) (delivers exact slice batch outcome m)
+
+-- a part that is a slice's answer is delivered so
+pub ended_delivers : (slice : Slice) (part : Part) (batch : LemmaBatch) (outcome : Outcome) → part ≡ Ended slice → Delivers slice batch outcome → DeliversPart part batch outcome
+ended_delivers slice part batch outcome e d = subst (λ (p : Part). DeliversPart p batch outcome) (sym e) d
+
+-- and where the search paused, the lemmas alone
+pub paused_delivers : (part : Part) (batch : LemmaBatch) → part ≡ Paused batch → DeliversPart part batch Open
+paused_delivers part batch e = subst (λ (p : Part). DeliversPart p batch Open) (sym e) (λ problem lemmas cube h. justified problem lemmas cube batch h Open tt)
 
 -- the clauses of shared lemmas
 pub clauses_over : {A : Type 0} (value : A → Lemma) (xs : List A) (lemmas : List Lemma) (shown problem : Problem) → map value xs ≡ lemmas → shown ≡ problem → All (LemmaIsOver problem.points) lemmas → All (IsClauseOver shown.points) (map (λ a. stated (value a)) xs)
@@ -122,6 +135,10 @@ justified_by value xs lemmas shown problem given cube slice batch outcome e same
     (subst (λ (k : List Literal). IsSlice (question_of problem (map stated lemmas) k) slice) is
     (subst (λ (cs : List (List Literal)). IsSlice (question_of problem cs given) slice) clauses
     (subst (λ (p : Problem). IsSlice (question_of p (map (λ a. stated (value a)) xs) given) slice) same answer)))
+
+pub part_justified_by : {A : Type 0} (value : A → Lemma) (xs : List A) (problem : Problem) (cube : List Literal) (part : Part) (batch : LemmaBatch) (outcome : Outcome) → IsPart (question_of problem (map (λ a. stated (value a)) xs) cube) part → DeliversPart part batch outcome → IsJustified problem (map value xs) cube batch outcome
+part_justified_by value xs problem cube part batch outcome answer d =
+    d problem (map value xs) cube (subst (λ (cs : List (List Literal)). IsPart (question_of problem cs cube) part) (sym (shared_clauses value xs)) answer)
 
 -- a delivery that is justified of what is shown
 pub justified_there : (shown problem : Problem) (xs lemmas : List Lemma) (given cube : List Literal) (batch : LemmaBatch) (outcome : Outcome) → shown ≡ problem → xs ≡ lemmas → given ≡ cube → IsJustified shown xs given batch outcome → IsJustified problem lemmas cube batch outcome

@@ -9,7 +9,7 @@ use Rattle.refute_tree.specs.declared.lemma.Lemma.{Lemma}
 use Rattle.refute_tree.specs.Batches.{AreRefuted, LemmaIsOver, moved}
 use Rattle.book_core.specs.declared.event.Event.{Event}
 use Rattle.book_core.specs.declared.event.Event.TheVariants.{Take, Deliver, Release}
-use Rattle.book_core.specs.declared.event.Outcome.TheVariants.{Found, Shut, Split}
+use Rattle.book_core.specs.declared.event.Outcome.TheVariants.{Found, Shut, Split, Open}
 use Rattle.book_core.specs.declared.verdict.Verdict.{Verdict}
 use Rattle.book_core.specs.declared.verdict.Verdict.TheVariants.{Sat, Unsat}
 use Rattle.book_core.specs.Books.{State, IsOpening, after, first_found, opened}
@@ -33,6 +33,7 @@ found_same s (Take seat taken) h = refl
 found_same s (Deliver seat id batch (Found values)) h = absurd cc
 found_same s (Deliver seat id batch (Shut j)) h = refl
 found_same s (Deliver seat id batch (Split l)) h = refl
+found_same s (Deliver seat id batch Open) h = refl
 found_same s (Release seat id) h = refl
 
 found_first : (found : Option (List ℤ)) (values : List ℤ) → is_some (first_found found values) ≡ true
@@ -44,6 +45,7 @@ found_here s (Take seat taken) h = absurd cc
 found_here s (Deliver seat id batch (Found values)) h = found_first s.found values
 found_here s (Deliver seat id batch (Shut j)) h = absurd cc
 found_here s (Deliver seat id batch (Split l)) h = absurd cc
+found_here s (Deliver seat id batch Open) h = absurd cc
 found_here s (Release seat id) h = absurd cc
 
 -- whether one was found once so many of a book's events have come

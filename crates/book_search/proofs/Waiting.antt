@@ -15,10 +15,10 @@ use Rattle.book_core.specs.declared.event.Taken.TheVariants.{Cube, Done}
 use Rattle.book_core.specs.declared.answer.Answer.{Answer}
 use Rattle.book_core.specs.declared.answer.Answer.TheVariants.{Cube as AnswerCube, Done as AnswerDone}
 use Rattle.book_core.specs.declared.event.Outcome.{Outcome}
-use Rattle.book_core.specs.declared.event.Outcome.TheVariants.{Found, Shut as ShutBy, Split as SplitBy}
+use Rattle.book_core.specs.declared.event.Outcome.TheVariants.{Found, Shut as ShutBy, Split as SplitBy, Open}
 use Rattle.book_core.specs.Books.{State, IsOpening, IsDone, IsHeldBy, IsJustifiedIn, after, cover_delivered}
 use Rattle.book_core.specs.Runs.{Ledger, IsRun, state_of, with_event, Records, Answers}
-use Rattle.book_core.specs.Ends.{EndsLaw, left_to_do, left_in}
+use Rattle.book_core.specs.Ends.{EndsLaw, left_to_do, left_in, said_by}
 use Rattle.book_core.proofs.Runs.{state_next}
 use Rattle.book_search.specs.code.Deliveries.{IsWaiting, IsDelivered}
 
@@ -55,6 +55,7 @@ none_delivered : (c : Cubes) (id seat seen count : ℕ) (outcome : Outcome) → 
 none_delivered c id seat seen count (Found values) only e = none_left c id seat Free only e (λ o x. absurd cc)
 none_delivered c id seat seen count (ShutBy j) only e = none_left c id seat (Shut (moved_number seen count j)) only e (λ o x. absurd cc)
 none_delivered c id seat seen count (SplitBy l) only e = none_divided c id seat l only e
+none_delivered c id seat seen count Open only e = none_left c id seat Free only e (λ o x. absurd cc)
 
 -- a leaf was taken, and what was found of it delivered
 pub waiting_on : (problem : Problem) (old taken new : Ledger) (id : ℕ) → IsWaiting problem old → taken ≡ with_event old (Take 0 (Cube id)) → node_at (state_of old).cover id ≡ Some Free → IsDelivered taken id new → IsWaiting problem new
@@ -94,10 +95,10 @@ left_next : (old new : Ledger) (e : Event) → new ≡ with_event old e → left
 left_next old new e is =
     ap (λ (b : Ledger). left_to_do b.problem (state_of new)) is ∙ ap (λ (s : State). left_to_do old.problem s) (state_next old new e is)
 
-pub delivered_less : EndsLaw → (old new : Ledger) (id : ℕ) (batch : LemmaBatch) (outcome : Outcome) → IsOpening old.problem old.opening → IsRun old.problem old.opening old.journal → IsHeldBy (state_of old) id 0 → IsJustifiedIn old.problem (state_of old) id batch outcome → (state_of old).found ≡ None → new ≡ with_event old (Deliver 0 id batch outcome) → left_in new < left_in old
-delivered_less ends old new id batch outcome opens run held justified none is =
+pub delivered_less : EndsLaw → (old new : Ledger) (id : ℕ) (batch : LemmaBatch) (outcome : Outcome) → IsOpening old.problem old.opening → IsRun old.problem old.opening old.journal → IsHeldBy (state_of old) id 0 → IsJustifiedIn old.problem (state_of old) id batch outcome → said_by outcome ≡ 1 → (state_of old).found ≡ None → new ≡ with_event old (Deliver 0 id batch outcome) → left_in new < left_in old
+delivered_less ends old new id batch outcome opens run held justified said none is =
     let less = ends old.problem old.opening old.journal (Deliver 0 id batch outcome) opens run (held, justified) none in
-    omega (arith, less, left_next old new (Deliver 0 id batch outcome) is)
+    omega (arith, less.0, said, left_next old new (Deliver 0 id batch outcome) is)
 
 pub taken_less : EndsLaw → (old taken new : Ledger) (id : ℕ) → IsOpening old.problem old.opening → IsRun old.problem old.opening old.journal → Records old (Take 0 (Cube id)) taken → left_in new < left_in taken → left_in new < left_in old
 taken_less ends old taken new id opens run r less =

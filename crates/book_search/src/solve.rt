@@ -37,7 +37,7 @@ fn work(
 {
     book.sound();
     book_core::ends_law();
-    let found = tools.search(alloc, book.problem(), book.lemmas(), cube, budget)?;
+    let found = tools.search(alloc, book.problem(), book.lemmas(), cube, budget, false)?;
     let divides = found.divides;
     let delivery = Delivery::new(found.batch, found.outcome)?;
     book.enter(0, id, delivery)?;

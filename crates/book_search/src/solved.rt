@@ -58,6 +58,7 @@ fn brings_schedule(event: &Event) -> bool
             Outcome::Found(_) => true,
             Outcome::Shut(_) => false,
             Outcome::Split(_) => false,
+            Outcome::Open => false,
         },
         Event::Release(_, _) => false,
     }

@@ -1,13 +1,14 @@
 //! What one worker searches with.
-ghost use Rattle.std.specs.Prelude.{◌≡◌, All, IfOk, IfSome};
+ghost use Rattle.std.specs.Prelude.{◌≡◌, All, false, IfOk, IfSome};
 ghost use Rattle.std.specs.Arc.{arc_value};
 ghost use Rattle.refute_tree.specs.Batches.{LemmaIsOver};
 ghost use Rattle.stn_core.specs.Literal.{IsOver};
 ghost use Rattle.stn_core.specs.Solution.{IsSolution};
 ghost use Rattle.book_core.specs.Shared.{lemmas_of};
 ghost use Rattle.book_core.specs.Books.{IsJustified};
+ghost use Rattle.book_core.specs.Ends.{said_by};
 
-use crate::finding::{Finding, finding_of, found_alone, found_instead};
+use crate::finding::{Finding, finding_of, finding_of_part, found_alone, found_instead};
 use crate::walk::Walk;
 use branch_search::Searcher;
 use inc_paths::Network;
@@ -86,7 +87,7 @@ impl Tools {
         self.searcher.conflicts() > 0
     }
 
-    // One slice of search under the cube, over these lemmas, as a delivery.
+    // One slice of search under the cube, over these lemmas, as a delivery. It pauses only where it may.
     fn slice(
         &mut self,
         alloc: Global,
@@ -94,6 +95,7 @@ impl Tools {
         lemmas: &[Arc<Lemma>],
         cube: &[Literal],
         budget: u64,
+        pauses: bool,
     ) -> Result<Finding, AllocError>
         requires points { self.old ≡ problem.now.points }
         requires lemmas { All (LemmaIsOver problem.now.points) (lemmas_of lemmas.now) }
@@ -101,7 +103,15 @@ impl Tools {
         ensures points { self.new ≡ self.old }
         ensures justified { IfOk result (λ d.
             IsJustified problem.now (lemmas_of lemmas.now) cube.now d.batch d.outcome) }
+        ensures said { pauses ≡ false → IfOk result (λ d. said_by d.outcome ≡ 1) }
     {
+        if pauses {
+            let found = self
+                .searcher
+                .part(alloc, problem, &lemmas, cube, budget, &mut self.net)?;
+            let delivery = finding_of_part(found)?;
+            return Ok(delivery);
+        }
         let found = self
             .searcher
             .slice(alloc, problem, &lemmas, cube, budget, &mut self.net)?;
@@ -144,8 +154,8 @@ impl Tools {
     }
 
     /// One slice of search under the cube, over these lemmas, as a delivery. Where it ends undecided, a schedule is looked for
-    /// by local search once there was a conflict, and by who follows no values before a first slice over no lemmas. The one
-    /// error is want of memory.
+    /// by local search once there was a conflict, and by who follows no values before a first slice over no lemmas. Only where
+    /// it may pause does the delivery say nothing of the cube. The one error is want of memory.
     pub fn search(
         &mut self,
         alloc: Global,
@@ -153,6 +163,7 @@ impl Tools {
         lemmas: &[Arc<Lemma>],
         cube: &[Literal],
         budget: u64,
+        pauses: bool,
     ) -> Result<Finding, AllocError>
         requires points { self.old ≡ problem.now.points }
         requires lemmas { All (LemmaIsOver problem.now.points) (lemmas_of lemmas.now) }
@@ -160,13 +171,14 @@ impl Tools {
         ensures points { self.new ≡ self.old }
         ensures justified { IfOk result (λ d.
             IsJustified problem.now (lemmas_of lemmas.now) cube.now d.batch d.outcome) }
+        ensures said { pauses ≡ false → IfOk result (λ d. said_by d.outcome ≡ 1) }
     {
         if lemmas.is_empty() {
             if let Some(schedule) = self.look_first(alloc, problem)? {
                 return Ok(found_alone(alloc, schedule));
             }
         }
-        let finding = self.slice(alloc, problem, lemmas, cube, budget)?;
+        let finding = self.slice(alloc, problem, lemmas, cube, budget, pauses)?;
         match self.look_later(alloc, problem, &finding, budget)? {
             Some(schedule) => Ok(found_instead(finding, schedule)),
             None => Ok(finding),

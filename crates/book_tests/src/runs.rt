@@ -117,3 +117,25 @@ fn halves_are_free_and_free_again(rt: HostRuntime) -> Result<(), Fail> {
     assert_eq!(rt; replies, [second, first]);
     Ok(())
 }
+
+/// What the seats are answered where seat 0 tells its lemma and leaves the whole open, and seat 1 shuts it by that lemma; how
+/// many lemmas there are then, and whether both could.
+fn left_open(alloc: Global, book: &mut Book) -> Result<([Reply; 2], usize, bool), AllocError> {
+    let whole = take_cube(book, 0)?;
+    let is_told = deliver_justified(alloc, book, 0, &whole, refuting(alloc)?, Outcome::Open)?;
+    let again = take_cube(book, 1)?;
+    let nothing = Batch::new(1, Vec::new(alloc));
+    let is_shut = deliver_justified(alloc, book, 1, &again, nothing, Outcome::Shut(0))?;
+    let replies = [reply_of(&whole), reply_of(&again)];
+    Ok((replies, book.lemma_count(), is_told && is_shut))
+}
+
+#[test]
+fn an_open_cube_is_shut_by_what_was_told(rt: HostRuntime) -> Result<(), Fail> {
+    let alloc = rt.alloc();
+    let mut book = Book::new(alloc, two_orders(alloc)?)?;
+    let whole = Reply::Cube(0, 0, None);
+    assert_eq!(rt; left_open(alloc, &mut book)?, ([whole, whole], 1, true));
+    assert_eq!(rt; conclusions(alloc, &book)?, (4, true, true));
+    Ok(())
+}

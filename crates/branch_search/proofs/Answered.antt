@@ -1,5 +1,5 @@
 -- A slice's answer, over plain lists.
-use Rattle.std.proofs.Common.{arith, ◌≡◌, ℕ, ◌<◌, ◌≤◌, ◌+◌, min, Bool, true, false, List, length, All, Contains, Option, Some, get_or, ℤ, subst, sym, ap, ◌∙◌}
+use Rattle.std.proofs.Common.{arith, ◌≡◌, ℕ, ◌<◌, ◌≤◌, ◌+◌, Bool, true, false, List, length, All, Contains, Option, Some, get_or, ℤ, subst, sym, ap, ◌∙◌}
 use Rattle.stn_core.specs.declared.literal.Literal.{Literal}
 use Rattle.stn_core.specs.Literal.{negation_of}
 use Rattle.refute_tree.specs.declared.lemma.Lemma.{Lemma}
@@ -12,11 +12,10 @@ use Rattle.branch_search.specs.declared.search.Found.{Found}
 use Rattle.branch_search.specs.declared.search.Found.TheVariants.{Model as FoundModel, Excluded as FoundExcluded, Spent}
 use Rattle.branch_search.specs.declared.answer.Slice.{Slice}
 use Rattle.branch_search.specs.declared.answer.Slice.TheVariants.{Model as AsModel, Refuted as AsRefuted, Split as AsSplit}
-use Rattle.branch_search.specs.Slices.{Question, AreProved, Excludes, IsBatch, IsSlice, HasSpent}
-use Rattle.stn_core.specs.Limits.{adds_limit}
+use Rattle.branch_search.specs.Slices.{Question, AreProved, Excludes, IsBatch, IsSlice}
 use Rattle.branch_search.specs.code.Turns.{AreFound}
 use Rattle.branch_search.specs.code.Divisions.{IsDivision, excluding}
-use Rattle.branch_search.specs.code.Deliveries.{IsLeft, IsOfKind}
+use Rattle.branch_search.specs.code.Deliveries.{IsLeft, IsOfKind, IsSplitBehind}
 
 -- ---- what is left of the lemmas
 
@@ -41,7 +40,7 @@ module _ (q : Question) (own : List Lemma) (seen : ℕ) (found : Option ℕ) (le
   left_proved : AreProved q own → AreProved q left.batch.lemmas
   left_proved p = (l.refuted q.problem.points q.problem.clauses q.handed (sym count) p.0, l.over q.problem.points p.1)
 
-  left_batch : AreProved q own → IsBatch q left.batch
+  pub left_batch : AreProved q own → IsBatch q left.batch
   left_batch p = record { seen = l.seen_same ∙ count; proved = left_proved p }
 
   pub answered_model : (division : Division) (schedule : List ℤ) → division ≡ Model schedule → IsDivision q own division → IsSlice q (AsModel schedule left.batch)
@@ -65,12 +64,17 @@ module _ (q : Question) (own : List Lemma) (seen : ℕ) (found : Option ℕ) (le
       (there.0, left_batch there.1)
 
 -- of a model and of an excluded cube nothing is owed
-pub model_spent : (before budget after : ℕ) (schedule : List ℤ) (slice : Slice) → IsOfKind (Model schedule) slice → HasSpent before budget after slice
-model_spent before budget after schedule (AsModel values batch) h = tt
-model_spent before budget after schedule (AsRefuted batch k) h = tt
-model_spent before budget after schedule (AsSplit l batch) h = absurd cc
+pub model_spent : (target adds : ℕ) (schedule : List ℤ) (slice : Slice) → IsOfKind (Model schedule) slice → IsSplitBehind target adds slice
+model_spent target adds schedule (AsModel values batch) h = tt
+model_spent target adds schedule (AsRefuted batch k) h = tt
+model_spent target adds schedule (AsSplit l batch) h = absurd cc
 
-pub excluded_spent : (before budget after j : ℕ) (slice : Slice) → IsOfKind (Excluded j) slice → HasSpent before budget after slice
-excluded_spent before budget after j (AsModel values batch) h = tt
-excluded_spent before budget after j (AsRefuted batch k) h = tt
-excluded_spent before budget after j (AsSplit l batch) h = absurd cc
+pub excluded_spent : (target adds j : ℕ) (slice : Slice) → IsOfKind (Excluded j) slice → IsSplitBehind target adds slice
+excluded_spent target adds j (AsModel values batch) h = tt
+excluded_spent target adds j (AsRefuted batch k) h = tt
+excluded_spent target adds j (AsSplit l batch) h = absurd cc
+
+pub divided_spent : (target adds : ℕ) (slice : Slice) → target ≤ adds → IsSplitBehind target adds slice
+divided_spent target adds (AsModel values batch) h = tt
+divided_spent target adds (AsRefuted batch k) h = tt
+divided_spent target adds (AsSplit l batch) h = h

@@ -162,6 +162,10 @@ empty_search q own es levels literals a b c lemmas proved =
 pub lemmas_over : (points : ℕ) (handed : List (List Literal)) (own these : List Lemma) → these ≡ own → All (IsClauseOver points) handed → All (LemmaIsOver points) own → All (IsClauseOver points) (all_lemmas handed these)
 lemmas_over points handed own these e over all = subst (λ (ls : List Lemma). All (IsClauseOver points) (all_lemmas handed ls)) (sym e) (All-append (IsClauseOver points) handed (map stated own) over (All-map (IsClauseOver points) stated own (λ k d lt. (all k d lt).clause)))
 
+pub after_proved : (q : Question) (own : List Lemma) (es : List Entry) (levels : List Level) (literals : List Literal) (found : Option Conflict) → IsSearchAfter q own es levels literals found → AreProved q own
+after_proved q own es levels literals (Some conflict) h = h.state.proved
+after_proved q own es levels literals None h = h.proved
+
 pub quiet_search : (q : Question) (own : List Lemma) (es : List Entry) (levels : List Level) (literals : List Literal) (found : Option Conflict) → IsSearchAfter q own es levels literals found → ((conflict : Conflict) → found ≡ Some conflict → ⊥) → IsSearch q own es levels literals
 quiet_search q own es levels literals (Some conflict) h none = absurd (none conflict refl)
 quiet_search q own es levels literals None h none = h

@@ -13,6 +13,8 @@ use Rattle.refute_tree.specs.declared.lemma.Lemma.{Lemma}
 use Rattle.refute_tree.specs.Batches.{LemmaBatch, AreRefuted, LemmaIsOver}
 use Rattle.branch_search.specs.declared.answer.Slice.{Slice}
 use Rattle.branch_search.specs.declared.answer.Slice.TheVariants.{Model, Refuted, Split}
+use Rattle.branch_search.specs.declared.answer.Part.{Part}
+use Rattle.branch_search.specs.declared.answer.Part.TheVariants.{Ended, Paused}
 
 -- what a slice is asked: a problem, the clauses of the lemmas that it is handed, and the cube
 pub record Question : Type 0 where
@@ -59,3 +61,12 @@ abbrev pub HasSpent : ℕ → ℕ → ℕ → Slice → Type 0
 HasSpent before budget after (Model schedule batch) = Unit {0}
 HasSpent before budget after (Refuted batch j) = Unit {0}
 HasSpent before budget after (Split l batch) = min (before + budget) adds_limit ≤ after
+
+-- a part of a slice: its answer, or the lemmas alone
+abbrev pub IsPart : Question → Part → Type 0
+IsPart q (Ended slice) = IsSlice q slice
+IsPart q (Paused batch) = IsBatch q batch
+
+abbrev pub HasSpentByPart : ℕ → ℕ → ℕ → Part → Type 0
+HasSpentByPart before budget after (Ended slice) = HasSpent before budget after slice
+HasSpentByPart before budget after (Paused batch) = Unit {0}

@@ -11,3 +11,12 @@ pub enum Slice {
     /// The budget is spent. The cube with the literal, and the cube with its negation, are each consistent.
     Split(Literal, Batch),
 }
+
+/// What a part of a slice comes to, where it may pause.
+#[derive(Drop)]
+pub enum Part {
+    /// The slice's answer.
+    Ended(Slice),
+    /// Nothing is said of the cube: the search goes on there once others know its lemmas, and it theirs.
+    Paused(Batch),
+}

@@ -1,6 +1,6 @@
 //! What a slice delivers: of its lemmas those that the search hasn't forgotten, and those that these cite.
 ghost use Rattle.std.specs.Prelude.{◌≡◌, ◌<◌, ◌+◌, ◌^◌, ℕ, length, Some, true, false, slice_index_or, IfOk};
-ghost use Rattle.branch_search.specs.Slices.{IsSlice};
+ghost use Rattle.branch_search.specs.Slices.{AreProved, IsBatch, IsSlice};
 ghost use Rattle.branch_search.specs.code.Divisions.{IsDivision, excluding};
 ghost use Rattle.branch_search.specs.code.Deliveries.{IsLeft, IsOfKind};
 
@@ -78,6 +78,21 @@ impl State {
         let wanted = wanted_lemmas(alloc, &self.guide, seen, found, all, own.len())?;
         let left = trimmed_batch(alloc, Batch::new(seen, own), wanted)?;
         Ok(left)
+    }
+
+    /// The own lemmas so far, which leave the state, as a batch: those that the search hasn't forgotten, and what these cite.
+    pub fn hand_over<E: Earlier>(
+        &mut self,
+        alloc: Global,
+        task: &Task<'_, E>,
+    ) -> Result<Batch, AllocError>
+        requires proved { AreProved task.now self.old.own.items }
+        ensures { IfOk result (IsBatch task.now) }
+    {
+        let seen = task.count();
+        let left = self.take_wanted(alloc, seen, None, false)?;
+        self.guide.close_up(seen, &left.needed)?;
+        Ok(left.batch)
     }
 
     /// The slice's answer, with those of the own lemmas that the search hasn't forgotten, and with what these

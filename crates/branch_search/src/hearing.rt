@@ -6,6 +6,9 @@ use worker_calls::Calls;
 /// and the lemmas that come from it are few.
 const FEWEST: u64 = 100;
 
+/// After so many conflicts a slice that may pause does, so that the others know its lemmas sooner, and it theirs.
+const PAUSE: u64 = 500;
+
 /// What a searcher hears of other workers, where there are some. Whatever it hears, it answers by the same contract.
 pub struct Hearing {
     calls: Option<Arc<Calls>>,
@@ -48,6 +51,12 @@ impl Hearing {
     pub fn renew(&mut self, conflicts: u64) {
         self.before = conflicts;
         self.has_answered = false;
+    }
+
+    /// Whether there are others, and the slice has met so many conflicts by this one that it is time to tell them of its
+    /// lemmas.
+    pub fn wants_pause(&self, conflicts: u64) -> bool {
+        self.calls.is_some() && conflicts.saturating_sub(self.before) >= PAUSE
     }
 
     /// Whether nothing is left to do.

@@ -26,5 +26,5 @@ mod task;
 mod vivify;
 mod waiting;
 
-pub use answer::Slice;
+pub use answer::{Part, Slice};
 pub use slicing::{Searcher, slice};

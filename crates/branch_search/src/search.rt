@@ -1,8 +1,8 @@
 //! The turns of a search.
-ghost use Rattle.std.specs.Prelude.{◌≡◌, ◌<◌, ◌≤◌, ◌+◌, length, min, IfOk, IfSome, OnOk};
+ghost use Rattle.std.specs.Prelude.{◌≡◌, ◌<◌, ◌≤◌, ◌+◌, length, min, true, IfOk, IfSome, OnOk};
 ghost use Rattle.branch_search.specs.code.Search.{IsAfter, IsState, IsStuck};
 ghost use Rattle.stn_core.specs.Limits.{adds_limit};
-ghost use Rattle.branch_search.specs.code.Turns.{IsTurn, IsFound};
+ghost use Rattle.branch_search.specs.code.Turns.{IsTurn, IsFoundOrPaused};
 ghost use Rattle.stn_core.specs.Solution.{IsSolution};
 
 use crate::conflict::Reaction;
@@ -44,6 +44,8 @@ pub struct Rest {
     pub decisions: u64,
     /// the count of adds at which the budget is spent
     pub target: u64,
+    /// whether the search may pause
+    pub pauses: bool,
 }
 
 // From conflict to conflict a slice passes by so many before it looks at its budget. Shorter slices of a large
@@ -51,13 +53,18 @@ pub struct Rest {
 const LOOK: u64 = 500;
 
 // Where it is time to restart, the first level whose decision is no more active than an open atom: those before
-// it would be decided again; all levels, where lemmas are to be looked at. Any level is right.
+// it would be decided again; all levels, where lemmas are to be looked at, or the search to pause. Any level is right.
 //
 // Source: van der Tak, Ramos and Heule, "Reusing the assignment trail in CDCL solvers", JSAT 7 (2011).
-fn restart_level(guide: &mut Guide, entries: &[Entry], levels: &[Level]) -> Option<usize>
+fn restart_level(
+    guide: &mut Guide,
+    entries: &[Entry],
+    levels: &[Level],
+    wants_pause: bool,
+) -> Option<usize>
     ensures { IfSome result (λ level. level < length levels.now) }
 {
-    if guide.wants_vivification() {
+    if wants_pause || guide.wants_vivification() {
         return if levels.is_empty() { None } else { Some(0) };
     }
     if !guide.wants_restart() {
@@ -76,15 +83,24 @@ fn restart_level(guide: &mut Guide, entries: &[Entry], levels: &[Level]) -> Opti
 }
 
 impl State {
+    // Whether the search pauses once nothing is decided, where it may: clauses alone lead to most conflicts, as on mutual
+    // exclusion and circuits. Where distances do, lemmas of others gain less than a pause costs.
+    fn wants_pause(&self, may_pause: bool) -> bool
+        ensures { result ≡ true → may_pause ≡ true }
+    {
+        may_pause && self.hearing.wants_pause(self.conflicts) && !self.guide.wants_distances()
+    }
+
     // Back to the level from which a restart decides anew, if it is time.
-    fn restart<E: Earlier, N: Net>(&mut self, task: &Task<'_, E>, net: &mut N)
+    fn restart<E: Earlier, N: Net>(&mut self, task: &Task<'_, E>, net: &mut N, may_pause: bool)
         requires state { IsState task.now self.old (N.literals_of net.old) }
         ensures points { N.points_of net.new ≡ N.points_of net.old }
         ensures adds { N.adds_of net.new ≡ N.adds_of net.old }
         ensures levels { length self.new.levels.items ≤ length self.old.levels.items }
         ensures state { IsState task.now self.new (N.literals_of net.new) }
     {
-        let found = restart_level(&mut self.guide, &self.entries, &self.levels);
+        let wants_pause = self.wants_pause(may_pause);
+        let found = restart_level(&mut self.guide, &self.entries, &self.levels, wants_pause);
         let Some(level) = found else {
             return;
         };
@@ -121,7 +137,7 @@ impl State {
         {
             return Ok(Turn::Ended(Found::Spent));
         }
-        self.restart(task, net);
+        self.restart(task, net, rest.pauses);
         Ok(Turn::Jumped)
     }
 
@@ -232,28 +248,39 @@ impl State {
         }
     }
 
-    /// Turn after turn, up to a model, a lemma that excludes the cube, or the budget's end.
+    // Whether the search pauses here.
+    fn is_to_pause(&self, may_pause: bool, found: &Option<Conflict>) -> bool
+        ensures { result ≡ true → may_pause ≡ true }
+    {
+        self.levels.is_empty() && found.is_none() && self.wants_pause(may_pause)
+    }
+
+    /// Turn after turn, up to a model, a lemma that excludes the cube, or the budget's end. Where it may, it pauses, and
+    /// then there is none of these.
     pub fn search<E: Earlier, N: Net>(
         &mut self,
         alloc: Global,
         task: &Task<'_, E>,
         net: &mut N,
         rest: Rest,
-    ) -> Result<Found, AllocError>
+    ) -> Result<Option<Found>, AllocError>
         requires points { N.points_of net.old ≡ task.now.problem.points }
         requires state { IsState task.now self.old (N.literals_of net.old) }
         ensures points { N.points_of net.new ≡ N.points_of net.old }
-        ensures found { IfOk result (IsFound task.now self.new) }
+        ensures found { IfOk result (IsFoundOrPaused task.now self.new rest.pauses) }
         ensures counts { OnOk result (min (N.adds_of net.old) adds_limit ≤ N.adds_of net.new) }
     {
         let mut left = rest;
         'turns: loop {
             let found = self.propagate(alloc, task, net)?;
             let found = self.vivify(alloc, task, net, found)?;
+            if self.is_to_pause(rest.pauses, &found) {
+                return Ok(None);
+            }
             match self.turn(alloc, task, net, left, found)? {
                 Turn::Decided => left.decisions -= 1,
                 Turn::Jumped => {}
-                Turn::Ended(found) => return Ok(found),
+                Turn::Ended(found) => return Ok(Some(found)),
             }
         }
     }

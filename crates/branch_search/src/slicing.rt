@@ -3,12 +3,13 @@ ghost use Rattle.std.specs.Prelude.{◌≡◌, ◌<◌, ◌≤◌, ◌^◌, [], 
 ghost use Rattle.stn_core.specs.Literal.{IsOver};
 ghost use Rattle.conflict_analysis.specs.Proved.{IsClauseOver};
 ghost use Rattle.branch_search.specs.code.Search.{IsState, HasNoClause};
-ghost use Rattle.branch_search.specs.Slices.{question_of, AreProved, IsSlice, HasSpent};
+ghost use Rattle.branch_search.specs.Slices.{question_of, AreProved, IsSlice, HasSpent, IsPart, HasSpentByPart};
 ghost use Rattle.stn_core.specs.Limits.{adds_limit};
-ghost use Rattle.branch_search.specs.code.Turns.{IsFound};
+ghost use Rattle.branch_search.specs.code.Turns.{IsFound, IsFoundOrPaused};
+ghost use Rattle.branch_search.specs.code.Deliveries.{IsSplitBehind, MayPause};
 ghost use Rattle.branch_search.specs.code.Divisions.{IsDivision};
 
-use crate::answer::Slice;
+use crate::answer::{Part, Slice};
 use crate::conflict::Reaction;
 use crate::divide::Division;
 use crate::hearing::Hearing;
@@ -31,7 +32,7 @@ impl State {
         task: &Task<'_, E>,
         net: &mut N,
         rest: Rest,
-    ) -> Result<Found, AllocError>
+    ) -> Result<Option<Found>, AllocError>
         requires points { N.points_of net.old ≡ task.now.problem.points }
         requires state { IsState task.now self.old (N.literals_of net.old) }
         requires root { self.old.levels.items ≡ [] }
@@ -39,16 +40,16 @@ impl State {
         requires empty { N.literals_of net.old ≡ [] }
         requires over { All (IsOver task.now.problem.points) task.now.cube }
         ensures points { N.points_of net.new ≡ N.points_of net.old }
-        ensures found { IfOk result (IsFound task.now self.new) }
+        ensures found { IfOk result (IsFoundOrPaused task.now self.new rest.pauses) }
         ensures counts { OnOk result (min (N.adds_of net.old) adds_limit ≤ N.adds_of net.new) }
     {
         if let Some(j) = self.enter(alloc, task, net)? {
-            return Ok(Found::Excluded(j));
+            return Ok(Some(Found::Excluded(j)));
         }
         if let Some(conflict) = self.take_units(task, net)? {
             return match self.react(alloc, task, net, &conflict)? {
-                Reaction::Excluded(j) => Ok(Found::Excluded(j)),
-                Reaction::Jumped | Reaction::Unsettled => Ok(Found::Spent),
+                Reaction::Excluded(j) => Ok(Some(Found::Excluded(j))),
+                Reaction::Jumped | Reaction::Unsettled => Ok(Some(Found::Spent)),
             };
         }
         let found = self.search(alloc, task, net, rest)?;
@@ -145,28 +146,24 @@ fn decisions_of(budget: u64, has_plan: bool) -> u64 {
     budget.saturating_mul(100).saturating_add(100_000)
 }
 
-fn run<E: Earlier, N: Net>(
+// The slice's answer, where its search ended so.
+fn end<E: Earlier, N: Net>(
     alloc: Global,
     state: &mut State,
     task: &Task<'_, E>,
-    budget: u64,
     net: &mut N,
+    target: u64,
+    found: Found,
 ) -> Result<Slice, AllocError>
     requires points { N.points_of net.old ≡ task.now.problem.points }
-    requires empty { N.literals_of net.old ≡ [] }
+    requires found { IsFound task.now state.old found }
     requires lemmas { All (IsClauseOver task.now.problem.points) task.now.handed }
     requires over { All (IsOver task.now.problem.points) task.now.cube }
     ensures points { N.points_of net.new ≡ N.points_of net.old }
     ensures answer { IfOk result (IsSlice task.now) }
-    ensures spent { IfOk result (HasSpent (N.adds_of net.old) budget (N.adds_of net.new)) }
+    ensures spent { IfOk result (IsSplitBehind target (N.adds_of net.new)) }
 {
-    let target = net.adds().saturating_add(budget);
-    state.renew(alloc, task)?;
-    let rest = Rest {
-        decisions: decisions_of(budget, state.guide.has_plan()),
-        target,
-    };
-    match state.begin(alloc, task, net, rest)? {
+    match found {
         Found::Model(schedule) => {
             let division = Division::Model(schedule);
             let slice = state.deliver(alloc, task, division)?;
@@ -177,7 +174,47 @@ fn run<E: Earlier, N: Net>(
             let slice = state.deliver(alloc, task, division)?;
             Ok(slice)
         }
-        Found::Spent => divide_cube(alloc, state, task, net, target),
+        Found::Spent => {
+            let slice = divide_cube(alloc, state, task, net, target)?;
+            Ok(slice)
+        }
+    }
+}
+
+// A part of the slice, which pauses only where it may.
+fn run<E: Earlier, N: Net>(
+    alloc: Global,
+    state: &mut State,
+    task: &Task<'_, E>,
+    budget: u64,
+    pauses: bool,
+    net: &mut N,
+) -> Result<Part, AllocError>
+    requires points { N.points_of net.old ≡ task.now.problem.points }
+    requires empty { N.literals_of net.old ≡ [] }
+    requires lemmas { All (IsClauseOver task.now.problem.points) task.now.handed }
+    requires over { All (IsOver task.now.problem.points) task.now.cube }
+    ensures points { N.points_of net.new ≡ N.points_of net.old }
+    ensures answer { IfOk result (IsPart task.now) }
+    ensures spent { IfOk result (HasSpentByPart (N.adds_of net.old) budget (N.adds_of net.new)) }
+    ensures pauses { IfOk result (MayPause pauses) }
+{
+    let target = net.adds().saturating_add(budget);
+    state.renew(alloc, task)?;
+    let rest = Rest {
+        decisions: decisions_of(budget, state.guide.has_plan()),
+        target,
+        pauses,
+    };
+    match state.begin(alloc, task, net, rest)? {
+        Some(found) => {
+            let slice = end(alloc, state, task, net, target, found)?;
+            Ok(Part::Ended(slice))
+        }
+        None => {
+            let batch = state.hand_over(alloc, task)?;
+            Ok(Part::Paused(batch))
+        }
     }
 }
 
@@ -275,7 +312,37 @@ impl Searcher {
         ensures spent { IfOk result (HasSpent (N.adds_of net.old) budget (N.adds_of net.new)) }
     {
         let task = Task::new(problem, handed, cube);
-        let result = run(alloc, &mut self.state, &task, budget, net);
+        let result = run(alloc, &mut self.state, &task, budget, false, net);
+        net.retract(Mark { length: 0 });
+        match result? {
+            Part::Ended(slice) => Ok(slice),
+            Part::Paused(_) => unreachable!(),
+        }
+    }
+
+    /// As `slice`, of a searcher beside others: after some hundred conflicts it may pause, so that the others know its
+    /// lemmas and it theirs. The next slice of the same cube goes on from there.
+    pub fn part<E: Earlier, N: Net>(
+        &mut self,
+        alloc: Global,
+        problem: &Problem,
+        handed: &E,
+        cube: &[Literal],
+        budget: u64,
+        net: &mut N,
+    ) -> Result<Part, AllocError>
+        requires few { length (E.clauses handed.now) < 2 ^ 63 }
+        requires points { N.points_of net.old ≡ problem.now.points }
+        requires empty { N.literals_of net.old ≡ [] }
+        requires lemmas { All (IsClauseOver problem.now.points) (E.clauses handed.now) }
+        requires over { All (IsOver problem.now.points) cube.now }
+        ensures points { N.points_of net.new ≡ N.points_of net.old }
+        ensures literals { N.literals_of net.new ≡ [] }
+        ensures answer { IfOk result (IsPart (question_of problem.now (E.clauses handed.now) cube.now)) }
+        ensures spent { IfOk result (HasSpentByPart (N.adds_of net.old) budget (N.adds_of net.new)) }
+    {
+        let task = Task::new(problem, handed, cube);
+        let result = run(alloc, &mut self.state, &task, budget, true, net);
         net.retract(Mark { length: 0 });
         result
     }

@@ -124,6 +124,44 @@ fn halves_are_told_and_taken(rt: HostRuntime) -> Result<(), Fail> {
     Ok(())
 }
 
+/// Seat 0 tells its lemmas and leaves the whole open, and seat 1 takes it and shuts it by the last of them; how many lemmas
+/// each seat has then.
+fn left_open<R: Wait>(
+    rt: &R,
+    alloc: Global,
+    desk: &Desk,
+    problem: &Problem,
+    seat: &mut Seat,
+    other: &mut Seat,
+) -> Result<([bool; 2], Option<Dealt>, [usize; 2]), AllocError>
+    requires desk { (seat.old.desk ≡ desk.now.id) × (other.old.desk ≡ desk.now.id) }
+    requires problem { (seat.old.view.begun.problem ≡ problem.now)
+        × (other.old.view.begun.problem ≡ problem.now) }
+    ensures same { IsSameSeat seat.old seat.new × IsSameSeat other.old other.new }
+{
+    let _ = ask(rt, desk, seat)?;
+    let batch = refuting(alloc)?;
+    let is_told = deliver_justified(rt, alloc, desk, seat, problem, batch, Outcome::Open)?;
+    let answer = ask(rt, desk, other)?;
+    let counts = [seat.lemmas().len(), other.lemmas().len()];
+    let nothing = Batch::new(2, Vec::new(alloc));
+    let is_shut = deliver_justified(rt, alloc, desk, other, problem, nothing, Outcome::Shut(1))?;
+    Ok(([is_told, is_shut], answer, counts))
+}
+
+#[test]
+fn an_open_cube_goes_to_another(rt: HostRuntime) -> Result<(), Fail> {
+    let alloc = rt.alloc();
+    let problem = two_orders(alloc)?;
+    let (desk, mut seat) = Desk::start(alloc, problem.copy()?)?;
+    let mut other = desk.split_seat(&mut seat)?;
+    let told = left_open(&rt, alloc, &desk, &problem, &mut seat, &mut other)?;
+    assert_eq!(rt; told, ([true, true], Some(Dealt::Cube), [0, 2]));
+    let book = closed(desk, seat, other);
+    assert_eq!(rt; conclusion(&book)?, Some((4, true)));
+    Ok(())
+}
+
 /// Seat 1 takes the whole, of which nothing is left for seat 0, and refutes it.
 fn idle<R: Wait>(
     rt: &R,

@@ -2,12 +2,14 @@ ghost use Rattle.std.specs.Prelude.{◌≡◌, ◌<◌, ◌≤◌, All, IfOk, tr
 ghost use Rattle.stn_core.specs.Limits.{points_limit};
 ghost use Rattle.stn_core.specs.Literal.{IsOver};
 
-use branch_search::{Searcher, Slice, slice};
+use branch_search::{Part, Searcher, Slice, slice};
 use inc_paths::Network;
 use refute_tree::Lemma;
 use std::alloc::{AllocError, Global};
+use std::sync::Arc;
 use std::test::Fail;
 use stn_core::{Clause, Clauses, Literal, Net, Problem};
+use worker_calls::Calls;
 
 fn is_small(l: Literal, points: u32) -> bool
     ensures { result ≡ true → IsOver points l }
@@ -94,6 +96,51 @@ fn machine(alloc: Global) -> Result<Problem, AllocError> {
     Ok(problem)
 }
 
+// The literal that the pigeon is in the hole, of six, and that it isn't.
+fn is_in(pigeon: u32, hole: u32) -> Literal {
+    literal(
+        pigeon
+            .saturating_mul(6)
+            .saturating_add(hole)
+            .saturating_add(1),
+        0,
+        0,
+    )
+}
+
+fn is_out(pigeon: u32, hole: u32) -> Literal {
+    literal(
+        0,
+        pigeon
+            .saturating_mul(6)
+            .saturating_add(hole)
+            .saturating_add(1),
+        -1,
+    )
+}
+
+/// Seven pigeons in six holes, with a point for each pair of one and one: clauses alone lead to a conflict.
+fn pigeons(alloc: Global) -> Result<Problem, AllocError> {
+    let mut problem = empty(alloc, 43);
+    for p in 0..7u32 {
+        let somewhere = [
+            is_in(p, 0),
+            is_in(p, 1),
+            is_in(p, 2),
+            is_in(p, 3),
+            is_in(p, 4),
+            is_in(p, 5),
+        ];
+        problem = with_clause(problem, somewhere.as_slice())?;
+        for q in 0..p {
+            for hole in 0..6u32 {
+                problem = with_clause(problem, [is_out(p, hole), is_out(q, hole)].as_slice())?;
+            }
+        }
+    }
+    Ok(problem)
+}
+
 /// Which answer of a slice it is.
 #[derive(Clone, Copy, Debug, PartialEq, Eq)]
 enum Answer {
@@ -141,6 +188,19 @@ fn run_twice(alloc: Global, problem: &Problem) -> Result<(Answer, u64), AllocErr
     searcher.slice(alloc, problem, &none, &[], 1, &mut net)?;
     let answer = searcher.slice(alloc, problem, &none, &[], 1_000_000, &mut net)?;
     Ok((answer_of(&answer), searcher.conflicts()))
+}
+
+/// The first part of a slice beside others, whose budget is never spent: how many lemmas it pauses with, or which answer
+/// comes.
+fn run_part(alloc: Global, problem: &Problem) -> Result<Result<usize, Answer>, AllocError> {
+    let mut net = Network::new(alloc, problem.points)?;
+    let calls = Arc::new(alloc, Calls::new())?;
+    let mut searcher = Searcher::beside(alloc, problem, calls)?;
+    let none: &[Lemma] = &[];
+    match searcher.part(alloc, problem, &none, &[], 1 << 40, &mut net)? {
+        Part::Paused(batch) => Ok(Ok(batch.lemmas().len())),
+        Part::Ended(slice) => Ok(Err(answer_of(&slice))),
+    }
 }
 
 /// Two slices of one searcher, each under one literal: which answers.
@@ -207,5 +267,16 @@ fn more_work_than_time(rt: HostRuntime) -> Result<(), Fail> {
     let problem = machine(alloc)?;
     let answers = run_both(alloc, &problem, literal(1, 0, 7), literal(1, 0, 8))?;
     assert_eq!(rt; answers, (Answer::Refuted, Answer::Model));
+    Ok(())
+}
+
+/// Beside others a slice that met some hundred conflicts pauses with its lemmas, and one that is decided by then is answered.
+#[test]
+fn a_pause_beside_others(rt: HostRuntime) -> Result<(), Fail> {
+    let alloc = rt.alloc();
+    let hard = run_part(alloc, &pigeons(alloc)?)?;
+    let easy = run_part(alloc, &pairs_and_orders(alloc)?)?;
+    assert!(rt; matches!(hard, Ok(lemmas) if lemmas > 0));
+    assert_eq!(rt; easy, Err(Answer::Refuted));
     Ok(())
 }

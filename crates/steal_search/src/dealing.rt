@@ -3,7 +3,7 @@ ghost use Rattle.std.specs.Prelude.{◌≡◌, IfOk, OnOk, OnErr, None};
 ghost use Rattle.steal_search.specs.Workers.{GoesOn, IsJustifiedThere, IsSearching};
 
 use crate::team::Team;
-use book_core::Delivery;
+use book_core::{Delivery, Outcome};
 use book_lock::{Desk, Seat};
 use book_search::{Finding, Pacing, Tools};
 use std::alloc::{AllocError, Global};
@@ -18,6 +18,28 @@ pub struct Pace {
     pub(crate) tools: Tools,
     pub(crate) pacing: Pacing,
     pub(crate) slices: u64,
+    /// Whether there are others to whom its lemmas are told in pauses.
+    pub(crate) pauses: bool,
+}
+
+/// With what a worker goes on, once it has dealt with a cube.
+#[derive(Clone, Copy)]
+pub(crate) enum Onward {
+    /// With one half of the cube, which was divided.
+    Half,
+    /// With the cube of this number again: nothing was said of it.
+    Same(usize),
+    /// With any.
+    Any,
+}
+
+// With what it goes on once this is delivered of the seat's cube.
+fn next_behind(seat: &Seat, found: &Finding) -> Onward {
+    match (&found.outcome, seat.cube()) {
+        (Outcome::Open, Some(cube)) => Onward::Same(cube.id),
+        _ if found.divides => Onward::Half,
+        _ => Onward::Any,
+    }
 }
 
 impl Pace {
@@ -30,6 +52,7 @@ impl Pace {
             tools: Tools::beside(team.alloc(), team.problem(), calls)?,
             pacing: Pacing::beside(team.budget()),
             slices: 0,
+            pauses: false,
         })
     }
 }
@@ -54,6 +77,7 @@ fn search(
         seat.lemmas(),
         cube.literals.as_slice(),
         pace.pacing.budget(),
+        pace.pauses,
     )
 }
 
@@ -68,21 +92,21 @@ fn enter<R: Wait>(rt: &R, desk: &Desk, seat: &mut Seat, found: Finding) -> Resul
     desk.enter(rt, seat, delivery)
 }
 
-// What was found is delivered, or else the cube is given back: whether it was divided.
+// What was found is delivered, or else the cube is given back.
 fn deliver<R: Wait>(
     rt: &R,
     desk: &Desk,
     seat: &mut Seat,
     found: Finding,
-) -> Result<bool, AllocError>
+) -> Result<Onward, AllocError>
     requires desk { seat.old.desk ≡ desk.now.id }
     requires justified { IsJustifiedThere seat.old.view.begun.problem seat.old found.batch found.outcome }
     ensures seat { GoesOn seat.old seat.new }
     ensures none { seat.new.cube ≡ None }
 {
-    let divides = found.divides;
+    let onward = next_behind(seat, &found);
     match enter(rt, desk, seat, found) {
-        Ok(()) => Ok(divides),
+        Ok(()) => Ok(onward),
         Err(error) => {
             desk.release(rt, seat);
             Err(error)
@@ -90,15 +114,15 @@ fn deliver<R: Wait>(
     }
 }
 
-/// One slice, the gate, and the delivery of what was found: whether it divided the cube, and then the next
-/// slice has a greater budget. Where there is no memory for it, the cube is given back.
+/// One slice, the gate, and the delivery of what was found. Where it divided the cube, the next slice has a greater
+/// budget. Where there is no memory for it, the cube is given back.
 pub(crate) fn deal<R: Wait, G: Gate>(
     rt: &R,
     team: &Team<G>,
     desk: &Desk,
     seat: &mut Seat,
     pace: &mut Pace,
-) -> Result<bool, AllocError>
+) -> Result<Onward, AllocError>
     requires desk { seat.old.desk ≡ desk.now.id }
     requires tools { pace.old.tools ≡ team.now.points }
     requires searching { IsSearching team.now seat.old }

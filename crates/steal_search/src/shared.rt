@@ -9,7 +9,7 @@ ghost use Rattle.book_lock.specs.Seats.{AllJoined};
 ghost use Rattle.cube_pool.specs.Hands.{AreInOrder};
 ghost use Rattle.steal_search.specs.code.Staff.{AllMayWork, AreHanded, AreSeated, IsFirst, IsSameWorker, MayWork};
 
-use crate::dealing::{Pace, deal};
+use crate::dealing::{Onward, Pace, deal};
 use crate::team::Team;
 use crate::worker::go_on;
 use book_core::{Book, Verdict};
@@ -208,8 +208,8 @@ fn slice_alone<R: Wait, G: Gate>(
     pace.pacing = Pacing::at_first(team.budget(), pace.tools.met_conflict());
     match desk.take(rt, seat)? {
         Dealt::Cube => {
-            let divided = deal(rt, team, desk, seat, pace)?;
-            Ok(Some(divided))
+            let onward = deal(rt, team, desk, seat, pace)?;
+            Ok(Some(matches!(onward, Onward::Half)))
         }
         Dealt::Idle | Dealt::Done => Ok(None),
     }

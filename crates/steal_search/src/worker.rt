@@ -2,7 +2,7 @@
 ghost use Rattle.std.specs.Prelude.{◌≡◌, None, IfOk, OnOk, OnErr, IfSome};
 ghost use Rattle.steal_search.specs.Workers.{GoesOn, HandGoesOn, HasEnded, IsAnswered};
 
-use crate::dealing::{Pace, deal};
+use crate::dealing::{Onward, Pace, deal};
 use crate::team::Team;
 use book_lock::{Dealt, Desk, Seat};
 use cube_pool::{Hand, Pool};
@@ -106,13 +106,16 @@ pub(crate) fn go_on<R: Wait, G: Gate>(
     ensures hand { HandGoesOn hand.old hand.new }
     ensures ended { OnOk result (HasEnded seat.new) }
 {
+    pace.pauses = true;
     let mut near = None;
     for _ in rt.forever() {
         match next(rt, desk, seat, pool, hand, near.take(), team.calls())? {
             Dealt::Cube => {
-                if deal(rt, team, desk, seat, pace)? {
-                    near = share(pool, hand, seat);
-                }
+                near = match deal(rt, team, desk, seat, pace)? {
+                    Onward::Half => share(pool, hand, seat),
+                    Onward::Same(id) => Some(id),
+                    Onward::Any => None,
+                };
             }
             Dealt::Idle => {}
             Dealt::Done => {
@@ -126,7 +129,7 @@ pub(crate) fn go_on<R: Wait, G: Gate>(
 
 /// One worker, on a thread of the caller's: it takes cubes, the fetched ones first, searches each for a slice,
 /// passes the gate, and delivers what it found. Where a cube was divided, it goes on with one half and pushes the
-/// other. The first slice has the team's budget, and later ones greater ones, by `book_search::Pacing`.
+/// other; where a slice paused, so that the others know its lemmas and it theirs, with the same cube. The first slice has the team's budget, and later ones greater ones, by `book_search::Pacing`.
 ///
 /// All workers of the desk are of one team: by its calls one that waits, or was told that nothing is left to do, ends the
 /// slices of the others sooner.

@@ -7,7 +7,8 @@ use Rattle.refute_tree.specs.declared.lemma.Lemma.{Lemma}
 use Rattle.refute_tree.specs.Trees.{stated}
 use Rattle.refute_tree.specs.Batches.{LemmaBatch}
 use Rattle.branch_search.specs.declared.answer.Slice.{Slice}
-use Rattle.branch_search.specs.Slices.{question_of, IsSlice}
+use Rattle.branch_search.specs.declared.answer.Part.{Part}
+use Rattle.branch_search.specs.Slices.{question_of, IsPart, IsSlice}
 use Rattle.cover_tree.specs.Covers.{NoneHeld}
 use Rattle.book_core.specs.declared.event.Outcome.{Outcome}
 use Rattle.book_core.specs.declared.event.Event.TheVariants.{Deliver}
@@ -20,6 +21,13 @@ abbrev pub Delivers : Slice → LemmaBatch → Outcome → Type 0
 Delivers slice batch outcome =
     (problem : Problem) (lemmas : List Lemma) (cube : List Literal)
     → IsSlice (question_of problem (map stated lemmas) cube) slice
+    → IsJustified problem lemmas cube batch outcome
+
+-- the same of a part of one
+abbrev pub DeliversPart : Part → LemmaBatch → Outcome → Type 0
+DeliversPart part batch outcome =
+    (problem : Problem) (lemmas : List Lemma) (cube : List Literal)
+    → IsPart (question_of problem (map stated lemmas) cube) part
     → IsJustified problem lemmas cube batch outcome
 
 -- the delivery is justified wherever the values are a schedule

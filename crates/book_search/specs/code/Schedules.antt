@@ -4,12 +4,13 @@ use Rattle.refute_tree.specs.declared.lemma.Lemma.{Lemma}
 use Rattle.book_core.specs.declared.event.Event.{Event}
 use Rattle.book_core.specs.declared.event.Event.TheVariants.{Take, Deliver, Release}
 use Rattle.book_core.specs.declared.event.Outcome.{Outcome}
-use Rattle.book_core.specs.declared.event.Outcome.TheVariants.{Found, Shut, Split}
+use Rattle.book_core.specs.declared.event.Outcome.TheVariants.{Found, Shut, Split, Open}
 
 abbrev pub is_schedule : Outcome → Bool
 is_schedule (Found values) = true
 is_schedule (Shut j) = false
 is_schedule (Split l) = false
+is_schedule Open = false
 
 abbrev pub brings_schedule : Event → Bool
 brings_schedule (Take seat taken) = false

@@ -1,5 +1,5 @@
 -- What is left of a slice's lemmas.
-use Rattle.std.specs.Prelude.{◌≡◌, ℕ, ◌<◌, true, false, List, length, Option, Some, slice_index_or}
+use Rattle.std.specs.Prelude.{◌≡◌, ℕ, ◌<◌, ◌≤◌, Bool, true, false, List, length, Option, Some, slice_index_or}
 use Rattle.refute_tree.specs.declared.lemma.Lemma.{Lemma}
 use Rattle.refute_tree.specs.Batches.{LemmaBatch}
 use Rattle.trim_lemmas.specs.declared.trimming.TrimmedBatch.{TrimmedBatch}
@@ -8,6 +8,8 @@ use Rattle.branch_search.specs.declared.divide.Division.TheVariants.{Split}
 use Rattle.branch_search.specs.declared.answer.Slice.{Slice}
 use Rattle.branch_search.specs.declared.answer.Slice.TheVariants.{Model as AsModel, Refuted as AsRefuted}
 use Rattle.branch_search.specs.declared.answer.Slice.TheVariants.{Split as AsSplit}
+use Rattle.branch_search.specs.declared.answer.Part.{Part}
+use Rattle.branch_search.specs.declared.answer.Part.TheVariants.{Ended, Paused}
 use Rattle.trim_lemmas.specs.Trimming.{StaysRefuted, StaysOver, StaysStated}
 
 abbrev pub own_batch : ℕ → List Lemma → LemmaBatch
@@ -27,3 +29,14 @@ abbrev pub IsOfKind : Division → Slice → Type 0
 IsOfKind division (AsModel schedule batch) = Unit {0}
 IsOfKind division (AsRefuted batch j) = Unit {0}
 IsOfKind division (AsSplit l batch) = division ≡ Split l
+
+-- there is a pause only where there may be
+abbrev pub MayPause : Bool → Part → Type 0
+MayPause pauses (Ended slice) = Unit {0}
+MayPause pauses (Paused batch) = pauses ≡ true
+
+-- a split comes only where the count of adds has reached the target
+abbrev pub IsSplitBehind : ℕ → ℕ → Slice → Type 0
+IsSplitBehind target adds (AsModel schedule batch) = Unit {0}
+IsSplitBehind target adds (AsRefuted batch j) = Unit {0}
+IsSplitBehind target adds (AsSplit l batch) = target ≤ adds

@@ -1,5 +1,5 @@
 -- Of the code and not of the meaning: the turns of a search, and how it ends.
-use Rattle.std.specs.Prelude.{ℕ, ◌<◌, ◌≤◌, ◌+◌, ◌*◌, List, length}
+use Rattle.std.specs.Prelude.{◌≡◌, ℕ, ◌<◌, ◌≤◌, ◌+◌, ◌*◌, List, length, Bool, true, Option, Some, None}
 use Rattle.stn_core.specs.declared.literal.Literal.{Literal}
 use Rattle.stn_core.specs.Solution.{IsSolution}
 use Rattle.refute_tree.specs.declared.lemma.Lemma.{Lemma}
@@ -20,6 +20,14 @@ AreFound q own Spent = AreProved q own
 
 abbrev pub IsFound : Question → State → Found → Type 0
 IsFound q s found = AreFound q s.own.items found
+
+-- how the search ends, or that it pauses, where it may
+abbrev pub AreFoundOrPaused : Question → List Lemma → Bool → Option Found → Type 0
+AreFoundOrPaused q own pauses None = (pauses ≡ true) × AreProved q own
+AreFoundOrPaused q own pauses (Some found) = AreFound q own found
+
+abbrev pub IsFoundOrPaused : Question → State → Bool → Option Found → Type 0
+IsFoundOrPaused q s pauses found = AreFoundOrPaused q s.own.items pauses found
 
 -- a turn, where so many decisions were left and there were so many levels
 abbrev pub IsSearchTurn : Question → ℕ → ℕ → List Lemma → List Entry → List Level → List Literal → Turn

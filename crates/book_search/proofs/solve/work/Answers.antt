@@ -1,6 +1,7 @@
-use Rattle.std.proofs.Common.{sym, subst}
+use Rattle.std.proofs.Common.{ap, refl, sym, subst, ◌∙◌}
 use Rattle.book_core.specs.Books.{IsJustifiedIn}
 use Rattle.book_core.specs.Deliveries.{Handing}
+use Rattle.book_core.specs.Ends.{said_by}
 use Rattle.book_core.specs.Runs.{state_of}
 use Rattle.book_core.specs.Shared.{lemmas_of}
 use Rattle.book_search.proofs.Delivered.{cube_over, justified_there, lemmas_over}
@@ -25,4 +26,4 @@ enter-requires-clause-justified c = justified (goal.at.enter-requires-clause-jus
 pub returns-clause-less : goal.returns-clause-less
 returns-clause-less c =
     let d = c.in_ok-delivery.delivery in
-    delivered_less c.ends_law.ensures.ends c.args.book.now c.enter.new.self c.args.id d.batch d.outcome c.sound.ensures.opening c.sound.ensures.run c.requires.held (justified (goal.at.returns-clause-less c).In_ok-delivery) c.requires.unfound c.in_ok-enter.ensures.ok
+    delivered_less c.ends_law.ensures.ends c.args.book.now c.enter.new.self c.args.id d.batch d.outcome c.sound.ensures.opening c.sound.ensures.run c.requires.held (justified (goal.at.returns-clause-less c).In_ok-delivery) (ap (λ (h : Handing). said_by h.outcome) c.in_ok-delivery.ensures ∙ c.in_ok-found.ensures.said refl) c.requires.unfound c.in_ok-enter.ensures.ok
