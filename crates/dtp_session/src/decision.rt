@@ -1,11 +1,12 @@
 //! What decides a question.
-ghost use Rattle.std.specs.Prelude.{◌≡◌, IfOk};
+ghost use Rattle.std.specs.Prelude.{◌≡◌, IfOk, IfSome};
 ghost use Rattle.smt_sexpr.specs.Tree.{Sexpr};
 ghost use Rattle.smt_script.specs.States.{State as Meaning};
 ghost use Rattle.smt_script.specs.declared.state.Question.TheVariants as asked;
 ghost use Rattle.script_walk.specs.code.Standing.{Stands};
 ghost use Rattle.book_core.specs.Books.{IsOpening};
 ghost use Rattle.book_core.specs.Verdicts.{IsRight};
+ghost use Rattle.reduced_problem.specs.Reduced.{IsReductionOf};
 ghost use Rattle.dtp_session.specs.code.Forms.{version_wanted};
 ghost use Rattle.dtp_session.specs.code.Decisions.{IsTaken, IsDecidedBy};
 
@@ -20,6 +21,7 @@ use cert_text::Entry;
 use clause_form::restrict;
 use kept_schedule::KeptSchedule;
 use learned_lemmas::TakenOver;
+use reduced_problem::Reduction;
 use refute_tree::Batch;
 use smt_script::{Question, State};
 use std::alloc::{AllocError, Global};
@@ -70,6 +72,51 @@ fn search_from<R: Threads + Wait + Sync, G: Gate>(
     Ok(verdict)
 }
 
+/// Decides the problem that takes the other's place, and says what that comes to for the other, if it says something.
+fn search_reduced<R: Threads + Wait + Sync, G: Gate>(
+    rt: &R,
+    alloc: Global,
+    problem: &Problem,
+    reduction: Reduction,
+    phases: &[Value],
+    options: SearchOptions,
+    gate: &G,
+) -> Result<Option<Verdict>, AllocError>
+    requires { IsReductionOf problem.now reduction }
+    ensures { IfOk result (λ found. IfSome found (IsRight problem.now)) }
+{
+    let nothing = Batch::new(0, Vec::new(alloc));
+    let reduced = reduction.problem();
+    let verdict = search_from(rt, alloc, reduced, nothing, phases, options, gate)?;
+    reduction.verdict(alloc, problem, verdict)
+}
+
+/// Decides the problem by a search that opens with these lemmas. Without any a problem without some of its atoms may be searched in
+/// its place.
+fn search_whole<R: Threads + Wait + Sync, G: Gate>(
+    rt: &R,
+    alloc: Global,
+    problem: &Problem,
+    opening: Batch,
+    phases: &[Value],
+    options: SearchOptions,
+    gate: &G,
+) -> Result<Verdict, AllocError>
+    requires seen { opening.seen ≡ 0 }
+    requires opens { IsOpening problem.now opening.lemmas }
+    ensures { IfOk result (IsRight problem.now) }
+{
+    if opening.lemmas().is_empty() {
+        if let Some(reduction) = Reduction::of(alloc, problem)? {
+            let found = search_reduced(rt, alloc, problem, reduction, phases, options, gate)?;
+            if let Some(verdict) = found {
+                return Ok(verdict);
+            }
+        }
+    }
+    search_from(rt, alloc, problem, opening, phases, options, gate)
+}
+
 /// Decides the problem: by clauses of one literal along what was noted, where these refute it, by all of these, by an earlier refutation, and else by a search. It
 /// decides literals as these hold on the values that are kept, and may open with what an earlier one learned.
 fn search<R: Threads + Wait + Sync, G: Gate>(
@@ -93,7 +140,7 @@ fn search<R: Threads + Wait + Sync, G: Gate>(
         TakenOver::Refutes(refutation) => Ok(Verdict::Unsat(refutation)),
         TakenOver::Opens(opening) => {
             let phases = phases_of(alloc, kept)?;
-            search_from(rt, alloc, problem, opening, &phases, options, gate)
+            search_whole(rt, alloc, problem, opening, &phases, options, gate)
         }
     }
 }

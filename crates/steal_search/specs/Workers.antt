@@ -1,13 +1,14 @@
 -- What a worker's calls do to its seat and its hand: what stays, and what goes on.
-use Rattle.std.specs.Prelude.{◌≡◌, ℕ, List, [], ◌∷◌, ◌++◌, Some, None, IsSome}
+use Rattle.std.specs.Prelude.{◌≡◌, ◌+◌, ◌-◌, ℕ, List, [], ◌∷◌, ◌++◌, Some, None, IsSome}
 use mathlib.Core.List.{IsPrefix}
 use Rattle.stn_core.specs.declared.problem.Problem.{Problem}
 use Rattle.refute_tree.specs.Batches.{LemmaBatch}
 use Rattle.book_core.specs.declared.event.Event.{Event}
-use Rattle.book_core.specs.declared.event.Event.TheVariants.{Take}
+use Rattle.book_core.specs.declared.event.Event.TheVariants.{Take, Deliver, Release}
 use Rattle.book_core.specs.declared.event.Taken.TheVariants.{Done as TakeDone}
 use Rattle.book_core.specs.declared.event.Outcome.{Outcome}
 use Rattle.book_core.specs.Books.{IsJustified}
+use Rattle.book_core.specs.Ends.{said_by}
 use Rattle.book_lock.specs.declared.cube.Cube.{Cube}
 use Rattle.book_lock.specs.declared.cube.Dealt.{Dealt}
 use Rattle.book_lock.specs.declared.cube.Dealt.TheVariants.{Cube as DealtCube, Idle, Done}
@@ -33,6 +34,20 @@ pub record HandGoesOn (old new : Doings) : Type 0 where
 -- the seat's last call was answered Done
 abbrev pub HasEnded : Sight → Type 0
 HasEnded seat = (before : List Event) × (seat.view.events ≡ before ++ Take seat.view.number TakeDone ∷ [])
+
+-- one where the outcome says nothing of the cube: the slice paused
+abbrev pub pause_by : Outcome → ℕ
+pause_by outcome = 1 - said_by outcome
+
+abbrev pub pause_of : Event → ℕ
+pause_of (Take seat taken) = 0
+pause_of (Deliver seat id batch outcome) = pause_by outcome
+pause_of (Release seat id) = 0
+
+-- how many of the events are deliveries after pauses
+abbrev pub pauses_in : List Event → ℕ
+pauses_in [] = 0
+pauses_in (event ∷ events) = pause_of event + pauses_in events
 
 -- of the code: the seat after a `take` with this answer
 abbrev pub IsAnswered : Sight → Dealt → Type 0

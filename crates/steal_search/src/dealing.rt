@@ -1,6 +1,6 @@
 //! How a worker deals with the cube that its seat holds.
-ghost use Rattle.std.specs.Prelude.{◌≡◌, IfOk, OnOk, OnErr, None};
-ghost use Rattle.steal_search.specs.Workers.{GoesOn, IsJustifiedThere, IsSearching};
+ghost use Rattle.std.specs.Prelude.{◌≡◌, ◌≤◌, ◌+◌, IfOk, OnOk, OnErr, None};
+ghost use Rattle.steal_search.specs.Workers.{GoesOn, IsJustifiedThere, IsSearching, pause_by, pauses_in};
 
 use crate::team::Team;
 use book_core::{Delivery, Outcome};
@@ -11,6 +11,9 @@ use std::sync::{Arc, Wait};
 use stn_core::Problem;
 use worker_gates::Gate;
 
+/// So many pauses a worker makes at most, more than any search comes to. Behind them each of its deliveries leaves less to do.
+pub(crate) const MOST_PAUSES: u64 = 1 << 32;
+
 /// What a worker keeps from slice to slice: its number, its tools, how long its next slice is, and how many it has made.
 #[derive(Drop)]
 pub struct Pace {
@@ -18,8 +21,8 @@ pub struct Pace {
     pub(crate) tools: Tools,
     pub(crate) pacing: Pacing,
     pub(crate) slices: u64,
-    /// Whether there are others to whom its lemmas are told in pauses.
-    pub(crate) pauses: bool,
+    /// How many pauses are left, in which its lemmas are told to others: none where there are no others.
+    pub(crate) pauses: u64,
 }
 
 /// With what a worker goes on, once it has dealt with a cube.
@@ -52,7 +55,7 @@ impl Pace {
             tools: Tools::beside(team.alloc(), team.problem(), calls)?,
             pacing: Pacing::beside(team.budget()),
             slices: 0,
-            pauses: false,
+            pauses: 0,
         })
     }
 }
@@ -68,6 +71,8 @@ fn search(
     requires searching { IsSearching problem.now seat.now }
     ensures tools { pace.new.tools ≡ pace.old.tools }
     ensures justified { IfOk result (λ d. IsJustifiedThere problem.now seat.now d.batch d.outcome) }
+    ensures pauses { IfOk result (λ d. pause_by d.outcome ≤ pace.old.pauses) }
+    ensures left { pace.new.pauses ≡ pace.old.pauses }
 {
     seat.sound();
     let cube = seat.cube().unwrap();
@@ -77,8 +82,20 @@ fn search(
         seat.lemmas(),
         cube.literals.as_slice(),
         pace.pacing.budget(),
-        pace.pauses,
+        pace.pauses > 0,
     )
+}
+
+// Where nothing is said of the cube there is one pause less.
+fn count_pause(pace: &mut Pace, outcome: &Outcome)
+    requires { pause_by outcome.now ≤ pace.old.pauses }
+    ensures tools { pace.new.tools ≡ pace.old.tools }
+    ensures pauses { pace.new.pauses + pause_by outcome.now ≡ pace.old.pauses }
+{
+    match outcome {
+        Outcome::Open => pace.pauses -= 1,
+        Outcome::Found(_) | Outcome::Shut(_) | Outcome::Split(_) => {}
+    }
 }
 
 // What was found goes into the book. Without memory the seat holds its cube still.
@@ -86,6 +103,7 @@ fn enter<R: Wait>(rt: &R, desk: &Desk, seat: &mut Seat, found: Finding) -> Resul
     requires desk { seat.old.desk ≡ desk.now.id }
     requires justified { IsJustifiedThere seat.old.view.begun.problem seat.old found.batch found.outcome }
     ensures ok { OnOk result (GoesOn seat.old seat.new × (seat.new.cube ≡ None)) }
+    ensures pauses { OnOk result (pauses_in seat.new.view.events ≡ pauses_in seat.old.view.events + pause_by found.outcome) }
     ensures err { OnErr result (seat.new ≡ seat.old) }
 {
     let delivery = Delivery::new(found.batch, found.outcome)?;
@@ -103,6 +121,7 @@ fn deliver<R: Wait>(
     requires justified { IsJustifiedThere seat.old.view.begun.problem seat.old found.batch found.outcome }
     ensures seat { GoesOn seat.old seat.new }
     ensures none { seat.new.cube ≡ None }
+    ensures pauses { pauses_in seat.new.view.events ≤ pauses_in seat.old.view.events + pause_by found.outcome }
 {
     let onward = next_behind(seat, &found);
     match enter(rt, desk, seat, found) {
@@ -129,9 +148,11 @@ pub(crate) fn deal<R: Wait, G: Gate>(
     ensures seat { GoesOn seat.old seat.new }
     ensures none { seat.new.cube ≡ None }
     ensures tools { pace.new.tools ≡ pace.old.tools }
+    ensures pauses { pauses_in seat.new.view.events + pace.new.pauses ≤ pauses_in seat.old.view.events + pace.old.pauses }
 {
     match search(team.alloc(), team.problem(), seat, pace) {
         Ok(found) => {
+            count_pause(pace, &found.outcome);
             team.gate().pass(pace.worker, pace.slices);
             pace.slices = pace.slices.saturating_add(1);
             if found.divides {

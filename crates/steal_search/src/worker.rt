@@ -1,8 +1,8 @@
 //! The loop of one worker.
-ghost use Rattle.std.specs.Prelude.{◌≡◌, None, IfOk, OnOk, OnErr, IfSome};
-ghost use Rattle.steal_search.specs.Workers.{GoesOn, HandGoesOn, HasEnded, IsAnswered};
+ghost use Rattle.std.specs.Prelude.{◌≡◌, ◌≤◌, ◌+◌, ◌^◌, None, IfOk, OnOk, OnErr, IfSome};
+ghost use Rattle.steal_search.specs.Workers.{GoesOn, HandGoesOn, HasEnded, IsAnswered, pauses_in};
 
-use crate::dealing::{Onward, Pace, deal};
+use crate::dealing::{MOST_PAUSES, Onward, Pace, deal};
 use crate::team::Team;
 use book_lock::{Dealt, Desk, Seat};
 use cube_pool::{Hand, Pool};
@@ -27,6 +27,7 @@ fn fetched<R: Wait>(
     ensures seat { GoesOn seat.old seat.new }
     ensures answered { IfOk result (IsAnswered seat.new) }
     ensures none { OnErr result (seat.new.cube ≡ None) }
+    ensures pauses { pauses_in seat.new.view.events ≡ pauses_in seat.old.view.events }
 {
     match pool.fetch(rt, hand) {
         Some(id) => desk.take_near(rt, seat, id as usize),
@@ -54,6 +55,7 @@ fn next<R: Wait>(
     ensures seat { GoesOn seat.old seat.new }
     ensures answered { IfOk result (IsAnswered seat.new) }
     ensures none { OnErr result (seat.new.cube ≡ None) }
+    ensures pauses { pauses_in seat.new.view.events ≡ pauses_in seat.old.view.events }
 {
     match near {
         Some(id) => desk.take_near(rt, seat, id),
@@ -105,8 +107,9 @@ pub(crate) fn go_on<R: Wait, G: Gate>(
     ensures none { seat.new.cube ≡ None }
     ensures hand { HandGoesOn hand.old hand.new }
     ensures ended { OnOk result (HasEnded seat.new) }
+    ensures pauses { pauses_in seat.new.view.events ≤ pauses_in seat.old.view.events + 2 ^ 32 }
 {
-    pace.pauses = true;
+    pace.pauses = MOST_PAUSES;
     let mut near = None;
     for _ in rt.forever() {
         match next(rt, desk, seat, pool, hand, near.take(), team.calls())? {
@@ -129,7 +132,8 @@ pub(crate) fn go_on<R: Wait, G: Gate>(
 
 /// One worker, on a thread of the caller's: it takes cubes, the fetched ones first, searches each for a slice,
 /// passes the gate, and delivers what it found. Where a cube was divided, it goes on with one half and pushes the
-/// other; where a slice paused, so that the others know its lemmas and it theirs, with the same cube. The first slice has the team's budget, and later ones greater ones, by `book_search::Pacing`.
+/// other; where a slice paused, so that the others know its lemmas and it theirs, with the same cube. It pauses a bounded number of times,
+/// and each of its other deliveries leaves less to do (`book_core::ends_law`). The first slice has the team's budget, and later ones greater ones, by `book_search::Pacing`.
 ///
 /// All workers of the desk are of one team: by its calls one that waits, or was told that nothing is left to do, ends the
 /// slices of the others sooner.
@@ -154,6 +158,7 @@ pub fn work<R: Wait, G: Gate>(
     ensures none { seat.new.cube ≡ None }
     ensures hand { HandGoesOn hand.old hand.new }
     ensures ended { OnOk result (HasEnded seat.new) }
+    ensures pauses { pauses_in seat.new.view.events ≤ pauses_in seat.old.view.events + 2 ^ 32 }
 {
     let mut pace = Pace::new(team, worker)?;
     go_on(rt, team, desk, seat, pool, hand, &mut pace)

@@ -1,4 +1,4 @@
-use Rattle.std.proofs.Common.{◌∙◌}
+use Rattle.std.proofs.Common.{arith, ◌∙◌}
 use Rattle.steal_search.proofs.Going.{goes_on, hand_on, answered_none}
 use Rattle.steal_search.proofs.worker.go_on.Goals as goal
 
@@ -14,6 +14,7 @@ loop-preserved-in-Half g c = record {
   none = c.in_ok-deal-in-Cube.ensures.none;
   hand = hand_on c.args.hand.now c.next-in-loop.new.hand c.share-near.new.hand (hand_on c.args.hand.now c.loop.hand c.next-in-loop.new.hand c.loop.invariant.hand c.in_ok-next.ensures.hand) c.share-near.ensures.hand;
   tools = c.in_ok-deal-in-Cube.ensures.tools ∙ c.loop.invariant.tools;
+  pauses = omega (arith, c.loop.invariant.pauses, c.in_ok-next.ensures.pauses, c.in_ok-deal-in-Cube.ensures.pauses);
 }
 
 pub loop-preserved-in-Same : goal.loop-preserved-in-Same
@@ -22,6 +23,7 @@ loop-preserved-in-Same g c = record {
   none = c.in_ok-deal-in-Cube.ensures.none;
   hand = hand_on c.args.hand.now c.loop.hand c.next-in-loop.new.hand c.loop.invariant.hand c.in_ok-next.ensures.hand;
   tools = c.in_ok-deal-in-Cube.ensures.tools ∙ c.loop.invariant.tools;
+  pauses = omega (arith, c.loop.invariant.pauses, c.in_ok-next.ensures.pauses, c.in_ok-deal-in-Cube.ensures.pauses);
 }
 
 pub loop-preserved-in-Any : goal.loop-preserved-in-Any
@@ -30,6 +32,7 @@ loop-preserved-in-Any g c = record {
   none = c.in_ok-deal-in-Cube.ensures.none;
   hand = hand_on c.args.hand.now c.loop.hand c.next-in-loop.new.hand c.loop.invariant.hand c.in_ok-next.ensures.hand;
   tools = c.in_ok-deal-in-Cube.ensures.tools ∙ c.loop.invariant.tools;
+  pauses = omega (arith, c.loop.invariant.pauses, c.in_ok-next.ensures.pauses, c.in_ok-deal-in-Cube.ensures.pauses);
 }
 
 pub loop-preserved : goal.loop-preserved
@@ -38,6 +41,7 @@ loop-preserved g c = record {
   none = answered_none c.next-in-loop.new.seat c.in_ok-next.field-0 c.in-Idle.is c.in_ok-next.ensures.answered;
   hand = hand_on c.args.hand.now c.loop.hand c.next-in-loop.new.hand c.loop.invariant.hand c.in_ok-next.ensures.hand;
   tools = c.loop.invariant.tools;
+  pauses = omega (arith, c.loop.invariant.pauses, c.in_ok-next.ensures.pauses);
 }
 
 pub returns-in-Done-clause-hand : goal.returns-in-Done-clause-hand

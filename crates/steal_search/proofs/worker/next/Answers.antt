@@ -1,5 +1,6 @@
 use Rattle.std.proofs.Common.{Some}
 use Rattle.steal_search.proofs.Going.{hand_self, near_on, near_answered}
+use Rattle.steal_search.proofs.Pauses.{near_pauses}
 use Rattle.steal_search.proofs.worker.next.Goals as goal
 
 pub returns-in-Some-clause-hand : goal.returns-in-Some-clause-hand
@@ -10,3 +11,6 @@ returns-in-Some-clause-seat g c = near_on c.args.seat.now c.take_near.new.seat (
 
 pub returns-in-Some-clause-answered : goal.returns-in-Some-clause-answered
 returns-in-Some-clause-answered g c = near_answered c.args.seat.now c.take_near.new.seat (Some c.in-Some.id) c.take_near.result c.take_near.ensures.ok
+
+pub returns-in-Some-clause-pauses : goal.returns-in-Some-clause-pauses
+returns-in-Some-clause-pauses g c = near_pauses c.args.seat.now c.take_near.new.seat (Some c.in-Some.id) c.take_near.result c.take_near.ensures.ok c.take_near.ensures.err
