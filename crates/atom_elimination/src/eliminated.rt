@@ -62,9 +62,13 @@ fn origins_left(
 
 /// Eliminates atoms that have a point of their own, where three quarters of the problem's literals or more are of such atoms, and
 /// the clauses that are left aren't mostly parities, which a search decides sooner by what they were. It does so much work that goes
-/// with the literals of the problem. The one error is want of memory.
-pub fn eliminate(alloc: Global, problem: &Problem) -> Result<Option<Eliminated>, AllocError> {
-    let uses = Uses::of(alloc, problem)?;
+/// with the literals of the problem. An atom of one of these points stays. The one error is want of memory.
+pub fn eliminate(
+    alloc: Global,
+    problem: &Problem,
+    kept: &[u32],
+) -> Result<Option<Eliminated>, AllocError> {
+    let uses = Uses::of(alloc, problem, kept)?;
     if !uses.are_mostly_own(problem.clauses.as_slice()) {
         return Ok(None);
     }
@@ -78,6 +82,6 @@ pub fn eliminate(alloc: Global, problem: &Problem) -> Result<Option<Eliminated>,
     Ok(Some(Eliminated {
         lemmas: derivation.into_lemmas(),
         origins,
-        witnesses: elimination.into_witnesses(),
+        witnesses: elimination.take_witnesses(alloc),
     }))
 }

@@ -5,6 +5,7 @@ use crate::table::Table;
 use crate::uses::Uses;
 use crate::witnesses::Witnesses;
 use std::alloc::{AllocError, Global};
+use std::mem;
 use stn_core::{Clause, Problem};
 
 /// An atom stays that gives more pairs of clauses to resolve.
@@ -130,27 +131,9 @@ impl Elimination {
         self.work = self.work.saturating_sub(work);
     }
 
-    /// What was eliminated.
-    pub fn into_witnesses(self) -> Witnesses {
-        let Elimination {
-            atoms,
-            table,
-            witnesses,
-            waiting,
-            literals,
-            work: _,
-            resolvents,
-            positive,
-            negative,
-        } = self;
-        drop(atoms);
-        drop(table);
-        drop(waiting);
-        drop(literals);
-        drop(resolvents);
-        drop(positive);
-        drop(negative);
-        witnesses
+    /// What was eliminated, which leaves this.
+    pub fn take_witnesses(&mut self, alloc: Global) -> Witnesses {
+        mem::replace(&mut self.witnesses, Witnesses::new(alloc))
     }
 
     /// The clause without the literal, among the witnesses.

@@ -69,7 +69,8 @@ impl Elimination {
     pub fn subsume_waiting(&mut self) -> Result<(), AllocError> {
         'rows: for _turn in 0..self.work {
             match self.waiting.pop() {
-                Some(row) => self.subsume_by(row)?,
+                Some(row) if self.work > 0 => self.subsume_by(row)?,
+                Some(_) => self.waiting.truncate(0),
                 None => return Ok(()),
             }
         }

@@ -57,12 +57,19 @@ fn note(uses: &mut [Use], literal: Literal) {
     }
 }
 
+fn keep(uses: &mut [Use], point: u32) {
+    if let Some(place) = uses.get_mut(point as usize) {
+        *place = Use::Many;
+    }
+}
+
 impl Uses {
-    /// Point 0 is in many atoms: it stands for zero.
-    pub fn of(alloc: Global, problem: &Problem) -> Result<Self, AllocError> {
+    /// Point 0, which stands for zero, and these others are taken to be in many atoms.
+    pub fn of(alloc: Global, problem: &Problem, kept: &[u32]) -> Result<Self, AllocError> {
         let mut uses = vec![in alloc; Use::None; problem.points as usize]?;
-        if let Some(zero) = uses.get_mut(0) {
-            *zero = Use::Many;
+        keep(&mut uses, 0);
+        for point in kept {
+            keep(&mut uses, *point);
         }
         for clause in problem.clauses.as_slice() {
             for literal in clause.as_slice() {

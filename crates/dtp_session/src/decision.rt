@@ -107,7 +107,7 @@ fn search_whole<R: Threads + Wait + Sync, G: Gate>(
     ensures { IfOk result (IsRight problem.now) }
 {
     if opening.lemmas().is_empty() {
-        if let Some(reduction) = Reduction::of(alloc, problem)? {
+        if let Some(reduction) = Reduction::of(alloc, problem, &[])? {
             let found = search_reduced(rt, alloc, problem, reduction, phases, options, gate)?;
             if let Some(verdict) = found {
                 return Ok(verdict);

@@ -1,10 +1,11 @@
 //! What decides a minimize.
-ghost use Rattle.std.specs.Prelude.{◌<◌, All, IfOk};
+ghost use Rattle.std.specs.Prelude.{◌<◌, All, IfOk, IfSome};
 ghost use Rattle.refute_tree.specs.Batches.{LemmaIsOver};
 ghost use Rattle.smt_sexpr.specs.Tree.{Sexpr};
 ghost use Rattle.best_values.specs.Widths.{Fits, IsWithinLimit};
 ghost use Rattle.book_core.specs.Books.{IsOpening};
 ghost use Rattle.best_bound.specs.Answers.{IsBestAnswer};
+ghost use Rattle.reduced_problem.specs.Reduced.{IsReductionOf};
 ghost use Rattle.smt_script.specs.States.{State as Meaning};
 ghost use Rattle.smt_script.specs.declared.state.Question.TheVariants as asked;
 ghost use Rattle.script_walk.specs.code.Standing.{Stands};
@@ -17,11 +18,12 @@ use crate::options::SearchOptions;
 use crate::shown::{Shown, kept, refuted, with_lemmas, without_lemmas};
 use crate::wanted::Wanted;
 use best_bound::{Best, best_one_with, best_shared_with};
-use best_values::question;
+use best_values::{fits, question};
 use cert_text::Entry;
 use clause_form::restrict;
 use kept_schedule::KeptSchedule;
 use learned_lemmas::TakenOver;
+use reduced_problem::Reduction;
 use refute_tree::{Batch, Refutation};
 use smt_script::{Objective, State};
 use std::alloc::{AllocError, Global};
@@ -59,6 +61,67 @@ fn search_from<R: Threads + Wait + Sync, G: Gate>(
     }
 }
 
+/// The least value of the problem that takes the other's place, and what that comes to for the other, if it says something.
+fn search_reduced<R: Threads + Wait + Sync, G: Gate>(
+    rt: &R,
+    alloc: Global,
+    problem: &Problem,
+    reduction: Reduction,
+    objective: Objective,
+    phases: &[Value],
+    options: SearchOptions,
+    gate: &G,
+) -> Result<Option<Best>, AllocError>
+    requires reduction { IsReductionOf problem.now reduction }
+    requires x_in { objective.x < problem.now.points }
+    requires y_in { objective.y < problem.now.points }
+    ensures { IfOk result (λ found. IfSome found (IsBestAnswer problem.now objective.x objective.y)) }
+{
+    let reduced = reduction.problem();
+    if !fits(reduced) {
+        return Ok(None);
+    }
+    let nothing = Batch::new(0, Vec::new(alloc));
+    let best = search_from(
+        rt, alloc, reduced, objective, nothing, phases, options, gate,
+    )?;
+    reduction.best(alloc, problem, objective.x, objective.y, best)
+}
+
+/// The least value by a search that opens with these lemmas. Without any a problem without some of its atoms may be searched in its
+/// place, which has the objective's points.
+fn search_whole<R: Threads + Wait + Sync, G: Gate>(
+    rt: &R,
+    alloc: Global,
+    problem: &Problem,
+    objective: Objective,
+    opening: Batch,
+    phases: &[Value],
+    options: SearchOptions,
+    gate: &G,
+) -> Result<Best, AllocError>
+    requires opens { IsOpening problem.now opening.lemmas }
+    requires fits { Fits problem.now }
+    requires x_in { objective.x < problem.now.points }
+    requires y_in { objective.y < problem.now.points }
+    ensures { IfOk result (IsBestAnswer problem.now objective.x objective.y) }
+{
+    if opening.lemmas().is_empty() {
+        let points = [objective.x, objective.y];
+        if let Some(reduction) = Reduction::of(alloc, problem, points.as_slice())? {
+            let found = search_reduced(
+                rt, alloc, problem, reduction, objective, phases, options, gate,
+            )?;
+            if let Some(best) = found {
+                return Ok(best);
+            }
+        }
+    }
+    search_from(
+        rt, alloc, problem, objective, opening, phases, options, gate,
+    )
+}
+
 /// The least value: by an earlier refutation, where that stands, and else by a search, which may open with what an earlier one learned, and decides literals
 /// as these hold on the values that are kept.
 fn search<R: Threads + Wait + Sync, G: Gate>(
@@ -80,7 +143,7 @@ fn search<R: Threads + Wait + Sync, G: Gate>(
         TakenOver::Refutes(refutation) => Ok(Best::Nothing(refutation)),
         TakenOver::Opens(opening) => {
             let phases = phases_of(alloc, kept)?;
-            search_from(
+            search_whole(
                 rt, alloc, problem, objective, opening, &phases, options, gate,
             )
         }

@@ -1,5 +1,5 @@
 -- A refutation of the reduced problem refutes the other.
-use Rattle.std.proofs.Common.{arith, ◌≡◌, ◌<◌, ◌≤◌, ◌+◌, ◌-◌, ◌^◌, ℕ, zero, suc, List, [], ◌∷◌, ◌++◌, length, map, take, Some, None, All, get_or, refl, sym, ap, subst, ◌∙◌, append_assoc, append-nil, length-append}
+use Rattle.std.proofs.Common.{arith, ◌⊎◌, inl, inr, ◌≡◌, ◌<◌, ◌≤◌, ◌+◌, ◌-◌, ◌^◌, ℕ, zero, suc, List, [], ◌∷◌, ◌++◌, length, map, take, Some, None, All, get_or, refl, sym, ap, subst, ◌∙◌, append_assoc, append-nil, length-append}
 use Rattle.std.specs.Prelude.{slice_get}
 use Rattle.std.proofs.lemmas.List.{length-map}
 use Rattle.std.proofs.lemmas.List.Elements.{All-nil, All-cons, All-head, All-tail, All-append}
@@ -18,11 +18,9 @@ use Rattle.refute_tree.proofs.Numbered.{each_refuted, refuted_each}
 use Rattle.refute_tree.proofs.References.{all_below}
 use Rattle.atom_elimination.specs.declared.derivation.Origin.{Origin}
 use Rattle.atom_elimination.specs.declared.derivation.Origin.TheVariants.{Input as Given, Lemma as Derived}
-use Rattle.book_core.specs.Verdicts.{IsRight}
-use Rattle.book_core.specs.declared.verdict.Verdict.TheVariants.{Unsat}
+use Rattle.more_inputs.specs.Laws.{MoreInputsRefuteEach}
 use Rattle.reduced_problem.specs.Reduced.{IsFrom, AreFrom, Reduced, IsReductionOf}
-use Rattle.reduced_problem.specs.code.Restating.{origin_at, opened_by, closed_by, restated_step, restated, restated_lemma, LemmaFits}
-use Rattle.reduced_problem.proofs.Steps.{each_fits}
+use Rattle.reduced_problem.specs.code.Restating.{origin_at, opened_by, closed_by, restated_step, restated, restated_lemma}
 
 -- ---- lists, one behind the other
 
@@ -186,54 +184,108 @@ in_order points clauses others r = refuted_each points clauses [] others (λ k l
 behind_none : (n : ℕ) → 0 + n ≡ n
 behind_none n = omega arith
 
-pub fitting : (points : ℕ) (clauses : List (List Literal)) (others : List Lemma) (base : ℕ) → IsRefutation points clauses others → base + length others ≤ 2 ^ 64 → All (LemmaFits base) others
-fitting points clauses others base r le =
-    each_fits base (length others) others le
-    (subst (λ (n : ℕ). All (LemmaRefersBelow n) others) (behind_none (length others)) (all_below points clauses [] others (in_order points clauses others r)))
-
-module _ (joined : JoinedLaw) (problem : Problem) (r : Reduced) (h : IsReductionOf problem r) (others : List Lemma)
-    (refutation : IsRefutation r.problem.points r.problem.clauses others) (over : All (LemmaIsOver r.problem.points) others) where
+-- lemmas over these clauses, and behind them a refutation of the clauses that come from there
+module _ (joined : JoinedLaw) (points : ℕ) (inputs : List (List Literal)) (lemmas : List Lemma) (origins : List Origin) (clauses : List (List Literal))
+    (from : AreFrom inputs lemmas origins clauses) (others : List Lemma) where
   moved : List Lemma
-  moved = map (restated_lemma r.origins r.problem.clauses (length r.lemmas)) others
+  moved = map (restated_lemma origins clauses (length lemmas)) others
 
-  both_refuted : AreRefuted problem.points problem.clauses [] (r.lemmas ++ moved)
+  both_refuted : AreRefuted points inputs [] lemmas → IsRefutation points clauses others → AreRefuted points inputs [] (lemmas ++ moved)
   unfolding moved
-  both_refuted =
-      let own : AreRefuted problem.points r.problem.clauses [] others =
-      subst (λ (n : ℕ). AreRefuted n r.problem.clauses [] others) h.points (in_order r.problem.points r.problem.clauses others refutation) in
-      let all : AreRefuted problem.points problem.clauses (map stated r.lemmas ++ []) moved = all_refuted problem.clauses r.lemmas r.origins r.problem.clauses h.from problem.points [] others own in
-      joined problem.points problem.clauses [] r.lemmas moved h.opening.refuted
-      (subst (λ (cs : List (List Literal)). AreRefuted problem.points problem.clauses cs moved) (append-nil (map stated r.lemmas)) all)
+  both_refuted first refutation =
+      let all : AreRefuted points inputs (map stated lemmas ++ []) moved = all_refuted inputs lemmas origins clauses from points [] others (in_order points clauses others refutation) in
+      joined points inputs [] lemmas moved first (subst (λ (cs : List (List Literal)). AreRefuted points inputs cs moved) (append-nil (map stated lemmas)) all)
 
-  pub refutes_problem : IsRefutation problem.points problem.clauses (r.lemmas ++ map (restated_lemma r.origins r.problem.clauses (length r.lemmas)) others)
+  refutes_inputs : AreRefuted points inputs [] lemmas → IsRefutation points clauses others → IsRefutation points inputs (lemmas ++ map (restated_lemma origins clauses (length lemmas)) others)
   unfolding moved
-  refutes_problem =
-      let f : Lemma → Lemma = restated_lemma r.origins r.problem.clauses (length r.lemmas) in
-      refutes problem.points problem.clauses r.lemmas moved both_refuted (omega (arith, length-map others f, refutation.some))
-      (last_restated r.origins r.problem.clauses (length r.lemmas) others refutation.last)
+  refutes_inputs first refutation =
+      let f : Lemma → Lemma = restated_lemma origins clauses (length lemmas) in
+      refutes points inputs lemmas moved (both_refuted first refutation) (omega (arith, length-map others f, refutation.some))
+      (last_restated origins clauses (length lemmas) others refutation.last)
 
-  pub is_over : All (LemmaIsOver problem.points) (r.lemmas ++ map (restated_lemma r.origins r.problem.clauses (length r.lemmas)) others)
-  is_over =
-      All-append (LemmaIsOver problem.points) r.lemmas (map (restated_lemma r.origins r.problem.clauses (length r.lemmas)) others) h.opening.over
-      (each_over problem.points r.origins r.problem.clauses (length r.lemmas) others (subst (λ (n : ℕ). All (LemmaIsOver n) others) h.points over))
+  are_over : All (LemmaIsOver points) lemmas → All (LemmaIsOver points) others → All (LemmaIsOver points) (lemmas ++ map (restated_lemma origins clauses (length lemmas)) others)
+  are_over first over =
+      All-append (LemmaIsOver points) lemmas (map (restated_lemma origins clauses (length lemmas)) others) first
+      (each_over points origins clauses (length lemmas) others over)
 
--- what the call makes of the reduction's parts
-pub right_behind : (joined : JoinedLaw) (problem : Problem) (self : Reduced) (inner : Problem) (lemmas : List Lemma) (origins : List Origin)
-    → record { problem = inner; lemmas = lemmas; origins = origins } ≡ self → IsReductionOf problem self
-    → (others : List Lemma) → IsRight self.problem (Unsat others)
-    → (from : List Origin) (clauses : List (List Literal)) (base : ℕ) (given made all : List Lemma)
-    → from ≡ origins → clauses ≡ inner.clauses → base ≡ length lemmas → given ≡ others
-    → made ≡ map (restated_lemma from clauses base) given → all ≡ lemmas ++ made
-    → IsRight problem (Unsat all)
-right_behind joined problem self inner lemmas origins view reduction others right from clauses base given made all from_is clauses_is base_is given_is made_is all_is =
-    let r : Reduced = record { problem = inner; lemmas = lemmas; origins = origins } in
-    let h : IsReductionOf problem r = subst (IsReductionOf problem) (sym view) reduction in
-    let own : IsRight inner (Unsat others) = subst (λ (s : Reduced). IsRight s.problem (Unsat others)) (sym view) right in
-    let same : all ≡ lemmas ++ map (restated_lemma origins inner.clauses (length lemmas)) others =
-    all_is ∙ ap (λ (ls : List Lemma). lemmas ++ ls)
-    (made_is
-    ∙ ap (λ (os : List Origin). map (restated_lemma os clauses base) given) from_is
-    ∙ ap (λ (cs : List (List Literal)). map (restated_lemma origins cs base) given) clauses_is
-    ∙ ap (λ (n : ℕ). map (restated_lemma origins inner.clauses n) given) base_is
-    ∙ ap (λ (ls : List Lemma). map (restated_lemma origins inner.clauses (length lemmas)) ls) given_is) in
-    subst (λ (ls : List Lemma). IsRight problem (Unsat ls)) (sym same) (refutes_problem joined problem r h others own.0 own.1, is_over joined problem r h others own.0 own.1)
+-- what is refuted, and within the limits
+abbrev pub Refutes : ℕ → List (List Literal) → List Lemma → Type 0
+Refutes points clauses lemmas = IsRefutation points clauses lemmas × All (LemmaIsOver points) lemmas
+
+pub refutes_problem : (joined : JoinedLaw) (problem : Problem) (r : Reduced) → IsReductionOf problem r → (others : List Lemma) → Refutes r.problem.points r.problem.clauses others
+    → Refutes problem.points problem.clauses (r.lemmas ++ map (restated_lemma r.origins r.problem.clauses (length r.lemmas)) others)
+refutes_problem joined problem r h others right =
+    let own : Refutes problem.points r.problem.clauses others = subst (λ (n : ℕ). Refutes n r.problem.clauses others) h.points right in (
+      refutes_inputs joined problem.points problem.clauses r.lemmas r.origins r.problem.clauses h.from others h.opening.refuted own.0,
+      are_over joined problem.points problem.clauses r.lemmas r.origins r.problem.clauses h.from others h.opening.over own.1,
+    )
+
+-- ---- with one clause more
+
+pushed_get : {X : Type 0} (xs : List X) (x y : X) (i : ℕ) → slice_get (xs ++ x ∷ []) i ≡ Some y → (slice_get xs i ≡ Some y) ⊎ ((i ≡ length xs) × (x ≡ y))
+pushed_get [] x y zero e = inr (refl, cc)
+pushed_get [] x y (suc i) e = absurd (cc)
+pushed_get (z ∷ xs) x y zero e = inl e
+pushed_get (z ∷ xs) x y (suc i) e = elim (pushed_get xs x y i e) [
+  | inl a ↦ inl a
+  | inr b ↦ inr (omega (arith, b.0), b.1)
+]
+
+at_end : {X : Type 0} (xs : List X) (x : X) → slice_get (xs ++ x ∷ []) (length xs) ≡ Some x
+at_end [] x = refl
+at_end (y ∷ xs) x = at_end xs x
+
+is_from_more : (inputs later : List (List Literal)) (lemmas : List Lemma) (o : Origin) (clause : List Literal) → IsFrom inputs lemmas o clause → IsFrom (inputs ++ later) lemmas o clause
+is_from_more inputs later lemmas (Given i) clause h = still_there inputs later i clause h
+is_from_more inputs later lemmas (Derived j) clause h = h
+
+module _ (inputs : List (List Literal)) (lemmas : List Lemma) (origins : List Origin) (clauses : List (List Literal)) (more_clause : List Literal) (from : AreFrom inputs lemmas origins clauses) where
+  one_more : (i : ℕ) (origin : Origin) (clause : List Literal)
+      → slice_get (origins ++ Given (length inputs) ∷ []) i ≡ Some origin → slice_get (clauses ++ more_clause ∷ []) i ≡ Some clause
+      → IsFrom (inputs ++ more_clause ∷ []) lemmas origin clause
+  one_more i origin clause at_origin at_clause = elim (pushed_get origins (Given (length inputs)) origin i at_origin) [
+    | inl a ↦ elim (pushed_get clauses more_clause clause i at_clause) [
+      | inl b ↦ is_from_more inputs (more_clause ∷ []) lemmas origin clause (from.each i origin clause a b)
+      | inr b ↦ absurd (omega (arith, from.one_each, slice_get_within origins i origin a, b.0))
+    ]
+    | inr a ↦ elim (pushed_get clauses more_clause clause i at_clause) [
+      | inl b ↦ absurd (omega (arith, from.one_each, slice_get_within clauses i clause b, a.0))
+      | inr b ↦ subst (λ (o : Origin). IsFrom (inputs ++ more_clause ∷ []) lemmas o clause) a.1 (at_end inputs more_clause ∙ ap (λ (c : List Literal). Some c) b.1)
+    ]
+  ]
+
+  from_more : AreFrom (inputs ++ more_clause ∷ []) lemmas (origins ++ Given (length inputs) ∷ []) (clauses ++ more_clause ∷ [])
+  from_more = record {
+    one_each = omega (arith, length-append origins (Given (length inputs) ∷ []), length-append clauses (more_clause ∷ []), from.one_each);
+    each = one_more;
+  }
+
+pub refutes_below : (joined : JoinedLaw) (wider : MoreInputsRefuteEach) (problem : Problem) (r : Reduced) → IsReductionOf problem r → (more_clause : List Literal) (others : List Lemma)
+    → Refutes r.problem.points (r.problem.clauses ++ more_clause ∷ []) others
+    → Refutes problem.points (problem.clauses ++ more_clause ∷ [])
+    (r.lemmas ++ map (restated_lemma (r.origins ++ Given (length problem.clauses) ∷ []) (r.problem.clauses ++ more_clause ∷ []) (length r.lemmas)) others)
+refutes_below joined wider problem r h more_clause others right =
+    let clauses = r.problem.clauses ++ more_clause ∷ [] in
+    let inputs = problem.clauses ++ more_clause ∷ [] in
+    let origins = r.origins ++ Given (length problem.clauses) ∷ [] in
+    let own : Refutes problem.points (r.problem.clauses ++ more_clause ∷ []) others = subst (λ (n : ℕ). Refutes n (r.problem.clauses ++ more_clause ∷ []) others) h.points right in
+    let from = from_more problem.clauses r.lemmas r.origins r.problem.clauses more_clause h.from in
+    let first = wider problem.points problem.clauses (more_clause ∷ []) [] r.lemmas h.opening.refuted in (
+      refutes_inputs joined problem.points inputs r.lemmas origins clauses from others first own.0,
+      are_over joined problem.points inputs r.lemmas origins clauses from others h.opening.over own.1,
+    )
+
+-- lemmas of a refutation cite those of it
+pub refer_within : (points : ℕ) (clauses : List (List Literal)) (others : List Lemma) → IsRefutation points clauses others → All (LemmaRefersBelow (length others)) others
+refer_within points clauses others r =
+    subst (λ (n : ℕ). All (LemmaRefersBelow n) others) (behind_none (length others)) (all_below points clauses [] others (in_order points clauses others r))
+
+-- the same by equal parts
+pub same_restated : (lemmas given : List Lemma) (origins from : List Origin) (clauses seen : List (List Literal)) (others all : List Lemma)
+    → given ≡ lemmas → from ≡ origins → seen ≡ clauses → all ≡ given ++ map (restated_lemma from seen (length given)) others
+    → all ≡ lemmas ++ map (restated_lemma origins clauses (length lemmas)) others
+same_restated lemmas given origins from clauses seen others all given_is from_is seen_is all_is =
+    all_is
+    ∙ ap (λ (ls : List Lemma). ls ++ map (restated_lemma from seen (length ls)) others) given_is
+    ∙ ap (λ (os : List Origin). lemmas ++ map (restated_lemma os seen (length lemmas)) others) from_is
+    ∙ ap (λ (cs : List (List Literal)). lemmas ++ map (restated_lemma origins cs (length lemmas)) others) seen_is

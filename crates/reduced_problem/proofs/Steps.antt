@@ -1,5 +1,5 @@
 -- Steps, and what is known of each of a list.
-use Rattle.std.proofs.Common.{arith, ◌≡◌, ◌<◌, ◌≤◌, ◌+◌, ◌^◌, ℕ, List, [], ◌∷◌, ◌++◌, map, Some, All, get_or, sym, ap, subst, ◌∙◌, append_assoc}
+use Rattle.std.proofs.Common.{arith, ◌≡◌, ◌<◌, ◌≤◌, ◌+◌, ◌^◌, ℕ, ℤ, List, [], ◌∷◌, ◌++◌, map, Some, All, get_or, sym, ap, subst, ◌∙◌, append_assoc}
 use Rattle.std.specs.Prelude.{slice_get}
 use Rattle.std.proofs.lemmas.List.Elements.{All-weaker}
 use Rattle.std.proofs.lemmas.Option.{slice_get_within, get_or_from_slice_get}
@@ -13,6 +13,10 @@ use Rattle.reduced_problem.specs.code.Restating.{restated_step, restated, Fits, 
 
 pub at_place : {X : Type 0} (P : X → Type 0) (xs : List X) (k : ℕ) (x : X) → All P xs → slice_get xs k ≡ Some x → P x
 at_place P xs k x all e = subst P (get_or_from_slice_get xs k x x e) (all k x (slice_get_within xs k x e))
+
+-- what is known of one value, of an equal one
+pub of_same : (P : ℤ → Type 0) (v w : ℤ) → P v → v ≡ w → P w
+of_same P v w h e = subst P e h
 
 -- one step more
 pub step_more : (origins : List Origin) (clauses : List (List Literal)) (base : ℕ) (all left rest : List Step) (step : Step) (before after : List Step)

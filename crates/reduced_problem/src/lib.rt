@@ -5,6 +5,7 @@
 //! What the reduction is comes from `atom_elimination`, whose lemmas are tested before anything rests on them.
 #![tactic(auto)]
 
+mod best;
 mod clauses;
 mod judged;
 mod reduction;

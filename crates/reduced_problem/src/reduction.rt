@@ -8,7 +8,7 @@ ghost use Rattle.reduced_problem.specs.Reduced.{IsReductionOf};
 
 use crate::clauses::clauses_from;
 use crate::judged::{may_open, tested};
-use crate::restating::restate_each;
+use crate::restating::restate_behind;
 use atom_elimination::{Eliminated, Origin, Witnesses, eliminate};
 use book_core::Verdict;
 use refute_tree::{Batch, Lemma, Refutation};
@@ -76,11 +76,11 @@ fn assemble(
 
 impl Reduction {
     /// A problem that takes the place of this one in a search, where `atom_elimination` has one. It takes time that goes with the
-    /// literals of the problem. The one error is want of memory.
-    pub fn of(alloc: Global, problem: &Problem) -> Result<Option<Self>, AllocError>
+    /// literals of the problem. The atoms of these points stay. The one error is want of memory.
+    pub fn of(alloc: Global, problem: &Problem, kept: &[u32]) -> Result<Option<Self>, AllocError>
         ensures { IfOk result (λ found. IfSome found (IsReductionOf problem.now)) }
     {
-        match eliminate(alloc, problem)? {
+        match eliminate(alloc, problem, kept)? {
             Some(eliminated) => assemble(alloc, problem, eliminated),
             None => Ok(None),
         }
@@ -93,8 +93,24 @@ impl Reduction {
         &self.problem
     }
 
+    // The lemmas, and where its clauses come from.
+    pub(crate) fn into_lemmas(self) -> (Vec<Lemma>, Vec<Origin>)
+        ensures lemmas { result.0.items ≡ self.lemmas }
+        ensures origins { result.1.items ≡ self.origins }
+    {
+        let Reduction {
+            problem,
+            lemmas,
+            origins,
+            witnesses,
+        } = self;
+        drop(problem);
+        drop(witnesses);
+        (lemmas, origins)
+    }
+
     // The schedule, changed where the atoms that are gone want it, if it is one of the problem then.
-    fn repaired(
+    pub(crate) fn repaired(
         &self,
         alloc: Global,
         problem: &Problem,
@@ -108,7 +124,7 @@ impl Reduction {
     }
 
     // The refutation as one of the problem, behind the lemmas.
-    fn restated(
+    pub(crate) fn restated(
         self,
         alloc: Global,
         problem: &Problem,
@@ -126,13 +142,9 @@ impl Reduction {
             witnesses,
         } = self;
         drop(witnesses);
-        let mut lemmas = lemmas;
-        let mut others = refutation.into_vec();
-        lemmas.reserve(others.len())?;
         let clauses = reduced.clauses.as_slice();
-        restate_each(alloc, &origins, clauses, lemmas.len(), &mut others)?;
-        lemmas.append(&mut others)?;
-        Ok(Refutation::new(lemmas))
+        let all = restate_behind(alloc, lemmas, &origins, clauses, refutation)?;
+        Ok(all)
     }
 
     /// What the verdict on the problem that took its place says of the problem itself. Of a refutation it always says that there is

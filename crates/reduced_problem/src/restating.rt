@@ -1,11 +1,12 @@
 //! Lemmas of a reduced problem as lemmas of the problem itself.
-ghost use Rattle.std.specs.Prelude.{◌≡◌, ◌++◌, ◌∷◌, [], map, All, OnOk, IfOk};
+ghost use Rattle.std.specs.Prelude.{◌≡◌, ◌++◌, ◌∷◌, [], length, map, All, OnOk, IfOk};
+ghost use Rattle.refute_tree.specs.Batches.{LemmaRefersBelow};
 ghost use Rattle.refute_tree.specs.Lengths.{pair_step};
 ghost use Rattle.refute_tree.specs.code.Views.{step_seen};
 ghost use Rattle.reduced_problem.specs.code.Restating.{origin_at, clause_at, opened_by, closed_by, restated_step, restated, restated_lemma, Fits, LemmaFits};
 
 use atom_elimination::Origin;
-use refute_tree::{Lemma, Reader, StepView, Steps};
+use refute_tree::{Lemma, Reader, Refutation, StepView, Steps};
 use std::alloc::{AllocError, Global};
 use stn_core::{Clause, Literal};
 
@@ -108,7 +109,7 @@ fn restate(
 }
 
 /// Each lemma of the problem with these clauses, which come from there, as one behind so many lemmas of the problem itself.
-pub(crate) fn restate_each(
+fn restate_each(
     alloc: Global,
     origins: &[Origin],
     clauses: &[Clause],
@@ -122,4 +123,23 @@ pub(crate) fn restate_each(
         restate(alloc, origins, clauses, base, lemma)?;
     }
     Ok(())
+}
+
+/// A refutation of the problem with these clauses, which come from there, as one of the problem itself, behind the lemmas.
+pub(crate) fn restate_behind(
+    alloc: Global,
+    mut lemmas: Vec<Lemma>,
+    origins: &[Origin],
+    clauses: &[Clause],
+    refutation: Refutation,
+) -> Result<Refutation, AllocError>
+    requires { All (LemmaRefersBelow (length refutation)) refutation }
+    ensures { IfOk result (λ all. all
+        ≡ lemmas.items ++ map (restated_lemma origins.now clauses.now (length lemmas.items)) refutation) }
+{
+    let mut others = refutation.into_vec();
+    lemmas.reserve(others.len())?;
+    restate_each(alloc, origins, clauses, lemmas.len(), &mut others)?;
+    lemmas.append(&mut others)?;
+    Ok(Refutation::new(lemmas))
 }

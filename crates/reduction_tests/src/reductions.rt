@@ -2,7 +2,10 @@
 //! are `x` and `y`.
 ghost use Rattle.std.specs.Prelude.{◌≡◌, All, IfOk};
 ghost use Rattle.stn_core.specs.Literal.{IsOver};
+ghost use Rattle.best_values.specs.Widths.{Fits};
 
+use best_bound::{Best, best_one};
+use best_values::{fits, question};
 use book_core::Verdict;
 use book_search::search_one;
 use cert_check::{check_refutation, check_schedule};
@@ -10,7 +13,7 @@ use reduced_problem::Reduction;
 use refute_tree::Batch;
 use std::alloc::{AllocError, Global};
 use std::test::Fail;
-use stn_core::{Clause, Clauses, Literal, Problem};
+use stn_core::{Clause, Clauses, Literal, Problem, Value};
 
 const A: Literal = Literal { x: 1, y: 0, c: 0 };
 
@@ -21,6 +24,9 @@ const B: Literal = Literal { x: 2, y: 0, c: 0 };
 const NOT_B: Literal = Literal { x: 0, y: 2, c: -1 };
 
 const X_BEFORE_Y: Literal = Literal { x: 3, y: 4, c: -1 };
+
+/// No further than 5 behind.
+const Y_NEAR_X: Literal = Literal { x: 4, y: 3, c: 5 };
 
 const Y_BEFORE_X: Literal = Literal { x: 4, y: 3, c: -1 };
 
@@ -60,7 +66,7 @@ fn is_tested(alloc: Global, problem: &Problem, verdict: &Verdict) -> bool {
 
 /// What is found of the problem without its atoms; nothing where none is eliminated.
 fn decided(alloc: Global, problem: &Problem) -> Result<Option<Found>, AllocError> {
-    let Some(reduction) = Reduction::of(alloc, problem)? else {
+    let Some(reduction) = Reduction::of(alloc, problem, &[])? else {
         return Ok(None);
     };
     let clauses = reduction.problem().clauses.as_slice().len();
@@ -74,6 +80,31 @@ fn decided(alloc: Global, problem: &Problem) -> Result<Option<Found>, AllocError
         has_schedule: matches!(verdict, Verdict::Sat(_)),
         is_tested: is_tested(alloc, problem, &verdict),
     }))
+}
+
+/// The least value of x - y, by the problem without its atoms, if its schedule and its refutation stand the checker's test.
+fn least(alloc: Global, problem: &Problem) -> Result<Option<i64>, AllocError>
+    requires points { problem.now.points ≡ 5 }
+    requires fits { Fits problem.now }
+{
+    let Some(reduction) = Reduction::of(alloc, problem, [3, 4].as_slice())? else {
+        return Ok(None);
+    };
+    if !fits(reduction.problem()) {
+        return Ok(None);
+    }
+    let best = best_one(alloc, reduction.problem(), 3, 4, 1_000)?;
+    let Some(Best::Least(schedule, value, refutation)) = reduction.best(alloc, problem, 3, 4, best)?
+    else {
+        return Ok(None);
+    };
+    let asked = question(alloc, problem, 3, 4, Value::from(value))?;
+    let holds = is_tested(alloc, problem, &Verdict::Sat(schedule));
+    if holds && is_tested(alloc, &asked, &Verdict::Unsat(refutation)) {
+        Ok(Some(value))
+    } else {
+        Ok(None)
+    }
 }
 
 #[test]
@@ -101,6 +132,20 @@ fn what_is_gone_gets_values(rt: HostRuntime) -> Result<(), Fail> {
         is_tested: true,
     };
     assert_eq!(rt; decided(alloc, &problem)?, Some(expected));
+    Ok(())
+}
+
+#[test]
+fn a_least_value_is_the_same_without_atoms(rt: HostRuntime) -> Result<(), Fail> {
+    let alloc = rt.alloc();
+    let clauses = [[A, B], [NOT_A, B], [NOT_B, X_BEFORE_Y], [NOT_B, Y_NEAR_X]];
+    let problem = problem_of(alloc, clauses.as_slice())?;
+    let value = if fits(&problem) {
+        least(alloc, &problem)?
+    } else {
+        None
+    };
+    assert_eq!(rt; value, Some(-5));
     Ok(())
 }
 
