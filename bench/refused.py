@@ -38,6 +38,12 @@ AGAIN = (
     "(declare-const x Int) (declare-const y Int) (assert (or (< x y) (< x (- y 3)))) (push 1) (assert (or (< y x) (< y (- x 3)))) (check-sat) (check-sat) (pop 1) (check-sat) "
     "(assert (< x 5)) (assert (or (< y x) (< y (- x 3)))) (check-sat) (minimize x)"
 )
+BOOLS = (
+    "(declare-const a Bool) (declare-const b Bool) (declare-const x Int) (declare-const y Int) (assert (or a b)) (assert (or (not a) b)) "
+    "(assert (or (not b) (< x y)))"
+)
+ATOMS = BOOLS + " (assert (or (not b) (< y x))) (check-sat)"
+LEAST = BOOLS + " (assert (or (not b) (<= y (+ x 5)))) (minimize (- x y))"
 PROOFS = "(set-option :produce-proofs true) (declare-const x Int) (declare-const y Int) (assert (< x y)) (assert (< y x)) (check-sat) (get-proof)"
 
 
@@ -51,7 +57,7 @@ def rows(program):
         orders = text.read()
     pairs = f"{NAMES} {PAIRS} (check-sat)".encode()
     pigeons = PIGEONS.encode()
-    for name, script in ("terms", TERMS.encode()), ("proofs", PROOFS.encode()), ("pigeons", pigeons):
+    for name, script in ("terms", TERMS.encode()), ("proofs", PROOFS.encode()), ("pigeons", pigeons), ("atoms that go", ATOMS.encode()), ("least without atoms", LEAST.encode()):
         yield f"solve, {name}", ["solve", "--workers", "1"], script
     yield "solve, four workers", ["solve", "--workers", "4", "--slice", "1"], pairs
     yield "solve, pigeons by two workers", ["solve", "--workers", "2", "--slice", "1"], pigeons
