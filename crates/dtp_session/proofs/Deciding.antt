@@ -16,11 +16,12 @@ use Rattle.stn_core.specs.Schedule.{IsInRange}
 use Rattle.stn_core.specs.Solution.{IsSolution}
 use Rattle.refute_tree.specs.declared.lemma.Lemma.{Lemma}
 use Rattle.refute_tree.specs.Batches.{LemmaIsOver}
-use Rattle.refute_tree.specs.Laws.{LengthenedPlain, RefutationStays}
+use Rattle.refute_tree.specs.Laws.{LengthenedPlain, RefutationStays, RefutationLaw}
 use Rattle.refute_tree.specs.Lengths.{lengthened_lemma, shortened_lemma}
 use Rattle.refute_tree.specs.Trees.{IsRefutation}
 use Rattle.book_core.specs.declared.verdict.Verdict.{Verdict}
 use Rattle.book_core.specs.Verdicts.{IsRight}
+use Rattle.best_values.specs.Laws.{UnboundedLaw}
 use Rattle.best_values.specs.Questions.{below, Asks}
 use Rattle.best_values.specs.Widths.{width_of, objective_limit, Fits, IsWithinLimit}
 use Rattle.best_bound.specs.declared.answer.Best.{Best as Answer}
@@ -30,9 +31,11 @@ use Rattle.cert_text.specs.declared.entry.Version.TheVariants.{One, Two}
 use Rattle.cert_text.specs.declared.entry.Entry.{Entry}
 use Rattle.cert_text.specs.declared.entry.Entry.TheVariants.{Sat, Unsat, Best, Unbounded}
 use Rattle.cert_text.specs.Limits.{limit, LemmaWithin, WholeFits}
-use Rattle.clause_form.specs.Laws.{PointsGrow}
+use Rattle.clause_form.specs.Laws.{ProblemFollows, ScheduleFollows, PointsGrow}
 use Rattle.clause_form.specs.Restricting.{restricted}
 use Rattle.idl_term.specs.Contexts.{Context, IsContext}
+use Rattle.idl_term.specs.Laws.{ContextsHaveScopes, RootsAreNodes, RootsAreExact}
+use Rattle.unsat_cores.specs.Laws.{CoreLaw}
 use Rattle.idl_term.specs.Scopes.{sorts_of}
 use Rattle.smt_script.specs.declared.objective.Objective.{Objective}
 use Rattle.smt_script.specs.declared.state.Question.{Question}
@@ -89,6 +92,20 @@ point_in some problem c is p h =
     omega (arith, grow, points, h)
 
 -- ---- lemmas in a version's form
+
+-- the laws of clauses and contexts, as the calls of them give each
+pub laws_by : ContextsHaveScopes → RootsAreNodes → RootsAreExact → ProblemFollows → ScheduleFollows → PointsGrow → RefutationLaw → UnboundedLaw → CoreLaw → Laws
+laws_by scope roots exact holds schedule some refutes unbounded core = record {
+  scope = scope;
+  roots = roots;
+  exact = exact;
+  holds = holds;
+  schedule = schedule;
+  some = some;
+  refutes = refutes;
+  unbounded = unbounded;
+  core = core;
+}
 
 pub record FormLaws : Type 0 where
   pub negation : NegationKept

@@ -7,10 +7,9 @@ use Rattle.clause_form.specs.Restricting.{restricted}
 use Rattle.idl_node.specs.declared.sort.Sort.{Sort}
 use Rattle.idl_term.specs.Scopes.{Scope, sorts_of}
 use Rattle.smt_script.specs.declared.state.Question.TheVariants.{CheckSat}
-use Rattle.dtp_entry.proofs.Bests.{Laws}
 use Rattle.dtp_entry.proofs.Verdicts.{sorts_count}
 use Rattle.dtp_session.specs.code.Forms.{version_wanted}
-use Rattle.dtp_session.proofs.Deciding.{FormLaws, as_found, sat_decision, unsat_decision, refuted_for}
+use Rattle.dtp_session.proofs.Deciding.{laws_by, FormLaws, as_found, sat_decision, unsat_decision, refuted_for}
 use Rattle.dtp_session.proofs.Keeping.{entered_shows, passed_as}
 use Rattle.dtp_session.proofs.decision.satisfy.Goals as goal
 
@@ -37,17 +36,7 @@ returns-in_ok-shown-in-Sat g c = λ s x stands taken.
     let found : IsSolution c.args.problem c.in-Sat.schedule = as_found _ _ _ c.in-Sat.is c.in_ok-schedule.ensures in
     let of_context = c.context_law.ensures in
     let of_form = c.clause_form_law.ensures in
-    let laws : Laws = record {
-      scope = of_context.scope;
-      roots = of_context.roots;
-      exact = of_context.exact;
-      holds = of_form.holds;
-      schedule = of_form.schedule;
-      some = of_form.some;
-      refutes = c.refutation_law.ensures;
-      unbounded = c.unbounded_law.ensures;
-      core = c.core_law.ensures;
-    } in
+    let laws = laws_by of_context.scope of_context.roots of_context.exact of_form.holds of_form.schedule of_form.some c.refutation_law.ensures c.unbounded_law.ensures c.core_law.ensures in
     let names : c.sorts.result.now ≡ sorts_of s.context.declared = c.sorts.ensures ∙ ap sorts_of (c.names.ensures.names ∙ ap (λ (t : Scope). t.declared) stands.stands.scope) in
     let values : c.in_ok-values-in-Sat.values ≡ restricted (sorts_of s.context.declared) c.in-Sat.schedule =
     c.in_ok-values-in-Sat.ensures.values ∙ ap (restricted c.sorts.result.now) c.as_slice.ensures ∙ ap (λ (sorts : List Sort). restricted sorts c.in-Sat.schedule) names in
@@ -71,17 +60,7 @@ returns-in_ok-shown-in-Unsat g c = λ s x stands taken.
     let of_context = c.context_law.ensures in
     let of_form = c.clause_form_law.ensures in
     let lengths = c.lengths_law.ensures in
-    let laws : Laws = record {
-      scope = of_context.scope;
-      roots = of_context.roots;
-      exact = of_context.exact;
-      holds = of_form.holds;
-      schedule = of_form.schedule;
-      some = of_form.some;
-      refutes = c.refutation_law.ensures;
-      unbounded = c.unbounded_law.ensures;
-      core = c.core_law.ensures;
-    } in
+    let laws = laws_by of_context.scope of_context.roots of_context.exact of_form.holds of_form.schedule of_form.some c.refutation_law.ensures c.unbounded_law.ensures c.core_law.ensures in
     let forms : FormLaws = record { negation = c.negation_kept.ensures; plain = lengths.no_clash; longer = lengths.lengthened; shorter = lengths.shortened } in
     let version = version_wanted c.args.wanted in
     let shown = c.in_ok-shown-in-Unsat.ensures in

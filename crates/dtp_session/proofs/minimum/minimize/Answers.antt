@@ -8,11 +8,10 @@ use Rattle.clause_form.specs.Restricting.{restricted}
 use Rattle.idl_node.specs.declared.sort.Sort.{Sort}
 use Rattle.idl_term.specs.Scopes.{Scope, sorts_of}
 use Rattle.smt_script.specs.declared.state.Question.TheVariants.{Minimize}
-use Rattle.dtp_entry.proofs.Bests.{Laws}
 use Rattle.dtp_entry.proofs.Verdicts.{sorts_count}
 use Rattle.dtp_session.specs.code.Forms.{version_wanted}
 use Rattle.dtp_session.specs.code.Decisions.{RefutesLess, IsLeastShown}
-use Rattle.dtp_session.proofs.Deciding.{FormLaws, as_answered, problem_fits, point_in, unsat_decision, refuted_for, least_decision, least_for, unbounded_decision}
+use Rattle.dtp_session.proofs.Deciding.{laws_by, FormLaws, as_answered, problem_fits, point_in, unsat_decision, refuted_for, least_decision, least_for, unbounded_decision}
 use Rattle.dtp_session.proofs.Keeping.{entered_shows, passed_as}
 use Rattle.dtp_session.proofs.minimum.minimize.Goals as goal
 
@@ -95,17 +94,7 @@ returns-in_ok-shown-in-Nothing g c = λ s x stands taken.
     let found : IsNothing c.args.problem c.in-Nothing.refutation = as_answered _ _ _ _ _ c.in-Nothing.is c.in_ok-best.ensures in
     let of_context = c.context_law.ensures in
     let of_form = c.clause_form_law.ensures in
-    let laws : Laws = record {
-      scope = of_context.scope;
-      roots = of_context.roots;
-      exact = of_context.exact;
-      holds = of_form.holds;
-      schedule = of_form.schedule;
-      some = of_form.some;
-      refutes = c.refutation_law.ensures;
-      unbounded = c.unbounded_law.ensures;
-      core = c.core_law.ensures;
-    } in
+    let laws = laws_by of_context.scope of_context.roots of_context.exact of_form.holds of_form.schedule of_form.some c.refutation_law.ensures c.unbounded_law.ensures c.core_law.ensures in
     let lengths = c.lengths_law.ensures in
     let forms : FormLaws = record { negation = c.negation_kept.ensures; plain = lengths.no_clash; longer = lengths.lengthened; shorter = lengths.shortened } in
     let version = version_wanted c.args.wanted in
@@ -123,17 +112,7 @@ returns-in_ok-shown-in-Least g c = λ s x stands taken.
     let found : IsLeast c.args.problem c.args.objective.x c.args.objective.y c.in-Least.values c.in-Least.difference c.in-Least.refutation = as_answered _ _ _ _ _ c.in-Least.is c.in_ok-best.ensures in
     let of_context = c.context_law.ensures in
     let of_form = c.clause_form_law.ensures in
-    let laws : Laws = record {
-      scope = of_context.scope;
-      roots = of_context.roots;
-      exact = of_context.exact;
-      holds = of_form.holds;
-      schedule = of_form.schedule;
-      some = of_form.some;
-      refutes = c.refutation_law.ensures;
-      unbounded = c.unbounded_law.ensures;
-      core = c.core_law.ensures;
-    } in
+    let laws = laws_by of_context.scope of_context.roots of_context.exact of_form.holds of_form.schedule of_form.some c.refutation_law.ensures c.unbounded_law.ensures c.core_law.ensures in
     let lengths = c.lengths_law.ensures in
     let forms : FormLaws = record { negation = c.negation_kept.ensures; plain = lengths.no_clash; longer = lengths.lengthened; shorter = lengths.shortened } in
     let names : c.sorts.result.now ≡ sorts_of s.context.declared = c.sorts.ensures ∙ ap sorts_of (c.names.ensures.names ∙ ap (λ (t : Scope). t.declared) stands.stands.scope) in
@@ -161,17 +140,7 @@ returns-in_ok-shown-in-Unbounded g c = λ s x stands taken.
     let found : IsUnbounded c.args.problem c.args.objective.x c.args.objective.y c.in-Unbounded.values c.in-Unbounded.set = as_answered _ _ _ _ _ c.in-Unbounded.is c.in_ok-best.ensures in
     let of_context = c.context_law.ensures in
     let of_form = c.clause_form_law.ensures in
-    let laws : Laws = record {
-      scope = of_context.scope;
-      roots = of_context.roots;
-      exact = of_context.exact;
-      holds = of_form.holds;
-      schedule = of_form.schedule;
-      some = of_form.some;
-      refutes = c.refutation_law.ensures;
-      unbounded = c.unbounded_law.ensures;
-      core = c.core_law.ensures;
-    } in
+    let laws = laws_by of_context.scope of_context.roots of_context.exact of_form.holds of_form.schedule of_form.some c.refutation_law.ensures c.unbounded_law.ensures c.core_law.ensures in
     let names : c.sorts-in-Unbounded.result.now ≡ sorts_of s.context.declared = c.sorts-in-Unbounded.ensures ∙ ap sorts_of (c.names-in-Unbounded.ensures.names ∙ ap (λ (t : Scope). t.declared) stands.stands.scope) in
     let values : c.in_ok-schedule-in-Unbounded.schedule ≡ restricted (sorts_of s.context.declared) c.in-Unbounded.values =
     c.in_ok-schedule-in-Unbounded.ensures.values ∙ ap (restricted c.sorts-in-Unbounded.result.now) c.as_slice-in-Unbounded.ensures ∙ ap (λ (sorts : List Sort). restricted sorts c.in-Unbounded.values) names in
