@@ -6,11 +6,12 @@ ghost use Rattle.smt_script.specs.declared.state.Question.TheVariants as asked;
 ghost use Rattle.script_walk.specs.code.Standing.{Stands};
 ghost use Rattle.book_core.specs.Books.{IsOpening};
 ghost use Rattle.book_core.specs.Verdicts.{IsRight};
-ghost use Rattle.reduced_problem.specs.Reduced.{IsReductionOf};
+ghost use Rattle.book_core.specs.declared.verdict.Verdict.TheVariants.{Unsat};
 ghost use Rattle.dtp_session.specs.code.Forms.{version_wanted};
 ghost use Rattle.dtp_session.specs.code.Decisions.{IsTaken, IsDecidedBy};
 
 use crate::earlier::Earlier;
+use crate::guess::{Guess, guessed};
 use crate::minimum::minimize;
 use crate::options::SearchOptions;
 use crate::shown::{Shown, refuted, without_lemmas};
@@ -22,7 +23,8 @@ use clause_form::restrict;
 use kept_schedule::KeptSchedule;
 use learned_lemmas::TakenOver;
 use reduced_problem::Reduction;
-use refute_tree::Batch;
+use refute_tree::{Batch, Refutation};
+use relaxed_lemmas::relaxed;
 use smt_script::{Question, State};
 use std::alloc::{AllocError, Global};
 use std::sync::Wait;
@@ -36,16 +38,6 @@ pub struct Decision {
     pub shown: Shown,
     /// Where the entry has values of the time points: the schedule that they give.
     pub given: Option<NamedValues>,
-}
-
-/// The values that are kept, as those of time points: the names' points come first.
-pub fn phases_of(alloc: Global, kept: &KeptSchedule) -> Result<Vec<Value>, AllocError> {
-    let values = kept.values();
-    let mut phases = Vec::with_capacity(alloc, values.len())?;
-    for value in values {
-        phases.push(Value::from(*value))?;
-    }
-    Ok(phases)
 }
 
 /// Decides the problem by as many workers as are asked for; one is the caller itself.
@@ -72,53 +64,30 @@ fn search_from<R: Threads + Wait + Sync, G: Gate>(
     Ok(verdict)
 }
 
-/// Decides the problem that takes the other's place, and says what that comes to for the other, if it says something.
+/// Decides the problem by another one that lacks some of its atoms, where there is one and it says something.
 fn search_reduced<R: Threads + Wait + Sync, G: Gate>(
     rt: &R,
     alloc: Global,
     problem: &Problem,
-    reduction: Reduction,
     phases: &[Value],
     options: SearchOptions,
     gate: &G,
 ) -> Result<Option<Verdict>, AllocError>
-    requires { IsReductionOf problem.now reduction }
     ensures { IfOk result (λ found. IfSome found (IsRight problem.now)) }
 {
+    let Some(reduction) = Reduction::of(alloc, problem, &[])? else {
+        return Ok(None);
+    };
     let nothing = Batch::new(0, Vec::new(alloc));
     let reduced = reduction.problem();
     let verdict = search_from(rt, alloc, reduced, nothing, phases, options, gate)?;
     reduction.verdict(alloc, problem, verdict)
 }
 
-/// Decides the problem by a search that opens with these lemmas. Without any a problem without some of its atoms may be searched in
-/// its place.
-fn search_whole<R: Threads + Wait + Sync, G: Gate>(
-    rt: &R,
-    alloc: Global,
-    problem: &Problem,
-    opening: Batch,
-    phases: &[Value],
-    options: SearchOptions,
-    gate: &G,
-) -> Result<Verdict, AllocError>
-    requires seen { opening.seen ≡ 0 }
-    requires opens { IsOpening problem.now opening.lemmas }
-    ensures { IfOk result (IsRight problem.now) }
-{
-    if opening.lemmas().is_empty() {
-        if let Some(reduction) = Reduction::of(alloc, problem, &[])? {
-            let found = search_reduced(rt, alloc, problem, reduction, phases, options, gate)?;
-            if let Some(verdict) = found {
-                return Ok(verdict);
-            }
-        }
-    }
-    search_from(rt, alloc, problem, opening, phases, options, gate)
-}
-
-/// Decides the problem: by clauses of one literal along what was noted, where these refute it, by all of these, by an earlier refutation, and else by a search. It
-/// decides literals as these hold on the values that are kept, and may open with what an earlier one learned.
+/// Decides the problem: by clauses of one literal along what was noted, where these refute it, by all of these, by an earlier refutation, where no schedule is
+/// kept by one that dispatching finds, and else by a search. It decides literals as these hold on the values that are kept, or on those of dispatching, and may open
+/// with what an earlier one learned; where nothing is learned, a problem without some of
+/// its atoms may be searched in its place.
 fn search<R: Threads + Wait + Sync, G: Gate>(
     rt: &R,
     alloc: Global,
@@ -139,9 +108,38 @@ fn search<R: Threads + Wait + Sync, G: Gate>(
     match earlier.taken(alloc, problem)? {
         TakenOver::Refutes(refutation) => Ok(Verdict::Unsat(refutation)),
         TakenOver::Opens(opening) => {
-            let phases = phases_of(alloc, kept)?;
-            search_whole(rt, alloc, problem, opening, &phases, options, gate)
+            let Guess { schedule, phases } = guessed(alloc, problem, kept)?;
+            if let Some(schedule) = schedule {
+                return Ok(Verdict::Sat(schedule));
+            }
+            if opening.lemmas().is_empty() {
+                if let Some(verdict) = search_reduced(rt, alloc, problem, &phases, options, gate)? {
+                    return Ok(verdict);
+                }
+            }
+            search_from(rt, alloc, problem, opening, &phases, options, gate)
         }
+    }
+}
+
+/// The refutation, or where lemmas may be kept of its entry, and unit clauses of its problem may be gone by the next question, one of which that question
+/// may keep more.
+fn for_later(
+    alloc: Global,
+    state: &State,
+    problem: &Problem,
+    refutation: Refutation,
+    earlier: &Earlier,
+    wanted: Wanted,
+) -> Result<Refutation, AllocError>
+    requires { IsRight problem.now (Unsat refutation) }
+    ensures { IfOk result (λ all. IsRight problem.now (Unsat all)) }
+{
+    let may_go = state.levels() > 0 || state.assumptions().is_some();
+    if may_go && earlier.keeps_for(wanted) {
+        relaxed(alloc, problem, refutation)
+    } else {
+        Ok(refutation)
     }
 }
 
@@ -175,6 +173,7 @@ fn satisfy<R: Threads + Wait + Sync, G: Gate>(
             Ok(Decision { shown, given: None })
         }
         Verdict::Unsat(refutation) => {
+            let refutation = for_later(alloc, state, &problem, refutation, earlier, wanted)?;
             let shown = refuted(alloc, wanted, problem, refutation, earlier)?;
             Ok(Decision { shown, given: None })
         }

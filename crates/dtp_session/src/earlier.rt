@@ -13,6 +13,7 @@ ghost use Rattle.dtp_session.specs.code.Waiting.{IsRightOver, shelf_with};
 
 use crate::shown_items::ShownItems;
 use crate::waiting::Waiting;
+use crate::wanted::Wanted;
 use cert_text::{Entry, NUMBER_LIMIT, Version};
 use indexmap::IndexMap;
 use kept_lemmas::{Item, Items, Kept};
@@ -241,6 +242,14 @@ impl Earlier {
         ensures { self.new ≡ self.old }
     {
         self.asks_on = asks_on;
+    }
+
+    /// Whether an entry of this kind leaves lemmas to the questions behind it, of which there may be one.
+    pub fn keeps_for(&self, wanted: Wanted) -> bool {
+        match wanted {
+            Wanted::Entry(Version::Two) => self.asks_on,
+            Wanted::Entry(Version::One) | Wanted::Verdict => false,
+        }
     }
 
     /// Keeps what searches of later problems may take over of a refutation, where there may be any.

@@ -7,7 +7,7 @@
 //! What is written of a script is the relation `IsReport` of `dtp_entry/specs/Transcripts.antt`, and what a call that fails
 //! has written is the relation `IsReportPart` there. A `check-sat` is answered by a few steps from an earlier schedule (`kept_schedule`), or
 //! decided over the clause form of the assertions: by `book_search::refute_along`, where these steps ended with points that lowered one another in
-//! a ring, by an earlier refutation whose clauses are there still, and else by one call of `steal_search::search_one`, or of `search_shared` where there is
+//! a ring, by an earlier refutation whose clauses are there still, by dispatching (`dispatch_schedules`), and else by one call of `steal_search::search_one`, or of `search_shared` where there is
 //! more than one worker, which open with what an earlier search has learned (`learned_lemmas`); a `minimize` by one call of `best_bound::best_one`, or of
 //! `best_shared`. A certificate of the second version keeps what earlier entries state (`lemma_shelf`).
 #![tactic(auto)]
@@ -16,6 +16,7 @@ mod decision;
 mod earlier;
 mod form;
 mod found;
+mod guess;
 mod least;
 mod minimum;
 mod notices;

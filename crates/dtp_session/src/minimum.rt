@@ -5,15 +5,15 @@ ghost use Rattle.smt_sexpr.specs.Tree.{Sexpr};
 ghost use Rattle.best_values.specs.Widths.{Fits, IsWithinLimit};
 ghost use Rattle.book_core.specs.Books.{IsOpening};
 ghost use Rattle.best_bound.specs.Answers.{IsBestAnswer};
-ghost use Rattle.reduced_problem.specs.Reduced.{IsReductionOf};
 ghost use Rattle.smt_script.specs.States.{State as Meaning};
 ghost use Rattle.smt_script.specs.declared.state.Question.TheVariants as asked;
 ghost use Rattle.script_walk.specs.code.Standing.{Stands};
 ghost use Rattle.dtp_session.specs.code.Forms.{version_wanted};
 ghost use Rattle.dtp_session.specs.code.Decisions.{IsTaken, IsDecidedBy, RefutesLess, IsLeastShown};
 
-use crate::decision::{Decision, phases_of};
+use crate::decision::Decision;
 use crate::earlier::Earlier;
+use crate::guess::phases_for;
 use crate::options::SearchOptions;
 use crate::shown::{Shown, kept, refuted, with_lemmas, without_lemmas};
 use crate::wanted::Wanted;
@@ -61,22 +61,24 @@ fn search_from<R: Threads + Wait + Sync, G: Gate>(
     }
 }
 
-/// The least value of the problem that takes the other's place, and what that comes to for the other, if it says something.
+/// The least value by another problem that lacks some of the atoms and has the objective's points, where there is one and it says something.
 fn search_reduced<R: Threads + Wait + Sync, G: Gate>(
     rt: &R,
     alloc: Global,
     problem: &Problem,
-    reduction: Reduction,
     objective: Objective,
     phases: &[Value],
     options: SearchOptions,
     gate: &G,
 ) -> Result<Option<Best>, AllocError>
-    requires reduction { IsReductionOf problem.now reduction }
     requires x_in { objective.x < problem.now.points }
     requires y_in { objective.y < problem.now.points }
     ensures { IfOk result (λ found. IfSome found (IsBestAnswer problem.now objective.x objective.y)) }
 {
+    let points = [objective.x, objective.y];
+    let Some(reduction) = Reduction::of(alloc, problem, points.as_slice())? else {
+        return Ok(None);
+    };
     let reduced = reduction.problem();
     if !fits(reduced) {
         return Ok(None);
@@ -88,42 +90,8 @@ fn search_reduced<R: Threads + Wait + Sync, G: Gate>(
     reduction.best(alloc, problem, objective.x, objective.y, best)
 }
 
-/// The least value by a search that opens with these lemmas. Without any a problem without some of its atoms may be searched in its
-/// place, which has the objective's points.
-fn search_whole<R: Threads + Wait + Sync, G: Gate>(
-    rt: &R,
-    alloc: Global,
-    problem: &Problem,
-    objective: Objective,
-    opening: Batch,
-    phases: &[Value],
-    options: SearchOptions,
-    gate: &G,
-) -> Result<Best, AllocError>
-    requires opens { IsOpening problem.now opening.lemmas }
-    requires fits { Fits problem.now }
-    requires x_in { objective.x < problem.now.points }
-    requires y_in { objective.y < problem.now.points }
-    ensures { IfOk result (IsBestAnswer problem.now objective.x objective.y) }
-{
-    if opening.lemmas().is_empty() {
-        let points = [objective.x, objective.y];
-        if let Some(reduction) = Reduction::of(alloc, problem, points.as_slice())? {
-            let found = search_reduced(
-                rt, alloc, problem, reduction, objective, phases, options, gate,
-            )?;
-            if let Some(best) = found {
-                return Ok(best);
-            }
-        }
-    }
-    search_from(
-        rt, alloc, problem, objective, opening, phases, options, gate,
-    )
-}
-
 /// The least value: by an earlier refutation, where that stands, and else by a search, which may open with what an earlier one learned, and decides literals
-/// as these hold on the values that are kept.
+/// as these hold on the values that are kept, or on those of dispatching. Where nothing is learned, a problem without some of the atoms may be searched in its place.
 fn search<R: Threads + Wait + Sync, G: Gate>(
     rt: &R,
     alloc: Global,
@@ -142,8 +110,14 @@ fn search<R: Threads + Wait + Sync, G: Gate>(
     match earlier.taken(alloc, problem)? {
         TakenOver::Refutes(refutation) => Ok(Best::Nothing(refutation)),
         TakenOver::Opens(opening) => {
-            let phases = phases_of(alloc, kept)?;
-            search_whole(
+            let phases = phases_for(alloc, problem, kept)?;
+            if opening.lemmas().is_empty() {
+                let found = search_reduced(rt, alloc, problem, objective, &phases, options, gate)?;
+                if let Some(best) = found {
+                    return Ok(best);
+                }
+            }
+            search_from(
                 rt, alloc, problem, objective, opening, &phases, options, gate,
             )
         }

@@ -8,6 +8,7 @@ ghost use Rattle.learned_lemmas.specs.code.Ends.{EndsEmpty};
 use crate::choice::{Choice, copies, shared, wanted};
 use carried_lemmas::carry;
 use refute_tree::{Batch, Lemma, Refutation};
+use relaxed_lemmas::{closing, ended};
 use std::alloc::{AllocError, Global};
 use std::marker::Model;
 use std::sync::Arc;
@@ -90,8 +91,9 @@ impl Learned {
         Ok(Some(Learned { problem, lemmas }))
     }
 
-    /// What a problem takes over of it: the refutation, where the problem has its clauses and points, and else, for its search to open with, the lemmas of
-    /// this choice whose clauses and points it has, with those that they cite. It takes time and memory in the text of both problems and of the lemmas.
+    /// What a problem takes over of it: the refutation, where the problem has its clauses and points, or has those of all lemmas but the last and unit
+    /// clauses that end it as well (`relaxed_lemmas::closing`); and else, for its search to open with, the lemmas of this choice whose clauses and points it
+    /// has, with those that they cite. It takes time and memory in the text of both problems and of the lemmas.
     pub fn taken(
         &self,
         alloc: Global,
@@ -103,6 +105,12 @@ impl Learned {
         let batch = carry(alloc, &self.problem, self.lemmas.as_slice(), problem)?;
         if refutes(batch.lemmas()) {
             return Ok(TakenOver::Refutes(Refutation::new(batch.into_lemmas())));
+        }
+        if batch.lemmas().len() + 1 == self.lemmas.len() {
+            if let Some(last) = closing(alloc, problem, batch.lemmas())? {
+                let refutation = ended(problem, batch.into_lemmas(), last)?;
+                return Ok(TakenOver::Refutes(refutation));
+            }
         }
         let wanted = wanted(alloc, batch.lemmas(), choice)?;
         let left = trimmed_batch(alloc, batch, wanted)?;

@@ -49,14 +49,14 @@ returns-in_ok-shown-in-Sat g c = λ s x stands taken.
     }
 
 pub refuted-requires-clause-refutes : goal.refuted-requires-clause-refutes
-refuted-requires-clause-refutes g c = (as_found _ _ _ c.in-Unsat.is c.in_ok-schedule.ensures).0
+refuted-requires-clause-refutes g c = c.in_ok-refutation-in-Unsat.ensures.0
 
 pub refuted-requires-clause-over : goal.refuted-requires-clause-over
-refuted-requires-clause-over g c = (as_found _ _ _ c.in-Unsat.is c.in_ok-schedule.ensures).1
+refuted-requires-clause-over g c = c.in_ok-refutation-in-Unsat.ensures.1
 
 pub returns-in_ok-shown-in-Unsat : goal.returns-in_ok-shown-in-Unsat
 returns-in_ok-shown-in-Unsat g c = λ s x stands taken.
-    let found = as_found _ _ _ c.in-Unsat.is c.in_ok-schedule.ensures in
+    let found = c.in_ok-refutation-in-Unsat.ensures in
     let of_context = c.context_law.ensures in
     let of_form = c.clause_form_law.ensures in
     let lengths = c.lengths_law.ensures in
@@ -64,9 +64,9 @@ returns-in_ok-shown-in-Unsat g c = λ s x stands taken.
     let forms : FormLaws = record { negation = c.negation_kept.ensures; plain = lengths.no_clash; longer = lengths.lengthened; shorter = lengths.shortened } in
     let version = version_wanted c.args.wanted in
     let shown = c.in_ok-shown-in-Unsat.ensures in
-    let decides = unsat_decision laws s.context stands.made.context c.args.problem taken.is_problem forms version CheckSat x c.in-Unsat.refutation _ taken.asked found shown.found in
+    let decides = unsat_decision laws s.context stands.made.context c.args.problem taken.is_problem forms version CheckSat x c.in_ok-refutation-in-Unsat.refutation _ taken.asked found shown.found in
     record {
       decides = decides;
       shows = entered_shows version c.args.earlier.now c.refuted.new.earlier CheckSat x s.context c.args.problem.points c.args.problem.clauses _ _ decides.decides.right
-          (refuted_for laws s.context stands.made.context c.args.problem taken.is_problem version CheckSat c.in-Unsat.refutation _ shown.found) shown.entered;
+          (refuted_for laws s.context stands.made.context c.args.problem taken.is_problem version CheckSat c.in_ok-refutation-in-Unsat.refutation _ shown.found) shown.entered;
     }

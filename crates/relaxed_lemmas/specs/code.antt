@@ -1,0 +1,2 @@
+-- Words of the code alone, which contracts of the code's own calls cite: no part of the meaning.
+pub mod Closing
