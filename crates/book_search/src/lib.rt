@@ -5,6 +5,7 @@ mod base;
 mod clauses;
 mod finding;
 mod pacing;
+mod scattering;
 mod solve;
 mod solved;
 mod tools;

@@ -9,6 +9,7 @@ ghost use Rattle.book_core.specs.Books.{IsJustified};
 ghost use Rattle.book_core.specs.Ends.{said_by};
 
 use crate::finding::{Finding, finding_of, finding_of_part, found_alone, found_instead};
+use crate::scattering::scattered;
 use crate::walk::Walk;
 use branch_search::Searcher;
 use inc_paths::Network;
@@ -80,6 +81,16 @@ impl Tools {
     {
         self.searcher.follow(values);
         self.walk = Walk::new(values.is_empty());
+    }
+
+    /// Literals that were never decided are decided as they hold on values that are drawn from this seed: a hint, by which one
+    /// of several workers looks elsewhere than the others. The one error is want of memory.
+    pub fn scatter(&mut self, alloc: Global, points: u32, seed: u32) -> Result<(), AllocError>
+        ensures { self.new ≡ self.old }
+    {
+        let values = scattered(alloc, points, seed)?;
+        self.searcher.follow(values.as_slice());
+        Ok(())
     }
 
     /// Whether a slice met a conflict yet.

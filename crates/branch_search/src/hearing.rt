@@ -7,13 +7,18 @@ use worker_calls::Calls;
 const FEWEST: u64 = 100;
 
 /// After so many conflicts a slice that may pause does, so that the others know its lemmas sooner, and it theirs.
-const PAUSE: u64 = 500;
+const PAUSE: u64 = 100;
+
+/// And after one more for each so many lemmas that it was handed: a pause goes over all of them.
+const LEMMAS_A_CONFLICT: u64 = 200;
 
 /// What a searcher hears of other workers, where there are some. Whatever it hears, it answers by the same contract.
 pub struct Hearing {
     calls: Option<Arc<Calls>>,
     /// how many conflicts there were before this slice
     before: u64,
+    /// how many conflicts it meets before it pauses
+    until_pause: u64,
     /// whether this slice answered one that waits
     has_answered: bool,
 }
@@ -23,6 +28,7 @@ impl Drop for Hearing {
         let Hearing {
             calls,
             before: _,
+            until_pause: _,
             has_answered: _,
         } = self;
         drop(calls);
@@ -35,6 +41,7 @@ impl Hearing {
         Hearing {
             calls: None,
             before: 0,
+            until_pause: PAUSE,
             has_answered: false,
         }
     }
@@ -47,16 +54,17 @@ impl Hearing {
         }
     }
 
-    /// A slice begins, after so many conflicts.
-    pub fn renew(&mut self, conflicts: u64) {
+    /// A slice begins, after so many conflicts, and it was handed so many lemmas.
+    pub fn renew(&mut self, conflicts: u64, lemmas: usize) {
         self.before = conflicts;
+        self.until_pause = PAUSE.saturating_add(lemmas as u64 / LEMMAS_A_CONFLICT);
         self.has_answered = false;
     }
 
     /// Whether there are others, and the slice has met so many conflicts by this one that it is time to tell them of its
     /// lemmas.
     pub fn wants_pause(&self, conflicts: u64) -> bool {
-        self.calls.is_some() && conflicts.saturating_sub(self.before) >= PAUSE
+        self.calls.is_some() && conflicts.saturating_sub(self.before) >= self.until_pause
     }
 
     /// Whether nothing is left to do.

@@ -173,8 +173,8 @@ impl State {
         self.clear();
         self.own.truncate(0);
         self.met_conflict = false;
-        self.hearing.renew(self.conflicts);
         let count = task.count();
+        self.hearing.renew(self.conflicts, count);
         match start_of_own(&self.guide, task.handed(), self.seen) {
             Some(start) => self.guide.renumber(self.seen, start, count)?,
             None => {

@@ -43,35 +43,38 @@ fn push_step(
     }
 }
 
+// The steps, in the place of those that were there.
 fn renumbered(
-    alloc: Global,
     numbers: &[Option<usize>],
     places: &[usize],
     mut reader: Reader<'_>,
-) -> Result<Steps, AllocError>
+    steps: &mut Steps,
+) -> Result<(), AllocError>
     requires { All (RefersBelow (length places.now)) reader }
-    ensures { IfOk result (λ steps. steps ≡ map (step_by numbers.now places.now) reader.entry) }
+    ensures { OnOk result (steps.new ≡ map (step_by numbers.now places.now) reader.entry) }
 {
-    let mut steps = Steps::new(alloc);
+    steps.clear();
     'steps: while let Some(step) = reader.next() {
-        push_step(numbers, places, step, &mut steps)?;
+        push_step(numbers, places, step, steps)?;
     }
-    steps.shrink_to_fit();
-    Ok(steps)
+    Ok(())
 }
 
-// Puts the lemma, by its numbers in the two tables, behind the others.
+// Puts the lemma, by its numbers in the two tables, behind the others. Its steps are made in room that serves one lemma after the other, so that what
+// stays has no more memory than it needs.
 fn push_lemma(
     all: &mut Vec<Lemma>,
     alloc: Global,
     numbers: &[Option<usize>],
     places: &[usize],
     lemma: &Lemma,
+    room: &mut Steps,
 ) -> Result<(), AllocError>
     requires { LemmaRefersBelow (length places.now) lemma.now }
     ensures { OnOk result (all.new.items ≡ all.old.items ++ lemma_by numbers.now places.now lemma.now ∷ []) }
 {
-    let steps = renumbered(alloc, numbers, places, lemma.steps.reader())?;
+    renumbered(numbers, places, lemma.steps.reader(), room)?;
+    let steps = room.copy(alloc)?;
     let clause = lemma.clause.copy()?;
     all.push(Lemma { clause, steps })?;
     Ok(())
@@ -91,10 +94,18 @@ fn carried(
 {
     let mut places = Vec::with_capacity(alloc, lemmas.len())?;
     let mut all = Vec::new(alloc);
+    let mut room = Steps::new(alloc);
     for (k, lemma) in lemmas.iter().enumerate() {
         places.push(all.len())?;
         if kept[k] {
-            push_lemma(&mut all, alloc, numbers, places.as_slice(), lemma)?;
+            push_lemma(
+                &mut all,
+                alloc,
+                numbers,
+                places.as_slice(),
+                lemma,
+                &mut room,
+            )?;
         }
     }
     Ok(all)

@@ -11,8 +11,6 @@
 
 mod bounds;
 mod dispatching;
-#[cfg(test)]
-mod examples;
 mod gaps;
 mod improving;
 mod orders;

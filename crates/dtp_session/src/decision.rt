@@ -6,7 +6,6 @@ ghost use Rattle.smt_script.specs.declared.state.Question.TheVariants as asked;
 ghost use Rattle.script_walk.specs.code.Standing.{Stands};
 ghost use Rattle.book_core.specs.Books.{IsOpening};
 ghost use Rattle.book_core.specs.Verdicts.{IsRight};
-ghost use Rattle.book_core.specs.declared.verdict.Verdict.TheVariants.{Unsat};
 ghost use Rattle.dtp_session.specs.code.Forms.{version_wanted};
 ghost use Rattle.dtp_session.specs.code.Decisions.{IsTaken, IsDecidedBy};
 
@@ -23,7 +22,7 @@ use clause_form::restrict;
 use kept_schedule::KeptSchedule;
 use learned_lemmas::TakenOver;
 use reduced_problem::Reduction;
-use refute_tree::{Batch, Refutation};
+use refute_tree::Batch;
 use relaxed_lemmas::relaxed;
 use smt_script::{Question, State};
 use std::alloc::{AllocError, Global};
@@ -31,6 +30,14 @@ use std::sync::Wait;
 use std::thread::Threads;
 use steal_search::{Gate, search_one, search_shared};
 use stn_core::{NamedValues, Problem, Value};
+
+/// What a check-sat's problem comes to.
+#[derive(Drop)]
+struct Searched {
+    verdict: Verdict,
+    /// Whether it is an earlier question's refutation, taken over as it was written for this one.
+    is_taken: bool,
+}
 
 /// What decides a question.
 #[derive(Drop)]
@@ -84,63 +91,108 @@ fn search_reduced<R: Threads + Wait + Sync, G: Gate>(
     reduction.verdict(alloc, problem, verdict)
 }
 
-/// Decides the problem: by clauses of one literal along what was noted, where these refute it, by all of these, by an earlier refutation, where no schedule is
-/// kept by one that dispatching finds, and else by a search. It decides literals as these hold on the values that are kept, or on those of dispatching, and may open
-/// with what an earlier one learned; where nothing is learned, a problem without some of
-/// its atoms may be searched in its place.
-fn search<R: Threads + Wait + Sync, G: Gate>(
-    rt: &R,
+/// Decides the problem by its clauses of one literal, where these do: along what was noted, or by all of them.
+fn decide_early(
     alloc: Global,
     problem: &Problem,
     kept: &KeptSchedule,
-    earlier: &Earlier,
+) -> Result<Option<Verdict>, AllocError>
+    ensures { IfOk result (λ found. IfSome found (IsRight problem.now)) }
+{
+    if let Some(verdict) = refute_along(alloc, problem, kept.noted())? {
+        return Ok(Some(verdict));
+    }
+    decide_units(alloc, problem)
+}
+
+/// Decides the problem: where no schedule is kept by one that dispatching finds, and else by a search, which opens with these lemmas. It decides literals as
+/// these hold on the values that are kept, or on those of dispatching; where there are no lemmas, a problem without some of its atoms may be searched in its place.
+fn search_anew<R: Threads + Wait + Sync, G: Gate>(
+    rt: &R,
+    alloc: Global,
+    problem: &Problem,
+    opening: Batch,
+    kept: &KeptSchedule,
     options: SearchOptions,
     gate: &G,
 ) -> Result<Verdict, AllocError>
+    requires seen { opening.seen ≡ 0 }
+    requires opens { IsOpening problem.now opening.lemmas }
     ensures { IfOk result (IsRight problem.now) }
 {
-    if let Some(verdict) = refute_along(alloc, problem, kept.noted())? {
-        return Ok(verdict);
+    let Guess { schedule, phases } = guessed(alloc, problem, kept)?;
+    if let Some(schedule) = schedule {
+        return Ok(Verdict::Sat(schedule));
     }
-    if let Some(verdict) = decide_units(alloc, problem)? {
-        return Ok(verdict);
-    }
-    match earlier.taken(alloc, problem)? {
-        TakenOver::Refutes(refutation) => Ok(Verdict::Unsat(refutation)),
-        TakenOver::Opens(opening) => {
-            let Guess { schedule, phases } = guessed(alloc, problem, kept)?;
-            if let Some(schedule) = schedule {
-                return Ok(Verdict::Sat(schedule));
-            }
-            if opening.lemmas().is_empty() {
-                if let Some(verdict) = search_reduced(rt, alloc, problem, &phases, options, gate)? {
-                    return Ok(verdict);
-                }
-            }
-            search_from(rt, alloc, problem, opening, &phases, options, gate)
+    if opening.lemmas().is_empty() {
+        if let Some(verdict) = search_reduced(rt, alloc, problem, &phases, options, gate)? {
+            return Ok(verdict);
         }
     }
+    search_from(rt, alloc, problem, opening, &phases, options, gate)
 }
 
-/// The refutation, or where lemmas may be kept of its entry, and unit clauses of its problem may be gone by the next question, one of which that question
-/// may keep more.
+/// The verdict; where lemmas may be kept of the entry of a refutation, and unit clauses of its problem may be gone by the next question, a refutation of which
+/// that question may keep more.
 fn for_later(
     alloc: Global,
     state: &State,
     problem: &Problem,
-    refutation: Refutation,
+    verdict: Verdict,
     earlier: &Earlier,
     wanted: Wanted,
-) -> Result<Refutation, AllocError>
-    requires { IsRight problem.now (Unsat refutation) }
-    ensures { IfOk result (λ all. IsRight problem.now (Unsat all)) }
+) -> Result<Verdict, AllocError>
+    requires { IsRight problem.now verdict }
+    ensures { IfOk result (IsRight problem.now) }
 {
     let may_go = state.levels() > 0 || state.assumptions().is_some();
-    if may_go && earlier.keeps_for(wanted) {
-        relaxed(alloc, problem, refutation)
-    } else {
-        Ok(refutation)
+    if !may_go || !earlier.keeps_for(wanted) {
+        return Ok(verdict);
     }
+    match verdict {
+        Verdict::Sat(schedule) => Ok(Verdict::Sat(schedule)),
+        Verdict::Unsat(refutation) => {
+            let refutation = relaxed(alloc, problem, refutation)?;
+            Ok(Verdict::Unsat(refutation))
+        }
+    }
+}
+
+/// Decides the problem: by clauses of one literal, by an earlier refutation, which stays as it was written for this question, and else by dispatching or a
+/// search, which may open with what an earlier one learned.
+fn search<R: Threads + Wait + Sync, G: Gate>(
+    rt: &R,
+    alloc: Global,
+    state: &State,
+    problem: &Problem,
+    kept: &KeptSchedule,
+    earlier: &Earlier,
+    wanted: Wanted,
+    options: SearchOptions,
+    gate: &G,
+) -> Result<Searched, AllocError>
+    ensures { IfOk result (λ searched. IsRight problem.now searched.verdict) }
+{
+    let early = decide_early(alloc, problem, kept)?;
+    let found = match early {
+        Some(verdict) => verdict,
+        None => match earlier.taken(alloc, problem)? {
+            TakenOver::Refutes(refutation) => {
+                return Ok(Searched {
+                    verdict: Verdict::Unsat(refutation),
+                    is_taken: true,
+                });
+            }
+            TakenOver::Opens(opening) => {
+                search_anew(rt, alloc, problem, opening, kept, options, gate)?
+            }
+        },
+    };
+    let verdict = for_later(alloc, state, problem, found, earlier, wanted)?;
+    Ok(Searched {
+        verdict,
+        is_taken: false,
+    })
 }
 
 /// Decides a check-sat: a schedule that satisfies the assertions, or a refutation of their problem.
@@ -166,15 +218,18 @@ fn satisfy<R: Threads + Wait + Sync, G: Gate>(
     stn_core::negation_kept();
     best_values::unbounded_law();
     unsat_cores::core_law();
-    match search(rt, alloc, &problem, kept, earlier, options, gate)? {
+    let searched = search(
+        rt, alloc, state, &problem, kept, earlier, wanted, options, gate,
+    )?;
+    let Searched { verdict, is_taken } = searched;
+    match verdict {
         Verdict::Sat(schedule) => {
             let values = restrict(alloc, schedule.as_slice(), state.names().sorts())?;
             let shown = without_lemmas(alloc, wanted, Entry::Sat(values), earlier)?;
             Ok(Decision { shown, given: None })
         }
         Verdict::Unsat(refutation) => {
-            let refutation = for_later(alloc, state, &problem, refutation, earlier, wanted)?;
-            let shown = refuted(alloc, wanted, problem, refutation, earlier)?;
+            let shown = refuted(alloc, wanted, problem, refutation, is_taken, earlier)?;
             Ok(Decision { shown, given: None })
         }
     }

@@ -26,8 +26,8 @@ use stn_core::{Literal, Problem};
 
 /// Few lemmas of a refutation, which cost a later search little where they don't help it.
 const CHOICE: Choice = Choice {
-    longest: 3,
-    most: 20,
+    longest: 5,
+    most: 50,
 };
 
 /// Whether the format can name what is kept at the place.
@@ -252,18 +252,19 @@ impl Earlier {
         }
     }
 
-    /// Keeps what searches of later problems may take over of a refutation, where there may be any.
+    /// Keeps what searches of later problems may take over of a refutation, where there may be any. Of one that was taken over itself it is there.
     pub fn learn(
         &mut self,
         alloc: Global,
         problem: &Problem,
         refutation: &[Lemma],
+        is_taken: bool,
     ) -> Result<(), AllocError>
         requires refutes { IsRefutation problem.now.points problem.now.clauses refutation.now }
         requires over { All (LemmaIsOver problem.now.points) refutation.now }
         ensures { self.new ≡ self.old }
     {
-        if !self.asks_on {
+        if !self.asks_on || is_taken {
             return Ok(());
         }
         if let Some(learned) = Learned::of(alloc, problem, refutation, CHOICE)? {

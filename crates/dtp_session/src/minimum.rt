@@ -149,7 +149,7 @@ fn least(
         objective.y,
         Value::from(difference),
     )?;
-    earlier.learn(alloc, &asked, refutation.as_slice())?;
+    earlier.learn(alloc, &asked, refutation.as_slice(), false)?;
     let lemmas = kept(alloc, wanted, &asked, refutation)?;
     let minimum = Value::from(difference) + Value::from(objective.k);
     let entry = Entry::Best(minimum, schedule, lemmas);
@@ -186,7 +186,7 @@ pub fn minimize<R: Threads + Wait + Sync, G: Gate>(
     let best = search(rt, alloc, &problem, objective, kept, earlier, options, gate)?;
     match best {
         Best::Nothing(refutation) => {
-            let shown = refuted(alloc, wanted, problem, refutation, earlier)?;
+            let shown = refuted(alloc, wanted, problem, refutation, false, earlier)?;
             Ok(Decision { shown, given: None })
         }
         Best::Least(values, difference, refutation) => {

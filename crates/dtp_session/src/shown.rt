@@ -100,12 +100,13 @@ pub fn with_lemmas(
     }
 }
 
-/// The entry of a refutation of the problem. Later problems' searches may take over lemmas of it.
+/// The entry of a refutation of the problem, which may have been taken over as it is. Later problems' searches may take over lemmas of it.
 pub fn refuted(
     alloc: Global,
     wanted: Wanted,
     problem: Problem,
     refutation: Refutation,
+    is_taken: bool,
     earlier: &mut Earlier,
 ) -> Result<Shown, AllocError>
     requires refutes { IsRefutation problem.points problem.clauses refutation }
@@ -114,7 +115,7 @@ pub fn refuted(
     ensures entered { IfOk result (λ shown.
         IsEntered (version_wanted wanted) earlier.old problem.points problem.clauses shown.found shown.items earlier.new) }
 {
-    earlier.learn(alloc, &problem, refutation.as_slice())?;
+    earlier.learn(alloc, &problem, refutation.as_slice(), is_taken)?;
     let lemmas = kept(alloc, wanted, &problem, refutation)?;
     with_lemmas(alloc, wanted, problem, Entry::Unsat(lemmas), earlier)
 }

@@ -49,14 +49,13 @@ pub fn copies(alloc: Global, lemmas: &[Lemma]) -> Result<Vec<Lemma>, AllocError>
     Ok(all)
 }
 
-/// Equal lemmas, which may be shared.
-pub fn shared(alloc: Global, lemmas: &[Lemma]) -> Result<Vec<Arc<Lemma>>, AllocError>
-    ensures { IfOk result (λ all. lemmas_of all.items ≡ lemmas.now) }
+/// The lemmas, which may be shared.
+pub fn shared(alloc: Global, lemmas: Vec<Lemma>) -> Result<Vec<Arc<Lemma>>, AllocError>
+    ensures { IfOk result (λ all. lemmas_of all.items ≡ lemmas.items) }
 {
     let mut all = Vec::with_capacity(alloc, lemmas.len())?;
     for lemma in lemmas {
-        let copy = lemma.copy(alloc)?;
-        all.push(Arc::new(alloc, copy)?)?;
+        all.push(Arc::new(alloc, lemma)?)?;
     }
     Ok(all)
 }

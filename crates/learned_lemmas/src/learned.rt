@@ -86,7 +86,8 @@ impl Learned {
         wanted[last] = true;
         let batch = Batch::new(0, copies(alloc, refutation)?);
         let left = trimmed_batch(alloc, batch, wanted)?;
-        let lemmas = shared(alloc, left.batch.lemmas())?;
+        let TrimmedBatch { batch, needed: _ } = left;
+        let lemmas = shared(alloc, batch.into_lemmas())?;
         let problem = problem.copy()?;
         Ok(Some(Learned { problem, lemmas }))
     }

@@ -76,35 +76,38 @@ fn push_step(
     }
 }
 
+// The steps, in the place of those that were there.
 fn restated(
-    alloc: Global,
     origins: &[Origin],
     clauses: &[Clause],
     base: usize,
     mut reader: Reader<'_>,
-) -> Result<Steps, AllocError>
+    steps: &mut Steps,
+) -> Result<(), AllocError>
     requires { All (Fits base) reader }
-    ensures { IfOk result (λ steps. steps ≡ restated origins.now clauses.now base reader.entry) }
+    ensures { OnOk result (steps.new ≡ restated origins.now clauses.now base reader.entry) }
 {
-    let mut steps = Steps::new(alloc);
+    steps.clear();
     'steps: while let Some(step) = reader.next() {
-        push_step(origins, clauses, base, step, &mut steps)?;
+        push_step(origins, clauses, base, step, steps)?;
     }
-    steps.shrink_to_fit();
-    Ok(steps)
+    Ok(())
 }
 
+// The steps are made in room that serves one lemma after the other, so that what stays has no more memory than it needs.
 fn restate(
     alloc: Global,
     origins: &[Origin],
     clauses: &[Clause],
     base: usize,
     lemma: &mut Lemma,
+    room: &mut Steps,
 ) -> Result<(), AllocError>
     requires { LemmaFits base lemma.old }
     ensures { OnOk result (lemma.new ≡ restated_lemma origins.now clauses.now base lemma.old) }
 {
-    lemma.steps = restated(alloc, origins, clauses, base, lemma.steps.reader())?;
+    restated(origins, clauses, base, lemma.steps.reader(), room)?;
+    lemma.steps = room.copy(alloc)?;
     Ok(())
 }
 
@@ -119,8 +122,9 @@ fn restate_each(
     requires { All (LemmaFits base) lemmas.old }
     ensures { OnOk result (lemmas.new ≡ map (restated_lemma origins.now clauses.now base) lemmas.old) }
 {
+    let mut room = Steps::new(alloc);
     for lemma in lemmas.iter_mut() {
-        restate(alloc, origins, clauses, base, lemma)?;
+        restate(alloc, origins, clauses, base, lemma, &mut room)?;
     }
     Ok(())
 }

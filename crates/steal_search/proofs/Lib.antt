@@ -1,3 +1,4 @@
 pub mod Going
 pub mod Staffing
 pub mod Pauses
+pub mod Telling

@@ -30,16 +30,16 @@ pub struct Pace {
 pub(crate) enum Onward {
     /// With one half of the cube, which was divided.
     Half,
-    /// With the cube of this number again: nothing was said of it.
-    Same(usize),
-    /// With any.
+    /// With the whole, beside the others: its slice paused.
+    Whole,
+    /// With any cube.
     Any,
 }
 
 // With what it goes on once this is delivered of the seat's cube.
-fn next_behind(seat: &Seat, found: &Finding) -> Onward {
-    match (&found.outcome, seat.cube()) {
-        (Outcome::Open, Some(cube)) => Onward::Same(cube.id),
+fn next_behind(found: &Finding) -> Onward {
+    match &found.outcome {
+        Outcome::Open => Onward::Whole,
         _ if found.divides => Onward::Half,
         _ => Onward::Any,
     }
@@ -87,7 +87,7 @@ fn search(
 }
 
 // Where nothing is said of the cube there is one pause less.
-fn count_pause(pace: &mut Pace, outcome: &Outcome)
+pub(crate) fn count_pause(pace: &mut Pace, outcome: &Outcome)
     requires { pause_by outcome.now ≤ pace.old.pauses }
     ensures tools { pace.new.tools ≡ pace.old.tools }
     ensures pauses { pace.new.pauses + pause_by outcome.now ≡ pace.old.pauses }
@@ -111,7 +111,7 @@ fn enter<R: Wait>(rt: &R, desk: &Desk, seat: &mut Seat, found: Finding) -> Resul
 }
 
 // What was found is delivered, or else the cube is given back.
-fn deliver<R: Wait>(
+pub(crate) fn deliver<R: Wait>(
     rt: &R,
     desk: &Desk,
     seat: &mut Seat,
@@ -123,7 +123,7 @@ fn deliver<R: Wait>(
     ensures none { seat.new.cube ≡ None }
     ensures pauses { pauses_in seat.new.view.events ≤ pauses_in seat.old.view.events + pause_by found.outcome }
 {
-    let onward = next_behind(seat, &found);
+    let onward = next_behind(&found);
     match enter(rt, desk, seat, found) {
         Ok(()) => Ok(onward),
         Err(error) => {

@@ -4,6 +4,7 @@
 //! the way of one worker.
 #![tactic(auto)]
 
+mod beside;
 mod dealing;
 mod shared;
 mod team;

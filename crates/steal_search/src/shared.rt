@@ -9,8 +9,8 @@ ghost use Rattle.book_lock.specs.Seats.{AllJoined};
 ghost use Rattle.cube_pool.specs.Hands.{AreInOrder};
 ghost use Rattle.steal_search.specs.code.Staff.{AllMayWork, AreHanded, AreSeated, IsFirst, IsSameWorker, MayWork};
 
-use crate::dealing::{Onward, Pace, deal};
-use crate::team::Team;
+use crate::dealing::{MOST_PAUSES, Onward, Pace, deal};
+use crate::team::{Manner, Team};
 use crate::worker::go_on;
 use book_core::{Book, Verdict};
 use book_lock::{Dealt, Desk, Seat};
@@ -38,27 +38,40 @@ pub struct Worker {
     pub(crate) number: u32,
 }
 
-// The pace that is there, or a new one.
+// The pace that is there, or a new one, which begins elsewhere where it searches the whole.
 fn pace_of<G: Gate>(
     team: &Team<G>,
     worker: u32,
+    manner: Manner,
     pace: &mut Option<Pace>,
 ) -> Result<Pace, AllocError>
     requires { IfSome pace.old (λ pace. pace.tools ≡ team.now.points) }
     ensures { IfOk result (λ pace. pace.tools ≡ team.now.points) }
 {
-    match pace.take() {
-        Some(pace) => Ok(pace),
-        None => Pace::new(team, worker),
+    if let Some(pace) = pace.take() {
+        return Ok(pace);
     }
+    let mut pace = Pace::new(team, worker)?;
+    if let Manner::Whole = manner {
+        let points = team.problem().points;
+        pace.tools.scatter(team.alloc(), points, worker)?;
+    }
+    Ok(pace)
 }
 
 // One worker on this thread. Where it finds no memory, the others go on.
-fn run<R: Wait, G: Gate>(rt: &R, team: &Team<G>, desk: &Desk, pool: &Pool, worker: &mut Worker)
+fn run<R: Wait, G: Gate>(
+    rt: &R,
+    team: &Team<G>,
+    desk: &Desk,
+    pool: &Pool,
+    manner: Manner,
+    worker: &mut Worker,
+)
     requires { MayWork desk.now team.now pool.now worker.old }
     ensures { IsSameWorker worker.old worker.new }
 {
-    if let Ok(mut pace) = pace_of(team, worker.number, &mut worker.pace) {
+    if let Ok(mut pace) = pace_of(team, worker.number, manner, &mut worker.pace) {
         let _ = go_on(
             rt,
             team,
@@ -67,6 +80,7 @@ fn run<R: Wait, G: Gate>(rt: &R, team: &Team<G>, desk: &Desk, pool: &Pool, worke
             pool,
             &mut worker.hand,
             &mut pace,
+            manner,
         );
     }
 }
@@ -77,6 +91,7 @@ fn run_all<R: Threads + Wait + Sync, G: Gate>(
     team: &Team<G>,
     desk: &Desk,
     pool: &Pool,
+    manner: Manner,
     staff: &mut [Worker],
 )
     requires staff { AllMayWork desk.now team.now pool.now staff.old }
@@ -95,7 +110,7 @@ fn run_all<R: Threads + Wait + Sync, G: Gate>(
         &|_, worker|
             requires { MayWork desk.now team.now pool.now worker.old }
             ensures { IsSameWorker worker.old worker.new }
-        { run(rt, team, desk, pool, worker) },
+        { run(rt, team, desk, pool, manner, worker) },
     );
 }
 
@@ -166,13 +181,14 @@ fn gather(
     Ok(())
 }
 
-// Workers share what is left to do.
+// Workers share what is left to do, in this manner.
 fn share_out<R: Threads + Wait + Sync, G: Gate>(
     rt: &R,
     team: &Team<G>,
     desk: &Desk,
     seat: &mut Seat,
     pace: Pace,
+    manner: Manner,
     workers: u32,
 ) -> Result<(), AllocError>
     requires workers { (1 ≤ workers) × (workers ≤ 64) }
@@ -185,21 +201,21 @@ fn share_out<R: Threads + Wait + Sync, G: Gate>(
     let problem = team.problem();
     let (pool, mut hands) = Pool::open(alloc, workers)?;
     let mut staff = staff_of(alloc, problem, desk, seat, &pool, &mut hands, pace)?;
-    run_all(rt, team, desk, &pool, staff.as_mut_slice());
+    run_all(rt, team, desk, &pool, manner, staff.as_mut_slice());
     gather(desk, problem, seat, &pool, &mut hands, staff)?;
     // What is left there are numbers of cubes that were taken without them.
     let _ = pool.close(hands);
     Ok(())
 }
 
-// One of the first slices, on the caller's thread: whether it divided its cube. None where nothing is left to do.
+// One of the first slices, on the caller's thread, and with what it would go on. None where nothing is left to do.
 fn slice_alone<R: Wait, G: Gate>(
     rt: &R,
     team: &Team<G>,
     desk: &Desk,
     seat: &mut Seat,
     pace: &mut Pace,
-) -> Result<Option<bool>, AllocError>
+) -> Result<Option<Onward>, AllocError>
     requires seat { IsFirst desk.now team.now 1 seat.old }
     requires tools { pace.old.tools ≡ team.now.points }
     ensures seat { IsFirst desk.now team.now 1 seat.new }
@@ -209,37 +225,41 @@ fn slice_alone<R: Wait, G: Gate>(
     match desk.take(rt, seat)? {
         Dealt::Cube => {
             let onward = deal(rt, team, desk, seat, pace)?;
-            Ok(Some(matches!(onward, Onward::Half)))
+            Ok(Some(onward))
         }
         Dealt::Idle | Dealt::Done => Ok(None),
     }
 }
 
-// The first slices, on the caller's thread: whether there is work for several. Without a conflict that is so once the
-// whole is divided, and else at the next division.
+// The first slices, on the caller's thread, and how several share what is left. Without a conflict there is work for
+// several once the whole is divided, and else at the next division; and after the last of these slices. None where nothing is
+// left to do.
 fn begin<R: Wait, G: Gate>(
     rt: &R,
     team: &Team<G>,
     desk: &Desk,
     seat: &mut Seat,
     pace: &mut Pace,
-) -> Result<bool, AllocError>
+) -> Result<Option<Manner>, AllocError>
     requires seat { IsFirst desk.now team.now 1 seat.old }
     requires tools { pace.old.tools ≡ team.now.points }
     ensures seat { IsFirst desk.now team.now 1 seat.new }
     ensures tools { pace.new.tools ≡ pace.old.tools }
 {
+    let mut manner = Manner::Cubes;
     for slice in 0..FIRST_SLICES {
-        match slice_alone(rt, team, desk, seat, pace)? {
-            Some(divided) => {
-                if divided && (slice > 0 || !pace.tools.met_conflict()) {
-                    return Ok(true);
-                }
+        let Some(onward) = slice_alone(rt, team, desk, seat, pace)? else {
+            return Ok(None);
+        };
+        manner = match onward {
+            Onward::Half if slice > 0 || !pace.tools.met_conflict() => {
+                return Ok(Some(Manner::Cubes));
             }
-            None => return Ok(false),
-        }
+            Onward::Half | Onward::Any => Manner::Cubes,
+            Onward::Whole => Manner::Whole,
+        };
     }
-    Ok(true)
+    Ok(Some(manner))
 }
 
 // The book after the workers' calls. The values are a hint to the caller's first slices, and to the worker that goes on
@@ -261,8 +281,9 @@ fn closed<R: Threads + Wait + Sync, G: Gate>(
     // Of worker 0, who goes on with it.
     let mut pace = Pace::new(team, 0)?;
     pace.tools.follow(phases);
-    if begin(rt, team, &desk, &mut seat, &mut pace)? {
-        share_out(rt, team, &desk, &mut seat, pace, workers)?;
+    pace.pauses = MOST_PAUSES;
+    if let Some(manner) = begin(rt, team, &desk, &mut seat, &mut pace)? {
+        share_out(rt, team, &desk, &mut seat, pace, manner, workers)?;
     }
     Ok(desk.close(seat))
 }

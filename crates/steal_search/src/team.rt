@@ -8,6 +8,15 @@ use stn_core::Problem;
 use worker_calls::Calls;
 use worker_gates::Gate;
 
+/// How several workers share a problem.
+#[derive(Clone, Copy)]
+pub(crate) enum Manner {
+    /// Each takes a cube of it.
+    Cubes,
+    /// Each searches the whole beside the others, from a place of its own.
+    Whole,
+}
+
 /// What all workers of a problem have beside its desk and its pool: how great the budget of a worker's first slice is, the
 /// calls by which one ends the slices of the others, and the gate that each passes behind a slice.
 ///

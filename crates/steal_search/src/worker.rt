@@ -1,9 +1,11 @@
 //! The loop of one worker.
 ghost use Rattle.std.specs.Prelude.{◌≡◌, ◌≤◌, ◌+◌, ◌^◌, None, IfOk, OnOk, OnErr, IfSome};
+ghost use Rattle.steal_search.specs.declared.worker.Step.TheVariants.{Done};
 ghost use Rattle.steal_search.specs.Workers.{GoesOn, HandGoesOn, HasEnded, IsAnswered, pauses_in};
 
+use crate::beside::{Round, search_beside};
 use crate::dealing::{MOST_PAUSES, Onward, Pace, deal};
-use crate::team::Team;
+use crate::team::{Manner, Team};
 use book_lock::{Dealt, Desk, Seat};
 use cube_pool::{Hand, Pool};
 use std::alloc::AllocError;
@@ -88,7 +90,80 @@ fn share(pool: &Pool, hand: &mut Hand, seat: &Seat) -> Option<usize>
     }
 }
 
-/// One worker's loop at this pace. It ends where nothing is left to do, or no memory.
+/// What a worker does next.
+#[derive(Clone, Copy)]
+pub enum Step {
+    /// It takes a cube, that with this number if it is free.
+    Cube(Option<usize>),
+    /// It searches the whole beside the others.
+    Whole,
+    /// Nothing is left to do.
+    Done,
+}
+
+// A cube is taken and dealt with, where one is free.
+fn cube_step<R: Wait, G: Gate>(
+    rt: &R,
+    team: &Team<G>,
+    desk: &Desk,
+    seat: &mut Seat,
+    pool: &Pool,
+    hand: &mut Hand,
+    pace: &mut Pace,
+    near: Option<usize>,
+) -> Result<Step, AllocError>
+    requires problem { seat.old.view.begun.problem ≡ team.now }
+    requires desk { seat.old.desk ≡ desk.now.id }
+    requires none { seat.old.cube ≡ None }
+    requires hand { hand.old.pool ≡ pool.now }
+    requires tools { pace.old.tools ≡ team.now.points }
+    ensures seat { GoesOn seat.old seat.new }
+    ensures none { seat.new.cube ≡ None }
+    ensures hand { HandGoesOn hand.old hand.new }
+    ensures tools { pace.new.tools ≡ pace.old.tools }
+    ensures ended { IfOk result (λ step. step ≡ Done → HasEnded seat.new) }
+    ensures pauses { pauses_in seat.new.view.events + pace.new.pauses ≤ pauses_in seat.old.view.events + pace.old.pauses }
+{
+    match next(rt, desk, seat, pool, hand, near, team.calls())? {
+        Dealt::Cube => match deal(rt, team, desk, seat, pace)? {
+            Onward::Half => {
+                let near = share(pool, hand, seat);
+                Ok(Step::Cube(near))
+            }
+            Onward::Whole => Ok(Step::Whole),
+            Onward::Any => Ok(Step::Cube(None)),
+        },
+        Dealt::Idle => Ok(Step::Cube(None)),
+        Dealt::Done => Ok(Step::Done),
+    }
+}
+
+// A slice of the whole. Where that would be divided, cubes come next.
+fn whole_step<R: Wait, G: Gate>(
+    rt: &R,
+    team: &Team<G>,
+    desk: &Desk,
+    seat: &mut Seat,
+    pace: &mut Pace,
+) -> Result<Step, AllocError>
+    requires desk { seat.old.desk ≡ desk.now.id }
+    requires problem { seat.old.view.begun.problem ≡ team.now }
+    requires none { seat.old.cube ≡ None }
+    requires tools { pace.old.tools ≡ team.now.points }
+    ensures seat { GoesOn seat.old seat.new }
+    ensures none { seat.new.cube ≡ None }
+    ensures tools { pace.new.tools ≡ pace.old.tools }
+    ensures ended { IfOk result (λ step. step ≡ Done → HasEnded seat.new) }
+    ensures pauses { pauses_in seat.new.view.events + pace.new.pauses ≤ pauses_in seat.old.view.events + pace.old.pauses }
+{
+    match search_beside(rt, team, desk, seat, pace)? {
+        Round::Told => Ok(Step::Whole),
+        Round::Divides => Ok(Step::Cube(None)),
+        Round::Done => Ok(Step::Done),
+    }
+}
+
+/// One worker's loop at this pace, which begins in this manner. It ends where nothing is left to do, or no memory.
 pub(crate) fn go_on<R: Wait, G: Gate>(
     rt: &R,
     team: &Team<G>,
@@ -97,6 +172,7 @@ pub(crate) fn go_on<R: Wait, G: Gate>(
     pool: &Pool,
     hand: &mut Hand,
     pace: &mut Pace,
+    manner: Manner,
 ) -> Result<(), AllocError>
     requires problem { seat.old.view.begun.problem ≡ team.now }
     requires desk { seat.old.desk ≡ desk.now.id }
@@ -110,18 +186,15 @@ pub(crate) fn go_on<R: Wait, G: Gate>(
     ensures pauses { pauses_in seat.new.view.events ≤ pauses_in seat.old.view.events + 2 ^ 32 }
 {
     pace.pauses = MOST_PAUSES;
-    let mut near = None;
+    let mut step = match manner {
+        Manner::Cubes => Step::Cube(None),
+        Manner::Whole => Step::Whole,
+    };
     for _ in rt.forever() {
-        match next(rt, desk, seat, pool, hand, near.take(), team.calls())? {
-            Dealt::Cube => {
-                near = match deal(rt, team, desk, seat, pace)? {
-                    Onward::Half => share(pool, hand, seat),
-                    Onward::Same(id) => Some(id),
-                    Onward::Any => None,
-                };
-            }
-            Dealt::Idle => {}
-            Dealt::Done => {
+        step = match step {
+            Step::Cube(near) => cube_step(rt, team, desk, seat, pool, hand, pace, near)?,
+            Step::Whole => whole_step(rt, team, desk, seat, pace)?,
+            Step::Done => {
                 team.calls().end();
                 return Ok(());
             }
@@ -132,8 +205,8 @@ pub(crate) fn go_on<R: Wait, G: Gate>(
 
 /// One worker, on a thread of the caller's: it takes cubes, the fetched ones first, searches each for a slice,
 /// passes the gate, and delivers what it found. Where a cube was divided, it goes on with one half and pushes the
-/// other; where a slice paused, so that the others know its lemmas and it theirs, with the same cube. It pauses a bounded number of times,
-/// and each of its other deliveries leaves less to do (`book_core::ends_law`). The first slice has the team's budget, and later ones greater ones, by `book_search::Pacing`.
+/// other; where a slice paused, so that the others know its lemmas and it theirs, it goes on with the whole, under no cube, beside the
+/// others. It pauses a bounded number of times, and each of its other deliveries leaves less to do (`book_core::ends_law`). The first slice has the team's budget, and later ones greater ones, by `book_search::Pacing`.
 ///
 /// All workers of the desk are of one team: by its calls one that waits, or was told that nothing is left to do, ends the
 /// slices of the others sooner.
@@ -161,5 +234,5 @@ pub fn work<R: Wait, G: Gate>(
     ensures pauses { pauses_in seat.new.view.events ≤ pauses_in seat.old.view.events + 2 ^ 32 }
 {
     let mut pace = Pace::new(team, worker)?;
-    go_on(rt, team, desk, seat, pool, hand, &mut pace)
+    go_on(rt, team, desk, seat, pool, hand, &mut pace, Manner::Cubes)
 }

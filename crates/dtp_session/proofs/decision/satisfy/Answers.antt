@@ -3,6 +3,8 @@ use Rattle.std.specs.Prelude.{All}
 use Rattle.stn_core.specs.Schedule.{IsInRange}
 use Rattle.stn_core.specs.Solution.{IsSolution}
 use Rattle.cert_text.specs.declared.entry.Entry.TheVariants.{Sat}
+use Rattle.book_core.specs.declared.verdict.Verdict.TheVariants.{Unsat}
+use Rattle.book_core.specs.Verdicts.{IsRight}
 use Rattle.clause_form.specs.Restricting.{restricted}
 use Rattle.idl_node.specs.declared.sort.Sort.{Sort}
 use Rattle.idl_term.specs.Scopes.{Scope, sorts_of}
@@ -18,7 +20,7 @@ restrict-requires-clause-some g c =
     let s = c.requires.0 in
     let stands = c.requires.2 in
     let taken = c.requires.3 in
-    let found : IsSolution c.args.problem c.in-Sat.schedule = as_found _ _ _ c.in-Sat.is c.in_ok-schedule.ensures in
+    let found : IsSolution c.args.problem c.in-Sat.schedule = as_found _ _ _ c.in-Sat.is c.in_ok-searched.ensures in
     let count : length c.as_slice.result.now ≡ c.args.problem.points = ap (λ (values : List ℤ). length values) c.as_slice.ensures ∙ found.count in
     let names : length c.sorts.result.now ≡ length s.context.declared =
     ap (λ (sorts : List Sort). length sorts) (c.sorts.ensures ∙ ap sorts_of (c.names.ensures.names ∙ ap (λ (t : Scope). t.declared) stands.stands.scope)) ∙ sorts_count s.context.declared in
@@ -28,12 +30,12 @@ restrict-requires-clause-some g c =
 
 pub restrict-requires-clause-range : goal.restrict-requires-clause-range
 restrict-requires-clause-range g c =
-    let found : IsSolution c.args.problem c.in-Sat.schedule = as_found _ _ _ c.in-Sat.is c.in_ok-schedule.ensures in
+    let found : IsSolution c.args.problem c.in-Sat.schedule = as_found _ _ _ c.in-Sat.is c.in_ok-searched.ensures in
     subst (λ (values : List ℤ). All IsInRange values) (sym c.as_slice.ensures) found.range
 
 pub returns-in_ok-shown-in-Sat : goal.returns-in_ok-shown-in-Sat
 returns-in_ok-shown-in-Sat g c = λ s x stands taken.
-    let found : IsSolution c.args.problem c.in-Sat.schedule = as_found _ _ _ c.in-Sat.is c.in_ok-schedule.ensures in
+    let found : IsSolution c.args.problem c.in-Sat.schedule = as_found _ _ _ c.in-Sat.is c.in_ok-searched.ensures in
     let of_context = c.context_law.ensures in
     let of_form = c.clause_form_law.ensures in
     let laws = laws_by of_context.scope of_context.roots of_context.exact of_form.holds of_form.schedule of_form.some c.refutation_law.ensures c.unbounded_law.ensures c.core_law.ensures in
@@ -49,14 +51,14 @@ returns-in_ok-shown-in-Sat g c = λ s x stands taken.
     }
 
 pub refuted-requires-clause-refutes : goal.refuted-requires-clause-refutes
-refuted-requires-clause-refutes g c = c.in_ok-refutation-in-Unsat.ensures.0
+refuted-requires-clause-refutes g c = (as_found _ _ _ c.in-Unsat.is c.in_ok-searched.ensures).0
 
 pub refuted-requires-clause-over : goal.refuted-requires-clause-over
-refuted-requires-clause-over g c = c.in_ok-refutation-in-Unsat.ensures.1
+refuted-requires-clause-over g c = (as_found _ _ _ c.in-Unsat.is c.in_ok-searched.ensures).1
 
 pub returns-in_ok-shown-in-Unsat : goal.returns-in_ok-shown-in-Unsat
 returns-in_ok-shown-in-Unsat g c = λ s x stands taken.
-    let found = c.in_ok-refutation-in-Unsat.ensures in
+    let found : IsRight c.args.problem (Unsat c.in-Unsat.refutation) = as_found _ _ _ c.in-Unsat.is c.in_ok-searched.ensures in
     let of_context = c.context_law.ensures in
     let of_form = c.clause_form_law.ensures in
     let lengths = c.lengths_law.ensures in
@@ -64,9 +66,9 @@ returns-in_ok-shown-in-Unsat g c = λ s x stands taken.
     let forms : FormLaws = record { negation = c.negation_kept.ensures; plain = lengths.no_clash; longer = lengths.lengthened; shorter = lengths.shortened } in
     let version = version_wanted c.args.wanted in
     let shown = c.in_ok-shown-in-Unsat.ensures in
-    let decides = unsat_decision laws s.context stands.made.context c.args.problem taken.is_problem forms version CheckSat x c.in_ok-refutation-in-Unsat.refutation _ taken.asked found shown.found in
+    let decides = unsat_decision laws s.context stands.made.context c.args.problem taken.is_problem forms version CheckSat x c.in-Unsat.refutation _ taken.asked found shown.found in
     record {
       decides = decides;
       shows = entered_shows version c.args.earlier.now c.refuted.new.earlier CheckSat x s.context c.args.problem.points c.args.problem.clauses _ _ decides.decides.right
-          (refuted_for laws s.context stands.made.context c.args.problem taken.is_problem version CheckSat c.in_ok-refutation-in-Unsat.refutation _ shown.found) shown.entered;
+          (refuted_for laws s.context stands.made.context c.args.problem taken.is_problem version CheckSat c.in-Unsat.refutation _ shown.found) shown.entered;
     }

@@ -1,7 +1,7 @@
-use Rattle.std.proofs.Common.{◌≡◌, take, map}
+use Rattle.std.proofs.Common.{◌≡◌, map}
 use Rattle.std.specs.Arc.{arc_value}
 use Rattle.refute_tree.specs.declared.lemma.Lemma.{Lemma as Stated}
 use Rattle.learned_lemmas.proofs.choice.shared.Given as goal
 
 abbrev pub invariant-loop-lemma : goal.invariant-loop-lemma
-invariant-loop-lemma l = map (λ a. arc_value {X = Stated} a) l.all.items ≡ take l.lemma-index l.lemmas
+invariant-loop-lemma l = map (λ a. arc_value {X = Stated} a) l.all.items ≡ l.yielded

@@ -1,5 +1,6 @@
 use Rattle.std.proofs.Common.{◌≡◌, ◌≤◌, ◌+◌, ◌^◌, None}
-use Rattle.steal_search.specs.Workers.{GoesOn, HandGoesOn, pauses_in}
+use Rattle.steal_search.specs.declared.worker.Step.TheVariants.{Done}
+use Rattle.steal_search.specs.Workers.{GoesOn, HandGoesOn, HasEnded, pauses_in}
 use Rattle.steal_search.proofs.worker.go_on.Given as goal
 
 abbrev pub invariant-loop : goal.invariant-loop
@@ -9,4 +10,5 @@ invariant-loop g l = record {
   hand : HandGoesOn l.fn.hand l.hand;
   tools : l.pace.tools ≡ l.team.points;
   pauses : pauses_in l.seat.view.events + l.pace.pauses ≤ pauses_in l.fn.seat.view.events + 2 ^ 32;
+  ended : l.step ≡ Done → HasEnded l.seat;
 }

@@ -1,8 +1,10 @@
-//! Worked by hand: two operations of three units of time each on one machine, points 1 and 2, which start at 0 at the earliest and, for one of them to go
-//! before the other, not both at 2 at the latest.
-ghost use Rattle.std.specs.Prelude.{◌≡◌, All, IfOk};
+//! Worked by hand: two operations that start at 0 at the earliest and, for one of them to go before the other, not both at 2 at the latest.
+ghost use Rattle.std.specs.Prelude.{All};
 ghost use Rattle.stn_core.specs.Literal.{IsOver};
 
+use crate::operations::{
+    FIRST_BY_1, FIRST_BY_2, FIRST_STARTS, SECOND_BY_2, SECOND_BY_3, SECOND_STARTS, problem_of,
+};
 use book_core::Verdict;
 use book_search::search_one;
 use cert_check::check_refutation;
@@ -10,24 +12,7 @@ use refute_tree::{Batch, Lemma, Refutation};
 use relaxed_lemmas::{closing, relaxed};
 use std::alloc::{AllocError, Global};
 use std::test::Fail;
-use stn_core::{Clause, Clauses, Literal, Problem};
-
-const FIRST_BEFORE_SECOND: Literal = Literal { x: 1, y: 2, c: -3 };
-
-const SECOND_BEFORE_FIRST: Literal = Literal { x: 2, y: 1, c: -3 };
-
-const FIRST_STARTS: Literal = Literal { x: 0, y: 1, c: 0 };
-
-const SECOND_STARTS: Literal = Literal { x: 0, y: 2, c: 0 };
-
-/// The operation starts at that time at the latest.
-const FIRST_BY_1: Literal = Literal { x: 1, y: 0, c: 1 };
-
-const FIRST_BY_2: Literal = Literal { x: 1, y: 0, c: 2 };
-
-const SECOND_BY_2: Literal = Literal { x: 2, y: 0, c: 2 };
-
-const SECOND_BY_3: Literal = Literal { x: 2, y: 0, c: 3 };
+use stn_core::{Literal, Problem};
 
 /// What is told of a refutation.
 #[derive(Clone, Copy, Debug, PartialEq, Eq)]
@@ -41,24 +26,6 @@ struct Told {
     ends_tighter: bool,
     /// whether it is ended where the second is due at 3
     ends_looser: bool,
-}
-
-/// The problem of the two operations and these times.
-fn problem_of(alloc: Global, times: &[Literal]) -> Result<Problem, AllocError>
-    requires { All (IsOver 3) times.now }
-    ensures { IfOk result (λ problem. problem.points ≡ 3) }
-{
-    let orders = [FIRST_BEFORE_SECOND, SECOND_BEFORE_FIRST];
-    let mut all = Vec::new(alloc);
-    all.push(Clause::from_slice(alloc, orders.as_slice())?)?;
-    for time in times {
-        let unit = [*time];
-        all.push(Clause::from_slice(alloc, unit.as_slice())?)?;
-    }
-    Ok(Problem {
-        points: 3,
-        clauses: Clauses::new(all),
-    })
 }
 
 /// Whether the lemmas are ended for the problem with these times.

@@ -1,6 +1,0 @@
-use Rattle.std.proofs.Common.{All}
-use Rattle.stn_core.specs.Literal.{IsOver}
-use Rattle.dispatch_schedules.proofs.examples.problem_of.Given as goal
-
-abbrev pub invariant-loop-time : goal.invariant-loop-time
-invariant-loop-time l = All (λ clause. All (IsOver 3) clause) l.all.items
