@@ -10,7 +10,7 @@ use Rattle.cert_read.specs.declared.error.CertificateRefusal.{CertificateRefusal
 use Rattle.cert_read.specs.declared.error.CertificateRefusal.TheVariants.{NoHeader, IllFormed, NoEnd, TextAfterEnd}
 use Rattle.cert_read.proofs.ReadOn.{holds_on, read_none, read_more, all_left}
 use Rattle.dtp_check.specs.declared.earlier.Earlier.{Earlier}
-use Rattle.dtp_check.specs.declared.earlier.Earlier.TheVariants.{Unkept, Shelved}
+use Rattle.dtp_check.specs.declared.earlier.Earlier.TheVariants.{Unkept, Shelved, WithTrees}
 use Rattle.dtp_check.specs.code.Earlier.{Suffices, SufficesFrom}
 use Rattle.dtp_check.specs.declared.judgement.Judgement.{Judgement}
 use Rattle.dtp_check.specs.declared.judgement.Judgement.TheVariants.{Certificate}
@@ -79,6 +79,7 @@ suffices_here earlier old new entry h reads = h (entry ∷ []) new.place reads.h
 behind_first : (earlier : Earlier) (entry : FileEntry) (es : List FileEntry) → Suffices earlier (entry ∷ es) → Suffices earlier es
 behind_first Unkept entry es h = h.1
 behind_first (Shelved shelf) entry es h = tt
+behind_first (WithTrees shelf) entry es h = tt
 
 -- and for those behind it
 pub suffices_behind : (earlier later : Earlier) (old new : EntriesFrom) (entry : FileEntry) → SufficesFrom earlier old → IsReadTo old new (entry ∷ []) → ((es : List FileEntry) → Suffices earlier es → Suffices later es) → SufficesFrom later new

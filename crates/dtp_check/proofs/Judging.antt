@@ -49,7 +49,7 @@ use Rattle.dtp_entry.proofs.Verdicts.{sorts_count, table_over}
 use Rattle.dtp_check.specs.declared.judge.Progress.{Progress}
 use Rattle.dtp_check.specs.declared.judge.Progress.TheVariants.{Going, Judged}
 use Rattle.dtp_check.specs.declared.earlier.Earlier.{Earlier}
-use Rattle.dtp_check.specs.declared.earlier.Earlier.TheVariants.{Unkept, Shelved}
+use Rattle.dtp_check.specs.declared.earlier.Earlier.TheVariants.{Unkept, Shelved, WithTrees}
 use Rattle.dtp_check.specs.code.Earlier.{Holds, Suffices}
 use Rattle.dtp_check.specs.code.Turns.{Leads, ComesTo, IsSoOfAll, IsRightTurn, IsAgainst, StandsAt, with_left, GoesTo, IsAnswerTurn, IsQuestionTurn, IsJudgedTurn}
 use Rattle.dtp_check.specs.declared.judgement.EntryFlaw.{EntryFlaw}
@@ -192,6 +192,7 @@ module _ (kept : Kept) (s : State) (stands : Stands kept s) (values : List Named
 pub suffices_items : (earlier : Earlier) (m : ℤ) (values : List NamedValue) (items : List Item) → Suffices earlier (file.Best m values items ∷ []) → Suffices earlier (file.Unsat items ∷ [])
 suffices_items Unkept m values items h = h
 suffices_items (Shelved shelf) m values items h = h
+suffices_items (WithTrees shelf) m values items h = h
 
 -- ---- an answer
 

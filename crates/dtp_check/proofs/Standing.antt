@@ -14,7 +14,7 @@ use Rattle.lemma_shelf.specs.code.Tables.{own_item}
 use Rattle.lemma_shelf.specs.Lowering.{last_fact, own_facts, StatesLast, IsSublist, none, takes, passes, in_order, AreOfShelf, AreCited, StandFor}
 use Rattle.lemma_shelf.proofs.Lists.{get_last}
 use Rattle.dtp_check.specs.declared.earlier.Earlier.{Earlier}
-use Rattle.dtp_check.specs.declared.earlier.Earlier.TheVariants.{Shelved}
+use Rattle.dtp_check.specs.declared.earlier.Earlier.TheVariants.{WithTrees}
 use Rattle.dtp_check.specs.code.Earlier.{Holds}
 
 -- ---- an entry that keeps none
@@ -73,7 +73,7 @@ kept_stand before entry lemmas shelf held kept states there cited =
     }
 
 -- what is held of these entries
-pub shelf_held : (earlier : Earlier) (shelf : Shelf) (before : List Placed) → earlier ≡ Shelved shelf → Holds earlier before → shelf ≡ shelf_of before
+pub shelf_held : (earlier : Earlier) (shelf : Shelf) (before : List Placed) → earlier ≡ WithTrees shelf → Holds earlier before → shelf ≡ shelf_of before
 shelf_held earlier shelf before e h = subst (λ (x : Earlier). Holds x before) e h
 
 pub not_own : (items : List Item) (test : Bool) → IsTrue test ↔ All IsOwn items → test ≡ false → All IsOwn items → ⊥

@@ -1,5 +1,5 @@
 -- A judge where an event comes: what it goes on to, and what the script comes to there.
-use Rattle.std.proofs.Common.{arith, refl, sym, ap, subst, inl, inr, ◌∙◌, ◌≡◌, ◌≤◌, ◌<◌, ◌-◌, ◌+◌, ◌^◌, ℕ, List, [], length, Option, None}
+use Rattle.std.proofs.Common.{arith, refl, sym, ap, subst, inl, inr, ◌∙◌, ◌≡◌, ◌≤◌, ◌<◌, ◌-◌, ◌+◌, ◌^◌, ℕ, Bool, List, [], length, Option, None}
 use Rattle.smt_lex.specs.code.Lexing.{Lexing}
 use Rattle.smt_sexpr.specs.Tree.{Sexpr}
 use Rattle.smt_sexpr.specs.Laws.{OneOutcome}
@@ -30,7 +30,7 @@ use Rattle.dtp_check.specs.declared.script_part.Next.{Next}
 use Rattle.dtp_check.specs.declared.script_part.Next.TheVariants.{Command}
 use Rattle.dtp_check.specs.Judged.{EndsPart, surplus_of}
 use Rattle.dtp_check.specs.code.Asked.{IsAsked}
-use Rattle.dtp_check.specs.code.Earlier.{Holds, SufficesFrom}
+use Rattle.dtp_check.specs.code.Earlier.{Holds, HoldsTrees, SufficesFrom}
 use Rattle.dtp_check.specs.code.Judging.{IsPartCommand, IsPartEvent, IsJudging, IsJudgingSoFar}
 use Rattle.dtp_check.specs.code.Made.{IsMadeStill}
 use Rattle.dtp_check.specs.code.Parts.{IsNext, GoesOn}
@@ -74,10 +74,10 @@ module _ (v read w : Walk) (next : Next) (id : ℕ) (is : next ≡ Command id) (
 
 -- ---- between two events
 
-module _ {K : Type 0} (leads : Leads K) (first : K) where
-  pub judging_begins : (w : Walk) (made : Option Problem) (earlier : Earlier) (entries : EntriesFrom) → IsStart w → made ≡ None → entries.count ≡ 0 → Holds earlier [] → SufficesFrom earlier entries
-      → IsJudgingSoFar leads w.lexer.bytes entries first w made earlier entries first
-  judging_begins w made earlier entries start none count holds suffices =
+module _ {K : Type 0} (leads : Leads K) (wanted : Bool) (first : K) where
+  pub judging_begins : (w : Walk) (made : Option Problem) (earlier : Earlier) (entries : EntriesFrom) → IsStart w → made ≡ None → entries.count ≡ 0 → Holds earlier [] → SufficesFrom earlier entries → HoldsTrees wanted earlier
+      → IsJudgingSoFar leads wanted w.lexer.bytes entries first w made earlier entries first
+  judging_begins w made earlier entries start none count holds suffices trees =
       let place = start.place in
       let number = start.number in
       record {
@@ -88,12 +88,13 @@ module _ {K : Type 0} (leads : Leads K) (first : K) where
         counted = omega (arith, place, number);
         few = start.few;
         suffices = suffices;
+        trees = trees;
         made_still = nothing_made w.state made none;
         judging = judging_starts leads w.lexer.bytes entries first w earlier count holds start;
       }
 
-module _ {K : Type 0} (leads : Leads K) (one : OneOutcome) (bytes : List ℕ) (start : EntriesFrom) (first : K) (v : Walk) (made : Option Problem) (earlier : Earlier) (here : EntriesFrom) (now : K)
-    (h : IsJudgingSoFar leads bytes start first v made earlier here now) where
+module _ {K : Type 0} (leads : Leads K) (wanted : Bool) (one : OneOutcome) (bytes : List ℕ) (start : EntriesFrom) (first : K) (v : Walk) (made : Option Problem) (earlier : Earlier) (here : EntriesFrom) (now : K)
+    (h : IsJudgingSoFar leads wanted bytes start first v made earlier here now) where
   module _ (w : Walk) (event : Event) (c : IsPartCommand v w event) where
     at_command : StandsAt c.read.number here.count c.read.state earlier h.judging.place h.judging.before
     at_command = stands_as here.count earlier h.judging.place h.judging.before v c.read c.number c.state h.judging.there
@@ -110,9 +111,9 @@ module _ {K : Type 0} (leads : Leads K) (one : OneOutcome) (bytes : List ℕ) (s
 
     -- behind the command the script goes on
     goes_further : (u : Walk) (remade : Option Problem) (later : Earlier) (there : EntriesFrom) (next : K) → u.lexer ≡ w.lexer → u.sexprs ≡ w.sexprs
-        → GoesTo leads now next h.judging.place h.judging.before here there c.x u.number u.state later → SufficesFrom later there → IsMadeStill u.state remade
-        → IsJudgingSoFar leads bytes start first u remade later there next
-    goes_further u remade later there next lexer sexprs turn suffices still =
+        → GoesTo leads now next h.judging.place h.judging.before here there c.x u.number u.state later → SufficesFrom later there → HoldsTrees wanted later → IsMadeStill u.state remade
+        → IsJudgingSoFar leads wanted bytes start first u remade later there next
+    goes_further u remade later there next lexer sexprs turn suffices trees still =
         let forward = c.forward in
         let counted = h.counted in
         let few = h.few in
@@ -128,6 +129,7 @@ module _ {K : Type 0} (leads : Leads K) (one : OneOutcome) (bytes : List ℕ) (s
           counted = omega (arith, forward, counted, more, place);
           few = few;
           suffices = suffices;
+          trees = trees;
           made_still = still;
           judging = subst (λ (at : ℕ). IsJudging leads bytes start first at u.number there u.state later next) (sym place)
               (judging_goes_on one leads bytes start first v.lexer.place v.number here v.state earlier now h.judging w.lexer.place c.x u.number there u.state later next spells_here c.apart turn);
@@ -139,11 +141,11 @@ module _ {K : Type 0} (leads : Leads K) (one : OneOutcome) (bytes : List ℕ) (s
     told_carries : Carries c.read w h.judging.place.state c.x (Told id notice)
     told_carries = c.carries h.judging.place.state (at_command w (Told id notice) c).stands
 
-    pub told_further : OnlyExitEnds → ModeIsKept → IsJudgingSoFar leads bytes start first w made earlier here now
+    pub told_further : OnlyExitEnds → ModeIsKept → IsJudgingSoFar leads wanted bytes start first w made earlier here now
     told_further only kept =
         goes_further w (Told id notice) c w made earlier here now refl refl
         (notice_judged leads h.judging.before now here c.read.number c.read.state earlier h.judging.place (at_command w (Told id notice) c) w c.x only notice told_carries.1 told_carries.2)
-        h.suffices
+        h.suffices h.trees
         (made_after kept c.read w h.judging.place.state c.x (Tell notice) made (at_command w (Told id notice) c).stands told_carries.1 (subst (λ (k : Kept). IsMadeStill k made) (sym c.state) h.made_still))
 
   -- ---- a question
@@ -178,10 +180,10 @@ module _ {K : Type 0} (leads : Leads K) (one : OneOutcome) (bytes : List ℕ) (s
           question_judged leads h.judging.before now here c.read.number c.read.state earlier h.judging.place (at_command w (Asked id question) c) w c.x only question u.number u.state later next there asked_carries.1 asked_carries.2 progress
           (turn asked_carries.1.next c.x h.judging.before is_asked (at_command w (Asked id question) c).held)
 
-      pub asked_further : (remade : Option Problem) → progress ≡ Going → u.lexer ≡ w.lexer → u.sexprs ≡ w.sexprs → SufficesFrom later there → IsMadeStill u.state remade → IsJudgingSoFar leads bytes start first u remade later there next
-      asked_further remade is lexer sexprs suffices still =
+      pub asked_further : (remade : Option Problem) → progress ≡ Going → u.lexer ≡ w.lexer → u.sexprs ≡ w.sexprs → SufficesFrom later there → HoldsTrees wanted later → IsMadeStill u.state remade → IsJudgingSoFar leads wanted bytes start first u remade later there next
+      asked_further remade is lexer sexprs suffices trees still =
           goes_further w (Asked id question) c u remade later there next lexer sexprs
-          (goes_to leads now next h.judging.place h.judging.before here there c.x u.number u.state later progress is judged_turn) suffices still
+          (goes_to leads now next h.judging.place h.judging.before here there c.x u.number u.state later progress is judged_turn) suffices trees still
 
       pub asked_over : (judgement : Judgement) → progress ≡ Judged judgement → IsSoOfAll start there (ScriptComesTo leads first next bytes judgement)
       asked_over judgement is =

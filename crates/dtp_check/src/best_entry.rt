@@ -1,5 +1,5 @@
 //! What is wrong with a best entry.
-ghost use Rattle.std.specs.Prelude.{◌≡◌, ◌↔◌, ◌<◌, ◌+◌, [], ◌∷◌, ◌++◌, List, length, IfOk, IsTrue, MatchOption, Some, None, ◌+ℤ◌, ◌-ℤ◌};
+ghost use Rattle.std.specs.Prelude.{◌≡◌, ◌↔◌, ◌<◌, ◌+◌, [], ◌∷◌, ◌++◌, Bool, List, length, IfOk, IsTrue, MatchOption, Some, None, ◌+ℤ◌, ◌-ℤ◌};
 ghost use Rattle.kept_lemmas.specs.Entries.{Placed as Place};
 ghost use Rattle.cert_text.specs.declared.entry.FileEntry.{FileEntry as Shown};
 ghost use Rattle.stn_core.specs.Literal.{value_at};
@@ -12,7 +12,7 @@ ghost use Rattle.dtp_check.specs.declared.judgement.EntryFlaw.TheVariants.{OutOf
 ghost use Rattle.dtp_check.specs.MinimizeFlaws.{range_flaw};
 ghost use Rattle.dtp_check.specs.Judged.{refutation_flaw, entry_flaw, placed_items, placed};
 ghost use Rattle.dtp_check.specs.code.Asked.{IsAsked, IsLeastFound, asked_clauses};
-ghost use Rattle.dtp_check.specs.code.Earlier.{Holds, Suffices};
+ghost use Rattle.dtp_check.specs.code.Earlier.{Holds, HoldsTrees, Suffices};
 ghost use Rattle.dtp_check.specs.code.Made.{IsMadeOf};
 
 use crate::asking::{with_question, without_question};
@@ -126,6 +126,7 @@ fn least_items_flaw(
         → IsAsked state.now (Minimize objective) x s → Holds earlier.old before
         → Holds earlier.new (before ++ placed_items s.context (asked_clauses s.context objective difference) items.now ∷ [])) }
     ensures suffices { (entries : List Shown) → Suffices earlier.old entries → Suffices earlier.new entries }
+    ensures trees { (wanted : Bool) → HoldsTrees wanted earlier.old → HoldsTrees wanted earlier.new }
 {
     smt_script::objective_law();
     clause_form::clause_form_law();
@@ -162,6 +163,7 @@ pub fn best_flaw(
         → IsAsked state.now (Minimize objective) x s → Holds earlier.old before
         → Holds earlier.new (before ++ placed (Minimize objective) s.context (Shown.Best m values.now items.now) ∷ [])) }
     ensures suffices { (entries : List Shown) → Suffices earlier.old entries → Suffices earlier.new entries }
+    ensures trees { (wanted : Bool) → HoldsTrees wanted earlier.old → HoldsTrees wanted earlier.new }
 {
     match least_flaw(alloc, state, objective, m, values)? {
         Err(flaw) => Ok(Some(flaw)),

@@ -1,5 +1,5 @@
 //! What is held of the entries that were found right, for those that come.
-ghost use Rattle.std.specs.Prelude.{◌≡◌, ◌↔◌, [], ◌∷◌, ◌++◌, map, All, IfOk, IfErr, IsOk, OnOk, List, IsTrue, None};
+ghost use Rattle.std.specs.Prelude.{◌≡◌, ◌↔◌, [], ◌∷◌, ◌++◌, map, All, IfOk, IfErr, IsOk, OnOk, Bool, true, List, IsTrue, None};
 ghost use Rattle.kept_lemmas.specs.Entries.{Placed as Place, IsOwn, shelf_of, without_items};
 ghost use Rattle.kept_lemmas.specs.Facts.{Shelf as Facts};
 ghost use Rattle.cert_text.specs.declared.entry.FileEntry.{FileEntry as Shown};
@@ -8,12 +8,12 @@ ghost use Rattle.lemma_shelf.specs.ItemFlaws.{items_flaw};
 ghost use Rattle.lemma_shelf.specs.Lowering.{StandFor};
 ghost use Rattle.cert_check.specs.Flaws.{TellsFlaw};
 ghost use Rattle.refute_tree.specs.Trees.{IsRefutation};
-ghost use Rattle.dtp_check.specs.code.Earlier.{Holds, Suffices, SufficesFrom, LastRefutes, RefusesBy};
+ghost use Rattle.dtp_check.specs.code.Earlier.{Holds, HoldsTrees, Suffices, SufficesFrom, LastRefutes, RefusesBy};
 
 use cert_check::CheckError;
 use cert_read::EntryReader;
 use kept_lemmas::Item;
-use lemma_shelf::{Shelf, check_items};
+use lemma_shelf::{Shelf, TreeShelf, check_items};
 use refute_tree::Refutation;
 use std::alloc::{AllocError, Global};
 use stn_core::Problem;
@@ -25,6 +25,8 @@ pub enum Earlier {
     Unkept,
     /// The entries that were found right, on a shelf.
     Shelved(Shelf),
+    /// The same where entries are to be written out.
+    WithTrees(TreeShelf),
 }
 
 /// Whether the item is a lemma of the entry's own.
@@ -60,13 +62,17 @@ fn own_lemmas(alloc: Global, items: &[Item]) -> Result<Refutation, AllocError>
 }
 
 impl Earlier {
-    /// What is held before the first of the entries that are read.
-    pub fn new(alloc: Global, entries: &EntryReader) -> Self
+    /// What is held before the first of the entries that are read: so much that entries can be written out, where that is
+    /// wanted.
+    pub fn new(alloc: Global, entries: &EntryReader, wants_trees: bool) -> Self
         ensures holds { Holds result [] }
         ensures suffices { SufficesFrom result entries.now }
+        ensures trees { HoldsTrees wants_trees result }
     {
         if entries.keeps_none() {
             Earlier::Unkept
+        } else if wants_trees {
+            Earlier::WithTrees(TreeShelf::new(alloc))
         } else {
             Earlier::Shelved(Shelf::new(alloc))
         }
@@ -89,11 +95,13 @@ impl Earlier {
         ensures right { OnOk result ((shelf : Facts)
             × (items_flaw shelf problem.now.points problem.now.clauses items.now ≡ None)) }
         ensures suffices { (entries : List Shown) → Suffices self.old entries → Suffices self.new entries }
+        ensures trees { (wanted : Bool) → HoldsTrees wanted self.old → HoldsTrees wanted self.new }
     {
         kept_lemmas::entries_law();
         match self {
             Earlier::Unkept => check_items(alloc, problem, items),
             Earlier::Shelved(shelf) => shelf.check_entry(problem, items),
+            Earlier::WithTrees(shelf) => shelf.check_entry(problem, items),
         }
     }
 
@@ -105,7 +113,8 @@ impl Earlier {
         problem: &Problem,
         items: &[Item],
     ) -> Result<Refutation, CheckError>
-        requires { Suffices self.old (Shown.Unsat items.now ∷ []) }
+        requires suffices { Suffices self.old (Shown.Unsat items.now ∷ []) }
+        requires trees { HoldsTrees true self.old }
         ensures flaw { (before : List Place) → Holds self.old before → IfErr result
             (RefusesBy (items_flaw (shelf_of before) problem.now.points problem.now.clauses items.now)) }
         ensures right { IsOk result → (before : List Place) → Holds self.old before
@@ -117,13 +126,15 @@ impl Earlier {
         ensures held { IsOk result → (before : List Place) → Holds self.old before → Holds self.new
             (before ++ record { points = problem.now.points; clauses = problem.now.clauses; items = items.now } ∷ []) }
         ensures suffices { (entries : List Shown) → Suffices self.old entries → Suffices self.new entries }
+        ensures trees { (wanted : Bool) → HoldsTrees wanted self.old → HoldsTrees wanted self.new }
     {
         lemma_shelf::flaw_law();
         kept_lemmas::own_law();
         self.check(alloc, problem, items)?;
         match self {
             Earlier::Unkept => Ok(own_lemmas(alloc, items)?),
-            Earlier::Shelved(shelf) => {
+            Earlier::Shelved(_) => unreachable!(),
+            Earlier::WithTrees(shelf) => {
                 if are_own(items) {
                     Ok(own_lemmas(alloc, items)?)
                 } else {
@@ -138,11 +149,13 @@ impl Earlier {
         ensures held { OnOk result ((before : List Place) → Holds self.old before
             → Holds self.new (before ++ without_items ∷ [])) }
         ensures suffices { (entries : List Shown) → Suffices self.old entries → Suffices self.new entries }
+        ensures trees { (wanted : Bool) → HoldsTrees wanted self.old → HoldsTrees wanted self.new }
     {
         kept_lemmas::entries_law();
         match self {
             Earlier::Unkept => Ok(()),
             Earlier::Shelved(shelf) => shelf.skip(),
+            Earlier::WithTrees(shelf) => shelf.skip(),
         }
     }
 }

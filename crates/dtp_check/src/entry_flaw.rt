@@ -1,5 +1,5 @@
 //! What an entry says, and what is wrong with it.
-ghost use Rattle.std.specs.Prelude.{◌≡◌, [], ◌∷◌, ◌++◌, List, IfOk, None};
+ghost use Rattle.std.specs.Prelude.{◌≡◌, [], ◌∷◌, ◌++◌, Bool, List, IfOk, None};
 ghost use Rattle.kept_lemmas.specs.Entries.{Placed as Place};
 ghost use Rattle.cert_text.specs.declared.entry.FileEntry.{FileEntry as Shown};
 ghost use Rattle.smt_sexpr.specs.Tree.{Sexpr};
@@ -8,7 +8,7 @@ ghost use Rattle.smt_script.specs.States.{State as Meaning};
 ghost use Rattle.script_walk.specs.code.Standing.{Stands};
 ghost use Rattle.dtp_entry.specs.Entries.{problem_of};
 ghost use Rattle.dtp_check.specs.code.Asked.{IsAsked};
-ghost use Rattle.dtp_check.specs.code.Earlier.{Holds, Suffices};
+ghost use Rattle.dtp_check.specs.code.Earlier.{Holds, HoldsTrees, Suffices};
 ghost use Rattle.dtp_check.specs.Judged.{refutation_flaw, entry_flaw, placed_items, placed, told_by};
 ghost use Rattle.dtp_check.specs.code.Made.{IsMadeOf};
 
@@ -58,6 +58,7 @@ pub fn entry_flaw(
         → IsAsked state.now question x s → Holds earlier.old before
         → Holds earlier.new (before ++ placed question s.context entry.now ∷ [])) }
     ensures suffices { (entries : List Shown) → Suffices earlier.old entries → Suffices earlier.new entries }
+    ensures trees { (wanted : Bool) → HoldsTrees wanted earlier.old → HoldsTrees wanted earlier.new }
 {
     match question {
         Question::CheckSat => {
@@ -89,6 +90,7 @@ fn check_sat_flaw(
         → IsAsked state.now CheckSat x s → Holds earlier.old before
         → Holds earlier.new (before ++ placed CheckSat s.context entry.now ∷ [])) }
     ensures suffices { (entries : List Shown) → Suffices earlier.old entries → Suffices earlier.new entries }
+    ensures trees { (wanted : Bool) → HoldsTrees wanted earlier.old → HoldsTrees wanted earlier.new }
 {
     match entry {
         FileEntry::Sat(values) => {
@@ -124,6 +126,7 @@ fn minimize_flaw(
         → IsAsked state.now (Minimize objective) x s → Holds earlier.old before
         → Holds earlier.new (before ++ placed (Minimize objective) s.context entry.now ∷ [])) }
     ensures suffices { (entries : List Shown) → Suffices earlier.old entries → Suffices earlier.new entries }
+    ensures trees { (wanted : Bool) → HoldsTrees wanted earlier.old → HoldsTrees wanted earlier.new }
 {
     match entry {
         FileEntry::Sat(_) => Ok(Some(EntryFlaw::WrongKind)),
@@ -160,6 +163,7 @@ fn items_flaw(
     ensures held { IfOk result (λ flaw. flaw ≡ None → (s : Meaning) (before : List Place) → Stands state.now s
         → Holds earlier.old before → Holds earlier.new (before ++ placed_items s.context (problem_of s.context) items.now ∷ [])) }
     ensures suffices { (entries : List Shown) → Suffices earlier.old entries → Suffices earlier.new entries }
+    ensures trees { (wanted : Bool) → HoldsTrees wanted earlier.old → HoldsTrees wanted earlier.new }
 {
     let problem = take_or_make(alloc, state, made)?;
     let checked = earlier.check(alloc, &problem, items.as_slice());

@@ -8,7 +8,7 @@ ghost use Rattle.kept_lemmas.specs.Entries.{Placed};
 ghost use Rattle.script_walk.specs.code.Events.{IsStart};
 ghost use Rattle.script_walk.specs.code.Standing.{Stands};
 ghost use Rattle.dtp_check.specs.code.Asked.{IsAsked};
-ghost use Rattle.dtp_check.specs.code.Earlier.{Holds, Suffices, SufficesFrom};
+ghost use Rattle.dtp_check.specs.code.Earlier.{Holds, HoldsTrees, Suffices, SufficesFrom};
 ghost use Rattle.dtp_check.specs.Judged.{surplus_of, entry_flaw};
 ghost use Rattle.dtp_check.specs.code.Made.{IsMadeOf, IsMadeStill, GoesOn as More};
 ghost use Rattle.dtp_check.specs.code.Parts.{IsNext, GoesOn};
@@ -91,6 +91,7 @@ fn judge_entry<K: Keeps>(
     requires made { IsMadeOf walk.old.state made.old }
     requires few { walk.old.number < 2 ^ 64 - 1 }
     requires suffices { Suffices earlier.old (entry.now ∷ []) }
+    requires trees { HoldsTrees K.trees earlier.old }
     ensures flaw { IfOk result (λ flaw. (s : Meaning) (x : Sexpr) (before : List Placed) → IsAsked walk.old.state question x s
         → Holds earlier.old before → flaw ≡ entry_flaw before question x s.context entry.now) }
     ensures right { IfOk result (λ flaw. flaw ≡ None → (s : Meaning) (x : Sexpr) (before : List Placed)
@@ -99,6 +100,7 @@ fn judge_entry<K: Keeps>(
     ensures made { IfOk result (λ flaw. flaw ≡ None → IsMadeStill walk.new.state made.new) }
     ensures number { IfOk result (λ flaw. flaw ≡ None → walk.new.number ≡ walk.old.number + 1) }
     ensures suffices { (entries : List Shown) → Suffices earlier.old entries → Suffices earlier.new entries }
+    ensures trees { HoldsTrees K.trees earlier.new }
     ensures lexer { walk.new.lexer ≡ walk.old.lexer }
     ensures sexprs { walk.new.sexprs ≡ walk.old.sexprs }
 {
@@ -126,12 +128,14 @@ fn judge_answer<K: Keeps>(
     requires made { IsMadeOf walk.old.state made.old }
     requires few { walk.old.number < 2 ^ 64 - 1 }
     requires suffices { SufficesFrom earlier.old entries.old }
+    requires trees { HoldsTrees K.trees earlier.old }
     ensures turn { IfOk result (λ progress. (s : Meaning) (x : Sexpr) (before : List Placed)
         → IsAsked walk.old.state question x s → Holds earlier.old before
         → IsAnswerTurn K.leads keeps.old keeps.new question x s walk.old.number before entries.old entries.new
         walk.new.number walk.new.state earlier.new progress) }
     ensures made { IfOk result (λ progress. More progress → IsMadeStill walk.new.state made.new) }
     ensures suffices { IfOk result (λ progress. More progress → SufficesFrom earlier.new entries.new) }
+    ensures trees { HoldsTrees K.trees earlier.new }
     ensures lexer { walk.new.lexer ≡ walk.old.lexer }
     ensures sexprs { walk.new.sexprs ≡ walk.old.sexprs }
 {
@@ -163,12 +167,14 @@ fn judge_question<K: Keeps>(
     requires made { IsMadeStill walk.old.state made.old }
     requires few { walk.old.number < 2 ^ 64 - 1 }
     requires suffices { SufficesFrom earlier.old entries.old }
+    requires trees { HoldsTrees K.trees earlier.old }
     ensures turn { IfOk result (λ progress. (s : Meaning) (x : Sexpr) (before : List Placed)
         → IsAsked walk.old.state question x s → Holds earlier.old before
         → IsQuestionTurn K.leads keeps.old keeps.new question x s walk.old.number before entries.old entries.new
         walk.new.number walk.new.state earlier.new progress) }
     ensures made { IfOk result (λ progress. More progress → IsMadeStill walk.new.state made.new) }
     ensures suffices { IfOk result (λ progress. More progress → SufficesFrom earlier.new entries.new) }
+    ensures trees { HoldsTrees K.trees earlier.new }
     ensures lexer { walk.new.lexer ≡ walk.old.lexer }
     ensures sexprs { walk.new.sexprs ≡ walk.old.sexprs }
 {
@@ -218,9 +224,9 @@ impl<'a, K: Keeps> Visitor<K> for Judging<'a> {
     type Fault = AllocError;
 
     ghost starts = { λ j _. IsStart j.walk × (j.made ≡ None) × (j.entries.count ≡ 0) × Holds j.earlier []
-        × SufficesFrom j.earlier j.entries };
+        × SufficesFrom j.earlier j.entries × HoldsTrees K.trees j.earlier };
 
-    ghost so_far = { λ first before now after. IsJudgingSoFar K.leads first.walk.lexer.bytes first.entries before
+    ghost so_far = { λ first before now after. IsJudgingSoFar K.leads K.trees first.walk.lexer.bytes first.entries before
         now.walk now.made now.earlier now.entries after };
 
     ghost comes = { λ before now event. IsPartEvent before.walk now.walk event × (now ≡ record before { walk = now.walk }) };
@@ -306,7 +312,7 @@ pub fn judge_script<'a, K: Keeps>(
         alloc,
         walk: Walk::new(alloc, bytes),
         made: None,
-        earlier: Earlier::new(alloc, &entries),
+        earlier: Earlier::new(alloc, &entries, keeps.wants_trees()),
         entries,
     };
     let judgement = go_through(&mut judging, keeps)?;

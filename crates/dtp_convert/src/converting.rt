@@ -1,5 +1,5 @@
 //! The conversion: what is done with each entry that the check finds right.
-ghost use Rattle.std.specs.Prelude.{◌≡◌, [], List};
+ghost use Rattle.std.specs.Prelude.{◌≡◌, [], true, List};
 
 use crate::entry::shown_entry;
 use cert_text::{Entry, FileEntry};
@@ -29,6 +29,12 @@ impl Keeps for Converting {
     ghost use Rattle.dtp_convert.specs.code.Shown.{IsAdded};
 
     ghost leads = { λ first now before question x c entry. IsAdded first.entries.items now.entries.items before question x c entry };
+
+    ghost trees = { true };
+
+    fn wants_trees(&self) -> bool {
+        true
+    }
 
     fn keep(
         &mut self,

@@ -1,5 +1,5 @@
 //! One entry, as the first version shows it.
-ghost use Rattle.std.specs.Prelude.{◌≡◌, [], ◌∷◌, ◌++◌, List, IfOk, IsOk, OnOk};
+ghost use Rattle.std.specs.Prelude.{◌≡◌, [], ◌∷◌, ◌++◌, Bool, true, List, IfOk, IsOk, OnOk};
 ghost use Rattle.smt_sexpr.specs.Tree.{Sexpr};
 ghost use Rattle.stn_core.specs.Named.{AreWithinLimit};
 ghost use Rattle.best_values.specs.Widths.{IsWithinLimit};
@@ -8,7 +8,7 @@ ghost use Rattle.kept_lemmas.specs.Entries.{Placed as Place};
 ghost use Rattle.smt_script.specs.declared.state.Question.TheVariants.{Minimize};
 ghost use Rattle.smt_script.specs.States.{State as Meaning};
 ghost use Rattle.dtp_check.specs.code.Asked.{IsAsked, asked_clauses};
-ghost use Rattle.dtp_check.specs.code.Earlier.{Holds, Suffices};
+ghost use Rattle.dtp_check.specs.code.Earlier.{Holds, HoldsTrees, Suffices};
 ghost use Rattle.dtp_check.specs.Judged.{placed, placed_items};
 ghost use Rattle.dtp_check.specs.code.Made.{IsMadeOf};
 ghost use Rattle.dtp_convert.specs.code.Shown.{AreItemsShown, IsShown};
@@ -58,12 +58,14 @@ fn shown_values(
     requires asked { (s : Meaning) × (x : Sexpr) × IsAsked state.now question x s }
     requires made { IsMadeOf state.now made.old }
     requires suffices { Suffices earlier.old (entry.now ∷ []) }
+    requires trees { HoldsTrees true earlier.old }
     ensures made { IsMadeOf state.now made.new }
     ensures shown { IfOk result (λ found. (s : Meaning) (x : Sexpr) (before : List Place) → IsAsked state.now question x s
         → Holds earlier.old before → IsShown before question x s.context entry.now found) }
     ensures held { IfOk result (λ found. IsOk found → (s : Meaning) (x : Sexpr) (before : List Place) → IsAsked state.now question x s
         → Holds earlier.old before → Holds earlier.new (before ++ placed question s.context entry.now ∷ [])) }
     ensures suffices { (entries : List Shown) → Suffices earlier.old entries → Suffices earlier.new entries }
+    ensures trees { (wanted : Bool) → HoldsTrees wanted earlier.old → HoldsTrees wanted earlier.new }
 {
     dtp_entry::right_is_so();
     match KeepsNothing.keep(alloc, state, question, made, earlier, entry)? {
@@ -87,12 +89,14 @@ fn shown_items(
     requires asked { (s : Meaning) × (x : Sexpr) × IsAsked state.now question x s }
     requires made { IsMadeOf state.now made.old }
     requires suffices { Suffices earlier.old (Shown.Unsat items.now ∷ []) }
+    requires trees { HoldsTrees true earlier.old }
     ensures made { IsMadeOf state.now made.new }
     ensures shown { IfOk result (λ found. (s : Meaning) (x : Sexpr) (before : List Place) → IsAsked state.now question x s
         → Holds earlier.old before → IsShown before question x s.context (Shown.Unsat items.now) found) }
     ensures held { IfOk result (λ found. IsOk found → (s : Meaning) (x : Sexpr) (before : List Place) → IsAsked state.now question x s
         → Holds earlier.old before → Holds earlier.new (before ++ placed question s.context (Shown.Unsat items.now) ∷ [])) }
     ensures suffices { (entries : List Shown) → Suffices earlier.old entries → Suffices earlier.new entries }
+    ensures trees { (wanted : Bool) → HoldsTrees wanted earlier.old → HoldsTrees wanted earlier.new }
 {
     dtp_entry::right_is_so();
     let problem = take_or_make(alloc, state, made)?;
@@ -119,6 +123,7 @@ fn shown_below(
     requires made { IsMadeOf state.now made.old }
     requires within { IsWithinLimit difference }
     requires suffices { Suffices earlier.old (Shown.Unsat items.now ∷ []) }
+    requires trees { HoldsTrees true earlier.old }
     ensures made { IsMadeOf state.now made.new }
     ensures shown { IfOk result (λ found. (s : Meaning) (x : Sexpr) (before : List Place)
         → IsAsked state.now (Minimize objective) x s → Holds earlier.old before
@@ -127,6 +132,7 @@ fn shown_below(
         → IsAsked state.now (Minimize objective) x s → Holds earlier.old before
         → Holds earlier.new (before ++ placed_items s.context (asked_clauses s.context objective difference) items.now ∷ [])) }
     ensures suffices { (entries : List Shown) → Suffices earlier.old entries → Suffices earlier.new entries }
+    ensures trees { (wanted : Bool) → HoldsTrees wanted earlier.old → HoldsTrees wanted earlier.new }
 {
     smt_script::objective_law();
     clause_form::clause_form_law();
@@ -151,6 +157,7 @@ fn shown_best(
     requires asked { (s : Meaning) × (x : Sexpr) × IsAsked state.now (Minimize objective) x s }
     requires made { IsMadeOf state.now made.old }
     requires suffices { Suffices earlier.old (Shown.Best m values.now items.now ∷ []) }
+    requires trees { HoldsTrees true earlier.old }
     ensures made { IsMadeOf state.now made.new }
     ensures shown { IfOk result (λ found. (s : Meaning) (x : Sexpr) (before : List Place) → IsAsked state.now (Minimize objective) x s
         → Holds earlier.old before → IsShown before (Minimize objective) x s.context (Shown.Best m values.now items.now) found) }
@@ -158,6 +165,7 @@ fn shown_best(
         → Holds earlier.old before
         → Holds earlier.new (before ++ placed (Minimize objective) s.context (Shown.Best m values.now items.now) ∷ [])) }
     ensures suffices { (entries : List Shown) → Suffices earlier.old entries → Suffices earlier.new entries }
+    ensures trees { (wanted : Bool) → HoldsTrees wanted earlier.old → HoldsTrees wanted earlier.new }
 {
     dtp_entry::right_is_so();
     let difference = match least_flaw(alloc, state, objective, m, values)? {
@@ -190,12 +198,14 @@ fn shown_unbounded(
     requires asked { (s : Meaning) × (x : Sexpr) × IsAsked state.now question x s }
     requires made { IsMadeOf state.now made.old }
     requires suffices { Suffices earlier.old (entry.now ∷ []) }
+    requires trees { HoldsTrees true earlier.old }
     ensures made { IsMadeOf state.now made.new }
     ensures shown { IfOk result (λ found. (s : Meaning) (x : Sexpr) (before : List Place) → IsAsked state.now question x s
         → Holds earlier.old before → IsShown before question x s.context entry.now found) }
     ensures held { IfOk result (λ found. IsOk found → (s : Meaning) (x : Sexpr) (before : List Place) → IsAsked state.now question x s
         → Holds earlier.old before → Holds earlier.new (before ++ placed question s.context entry.now ∷ [])) }
     ensures suffices { (entries : List Shown) → Suffices earlier.old entries → Suffices earlier.new entries }
+    ensures trees { (wanted : Bool) → HoldsTrees wanted earlier.old → HoldsTrees wanted earlier.new }
 {
     dtp_entry::right_is_so();
     match KeepsNothing.keep(alloc, state, question, made, earlier, entry)? {
@@ -221,12 +231,14 @@ pub fn shown_entry(
     requires asked { (s : Meaning) × (x : Sexpr) × IsAsked state.now question x s }
     requires made { IsMadeOf state.now made.old }
     requires suffices { Suffices earlier.old (entry.now ∷ []) }
+    requires trees { HoldsTrees true earlier.old }
     ensures made { IsMadeOf state.now made.new }
     ensures shown { IfOk result (λ found. (s : Meaning) (x : Sexpr) (before : List Place) → IsAsked state.now question x s
         → Holds earlier.old before → IsShown before question x s.context entry.now found) }
     ensures held { IfOk result (λ found. IsOk found → (s : Meaning) (x : Sexpr) (before : List Place) → IsAsked state.now question x s
         → Holds earlier.old before → Holds earlier.new (before ++ placed question s.context entry.now ∷ [])) }
     ensures suffices { (entries : List Shown) → Suffices earlier.old entries → Suffices earlier.new entries }
+    ensures trees { (wanted : Bool) → HoldsTrees wanted earlier.old → HoldsTrees wanted earlier.new }
 {
     match entry {
         FileEntry::Sat(values) => {

@@ -1,9 +1,9 @@
 //! The items of an entry as lemmas of its own, in the first version.
-ghost use Rattle.std.specs.Prelude.{◌≡◌, ◌∷◌, [], ◌++◌, List, map, IfOk, IsOk, OnOk};
+ghost use Rattle.std.specs.Prelude.{◌≡◌, ◌∷◌, [], ◌++◌, Bool, true, List, map, IfOk, IsOk, OnOk};
 ghost use Rattle.refute_tree.specs.Lengths.{lengthened_lemma};
 ghost use Rattle.cert_text.specs.declared.entry.FileEntry.{FileEntry as Shown};
 ghost use Rattle.kept_lemmas.specs.Entries.{Placed as Place};
-ghost use Rattle.dtp_check.specs.code.Earlier.{Holds, Suffices};
+ghost use Rattle.dtp_check.specs.code.Earlier.{Holds, HoldsTrees, Suffices};
 ghost use Rattle.dtp_convert.specs.code.Shown.{AreItemsShown};
 
 use crate::fitting::are_within;
@@ -45,12 +45,14 @@ pub fn shown_lemmas(
     earlier: &mut Earlier,
     items: &Items,
 ) -> Result<Result<Refutation, EntryFlaw>, AllocError>
-    requires { Suffices earlier.old (Shown.Unsat items.now ∷ []) }
+    requires suffices { Suffices earlier.old (Shown.Unsat items.now ∷ []) }
+    requires trees { HoldsTrees true earlier.old }
     ensures shown { IfOk result (λ found. (before : List Place) → Holds earlier.old before
         → AreItemsShown before problem.now.points problem.now.clauses items.now found) }
     ensures held { IfOk result (λ found. IsOk found → (before : List Place) → Holds earlier.old before → Holds earlier.new
         (before ++ record { points = problem.now.points; clauses = problem.now.clauses; items = items.now } ∷ [])) }
     ensures suffices { (entries : List Shown) → Suffices earlier.old entries → Suffices earlier.new entries }
+    ensures trees { (wanted : Bool) → HoldsTrees wanted earlier.old → HoldsTrees wanted earlier.new }
 {
     refute_tree::lengths_law();
     let refutation = match earlier.lowered(alloc, problem, items.as_slice()) {

@@ -11,6 +11,7 @@ pub mod Walking
 pub mod Keeping
 pub mod Alike
 pub mod Fitting
+pub mod HeldSteps
 pub mod MoreLemmas
 pub mod MoreItems
 pub mod Steps

@@ -14,11 +14,14 @@ use Rattle.refute_tree.specs.Trees.{Tree, IsRefuted, stated}
 use Rattle.cert_check.specs.Tests.{is_on_points}
 use Rattle.kept_lemmas.specs.Facts.{Fact, Facts, stated_by, no_fact, support_of_clause, named_by_fact, step_support, step_named, own_fact, facts_from}
 use Rattle.kept_lemmas.proofs.FactLists.{all_at}
-use Rattle.lemma_shelf.specs.code.Tables.{own_item, table_facts, fact_at, facts_at, IsKnownStep, IsOnTable, IsTable, IsRenumbered, to_input, to_clash, to_earlier, keeps_cycle, keeps_either, AreRenumbered, step_fits, NeedsOf, CitesBelow}
+use Rattle.lemma_shelf.specs.declared.trees.Trees.{Trees}
+use Rattle.lemma_shelf.specs.declared.trees.Trees.TheVariants.{Held}
+use Rattle.lemma_shelf.specs.code.Tables.{own_item, table_facts, fact_at, facts_at, IsKnownStep, IsOnTable, IsTable, HaveTrees, steps_held, IsRenumbered, to_input, to_clash, to_earlier, keeps_cycle, keeps_either, AreRenumbered, step_fits, NeedsOf, CitesBelow}
 use Rattle.lemma_shelf.proofs.Lists.{get_longer, get_last, get_parts, some_there, take_front, take_before}
 use Rattle.lemma_shelf.proofs.TableFacts.{table_length, table_stated, table_fact, table_longer, fact_is}
 use Rattle.lemma_shelf.proofs.Alike.{Alike, same_input, same_clash, same_earlier, same_cycle, same_either, tree_moved, fact_same, are_alike}
 use Rattle.lemma_shelf.proofs.Fitting.{and_assoc}
+use Rattle.lemma_shelf.proofs.HeldSteps.{fact_held, all_held}
 
 -- ---- the book grows
 
@@ -138,7 +141,7 @@ module _ (book : List (List Literal)) (lemmas : List Lemma) (points : List ℕ) 
 module _ (book more_ : List (List Literal)) (lemmas : List Lemma) (points : List ℕ) (table : IsTable book lemmas points)
     (clauses : List (List Literal)) (numbers : List ℕ) (within : All (λ (n : ℕ). n < length lemmas) numbers)
     (count : ℕ) (lemma : Lemma) (refuted : IsRefuted count clauses (map stated_by (facts_at (table_facts book lemmas) numbers)) lemma)
-    (others : List Step) (same : AreRenumbered clauses numbers (book ++ more_) lemma.steps others)
+    (trees : Trees) (others : List Step) (same : AreRenumbered clauses numbers (book ++ more_) (steps_held trees lemma.steps) others)
     (needs : ℕ) (least : NeedsOf needs (λ (c : ℕ). list_all (is_on_points c) lemma.clause && list_all (step_fits points c) others)) where
   abbrev Now : List (List Literal)
   Now = book ++ more_
@@ -155,11 +158,11 @@ module _ (book more_ : List (List Literal)) (lemmas : List Lemma) (points : List
   numbers_in : All (λ (n : ℕ). n < length (table_facts book lemmas)) numbers
   numbers_in = let long = table_length book lemmas in All-weaker (λ (n : ℕ). n < length lemmas) (λ (n : ℕ). n < length (table_facts book lemmas)) (λ n lt. omega (arith, long, lt)) numbers within
 
-  alike : AllZip (Alike clauses (facts_at (table_facts book lemmas) numbers) (book ++ more_) (table_facts book lemmas)) lemma.steps others
-  alike = are_alike clauses numbers (book ++ more_) (table_facts book lemmas) numbers_in lemma.steps others same
+  alike : AllZip (Alike clauses (facts_at (table_facts book lemmas) numbers) (book ++ more_) (table_facts book lemmas)) (steps_held trees lemma.steps) others
+  alike = are_alike clauses numbers (book ++ more_) (table_facts book lemmas) numbers_in (steps_held trees lemma.steps) others same
 
   known : All (IsKnownStep (length (book ++ more_)) (length lemmas)) others
-  known = all_renumbered_known clauses numbers (book ++ more_) (length lemmas) within lemma.steps others same
+  known = all_renumbered_known clauses numbers (book ++ more_) (length lemmas) within (steps_held trees lemma.steps) others same
 
   cited : All (CitesBelow (length lemmas)) others
   cited = all_cite (length (book ++ more_)) (length lemmas) others known
@@ -184,20 +187,14 @@ module _ (book more_ : List (List Literal)) (lemmas : List Lemma) (points : List
   pub new_at : fact_at (table_facts (book ++ more_) (lemmas ++ other ∷ [])) (length lemmas) ≡ own_fact clauses (facts_at (table_facts book lemmas) numbers) lemma
   new_at =
       fact_is (book ++ more_) (lemmas ++ other ∷ []) (length lemmas) (own_fact (book ++ more_) (table_facts book lemmas) other) fact_new
-      ∙ sym (fact_same clauses (facts_at (table_facts book lemmas) numbers) (book ++ more_) (table_facts book lemmas) lemma.clause lemma.steps others alike)
+      ∙ sym (fact_same clauses (facts_at (table_facts book lemmas) numbers) (book ++ more_) (table_facts book lemmas) lemma.clause (steps_held trees lemma.steps) others alike)
+      ∙ fact_held clauses (facts_at (table_facts book lemmas) numbers) trees lemma
 
   old_on_table : (n : ℕ) (l : Lemma) → n < length lemmas → slice_get lemmas n ≡ Some l → IsOnTable (book ++ more_) (lemmas ++ other ∷ []) (points ++ needs ∷ []) n l
   old_on_table n l lt is =
       let was = table.each n l is in
-      let first : take n (lemmas ++ other ∷ []) ≡ take n lemmas = take_before n lemmas (other ∷ []) (omega (arith, lt)) in
-      let facts : Facts = table_facts book (take n lemmas) in
-      let long : length facts ≡ n = table_length book (take n lemmas) ∙ length-take-le n lemmas (omega (arith, lt)) in
-      let known_there : All (IsKnownStep (length book) (length facts)) l.steps = subst (λ (k : ℕ). All (IsKnownStep (length book) k) l.steps) (sym long) was.known in
-      let tree : Tree book (map stated_by facts) (map negation_of l.clause) l.steps [] = subst (λ (xs : List (List Literal)). Tree book xs (map negation_of l.clause) l.steps []) (sym (table_stated book (take n lemmas))) was.tree in
-      let moved = tree_moved book facts (book ++ more_) facts (map negation_of l.clause) l.steps l.steps tree (all_itself book more_ facts l.steps known_there) in
       let point = slice_get-get_or points n 0 (omega (arith, lt, table.one_each)) in
       record {
-        tree = subst (λ (xs : List (List Literal)). Tree (book ++ more_) xs (map negation_of l.clause) l.steps []) (table_stated book (take n lemmas) ∙ ap (map stated) (sym first)) moved;
         known = All-weaker (IsKnownStep (length book) n) (IsKnownStep (length (book ++ more_)) n) (known_grown book more_ n) l.steps was.known;
         needs = λ c.
             ap (λ (f : Fact). list_all (is_on_points c) f.named) (kept_at n lt) ∙ was.needs c
@@ -206,11 +203,8 @@ module _ (book more_ : List (List Literal)) (lemmas : List Lemma) (points : List
 
   new_on_table : IsOnTable (book ++ more_) (lemmas ++ other ∷ []) (points ++ needs ∷ []) (length lemmas) other
   new_on_table =
-      let tree = tree_moved clauses (facts_at (table_facts book lemmas) numbers) (book ++ more_) (table_facts book lemmas) (map negation_of lemma.clause) lemma.steps others refuted.tree alike in
       let point : slice_get (points ++ needs ∷ []) (length lemmas) ≡ Some needs = ap (λ (k : ℕ). slice_get (points ++ needs ∷ []) k) (sym table.one_each) ∙ get_last points needs in
-      let same_own : own_fact (book ++ more_) (table_facts book lemmas) other ≡ own_fact (book ++ more_) (table_facts book lemmas) other = refl in
       record {
-        tree = subst (λ (xs : List (List Literal)). Tree (book ++ more_) xs (map negation_of lemma.clause) others []) (table_stated book lemmas ∙ ap (map stated) (sym (take_front lemmas (other ∷ [])))) tree;
         known = known;
         needs = λ c.
             ap (λ (f : Fact). list_all (is_on_points c) f.named) (fact_is (book ++ more_) (lemmas ++ other ∷ []) (length lemmas) (own_fact (book ++ more_) (table_facts book lemmas) other) fact_new)
@@ -238,3 +232,35 @@ module _ (book more_ : List (List Literal)) (lemmas : List Lemma) (points : List
             let here : other ≡ l = same_Some other l (sym (get_last lemmas other) ∙ ap (slice_get (lemmas ++ other ∷ [])) at ∙ is) in
             subst (λ (k : ℕ). IsOnTable (book ++ more_) (lemmas ++ other ∷ []) (points ++ needs ∷ []) k l) at (subst (IsOnTable (book ++ more_) (lemmas ++ other ∷ []) (points ++ needs ∷ []) (length lemmas)) here new_on_table)
       ]
+
+  -- ---- and its tree, where trees are held
+
+  old_tree : HaveTrees book lemmas → (n : ℕ) (l : Lemma) → n < length lemmas → slice_get lemmas n ≡ Some l → Tree (book ++ more_) (map stated (take n (lemmas ++ other ∷ []))) (map negation_of l.clause) l.steps []
+  old_tree there n l lt is =
+      let first : take n (lemmas ++ other ∷ []) ≡ take n lemmas = take_before n lemmas (other ∷ []) (omega (arith, lt)) in
+      let facts : Facts = table_facts book (take n lemmas) in
+      let long : length facts ≡ n = table_length book (take n lemmas) ∙ length-take-le n lemmas (omega (arith, lt)) in
+      let known_there : All (IsKnownStep (length book) (length facts)) l.steps = subst (λ (k : ℕ). All (IsKnownStep (length book) k) l.steps) (sym long) (table.each n l is).known in
+      let tree : Tree book (map stated_by facts) (map negation_of l.clause) l.steps [] = subst (λ (xs : List (List Literal)). Tree book xs (map negation_of l.clause) l.steps []) (sym (table_stated book (take n lemmas))) (there n l is) in
+      let moved = tree_moved book facts (book ++ more_) facts (map negation_of l.clause) l.steps l.steps tree (all_itself book more_ facts l.steps known_there) in
+      subst (λ (xs : List (List Literal)). Tree (book ++ more_) xs (map negation_of l.clause) l.steps []) (table_stated book (take n lemmas) ∙ ap (map stated) (sym first)) moved
+
+  new_tree : trees ≡ Held → Tree (book ++ more_) (map stated (take (length lemmas) (lemmas ++ other ∷ []))) (map negation_of lemma.clause) others []
+  new_tree held =
+      let all : steps_held trees lemma.steps ≡ lemma.steps = ap (λ (t : Trees). steps_held t lemma.steps) held ∙ all_held lemma.steps in
+      let here : AllZip (Alike clauses (facts_at (table_facts book lemmas) numbers) (book ++ more_) (table_facts book lemmas)) lemma.steps others =
+      subst (λ (steps : List Step). AllZip (Alike clauses (facts_at (table_facts book lemmas) numbers) (book ++ more_) (table_facts book lemmas)) steps others) all alike in
+      let tree = tree_moved clauses (facts_at (table_facts book lemmas) numbers) (book ++ more_) (table_facts book lemmas) (map negation_of lemma.clause) lemma.steps others refuted.tree here in
+      subst (λ (xs : List (List Literal)). Tree (book ++ more_) xs (map negation_of lemma.clause) others []) (table_stated book lemmas ∙ ap (map stated) (sym (take_front lemmas (other ∷ [])))) tree
+
+  pub tree_more : trees ≡ Held → HaveTrees book lemmas → HaveTrees (book ++ more_) (lemmas ++ other ∷ [])
+  tree_more held there n l is = elim (get_parts lemmas (other ∷ []) n l is) [
+    | inl h ↦ old_tree there n l h.0 h.1
+    | inr h ↦
+        let lt = slice_get_within (lemmas ++ other ∷ []) n l is in
+        let long = length-append lemmas (other ∷ []) in
+        let at : length lemmas ≡ n = omega (arith, lt, long, h.0) in
+        let here : other ≡ l = same_Some other l (sym (get_last lemmas other) ∙ ap (slice_get (lemmas ++ other ∷ [])) at ∙ is) in
+        subst (λ (k : ℕ). Tree (book ++ more_) (map stated (take k (lemmas ++ other ∷ []))) (map negation_of l.clause) l.steps []) at
+        (subst (λ (m : Lemma). Tree (book ++ more_) (map stated (take (length lemmas) (lemmas ++ other ∷ []))) (map negation_of m.clause) m.steps []) here (new_tree held))
+  ]

@@ -1,9 +1,9 @@
 -- Steps by the numbers of the book and of the table, one after the other.
-use Rattle.std.proofs.Common.{◌≡◌, ℕ, ◌<◌, List, [], ◌∷◌, ◌++◌, length, map, All, sym, ap, subst, ◌∙◌, append-nil, append_assoc, length-append}
+use Rattle.std.proofs.Common.{◌≡◌, ℕ, ◌<◌, List, [], ◌∷◌, ◌++◌, length, map, All, refl, sym, ap, subst, ◌∙◌, append-nil, append_assoc, length-append}
 use Rattle.std.specs.Prelude.{slice_get, slice_index_or, Result, Ok, Err, OnOk, ◌&&◌}
 use Rattle.std.specs.List.{list_all}
 use Rattle.std.proofs.lemmas.List.{length-map}
-use Rattle.std.proofs.lemmas.List.Elements.{All-nil, AllZip-push}
+use Rattle.std.proofs.lemmas.List.Elements.{All-nil}
 use Rattle.std.proofs.lemmas.Option.{slice_get-get_or}
 use Rattle.stn_core.specs.declared.literal.Literal.{Literal}
 use Rattle.refute_tree.specs.declared.step.Step.{Step}
@@ -13,11 +13,14 @@ use Rattle.refute_tree.specs.Trees.{Tree, IsRefuted}
 use Rattle.cert_check.specs.Tests.{is_on_points}
 use Rattle.kept_lemmas.specs.Facts.{Facts, stated_by}
 use Rattle.lemma_shelf.specs.declared.table.Table.{Table}
-use Rattle.lemma_shelf.specs.code.Tables.{table_facts, facts_at, fact_at, IsKnownStep, IsTable, IsRenumbered, to_input, to_clash, to_earlier, AreRenumbered, BeginsAs, AddsStep, NeedsOf, step_fits}
-use Rattle.lemma_shelf.specs.code.Walks.{facts_in, IsWhole, Pushes, HasLemma, BeginsTable}
+use Rattle.lemma_shelf.specs.declared.trees.Trees.{Trees}
+use Rattle.lemma_shelf.specs.declared.trees.Trees.TheVariants.{Held, LetGo}
+use Rattle.lemma_shelf.specs.code.Tables.{table_facts, facts_at, fact_at, IsKnownStep, IsTable, IsRenumbered, to_input, to_clash, to_earlier, AreRenumbered, BeginsAs, AddsStep, AddsHeld, step_held, steps_held, HaveTrees, NeedsOf, step_fits}
+use Rattle.lemma_shelf.specs.code.Walks.{facts_in, IsWhole, TreesIn, KeepsTrees, Pushes, HasLemma, BeginsTable}
 use Rattle.lemma_shelf.proofs.Lists.{some_there}
 use Rattle.lemma_shelf.proofs.Alike.{all_renumbered_longer, tree_known}
-use Rattle.lemma_shelf.proofs.MoreLemmas.{one_more, kept_at, new_at}
+use Rattle.lemma_shelf.proofs.HeldSteps.{held_more, zip_more}
+use Rattle.lemma_shelf.proofs.MoreLemmas.{one_more, kept_at, new_at, tree_more}
 
 on_ok : {A E : Type 0} {P Q : Type 0} (r : Result A E) → (P → Q) → OnOk r P → OnOk r Q
 on_ok (Ok x) f h = f h
@@ -57,13 +60,19 @@ begins_itself xs = record { more = []; longer = sym (append-nil xs) }
 pub begins_further : {A : Type 0} (xs ys zs : List A) → BeginsAs xs ys → BeginsAs ys zs → BeginsAs xs zs
 begins_further xs ys zs a b = record { more = a.more ++ b.more; longer = b.longer ∙ ap (λ us. us ++ b.more) a.longer ∙ append_assoc xs a.more b.more }
 
-pub next_done : (clauses : List (List Literal)) (numbers : List ℕ) (book now : List (List Literal)) → BeginsAs book now → (all before after : List Step) (s : Step) (made next : List Step) → before ≡ s ∷ after → ((done : List Step) × (all ≡ done ++ before) × AreRenumbered clauses numbers book done made) → AddsStep clauses numbers now s made next → (done : List Step) × (all ≡ done ++ after) × AreRenumbered clauses numbers now done next
-next_done clauses numbers book now begins all before after s made next e done adds =
-    let other = adds.0 in
-    let longer : AreRenumbered clauses numbers now done.0 made = subst (λ (b : List (List Literal)). AreRenumbered clauses numbers b done.0 made) (sym begins.longer) (all_renumbered_longer clauses numbers book begins.more done.0 made done.2) in (
+-- ---- what is held of a step
+
+pub next_done : (trees : Trees) (clauses : List (List Literal)) (numbers : List ℕ) (book now : List (List Literal)) → BeginsAs book now → (all before after : List Step) (s : Step) (made next : List Step) → before ≡ s ∷ after
+    → ((done : List Step) × (all ≡ done ++ before) × AreRenumbered clauses numbers book (steps_held trees done) made) → AddsHeld trees clauses numbers now s made next
+    → (done : List Step) × (all ≡ done ++ after) × AreRenumbered clauses numbers now (steps_held trees done) next
+next_done trees clauses numbers book now begins all before after s made next e done adds =
+    let longer : AreRenumbered clauses numbers now (steps_held trees done.0) made =
+    subst (λ (b : List (List Literal)). AreRenumbered clauses numbers b (steps_held trees done.0) made) (sym begins.longer) (all_renumbered_longer clauses numbers book begins.more (steps_held trees done.0) made done.2) in
+    let whole : AreRenumbered clauses numbers now (steps_held trees done.0 ++ step_held trees s) (made ++ adds.0) = zip_more (IsRenumbered clauses numbers now) (steps_held trees done.0) made (step_held trees s) adds.0 longer adds.2 in (
       done.0 ++ s ∷ [],
       done.1 ∙ ap (λ (xs : List Step). done.0 ++ xs) e ∙ sym (append_assoc done.0 (s ∷ []) after),
-      subst (AreRenumbered clauses numbers now (done.0 ++ s ∷ [])) (sym adds.1) (AllZip-push (IsRenumbered clauses numbers now) done.0 made s other longer adds.2),
+      subst (λ (ss : List Step). AreRenumbered clauses numbers now ss next) (sym (held_more trees done.0 s))
+          (subst (AreRenumbered clauses numbers now (steps_held trees done.0 ++ step_held trees s)) (sym adds.1) whole),
     )
 
 -- ---- a lemma
@@ -78,15 +87,15 @@ steps_known clauses table numbers assumed steps read tree e =
 module _ (before now : Table) (book : List (List Literal)) (longer : BeginsAs before.book book)
     (whole : IsWhole before) (clauses : List (List Literal)) (numbers : List ℕ) (within : All (λ (n : ℕ). n < length before.lemmas.items) numbers)
     (count : ℕ) (lemma : Lemma) (refuted : IsRefuted count clauses (map stated_by (facts_at (facts_in before) numbers)) lemma)
-    (others : List Step) (same : AreRenumbered clauses numbers book lemma.steps others) where
+    (trees : Trees) (others : List Step) (same : AreRenumbered clauses numbers book (steps_held trees lemma.steps) others) where
   abbrev Other : Lemma
   Other = record { clause = lemma.clause; steps = others }
 
   has_lemma : (needs : ℕ) → now.book ≡ book → now.lemmas.items ≡ before.lemmas.items ++ Other ∷ [] → now.points.items ≡ before.points.items ++ needs ∷ [] → NeedsOf needs (λ (c : ℕ). list_all (is_on_points c) lemma.clause && list_all (step_fits before.points.items c) others) → HasLemma before clauses numbers lemma now
   has_lemma needs b l p least =
       let grown : now.book ≡ before.book ++ longer.more = b ∙ longer.longer in
-      let same_grown : AreRenumbered clauses numbers (before.book ++ longer.more) lemma.steps others = subst (λ (x : List (List Literal)). AreRenumbered clauses numbers x lemma.steps others) longer.longer same in
-      let table = one_more before.book longer.more before.lemmas.items before.points.items whole clauses numbers within count lemma refuted others same_grown needs least in
+      let same_grown : AreRenumbered clauses numbers (before.book ++ longer.more) (steps_held trees lemma.steps) others = subst (λ (x : List (List Literal)). AreRenumbered clauses numbers x (steps_held trees lemma.steps) others) longer.longer same in
+      let table = one_more before.book longer.more before.lemmas.items before.points.items whole clauses numbers within count lemma refuted trees others same_grown needs least in
       let facts : facts_in now ≡ table_facts (before.book ++ longer.more) (before.lemmas.items ++ Other ∷ []) =
       ap (λ (x : List (List Literal)). table_facts x now.lemmas.items) grown ∙ ap (table_facts (before.book ++ longer.more)) l in
       let long = length-append before.lemmas.items (Other ∷ []) in
@@ -96,8 +105,8 @@ module _ (before now : Table) (book : List (List Literal)) (longer : BeginsAs be
             (subst (λ (ls : List Lemma). IsTable (before.book ++ longer.more) ls now.points.items) (sym l)
             (subst (λ (ps : List ℕ). IsTable (before.book ++ longer.more) (before.lemmas.items ++ Other ∷ []) ps) (sym p) table));
         one_more = ap (λ (ls : List Lemma). length ls) l ∙ long;
-        fact = ap (λ (fs : Facts). fact_at fs (length before.lemmas.items)) facts ∙ new_at before.book longer.more before.lemmas.items before.points.items whole clauses numbers within count lemma refuted others same_grown needs least;
-        kept = λ n lt. ap (λ (fs : Facts). fact_at fs n) facts ∙ kept_at before.book longer.more before.lemmas.items before.points.items whole clauses numbers within count lemma refuted others same_grown needs least n lt;
+        fact = ap (λ (fs : Facts). fact_at fs (length before.lemmas.items)) facts ∙ new_at before.book longer.more before.lemmas.items before.points.items whole clauses numbers within count lemma refuted trees others same_grown needs least;
+        kept = λ n lt. ap (λ (fs : Facts). fact_at fs n) facts ∙ kept_at before.book longer.more before.lemmas.items before.points.items whole clauses numbers within count lemma refuted trees others same_grown needs least n lt;
       }
 
   pub pushed : {A E : Type 0} (r : Result A E) (middle : Table) (other : Lemma) → middle.book ≡ book → middle.lemmas.items ≡ before.lemmas.items → middle.points.items ≡ before.points.items → other ≡ Other → OnOk r (Pushes middle other now) → OnOk r (HasLemma before clauses numbers lemma now)
@@ -107,6 +116,34 @@ module _ (before now : Table) (book : List (List Literal)) (longer : BeginsAs be
       (λ c. g.least c
       ∙ ap (λ (x : Lemma). list_all (is_on_points c) x.clause && list_all (step_fits middle.points.items c) x.steps) o
       ∙ ap (λ (ps : List ℕ). list_all (is_on_points c) lemma.clause && list_all (step_fits ps c) others) p)) h
+
+  -- and its tree, where trees are held
+  has_tree : (needs : ℕ) → trees ≡ Held → now.book ≡ book → now.lemmas.items ≡ before.lemmas.items ++ Other ∷ [] → NeedsOf needs (λ (c : ℕ). list_all (is_on_points c) lemma.clause && list_all (step_fits before.points.items c) others) → TreesIn before → TreesIn now
+  has_tree needs held b l least there =
+      let grown : now.book ≡ before.book ++ longer.more = b ∙ longer.longer in
+      let same_grown : AreRenumbered clauses numbers (before.book ++ longer.more) (steps_held trees lemma.steps) others = subst (λ (x : List (List Literal)). AreRenumbered clauses numbers x (steps_held trees lemma.steps) others) longer.longer same in
+      subst (λ (x : List (List Literal)). HaveTrees x now.lemmas.items) (sym grown)
+      (subst (λ (ls : List Lemma). HaveTrees (before.book ++ longer.more) ls) (sym l)
+      (tree_more before.book longer.more before.lemmas.items before.points.items whole clauses numbers within count lemma refuted trees others same_grown needs least held there))
+
+keeps_by : (trees : Trees) (before now : Table) → (trees ≡ Held → TreesIn before → TreesIn now) → KeepsTrees trees before now
+keeps_by Held before now h = h refl
+keeps_by LetGo before now h = tt
+
+module _ (before now : Table) (book : List (List Literal)) (longer : BeginsAs before.book book)
+    (whole : IsWhole before) (clauses : List (List Literal)) (numbers : List ℕ) (within : All (λ (n : ℕ). n < length before.lemmas.items) numbers)
+    (count : ℕ) (lemma : Lemma) (refuted : IsRefuted count clauses (map stated_by (facts_at (facts_in before) numbers)) lemma)
+    (trees : Trees) (others : List Step) (same : AreRenumbered clauses numbers book (steps_held trees lemma.steps) others) where
+  pub pushed_trees : {A E : Type 0} (r : Result A E) (middle : Table) (other : Lemma) → middle.book ≡ book → middle.lemmas.items ≡ before.lemmas.items → middle.points.items ≡ before.points.items
+      → other ≡ record { clause = lemma.clause; steps = others } → OnOk r (Pushes middle other now) → OnOk r (KeepsTrees trees before now)
+  pushed_trees r middle other b l p o h =
+      on_ok r (λ g.
+      keeps_by trees before now (λ held.
+      has_tree before now book longer whole clauses numbers within count lemma refuted trees others same g.needs held (g.book ∙ b)
+      (g.lemmas ∙ ap (λ (ls : List Lemma). ls ++ other ∷ []) l ∙ ap (λ (x : Lemma). before.lemmas.items ++ x ∷ []) o)
+      (λ c. g.least c
+      ∙ ap (λ (x : Lemma). list_all (is_on_points c) x.clause && list_all (step_fits middle.points.items c) x.steps) o
+      ∙ ap (λ (ps : List ℕ). list_all (is_on_points c) lemma.clause && list_all (step_fits ps c) others) p))) h
 
 pub begins_same : {A : Type 0} (xs ys : List A) → ys ≡ xs → BeginsAs xs ys
 begins_same xs ys e = record { more = []; longer = e ∙ sym (append-nil xs) }

@@ -14,7 +14,7 @@ use Rattle.refute_tree.specs.Trees.{Tree, stated}
 use Rattle.kept_lemmas.specs.declared.item.Item.{Item}
 use Rattle.kept_lemmas.specs.Facts.{Fact, Facts, stated_by, own_fact, facts_of}
 use Rattle.kept_lemmas.proofs.FactLists.{facts-append}
-use Rattle.lemma_shelf.specs.code.Tables.{own_item, table_facts, fact_at, facts_at, IsKnownStep, IsTable, IsPresent, steps_at}
+use Rattle.lemma_shelf.specs.code.Tables.{own_item, table_facts, fact_at, facts_at, IsKnownStep, IsTable, HaveTrees, IsPresent, steps_at}
 use Rattle.lemma_shelf.specs.code.WrittenOut.{IsPlaced, placed_input, placed_clash, placed_earlier, stays_cycle, stays_either, ArePlaced, IsPlacedLemma, AreWrittenOut}
 use Rattle.lemma_shelf.proofs.Lists.{some_there, get_longer, get_parts, get_last, take_before, take_front, at_contained, contained_at}
 use Rattle.lemma_shelf.proofs.TableFacts.{table_length, table_stated, table_fact, table_taken, fact_is}
@@ -44,7 +44,7 @@ places_cited place before (s ∷ steps) (t ∷ others) m (suc k) h is =
     let there = contained_at others (Earlier w.0) w.2 in
     (w.0, w.1, at_contained (t ∷ others) (suc there.0) (Earlier w.0) there.1)
 
-module _ (book : List (List Literal)) (lemmas : List Lemma) (points : List ℕ) (table : IsTable book lemmas points)
+module _ (book : List (List Literal)) (lemmas : List Lemma) (points : List ℕ) (table : IsTable book lemmas points) (trees : HaveTrees book lemmas)
     (clauses : List (List Literal)) (place : ℕ → Option ℕ) (present : IsPresent book clauses clauses place) where
   place_there : (n i : ℕ) → n < length book → place n ≡ Some i → (clause : List Literal) × (slice_get book n ≡ Some clause) × (slice_get clauses i ≡ Some clause)
   place_there n i lt e =
@@ -99,7 +99,7 @@ module _ (book : List (List Literal)) (lemmas : List Lemma) (points : List ℕ) 
 
       tree_more : Tree clauses (map stated (take (length made) (made ++ other ∷ []))) (map negation_of other.clause) other.steps []
       tree_more =
-          let was = (table.each n h.lemma h.at).tree in
+          let was = trees n h.lemma h.at in
           let tree : Tree book (map stated_by (table_facts book (take n lemmas))) (map negation_of h.lemma.clause) h.lemma.steps [] =
           subst (λ (xs : List (List Literal)). Tree book xs (map negation_of h.lemma.clause) h.lemma.steps []) (sym (table_stated book (take n lemmas))) was in
           let moved = tree_moved book (table_facts book (take n lemmas)) clauses (table_facts clauses made) (map negation_of h.lemma.clause) h.lemma.steps other.steps tree alike in

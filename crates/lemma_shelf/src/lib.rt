@@ -18,8 +18,11 @@ mod reached;
 mod shelf;
 mod stated;
 mod table;
+mod tree_shelf;
+mod trees;
 mod walk;
 
 pub use check::check_items;
 pub use laws::{examples_law, flaw_law};
 pub use shelf::Shelf;
+pub use tree_shelf::TreeShelf;

@@ -2,7 +2,7 @@
 ghost use Rattle.std.specs.Prelude.{◌≡◌, ◌<◌, length, take, map, true, All, IfOk, OnOk, slice_index_or};
 ghost use Rattle.refute_tree.specs.code.Views.{step_seen};
 ghost use Rattle.lemma_shelf.specs.code.Tables.{StepIsClosed, AreClosed, is_active};
-ghost use Rattle.lemma_shelf.specs.code.Walks.{facts_in, IsWhole, IsOf, places};
+ghost use Rattle.lemma_shelf.specs.code.Walks.{facts_in, IsWhole, TreesIn, IsOf, places};
 ghost use Rattle.lemma_shelf.specs.code.WrittenOut.{AddsPlaced, ArePlaced, Rises, IsPlacedLemma, AreWrittenOut, IsLowered};
 
 use crate::present::Present;
@@ -89,6 +89,7 @@ fn lowered_lemmas(
     numbers: &[usize],
 ) -> Result<Vec<Lemma>, AllocError>
     requires whole { IsWhole table.now }
+    requires trees { TreesIn table.now }
     requires present { IsOf table.now present.now }
     requires rises { Rises numbers.now }
     requires closed { AreClosed table.now.lemmas.items (places present.now) numbers.now }
@@ -112,6 +113,7 @@ pub fn lowered(
     root: usize,
 ) -> Result<Vec<Lemma>, AllocError>
     requires table { IsWhole table.now }
+    requires trees { TreesIn table.now }
     requires root { root < length table.now.lemmas.items }
     requires active { is_active problem.now.clauses (facts_in table.now) root ≡ true }
     ensures { IfOk result (λ lemmas. IsLowered problem.now.clauses table.now.book table.now.lemmas.items root

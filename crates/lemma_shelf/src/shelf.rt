@@ -1,4 +1,4 @@
-ghost use Rattle.std.specs.Prelude.{◌≡◌, ◌+◌, ◌-◌, ℕ, List, [], ◌∷◌, ◌++◌, length, map, take, Some, None, OnOk, OnErr, IfOk, IfSome, slice_get, slice_index_or};
+ghost use Rattle.std.specs.Prelude.{◌≡◌, ℕ, List, [], ◌∷◌, ◌++◌, length, map, take, Some, None, OnOk, OnErr, IfOk, IfSome, slice_get, slice_index_or};
 ghost use Rattle.std.specs.List.{AllZip};
 ghost use Rattle.cert_check.specs.Flaws.{TellsFlaw};
 ghost use Rattle.kept_lemmas.specs.declared.item.Item.{Item as CitedItem};
@@ -7,8 +7,7 @@ ghost use Rattle.kept_lemmas.specs.Entries.{AreRight};
 ghost use Rattle.kept_lemmas.specs.Facts.{facts_of};
 ghost use Rattle.lemma_shelf.specs.InPlace.{StandsInPlace, IsPicked};
 ghost use Rattle.lemma_shelf.specs.ItemFlaws.{items_flaw};
-ghost use Rattle.lemma_shelf.specs.Lowering.{Refutes, StatesLast, AreOfShelf, AreCited};
-ghost use Rattle.lemma_shelf.specs.code.WrittenOut.{last_of};
+ghost use Rattle.lemma_shelf.specs.Lowering.{Refutes};
 ghost use Rattle.refute_tree.specs.Trees.{IsRefutation};
 ghost use Rattle.refute_tree.specs.declared.lemma.Lemma.{Lemma as CitedLemma};
 ghost use Rattle.stn_core.specs.declared.literal.Literal.{Literal as Bound};
@@ -17,33 +16,20 @@ use crate::check::{check, find};
 use crate::citing::{items_for, stands};
 use crate::entry::add_items;
 use crate::laws::flaw_law;
-use crate::lowering::lowered;
 use crate::table::Table;
+use crate::trees::Trees;
 use cert_check::CheckError;
 use kept_lemmas::{Item, Items, Kept, own_law, usable_law};
-use refute_tree::{Lemma, Refutation};
+use refute_tree::Lemma;
 use std::alloc::{AllocError, Global};
 use std::marker::Model;
 use stn_core::Problem;
 
-fn last_at(numbers: &[usize]) -> Option<usize>
-    ensures { result ≡ slice_get numbers.now (length numbers.now - 1) }
-{
-    numbers.last().copied()
-}
-
-// The number of the entry's last item, if there is one.
-fn last_number(entries: &[Vec<usize>], entry: usize) -> Option<usize>
-    ensures { result ≡ last_of (map (λ n. n.items) entries.now) entry }
-{
-    let numbers = entries.get(entry)?;
-    last_at(numbers)
-}
-
 /// What the entries before the next one state and rest on.
 ///
-/// It has copies of their own lemmas, each once, and of the clauses that these rest on, each once, so that items and
-/// problems may be let go.
+/// Of their own lemmas it has the clauses and what the steps name, each lemma once, and copies of the clauses that these
+/// rest on, each once, so that items and problems may be let go. The cycles, most of a certificate's text, aren't there:
+/// an entry can't be written out from it ([`crate::TreeShelf`]).
 pub struct Shelf {
     table: Table,
     /// Of each entry the numbers of its items' lemmas in the table.
@@ -189,6 +175,7 @@ impl Shelf {
             alloc,
             self.entries.as_slice(),
             problem,
+            Trees::LetGo,
             items,
         ) {
             Ok(numbers) => {
@@ -226,28 +213,5 @@ impl Shelf {
         let alloc = *self.entries.allocator();
         self.entries.push(Vec::new(alloc))?;
         Ok(())
-    }
-
-    /// The refutation that the entry of this number, from 0, is of the problem, with kept lemmas written out.
-    ///
-    /// Its lemmas are those that the entry's last item needs, each once, in the order in which they came to the shelf:
-    /// kept ones before the entry's own, and those that are cited before those that cite them. No literal is changed.
-    ///
-    /// It goes over the problem's clauses once and over the steps of these lemmas once. The one error is want of memory.
-    pub fn lower(
-        &self,
-        alloc: Global,
-        problem: &Problem,
-        entry: usize,
-    ) -> Result<Refutation, AllocError>
-        requires { Refutes self.now entry problem.now.points problem.now.clauses }
-        ensures refutes { IfOk result (IsRefutation problem.now.points problem.now.clauses) }
-        ensures states { IfOk result (StatesLast self.now entry problem.now.clauses) }
-        ensures there { IfOk result (AreOfShelf (take (entry + 1) self.now) problem.now.clauses) }
-        ensures cited { IfOk result AreCited }
-    {
-        let root = last_number(self.entries.as_slice(), entry).unwrap();
-        let lemmas = lowered(alloc, &self.table, problem, root)?;
-        Ok(Refutation::new(lemmas))
     }
 }

@@ -1,6 +1,6 @@
 //! The lemmas that are some entry's own.
 ghost use Rattle.std.specs.Prelude.{◌≡◌, [], take};
-ghost use Rattle.lemma_shelf.specs.code.Walks.{IsWhole};
+ghost use Rattle.lemma_shelf.specs.code.Walks.{IsWhole, TreesIn};
 
 use crate::book::Book;
 use refute_tree::Lemma;
@@ -11,7 +11,8 @@ use std::alloc::Global;
 pub struct Table {
     /// The clauses of problems that the lemmas rest on.
     pub book: Book,
-    /// The lemmas, whose steps name clauses by their numbers in the book, and lemmas by their numbers in this list.
+    /// The lemmas, whose steps name clauses by their numbers in the book, and lemmas by their numbers in this list: all of
+    /// a lemma's steps, or those that aren't cycles.
     pub lemmas: Vec<Lemma>,
     /// Of each lemma how many time points a problem must have for it and all that it rests on.
     pub points: Vec<u64>,
@@ -21,6 +22,7 @@ impl Table {
     pub fn new(alloc: Global) -> Self
         ensures none { result.lemmas.items ≡ [] }
         ensures whole { IsWhole result }
+        ensures trees { TreesIn result }
     {
         Table {
             book: Book::new(alloc),

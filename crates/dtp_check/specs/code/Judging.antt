@@ -1,6 +1,6 @@
 -- A judge that goes through the script's part of a source: where it stands between two events, and what comes next.
 -- These are words of the code's inner contracts, and no part of the meaning.
-use Rattle.std.specs.Prelude.{◌≡◌, ◌⊎◌, ◌≤◌, ◌<◌, ◌^◌, ℕ, ◌+◌, List, [], ◌++◌, length, Option, None}
+use Rattle.std.specs.Prelude.{◌≡◌, ◌⊎◌, ◌≤◌, ◌<◌, ◌^◌, ℕ, ◌+◌, Bool, List, [], ◌++◌, length, Option, None}
 use Rattle.smt_sexpr.specs.Tree.{Sexpr}
 use Rattle.smt_sexpr.specs.Commands.{ended}
 use Rattle.smt_sexpr.specs.Reading.{Spells}
@@ -21,7 +21,7 @@ use Rattle.dtp_check.specs.declared.judgement.Judgement.{Judgement}
 use Rattle.dtp_check.specs.declared.script_part.PartEnd.{PartEnd}
 use Rattle.dtp_check.specs.declared.script_part.PartEnd.TheVariants as part
 use Rattle.dtp_check.specs.Judged.{EndsPart, IsApart, ScriptPart, told_by, turns_with}
-use Rattle.dtp_check.specs.code.Earlier.{SufficesFrom}
+use Rattle.dtp_check.specs.code.Earlier.{HoldsTrees, SufficesFrom}
 use Rattle.dtp_check.specs.code.Made.{IsMadeStill}
 use Rattle.dtp_check.specs.code.Parts.{IsReadable}
 use Rattle.dtp_check.specs.code.Turns.{Leads, ComesTo, StandsAt, with_left}
@@ -71,8 +71,8 @@ module _ {K : Type 0} (leads : Leads K) (bytes : List ℕ) (start : EntriesFrom)
     pub there : StandsAt number here.count kept earlier place before
     pub left : (xs : List Sexpr) (end : PartEnd) (behind : ℕ) → ScriptPart bytes 0 xs end behind → IsReadable end → IsLeft taken place at before now xs end behind
 
--- the judge that began with these bytes and entries, and with what was kept first
-pub record IsJudgingSoFar {K : Type 0} (leads : Leads K) (bytes : List ℕ) (start : EntriesFrom) (first : K) (w : Walk) (made : Option Problem) (earlier : Earlier) (here : EntriesFrom) (now : K) : Type 0 where
+-- the judge that began with these bytes and entries, and with what was kept first, and that holds trees or not
+pub record IsJudgingSoFar {K : Type 0} (leads : Leads K) (wanted : Bool) (bytes : List ℕ) (start : EntriesFrom) (first : K) (w : Walk) (made : Option Problem) (earlier : Earlier) (here : EntriesFrom) (now : K) : Type 0 where
   pub fresh : w.lexer.failed ≡ None
   pub lexer_bytes : w.lexer.bytes ≡ bytes
   pub table_bytes : w.sexprs.bytes ≡ bytes
@@ -80,5 +80,6 @@ pub record IsJudgingSoFar {K : Type 0} (leads : Leads K) (bytes : List ℕ) (sta
   pub counted : w.number ≤ w.lexer.place + 1
   pub few : length bytes < 2 ^ 63
   pub suffices : SufficesFrom earlier here
+  pub trees : HoldsTrees wanted earlier
   pub made_still : IsMadeStill w.state made
   pub judging : IsJudging leads bytes start first w.lexer.place w.number here w.state earlier now

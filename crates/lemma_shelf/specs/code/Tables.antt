@@ -1,7 +1,7 @@
 -- Of the code and not of the meaning: how a shelf is kept. The clauses that lemmas rest on stand in one list, each once, the
 -- book. The lemmas that are some entry's own stand in another, and their steps name clauses by their numbers in the book
 -- and lemmas by their numbers in the list. An entry is a list of numbers of lemmas.
-use Rattle.std.specs.Prelude.{◌≡◌, ◌⊎◌, ℕ, zero, suc, ◌+◌, ◌<◌, Bool, true, nat_le, is_some, option_and_then, List, [], ◌∷◌, ◌++◌, length, map, take, All, Contains, Option, None, Some, MatchOption, ◌==◌, if◌then◌else◌, slice_get, slice_index_or}
+use Rattle.std.specs.Prelude.{◌≡◌, ◌⊎◌, ℕ, zero, suc, ◌+◌, ◌<◌, Bool, true, nat_le, is_some, option_and_then, List, [], ◌∷◌, ◌++◌, length, map, flat_map, take, All, Contains, Option, None, Some, MatchOption, ◌==◌, if◌then◌else◌, slice_get, slice_index_or}
 use Rattle.std.specs.List.{list_all, list_any, AllZip}
 use Rattle.stn_core.specs.declared.literal.Literal.{Literal}
 use Rattle.stn_core.specs.Literal.{negation_of}
@@ -15,6 +15,8 @@ use Rattle.kept_lemmas.specs.declared.item.Item.{Item}
 use Rattle.kept_lemmas.specs.declared.item.Item.TheVariants.{Own}
 use Rattle.kept_lemmas.specs.Facts.{Fact, Facts, Shelf, no_fact, facts_of}
 use Rattle.lemma_shelf.specs.Clauses.{is_clause_of}
+use Rattle.lemma_shelf.specs.declared.trees.Trees.{Trees}
+use Rattle.lemma_shelf.specs.declared.trees.Trees.TheVariants.{Held, LetGo}
 
 abbrev pub own_item : Lemma → Item
 own_item lemma = Own lemma
@@ -40,16 +42,34 @@ IsKnownStep clauses lemmas (Clash i) = i < clauses
 IsKnownStep clauses lemmas (Cycle cycle) = Unit {0}
 IsKnownStep clauses lemmas (Either l) = Unit {0}
 
--- the lemma of this number is refuted over the book and the lemmas before it; of the points that it and those that it
+-- the lemma of this number names clauses of the book and lemmas before it alone; of the points that it and those that it
 -- rests on name, so many is the least count
 pub record IsOnTable (book : List (List Literal)) (lemmas : List Lemma) (points : List ℕ) (number : ℕ) (lemma : Lemma) : Type 0 where
-  pub tree : Tree book (map stated (take number lemmas)) (map negation_of lemma.clause) lemma.steps []
   pub known : All (IsKnownStep (length book) number) lemma.steps
   pub needs : (count : ℕ) → list_all (is_on_points count) (fact_at (table_facts book lemmas) number).named ≡ nat_le (slice_index_or points number 0) count
 
 pub record IsTable (book : List (List Literal)) (lemmas : List Lemma) (points : List ℕ) : Type 0 where
   pub each : (number : ℕ) (lemma : Lemma) → slice_get lemmas number ≡ Some lemma → IsOnTable book lemmas points number lemma
   pub one_each : length points ≡ length lemmas
+
+-- each lemma is refuted by its steps, over the book and the lemmas before it
+abbrev pub HaveTrees : List (List Literal) → List Lemma → Type 0
+HaveTrees book lemmas =
+    (number : ℕ) (lemma : Lemma) → slice_get lemmas number ≡ Some lemma
+    → Tree book (map stated (take number lemmas)) (map negation_of lemma.clause) lemma.steps []
+
+-- What is held of a lemma's steps: all of them, or those that name a clause, a lemma or a point. A cycle names none of
+-- these: its literals are those of other steps and of the lemma's clause.
+abbrev pub step_held : Trees → Step → List Step
+step_held Held step = step ∷ []
+step_held LetGo (Cycle cycle) = []
+step_held LetGo (Input i) = Input i ∷ []
+step_held LetGo (Earlier j) = Earlier j ∷ []
+step_held LetGo (Clash i) = Clash i ∷ []
+step_held LetGo (Either l) = Either l ∷ []
+
+abbrev pub steps_held : Trees → List Step → List Step
+steps_held trees steps = flat_map (step_held trees) steps
 
 -- the number of a kept item's lemma
 abbrev pub entry_of : List (List ℕ) → ℕ → Option (List ℕ)
@@ -157,6 +177,11 @@ step_fits points count (Cycle cycle) = true
 -- so many are the least that are enough
 abbrev pub NeedsOf : ℕ → (ℕ → Bool) → Type 0
 NeedsOf needs fits = (count : ℕ) → nat_le needs count ≡ fits count
+
+-- what is held of a step, by the book's and the table's numbers, comes behind the others
+abbrev pub AddsHeld : Trees → List (List Literal) → List ℕ → List (List Literal) → Step → List Step → List Step → Type 0
+AddsHeld trees clauses numbers book step before after =
+    (others : List Step) × (after ≡ before ++ others) × AreRenumbered clauses numbers book (step_held trees step) others
 
 -- a step by the book's and the table's numbers comes behind the others
 abbrev pub AddsStep : List (List Literal) → List ℕ → List (List Literal) → Step → List Step → List Step → Type 0

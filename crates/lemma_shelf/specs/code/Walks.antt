@@ -14,8 +14,10 @@ use Rattle.lemma_shelf.specs.declared.check.KeptError.{KeptError}
 use Rattle.lemma_shelf.specs.declared.check.KeptError.TheVariants.{OutOfMemory as NoMemory, Refused as Kept}
 use Rattle.lemma_shelf.specs.declared.present.Present.{Present}
 use Rattle.lemma_shelf.specs.declared.table.Table.{Table}
+use Rattle.lemma_shelf.specs.declared.trees.Trees.{Trees}
+use Rattle.lemma_shelf.specs.declared.trees.Trees.TheVariants.{Held, LetGo}
 use Rattle.lemma_shelf.specs.declared.walk.Walk.{Walk}
-use Rattle.lemma_shelf.specs.code.Tables.{table_facts, fact_at, facts_at, shelf_by, BeginsAs, NeedsOf, step_fits, CountsTo, IsTable, IsPresent, AreClosed}
+use Rattle.lemma_shelf.specs.code.Tables.{table_facts, fact_at, facts_at, shelf_by, BeginsAs, NeedsOf, step_fits, CountsTo, IsTable, HaveTrees, IsPresent, AreClosed}
 
 abbrev pub facts_in : Table → Facts
 facts_in table = table_facts table.book table.lemmas.items
@@ -36,6 +38,15 @@ IsWhole table = IsTable table.book table.lemmas.items table.points.items
 
 abbrev pub places : Present → ℕ → Option ℕ
 places present = get nat_eq present.map
+
+-- each lemma of the table has its tree
+abbrev pub TreesIn : Table → Type 0
+TreesIn table = HaveTrees table.book table.lemmas.items
+
+-- where trees are held, those that were there and those that came are
+abbrev pub KeepsTrees : Trees → Table → Table → Type 0
+KeepsTrees Held before now = TreesIn before → TreesIn now
+KeepsTrees LetGo before now = Unit {0}
 
 -- the table of numbers is of the clauses that it has
 abbrev pub IsOf : Table → Present → Type 0

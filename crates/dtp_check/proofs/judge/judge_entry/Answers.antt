@@ -18,3 +18,12 @@ returns-in-None-clause-made g c = λ none.
     let asked = c.requires.asked in
     let stands = c.settle.ensures.stands asked.0 asked.2.stands in
     made_settled c.args.walk.now.state c.settle.new.self.state asked.0 c.told_by.result c.let_go_if_assumed.new.made asked.2.stands stands c.let_go_if_assumed.ensures.made c.let_go_if_assumed.ensures.gone
+
+pub returns-in_err-flaw-clause-trees : goal.returns-in_err-flaw-clause-trees
+returns-in_err-flaw-clause-trees g c = c.keep.ensures.trees g.K.Keeps.trees c.requires.trees
+
+pub returns-in-Some-clause-trees : goal.returns-in-Some-clause-trees
+returns-in-Some-clause-trees g c = c.keep.ensures.trees g.K.Keeps.trees c.requires.trees
+
+pub returns-in-None-clause-trees : goal.returns-in-None-clause-trees
+returns-in-None-clause-trees g c = c.keep.ensures.trees g.K.Keeps.trees c.requires.trees

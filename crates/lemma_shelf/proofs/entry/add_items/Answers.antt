@@ -5,6 +5,7 @@ use Rattle.kept_lemmas.specs.Entries.{IsItemRight}
 use Rattle.lemma_shelf.specs.code.Tables.{facts_at}
 use Rattle.lemma_shelf.specs.code.Walks.{facts_in, shelf_in}
 use Rattle.lemma_shelf.specs.code.Additions.{AddsItem}
+use Rattle.lemma_shelf.proofs.HeldSteps.{trees_further}
 use Rattle.lemma_shelf.proofs.MoreItems.{right_now, added_items}
 use Rattle.lemma_shelf.proofs.Steps.{begins_table}
 use Rattle.lemma_shelf.proofs.entry.add_items.Goals as goal
@@ -29,5 +30,6 @@ loop-item-preserved c =
           c.requires.entries at c.requires.right c.loop-item.invariant.items c.add_item.new.table c.in_ok-number.number c.push.new.self.items
           (subst (λ (ns : List ℕ). AddsItem c.loop-item.table (shelf_in c.loop-item.table (map (λ n. n.items) c.args.entries.now)) c.args.problem.now.clauses ns c.item-item.result c.add_item.new.table c.in_ok-number.number) c.as_slice.ensures.value c.in_ok-number.ensures.ok)
           c.in_ok-push.ensures.items;
+      trees = trees_further c.args.trees c.args.table.now c.loop-item.table c.add_item.new.table c.loop-item.invariant.trees c.in_ok-number.ensures.trees;
       front = begins_table c.args.table.now c.loop-item.table c.add_item.new.table c.loop-item.invariant.front c.in_ok-number.ensures.front;
     }

@@ -15,6 +15,6 @@ loop-i-preserved c =
     let numbers : List ℕ = c.args.numbers.now in
     let i = c.loop-i.i in
     let number = get_or numbers i 0 in
-    let more = written_more book lemmas c.args.table.now.points.items c.requires.whole clauses (places c.args.present.now) c.requires.present (take i numbers) c.loop-i.lemmas.items c.loop-i.invariant number c.in_ok-lemma.lemma c.in_ok-lemma.ensures in
+    let more = written_more book lemmas c.args.table.now.points.items c.requires.whole c.requires.trees clauses (places c.args.present.now) c.requires.present (take i numbers) c.loop-i.lemmas.items c.loop-i.invariant number c.in_ok-lemma.lemma c.in_ok-lemma.ensures in
     subst (λ (ns : List ℕ). AreWrittenOut clauses book lemmas ns c.push.new.self.items) (sym (take_more numbers i number (slice_get-get_or numbers i 0 c.loop-i-test.true)))
     (subst (λ (made : List Lemma). AreWrittenOut clauses book lemmas (take i numbers ++ number ∷ []) made) (sym c.in_ok-push.ensures.items) more)

@@ -12,8 +12,8 @@ judge_question-requires-clause-asked g c =
     let n = c.args.self.now in
     let f = at.first in
     let b = at.before in
-    let h = subst (λ (z : Judging). IsJudgingSoFar g.K.Keeps.leads f.walk.lexer.bytes f.entries at.lent_first b.walk z.made z.earlier z.entries c.args.keeps.now) (sym at.comes.1) at.so_far in
-    asked_so g.K.Keeps.leads c.one_outcome.ensures f.walk.lexer.bytes f.entries at.lent_first b.walk n.made n.earlier n.entries c.args.keeps.now h n.walk c.args._id c.args.question at.comes.0
+    let h = subst (λ (z : Judging). IsJudgingSoFar g.K.Keeps.leads g.K.Keeps.trees f.walk.lexer.bytes f.entries at.lent_first b.walk z.made z.earlier z.entries c.args.keeps.now) (sym at.comes.1) at.so_far in
+    asked_so g.K.Keeps.leads g.K.Keeps.trees c.one_outcome.ensures f.walk.lexer.bytes f.entries at.lent_first b.walk n.made n.earlier n.entries c.args.keeps.now h n.walk c.args._id c.args.question at.comes.0
 
 pub judge_question-requires-clause-made : goal.judge_question-requires-clause-made
 judge_question-requires-clause-made g c =
@@ -21,8 +21,8 @@ judge_question-requires-clause-made g c =
     let n = c.args.self.now in
     let f = at.first in
     let b = at.before in
-    let h = subst (λ (z : Judging). IsJudgingSoFar g.K.Keeps.leads f.walk.lexer.bytes f.entries at.lent_first b.walk z.made z.earlier z.entries c.args.keeps.now) (sym at.comes.1) at.so_far in
-    asked_made g.K.Keeps.leads c.one_outcome.ensures f.walk.lexer.bytes f.entries at.lent_first b.walk n.made n.earlier n.entries c.args.keeps.now h n.walk c.args._id c.args.question at.comes.0 c.mode_law.ensures.kept
+    let h = subst (λ (z : Judging). IsJudgingSoFar g.K.Keeps.leads g.K.Keeps.trees f.walk.lexer.bytes f.entries at.lent_first b.walk z.made z.earlier z.entries c.args.keeps.now) (sym at.comes.1) at.so_far in
+    asked_made g.K.Keeps.leads g.K.Keeps.trees c.one_outcome.ensures f.walk.lexer.bytes f.entries at.lent_first b.walk n.made n.earlier n.entries c.args.keeps.now h n.walk c.args._id c.args.question at.comes.0 c.mode_law.ensures.kept
 
 pub judge_question-requires-clause-few : goal.judge_question-requires-clause-few
 judge_question-requires-clause-few g c =
@@ -30,8 +30,8 @@ judge_question-requires-clause-few g c =
     let n = c.args.self.now in
     let f = at.first in
     let b = at.before in
-    let h = subst (λ (z : Judging). IsJudgingSoFar g.K.Keeps.leads f.walk.lexer.bytes f.entries at.lent_first b.walk z.made z.earlier z.entries c.args.keeps.now) (sym at.comes.1) at.so_far in
-    asked_few g.K.Keeps.leads c.one_outcome.ensures f.walk.lexer.bytes f.entries at.lent_first b.walk n.made n.earlier n.entries c.args.keeps.now h n.walk c.args._id c.args.question at.comes.0
+    let h = subst (λ (z : Judging). IsJudgingSoFar g.K.Keeps.leads g.K.Keeps.trees f.walk.lexer.bytes f.entries at.lent_first b.walk z.made z.earlier z.entries c.args.keeps.now) (sym at.comes.1) at.so_far in
+    asked_few g.K.Keeps.leads g.K.Keeps.trees c.one_outcome.ensures f.walk.lexer.bytes f.entries at.lent_first b.walk n.made n.earlier n.entries c.args.keeps.now h n.walk c.args._id c.args.question at.comes.0
 
 pub judge_question-requires-clause-suffices : goal.judge_question-requires-clause-suffices
 judge_question-requires-clause-suffices g c =
@@ -39,18 +39,27 @@ judge_question-requires-clause-suffices g c =
     let n = c.args.self.now in
     let f = at.first in
     let b = at.before in
-    let h = subst (λ (z : Judging). IsJudgingSoFar g.K.Keeps.leads f.walk.lexer.bytes f.entries at.lent_first b.walk z.made z.earlier z.entries c.args.keeps.now) (sym at.comes.1) at.so_far in
+    let h = subst (λ (z : Judging). IsJudgingSoFar g.K.Keeps.leads g.K.Keeps.trees f.walk.lexer.bytes f.entries at.lent_first b.walk z.made z.earlier z.entries c.args.keeps.now) (sym at.comes.1) at.so_far in
     h.suffices
+
+pub judge_question-requires-clause-trees : goal.judge_question-requires-clause-trees
+judge_question-requires-clause-trees g c =
+    let at = c.requires in
+    let n = c.args.self.now in
+    let f = at.first in
+    let b = at.before in
+    let h = subst (λ (z : Judging). IsJudgingSoFar g.K.Keeps.leads g.K.Keeps.trees f.walk.lexer.bytes f.entries at.lent_first b.walk z.made z.earlier z.entries c.args.keeps.now) (sym at.comes.1) at.so_far in
+    h.trees
 
 pub returns-in-Going-clause-so_far : goal.returns-in-Going-clause-so_far
 returns-in-Going-clause-so_far g c = λ none at.
     let n = c.args.self.now in
     let f = at.first in
     let b = at.before in
-    let h = subst (λ (z : Judging). IsJudgingSoFar g.K.Keeps.leads f.walk.lexer.bytes f.entries at.lent_first b.walk z.made z.earlier z.entries c.args.keeps.now) (sym at.comes.1) at.so_far in (
-      asked_further g.K.Keeps.leads c.one_outcome.ensures f.walk.lexer.bytes f.entries at.lent_first b.walk n.made n.earlier n.entries c.args.keeps.now h n.walk c.args._id c.args.question at.comes.0 c.exit_law.ensures.alone c.judge_question.new.walk c.judge_question.new.earlier c.judge_question.new.entries c.judge_question.new.keeps c.in_ok-progress.progress c.in_ok-progress.ensures.turn c.judge_question.new.made c.in-Going.is c.judge_question.ensures.lexer c.judge_question.ensures.sexprs
-          (c.in_ok-progress.ensures.suffices (going_on c.in_ok-progress.progress c.in-Going.is)) (c.in_ok-progress.ensures.made (going_on c.in_ok-progress.progress c.in-Going.is)),
-      less_read g.K.Keeps.leads c.one_outcome.ensures f.walk.lexer.bytes f.entries at.lent_first b.walk n.made n.earlier n.entries c.args.keeps.now h n.walk (Asked c.args._id c.args.question) at.comes.0 c.judge_question.new.walk c.judge_question.ensures.lexer,
+    let h = subst (λ (z : Judging). IsJudgingSoFar g.K.Keeps.leads g.K.Keeps.trees f.walk.lexer.bytes f.entries at.lent_first b.walk z.made z.earlier z.entries c.args.keeps.now) (sym at.comes.1) at.so_far in (
+      asked_further g.K.Keeps.leads g.K.Keeps.trees c.one_outcome.ensures f.walk.lexer.bytes f.entries at.lent_first b.walk n.made n.earlier n.entries c.args.keeps.now h n.walk c.args._id c.args.question at.comes.0 c.exit_law.ensures.alone c.judge_question.new.walk c.judge_question.new.earlier c.judge_question.new.entries c.judge_question.new.keeps c.in_ok-progress.progress c.in_ok-progress.ensures.turn c.judge_question.new.made c.in-Going.is c.judge_question.ensures.lexer c.judge_question.ensures.sexprs
+          (c.in_ok-progress.ensures.suffices (going_on c.in_ok-progress.progress c.in-Going.is)) c.judge_question.ensures.trees (c.in_ok-progress.ensures.made (going_on c.in_ok-progress.progress c.in-Going.is)),
+      less_read g.K.Keeps.leads g.K.Keeps.trees c.one_outcome.ensures f.walk.lexer.bytes f.entries at.lent_first b.walk n.made n.earlier n.entries c.args.keeps.now h n.walk (Asked c.args._id c.args.question) at.comes.0 c.judge_question.new.walk c.judge_question.ensures.lexer,
     )
 
 pub returns-in-Judged-clause-ends : goal.returns-in-Judged-clause-ends
@@ -58,5 +67,5 @@ returns-in-Judged-clause-ends g c = λ at.
     let n = c.args.self.now in
     let f = at.first in
     let b = at.before in
-    let h = subst (λ (z : Judging). IsJudgingSoFar g.K.Keeps.leads f.walk.lexer.bytes f.entries at.lent_first b.walk z.made z.earlier z.entries c.args.keeps.now) (sym at.comes.1) at.so_far in
-    asked_over g.K.Keeps.leads c.one_outcome.ensures f.walk.lexer.bytes f.entries at.lent_first b.walk n.made n.earlier n.entries c.args.keeps.now h n.walk c.args._id c.args.question at.comes.0 c.exit_law.ensures.alone c.judge_question.new.walk c.judge_question.new.earlier c.judge_question.new.entries c.judge_question.new.keeps c.in_ok-progress.progress c.in_ok-progress.ensures.turn c.in-Judged.judgement c.in-Judged.is
+    let h = subst (λ (z : Judging). IsJudgingSoFar g.K.Keeps.leads g.K.Keeps.trees f.walk.lexer.bytes f.entries at.lent_first b.walk z.made z.earlier z.entries c.args.keeps.now) (sym at.comes.1) at.so_far in
+    asked_over g.K.Keeps.leads g.K.Keeps.trees c.one_outcome.ensures f.walk.lexer.bytes f.entries at.lent_first b.walk n.made n.earlier n.entries c.args.keeps.now h n.walk c.args._id c.args.question at.comes.0 c.exit_law.ensures.alone c.judge_question.new.walk c.judge_question.new.earlier c.judge_question.new.entries c.judge_question.new.keeps c.in_ok-progress.progress c.in_ok-progress.ensures.turn c.in-Judged.judgement c.in-Judged.is

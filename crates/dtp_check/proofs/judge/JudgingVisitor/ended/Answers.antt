@@ -9,5 +9,5 @@ returns-clause-ends g c = λ at.
     let n = c.args.self.now in
     let f = at.first in
     let b = at.before in
-    let h = subst (λ (z : Judging). IsJudgingSoFar g.K.Keeps.leads f.walk.lexer.bytes f.entries at.lent_first b.walk z.made z.earlier z.entries c.args._keeps.now) (sym at.comes.1) at.so_far in
-    ended_over g.K.Keeps.leads c.one_outcome.ensures f.walk.lexer.bytes f.entries at.lent_first b.walk n.made n.earlier n.entries c.args._keeps.now h n.walk c.surplus.new.entries c.in_ok-judgement.judgement at.comes.0 c.in_ok-judgement.ensures
+    let h = subst (λ (z : Judging). IsJudgingSoFar g.K.Keeps.leads g.K.Keeps.trees f.walk.lexer.bytes f.entries at.lent_first b.walk z.made z.earlier z.entries c.args._keeps.now) (sym at.comes.1) at.so_far in
+    ended_over g.K.Keeps.leads g.K.Keeps.trees c.one_outcome.ensures f.walk.lexer.bytes f.entries at.lent_first b.walk n.made n.earlier n.entries c.args._keeps.now h n.walk c.surplus.new.entries c.in_ok-judgement.judgement at.comes.0 c.in_ok-judgement.ensures

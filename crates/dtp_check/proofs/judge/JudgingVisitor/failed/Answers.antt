@@ -9,5 +9,5 @@ returns-clause-ends g c = λ at.
     let n = c.args.self.now in
     let f = at.first in
     let b = at.before in
-    let h = subst (λ (z : Judging). IsJudgingSoFar g.K.Keeps.leads f.walk.lexer.bytes f.entries at.lent_first b.walk z.made z.earlier z.entries c.args._keeps.now) (sym at.comes.1) at.so_far in
-    failed_over g.K.Keeps.leads c.one_outcome.ensures f.walk.lexer.bytes f.entries at.lent_first b.walk n.made n.earlier n.entries c.args._keeps.now h n.walk c.args.kind at.comes.0
+    let h = subst (λ (z : Judging). IsJudgingSoFar g.K.Keeps.leads g.K.Keeps.trees f.walk.lexer.bytes f.entries at.lent_first b.walk z.made z.earlier z.entries c.args._keeps.now) (sym at.comes.1) at.so_far in
+    failed_over g.K.Keeps.leads g.K.Keeps.trees c.one_outcome.ensures f.walk.lexer.bytes f.entries at.lent_first b.walk n.made n.earlier n.entries c.args._keeps.now h n.walk c.args.kind at.comes.0

@@ -4,7 +4,7 @@ use Rattle.lemma_shelf.specs.Lowering.{StatesLast, AreOfShelf, AreCited}
 use Rattle.lemma_shelf.specs.code.WrittenOut.{last_of}
 use Rattle.lemma_shelf.proofs.Lowered.{root_there, root_is, refutation, states_last}
 use Rattle.lemma_shelf.proofs.Standing.{of_shelf, are_cited}
-use Rattle.lemma_shelf.proofs.shelf.Shelf.lower.Goals as goal
+use Rattle.lemma_shelf.proofs.tree_shelf.TreeShelf.lower.Goals as goal
 
 pub lowered-requires-clause-active : goal.lowered-requires-clause-active
 lowered-requires-clause-active c =
