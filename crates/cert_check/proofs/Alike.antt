@@ -43,6 +43,10 @@ with_by : (xs : List Literal) (m : Literal) (b : Bool) → is_assumed xs m ≡ b
 with_by xs m true e l = same_again xs m l e ∙ sym (list_any-append (same_literal l) xs (m ∷ []))
 with_by xs m false e l = refl
 
+-- a literal that is assumed may be assumed again
+pub assumed_again : (xs : List Literal) (m : Literal) → is_assumed xs m ≡ true → IsAlike xs (xs ++ m ∷ [])
+assumed_again xs m e = with_by xs m true e
+
 pub with_literal_alike : (xs : List Literal) (m : Literal) → IsAlike (with_literal xs m) (xs ++ m ∷ [])
 with_literal_alike xs m = with_by xs m (is_assumed xs m) refl
 

@@ -2,6 +2,7 @@ pub mod Decided
 pub mod Reading
 pub mod Lemmas
 pub mod Alike
+pub mod Closing
 pub mod Stacks
 pub mod Steps
 pub mod FirstFalse

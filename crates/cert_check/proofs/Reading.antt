@@ -91,7 +91,7 @@ module _ (points : ℕ) (clauses earlier : List (List Literal)) where
   step_opens assumed (Clash i) = clash_opens assumed i (slice_get clauses i) refl
   step_opens assumed (Either l) = either_opens assumed l (is_on_points points l) refl
 
-  leaf_is_opened : (assumed cycle : List Literal) → IsCycleAmong assumed cycle → opened points clauses earlier assumed (Cycle cycle) ≡ Ok []
+  pub leaf_is_opened : (assumed cycle : List Literal) → IsCycleAmong assumed cycle → opened points clauses earlier assumed (Cycle cycle) ≡ Ok []
   leaf_is_opened assumed cycle h =
       ap (λ (a : Bool). leaf_opened a (is_negative_cycle cycle)) ((all_assumed_decides assumed cycle).1 h.given)
       ∙ ap (leaf_opened true) ((is_negative_cycle_decides cycle).1 h.negative)

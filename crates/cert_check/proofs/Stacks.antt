@@ -7,8 +7,10 @@ use Rattle.stn_core.specs.Literal.{negation_of}
 use Rattle.cert_check.specs.declared.walk.Frame.{Frame}
 use Rattle.cert_check.specs.Tests.{is_assumed}
 use Rattle.cert_check.specs.Flaws.{cases_of}
-use Rattle.cert_check.specs.code.Walks.{with_literal, clause_in, IsAlike, AreAlike, cases_after, waiting, IsStack}
+use Rattle.refute_tree.specs.declared.step.Step.{Step}
+use Rattle.cert_check.specs.code.Walks.{with_literal, clause_in, IsAlike, AreAlike, cases_after, waiting, IsStack, GoesOn, ClosesCases}
 use Rattle.cert_check.proofs.Alike.{with_literal_alike, AreAlike-itself, AreAlike-trans, AreAlike-append, cases_alike}
+use Rattle.cert_check.proofs.Closing.{among_more, goes_alike, none_behind}
 
 IsStack-low : (low high : ℕ) (frames : List Frame) → IsStack low frames high → low ≤ high
 IsStack-low low high [] h = h
@@ -83,7 +85,7 @@ take_with assumed l false = take_front assumed
     take_front [] = refl
     take_front (x ∷ xs) = ap (λ (ys : List Literal). x ∷ ys) (take_front xs)
 
-drop_at : (clause : List Literal) (place : ℕ) (l : Literal) → slice_get clause place ≡ Some l → drop place clause ≡ l ∷ drop (place + 1) clause
+pub drop_at : (clause : List Literal) (place : ℕ) (l : Literal) → slice_get clause place ≡ Some l → drop place clause ≡ l ∷ drop (place + 1) clause
 drop_at [] place l e = absurd (cc)
 drop_at (m ∷ clause) zero l e = let s : m ≡ l = cc in ap (λ (k : Literal). k ∷ clause) s
 drop_at (m ∷ clause) (suc place) l e = let k : suc place + 1 ≡ suc (place + 1) = omega arith in drop_at clause place l e ∙ ap (λ (n : ℕ). l ∷ drop n (m ∷ clause)) (sym k)
@@ -140,37 +142,45 @@ module _ (frames whole : List Frame) (assumed cut : List Literal) (f : Frame) (w
       ∙ ap (λ (xs : List Literal). drop 1 (cases_of xs (drop f.place (clause_in f.cases))) ++ waiting frames assumed) (sym cut_is)
       ∙ ap (λ (xss : List (List Literal)). drop 1 (cases_of cut (drop f.place (clause_in f.cases))) ++ xss) (sym (waiting-cut 0 f.base frames assumed top.stack top.within) ∙ ap (waiting frames) (sym cut_is))
 
-  -- the clause has no later literal
-  short : (clause : List Literal) (place : ℕ) → length clause ≤ place + 1 → length (drop place clause) ≤ 1
-  short [] zero le = omega arith
-  short [] (suc place) le = omega arith
-  short (l ∷ clause) zero le = omega arith
-  short (l ∷ clause) (suc place) le = short clause place (omega arith)
+  -- the cases behind the one at the place
+  cases_behind : (xs clause : List Literal) (place : ℕ) → place < length clause → (m : Literal) × (drop 1 (cases_of xs (drop place clause)) ≡ cases_of (xs ++ m ∷ []) (drop (place + 1) clause))
+  cases_behind xs [] place lt = absurd (omega arith)
+  cases_behind xs (l ∷ clause) zero lt = (negation_of l, refl)
+  cases_behind xs (l ∷ clause) (suc place) lt =
+      let more : suc place + 1 ≡ suc (place + 1) = omega arith in
+      let t = cases_behind xs clause place (omega arith) in
+      (t.0, t.1 ∙ ap (λ (n : ℕ). cases_of (xs ++ t.0 ∷ []) (drop n (l ∷ clause))) (sym more))
 
-  none_after : (xs clause : List Literal) → length clause ≤ 1 → drop 1 (cases_of xs clause) ≡ []
-  none_after xs [] le = refl
-  none_after xs (l ∷ []) le = refl
-  none_after xs (l ∷ m ∷ clause) le = absurd (omega arith)
-
-  pub past_last : length (clause_in f.cases) ≤ f.place + 1 → waiting frames cut ≡ waiting whole assumed
-  past_last last =
-      sym (ap (λ (xss : List (List Literal)). xss ++ waiting frames cut) (none_after cut (drop f.place (clause_in f.cases)) (short (clause_in f.cases) f.place last))) ∙ sym whole_waiting
+  -- all of the clause's later cases were closed
+  pub closed_all : (next : ℕ) (steps rest : List Step) → length (clause_in f.cases) ≤ next → ClosesCases cut (clause_in f.cases) (f.place + 1) next steps rest → GoesOn (waiting whole assumed) steps (waiting frames cut) rest
+  closed_all next steps rest all closed =
+      let behind = cases_behind cut (clause_in f.cases) f.place top.place in
+      let more : List Literal = cut ++ behind.0 ∷ [] in
+      let others : List (List Literal) = waiting frames cut in
+      let from : cases_of more (drop (f.place + 1) (clause_in f.cases)) ++ others ≡ waiting whole assumed =
+      ap (λ (xss : List (List Literal)). xss ++ others) (sym behind.1) ∙ sym whole_waiting in
+      let to : cases_of more (drop next (clause_in f.cases)) ++ others ≡ others =
+      ap (λ (c : List Literal). cases_of more c ++ others) (none_behind (clause_in f.cases) next all) in
+      subst (λ (xss : List (List Literal)). GoesOn xss steps others rest) from
+      (subst (λ (xss : List (List Literal)). GoesOn (cases_of more (drop (f.place + 1) (clause_in f.cases)) ++ others) steps xss rest) to (closed more others (among_more cut (behind.0 ∷ []))))
 
   -- the negation of the literal is assumed, before the next case
   module _ (more : List Literal) (n : Literal) (noted : more ≡ with_literal cut n) where
     pub next_stack : IsStack 0 frames (length more)
     next_stack = IsStack-higher 0 (length cut) (length more) frames cut_stack (subst (λ (xs : List Literal). length cut ≤ length xs) (sym noted) (length_with cut n (is_assumed cut n)))
 
-    pub next_cases : (l : Literal) (now : List (List Literal)) → slice_get (clause_in f.cases) f.place ≡ Some l → n ≡ negation_of l → AreAlike now (cases_of more (drop (f.place + 1) (clause_in f.cases)) ++ waiting frames more) → AreAlike now (waiting whole assumed)
-    next_cases l now at is h =
-        let rest : List Literal = drop (f.place + 1) (clause_in f.cases) in
+    pub next_cases : (l : Literal) (next : ℕ) (steps rest : List Step) (now : List (List Literal)) → slice_get (clause_in f.cases) f.place ≡ Some l → n ≡ negation_of l → ClosesCases cut (clause_in f.cases) (f.place + 1) next steps rest
+        → AreAlike now (cases_of more (drop next (clause_in f.cases)) ++ waiting frames more) → GoesOn (waiting whole assumed) steps now rest
+    next_cases l next steps rest now at is closed h =
+        let later : List Literal = drop next (clause_in f.cases) in
         let alike : IsAlike more (cut ++ negation_of l ∷ []) =
         subst (λ (m : Literal). IsAlike more (cut ++ m ∷ [])) is (subst (λ (xs : List Literal). IsAlike xs (cut ++ n ∷ [])) (sym noted) (with_literal_alike cut n)) in
         let below : waiting frames more ≡ waiting frames cut = ap (waiting frames) noted ∙ waiting-with 0 frames cut n (is_assumed cut n) cut_stack in
-        let here : AreAlike (cases_of more rest ++ waiting frames more) (cases_of (cut ++ negation_of l ∷ []) rest ++ waiting frames more) =
-        AreAlike-append (cases_of more rest) (cases_of (cut ++ negation_of l ∷ []) rest) (waiting frames more) (waiting frames more) (cases_alike more (cut ++ negation_of l ∷ []) rest alike) (AreAlike-itself (waiting frames more)) in
-        let same : cases_of (cut ++ negation_of l ∷ []) rest ++ waiting frames more ≡ waiting whole assumed =
-        ap (λ (xss : List (List Literal)). cases_of (cut ++ negation_of l ∷ []) rest ++ xss) below
-        ∙ ap (λ (c : List Literal). drop 1 (cases_of cut c) ++ waiting frames cut) (sym (drop_at (clause_in f.cases) f.place l at))
-        ∙ sym whole_waiting in
-        subst (λ (xss : List (List Literal)). AreAlike now xss) same (AreAlike-trans now (cases_of more rest ++ waiting frames more) (cases_of (cut ++ negation_of l ∷ []) rest ++ waiting frames more) h here)
+        let here : AreAlike (cases_of more later ++ waiting frames more) (cases_of (cut ++ negation_of l ∷ []) later ++ waiting frames more) =
+        AreAlike-append (cases_of more later) (cases_of (cut ++ negation_of l ∷ []) later) (waiting frames more) (waiting frames more) (cases_alike more (cut ++ negation_of l ∷ []) later alike) (AreAlike-itself (waiting frames more)) in
+        let there : AreAlike now (cases_of (cut ++ negation_of l ∷ []) later ++ waiting frames cut) =
+        subst (λ (xss : List (List Literal)). AreAlike now (cases_of (cut ++ negation_of l ∷ []) later ++ xss)) below (AreAlike-trans now (cases_of more later ++ waiting frames more) (cases_of (cut ++ negation_of l ∷ []) later ++ waiting frames more) h here) in
+        let from : cases_of (cut ++ negation_of l ∷ []) (drop (f.place + 1) (clause_in f.cases)) ++ waiting frames cut ≡ waiting whole assumed =
+        ap (λ (c : List Literal). drop 1 (cases_of cut c) ++ waiting frames cut) (sym (drop_at (clause_in f.cases) f.place l at)) ∙ sym whole_waiting in
+        subst (λ (xss : List (List Literal)). GoesOn xss steps now rest) from
+        (goes_alike _ _ now steps rest (closed (cut ++ negation_of l ∷ []) (waiting frames cut) (among_more cut (negation_of l ∷ []))) there)

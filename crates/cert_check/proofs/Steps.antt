@@ -1,5 +1,5 @@
 -- A turn of the loop over the steps.
-use Rattle.std.proofs.Common.{arith, ◌≡◌, ◌+◌, ℕ, suc, List, [], ◌∷◌, ◌++◌, None, Bool, true, false, sym, ap, ◌∙◌, subst, map}
+use Rattle.std.proofs.Common.{◌≡◌, ◌+◌, ◌-◌, ℕ, suc, length, List, [], ◌∷◌, ◌++◌, None, Bool, true, false, sym, ap, ◌∙◌, subst, map}
 use Rattle.std.specs.Prelude.{Err}
 use Rattle.stn_core.specs.declared.literal.Literal.{Literal}
 use Rattle.stn_core.specs.Literal.{negation_of}
@@ -17,16 +17,14 @@ module _ (points : ℕ) (clauses earlier : List (List Literal)) where
       → steps_flaw points clauses earlier (open_cases true frames assumed) 0 steps ≡ steps_flaw points clauses earlier (map negation_of clause ∷ []) 0 steps
   begun clause given frames assumed steps e h = subst (λ (c : List Literal). steps_flaw points clauses earlier (open_cases true frames assumed) 0 steps ≡ steps_flaw points clauses earlier (map negation_of c ∷ []) 0 steps) e (same_flaw points clauses earlier steps 0 (open_cases true frames assumed) (map negation_of given ∷ []) h)
 
-  module _ (step : Step) (left rest : List Step) (at : ℕ) (here : left ≡ step ∷ rest) where
-    -- the step was read
-    pub turned : (frames : List Frame) (assumed : List Literal) (open_ : Bool) (now : List (List Literal)) → open_ ≡ true → LeavesOpen points clauses earlier assumed (waiting frames assumed) step now
-        → steps_flaw points clauses earlier now (at + 1) rest ≡ steps_flaw points clauses earlier (open_cases open_ frames assumed) at left
-    turned frames assumed open_ now e h =
-        let next : at + 1 ≡ suc at = omega arith in
+  module _ (step : Step) (left steps : List Step) (at : ℕ) (here : left ≡ step ∷ steps) where
+    -- the step was read, and some behind it
+    pub turned : (frames : List Frame) (assumed : List Literal) (open_ : Bool) (now : List (List Literal)) (rest : List Step) → open_ ≡ true → LeavesOpen points clauses earlier assumed (waiting frames assumed) step steps now rest
+        → steps_flaw points clauses earlier now (suc at + (length steps - length rest)) rest ≡ steps_flaw points clauses earlier (open_cases open_ frames assumed) at left
+    turned frames assumed open_ now rest e h =
         let others : List (List Literal) = waiting frames assumed in
-        ap (λ (k : ℕ). steps_flaw points clauses earlier now k rest) next
-        ∙ same_flaw points clauses earlier rest (suc at) now (h.0 ++ others) h.2
-        ∙ sym (ap (after_step earlier at (λ more. steps_flaw points clauses earlier (more ++ others) (suc at) rest)) h.1)
+        sym (h.2.same points clauses earlier (suc at))
+        ∙ sym (ap (after_step earlier at (λ more. steps_flaw points clauses earlier (more ++ others) (suc at) steps)) h.1)
         ∙ sym (ap (λ (b : Bool). steps_flaw points clauses earlier (open_cases b frames assumed) at left) e ∙ ap (steps_flaw points clauses earlier (assumed ∷ others) at) here)
 
     -- the step is flawed
@@ -36,7 +34,7 @@ module _ (points : ℕ) (clauses earlier : List (List Literal)) where
         let others : List (List Literal) = waiting frames assumed in
         ap (λ (b : Bool). steps_flaw points clauses earlier (open_cases b frames assumed) at left) e
         ∙ ap (steps_flaw points clauses earlier (assumed ∷ others) at) here
-        ∙ ap (after_step earlier at (λ more. steps_flaw points clauses earlier (more ++ others) (suc at) rest)) h
+        ∙ ap (after_step earlier at (λ more. steps_flaw points clauses earlier (more ++ others) (suc at) steps)) h
 
     -- no case is open
     pub left_over : (frames : List Frame) (assumed : List Literal) (open_ : Bool) → open_ ≡ false

@@ -1,15 +1,15 @@
-ghost use Rattle.std.specs.Prelude.{◌≡◌, ◌<◌, [], length, map, slice_get, Some, None, Ok, Err, IfOk, OnOk, IfErr};
+ghost use Rattle.std.specs.Prelude.{◌≡◌, ◌<◌, ◌≤◌, [], length, map, slice_get, Some, None, Ok, Err, IfOk, OnOk, IfErr};
 ghost use Rattle.std.specs.List.{list_all};
 ghost use Rattle.stn_core.specs.Literal.{negation_of};
 ghost use Rattle.refute_tree.specs.code.Views.{literals_of, step_seen};
 ghost use Rattle.cert_check.specs.declared.flaw.FlawKind.TheVariants.{NoSuchClause};
 ghost use Rattle.cert_check.specs.Tests.{is_assumed, is_on_points};
 ghost use Rattle.cert_check.specs.Flaws.{opened_by_cycle, opened_by_clash};
-ghost use Rattle.cert_check.specs.code.Walks.{clause_in, OpensCases, IsFlawedBy};
+ghost use Rattle.cert_check.specs.code.Walks.{clause_in, OpensCases, IsFlawedBy, ClosesCase, ClosesCases};
 
 use crate::assumptions::Assumptions;
 use crate::flaw::FlawKind;
-use refute_tree::{Cycle, Earlier, StepView};
+use refute_tree::{Cycle, Earlier, Reader, StepView};
 use stn_core::{Literal, Problem, negate};
 
 /// The clause whose cases are read, borrowed from the problem or from an earlier lemma, or the literal of an `Either`
@@ -156,4 +156,42 @@ pub fn cases_of_step<'a, E: Earlier>(
         }
         StepView::Either(_) => Err(FlawKind::NoSuchPoint),
     }
+}
+
+/// Whether the next step is the leaf of the literal and its negation, and the negation is assumed, so that it closes
+/// the literal's case. It is read then, and nothing else.
+fn closes(assumed: &Assumptions, literal: Literal, reader: &mut Reader<'_>) -> bool
+    ensures { ClosesCase assumed.now literal reader.old reader.new result }
+{
+    let mut ahead = reader.again();
+    let Some(StepView::Pair(first)) = ahead.next() else {
+        return false;
+    };
+    if first != literal || !assumed.contains(negate(literal)) {
+        return false;
+    }
+    *reader = ahead;
+    true
+}
+
+/// The place of the first of the cases, from one on, that isn't closed at once, by the leaf of its literal and the
+/// negation; the count of the cases where all of them are. These leaves are read, and their literals aren't assumed.
+pub fn close_cases(
+    assumed: &Assumptions,
+    cases: Cases<'_>,
+    place: usize,
+    reader: &mut Reader<'_>,
+) -> usize
+    requires { place ≤ length (clause_in cases) }
+    ensures within { result ≤ length (clause_in cases.entry) }
+    ensures closed { ClosesCases assumed.now (clause_in cases.entry) place result reader.old reader.new }
+{
+    let mut next = place;
+    'cases: while next < cases.len() {
+        if !closes(assumed, cases.literal(next), reader) {
+            break 'cases;
+        }
+        next += 1;
+    }
+    next
 }

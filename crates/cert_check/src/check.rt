@@ -1,4 +1,4 @@
-ghost use Rattle.std.specs.Prelude.{◌≡◌, map, OnOk, Some};
+ghost use Rattle.std.specs.Prelude.{◌≡◌, ◌<◌, ◌+◌, length, map, OnOk, Some};
 ghost use Rattle.refute_tree.specs.Trees.{IsRefutation, stated};
 ghost use Rattle.cert_check.specs.Flaws.{ends_empty, refutation_flaw, TellsFlaw};
 ghost use Rattle.cert_check.specs.code.Walks.{flaw_of_tree, flaw_of};
@@ -7,7 +7,7 @@ use crate::cases::are_on_points;
 use crate::flaw::{CheckError, Flaw, FlawKind};
 use crate::laws::flaw_law;
 use crate::walk::{Walk, WalkError};
-use refute_tree::{Earlier, Lemma, Refutation};
+use refute_tree::{Earlier, Lemma, Reader, Refutation};
 use std::alloc::Global;
 use stn_core::Problem;
 
@@ -15,6 +15,19 @@ fn flawed(lemma: usize, step: usize, kind: FlawKind) -> Result<(), CheckError>
     ensures { TellsFlaw (Some (record { lemma = lemma; step = step; kind = kind })) result }
 {
     Err(CheckError::Refused(Flaw { lemma, step, kind }))
+}
+
+/// The number of the step that was read last, of so many, where these are left.
+fn last_read(count: usize, reader: &Reader<'_>) -> usize
+    requires { length reader.now < count }
+    ensures { result + 1 + length reader.now ≡ count }
+{
+    let mut left = reader.again();
+    let mut number = count - 1;
+    'left: while let Some(_) = left.next() {
+        number -= 1;
+    }
+    number
 }
 
 /// The lemma's steps, of which its tree is to be made.
@@ -32,18 +45,20 @@ fn check_steps<E: Earlier>(
     };
     let mut open = true;
     let count = lemma.steps.len();
-    let mut at = 0;
     let mut reader = lemma.steps.reader();
     'steps: while let Some(step) = reader.next() {
         if !open {
+            let at = last_read(count, &reader);
             return flawed(number, at, FlawKind::StepsLeftOver);
         }
-        open = match walk.read(problem, earlier, step) {
+        open = match walk.read(problem, earlier, step, &mut reader) {
             Ok(open) => open,
-            Err(WalkError::Refused(kind)) => return flawed(number, at, kind),
+            Err(WalkError::Refused(kind)) => {
+                let at = last_read(count, &reader);
+                return flawed(number, at, kind);
+            }
             Err(WalkError::OutOfMemory) => return Err(CheckError::OutOfMemory),
         };
-        at += 1;
     }
     if open {
         return flawed(number, count, FlawKind::StepsMissing);

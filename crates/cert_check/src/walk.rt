@@ -2,13 +2,13 @@ ghost use Rattle.std.specs.Prelude.{◌≡◌, ◌<◌, [], ◌∷◌, true, ◌
 ghost use Rattle.stn_core.specs.Literal.{negation_of};
 ghost use Rattle.cert_check.specs.Flaws.{cases_of};
 ghost use Rattle.cert_check.specs.declared.walk.WalkError.TheVariants.{OutOfMemory};
-ghost use Rattle.cert_check.specs.code.Walks.{clause_in, cases_waiting, cases_open, AreAlike, IsWalk, HasRead, HasFailed};
+ghost use Rattle.cert_check.specs.code.Walks.{clause_in, cases_waiting, cases_open, AreAlike, IsWalk, GoesOn, HasRead, HasFailed, WhereRefused};
 ghost use Rattle.refute_tree.specs.code.Views.{step_seen};
 
 use crate::assumptions::Assumptions;
-use crate::cases::{Cases, cases_of_step};
+use crate::cases::{Cases, cases_of_step, close_cases};
 use crate::flaw::FlawKind;
-use refute_tree::{Earlier, StepView};
+use refute_tree::{Earlier, Reader, StepView};
 use std::alloc::{AllocFailed, Global};
 use stn_core::{Literal, Problem, negate};
 
@@ -96,46 +96,53 @@ impl<'a> Walk<'a> {
         Ok(())
     }
 
-    /// Goes to the first case that waits, and tells whether there is one.
-    fn advance(&mut self) -> Result<bool, WalkError>
+    /// Goes to the first case that waits and isn't closed at once by what the reader has next, and tells whether there
+    /// is one.
+    fn advance(&mut self, reader: &mut Reader<'_>) -> Result<bool, WalkError>
         requires { IsWalk self.old }
         ensures stack { OnOk result (IsWalk self.new) }
-        ensures cases { IfOk result (λ open_. AreAlike (cases_open open_ self.new) (cases_waiting self.old)) }
+        ensures cases { IfOk result
+            (λ open_. GoesOn (cases_waiting self.old) reader.old (cases_open open_ self.new) reader.new) }
         ensures error { IsOkUnless result OutOfMemory }
     {
         while let Some(frame) = self.frames.pop() {
             self.assumed.cut(frame.base);
             let count = frame.cases.len();
-            if frame.place + 1 < count {
+            let next = close_cases(&self.assumed, frame.cases, frame.place + 1, reader);
+            if next < count {
                 let denied = negate(frame.cases.literal(frame.place));
                 self.assumed.assume(denied)?;
-                self.enter(frame.cases, frame.place + 1)?;
+                self.enter(frame.cases, next)?;
                 return Ok(true);
             }
         }
         Ok(false)
     }
 
-    /// Reads a step in the case that is open, and tells whether a case is open then.
+    /// Reads a step in the case that is open, and those of the reader's steps behind it that close cases at once, and
+    /// tells whether a case is open then.
     pub fn read<E: Earlier>(
         &mut self,
         problem: &'a Problem,
         earlier: &'a E,
         step: StepView<'_>,
+        reader: &mut Reader<'_>,
     ) -> Result<bool, WalkError>
         requires { IsWalk self.old }
         ensures stack { OnOk result (IsWalk self.new) }
-        ensures cases { IfOk result
-            (HasRead problem.now (E.clauses earlier.now) self.old (step_seen step.entry) self.new) }
+        ensures cases { IfOk result (HasRead problem.now (E.clauses earlier.now) self.old (step_seen step.entry)
+            reader.old self.new reader.new) }
         ensures fault { IfErr result
             (HasFailed problem.now (E.clauses earlier.now) self.old (step_seen step.entry)) }
+        ensures left { IfErr result (WhereRefused (reader.new ≡ reader.old)) }
     {
         let cases = cases_of_step(problem, earlier, &self.assumed, step)?;
-        if cases.len() == 0 {
-            let open = self.advance()?;
+        let next = close_cases(&self.assumed, cases, 0, reader);
+        if next == cases.len() {
+            let open = self.advance(reader)?;
             return Ok(open);
         }
-        self.enter(cases, 0)?;
+        self.enter(cases, next)?;
         Ok(true)
     }
 }

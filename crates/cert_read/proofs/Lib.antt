@@ -13,6 +13,7 @@ pub mod WrittenBack
 pub mod NumeralTexts
 pub mod OnlyForms
 pub mod LemmaForms
+pub mod ShortNumerals
 pub mod QuickTexts
 pub mod EntryKinds
 pub mod OpenedLines

@@ -2,7 +2,7 @@
 //! left to the readers of s-expressions.
 #![tactic(auto, unfolding(smt_lex::specs::Bytes::is_symbol_byte))]
 
-ghost use Rattle.std.specs.Prelude.{◌≡◌, ◌++◌, ◌∷◌, [], ◌<◌, ◌≤◌, ◌^◌, length, take, codes};
+ghost use Rattle.std.specs.Prelude.{◌≡◌, ◌++◌, ◌∷◌, [], ◌<◌, ◌≤◌, ◌^◌, true, length, take, codes};
 ghost use Rattle.std.specs.Prelude.{IfSome, IfOk, IsTrue, option_map};
 ghost use Rattle.std.specs.Char.{is_ascii_digit};
 ghost use Rattle.std.specs.List.{list_all};
@@ -81,11 +81,50 @@ fn numeral(bytes: &[u8]) -> Option<(u64, &[u8])>
     Some((value, &bytes[count..]))
 }
 
+#[inline(always)]
+fn is_digit(byte: u8) -> bool
+    ensures { result ≡ true → (48 ≤ byte) × (byte ≤ 57) }
+{
+    byte.is_ascii_digit()
+}
+
+/// Whether it is the first digit of a numeral of several.
+#[inline(always)]
+fn is_leading(byte: u8) -> bool
+    ensures { result ≡ true → (49 ≤ byte) × (byte ≤ 57) }
+{
+    byte != b'0' && byte.is_ascii_digit()
+}
+
+/// A numeral of up to three digits with this byte behind it, and what is behind that.
+#[inline(always)]
+fn short_numeral(bytes: &[u8], end: u8) -> Option<(u64, &[u8])>
+    ensures text { IfSome result (λ r. bytes.entry.now ≡ numeral_text r.0 ++ end ∷ r.1.now) }
+    ensures small { IfSome result (λ r. r.0 < 1000) }
+{
+    match bytes {
+        [a, e, rest @ ..] if *e == end && is_digit(*a) => Some((u64::from(*a - b'0'), rest)),
+        [a, b, e, rest @ ..] if *e == end && is_leading(*a) && is_digit(*b) => {
+            Some((10 * u64::from(*a - b'0') + u64::from(*b - b'0'), rest))
+        }
+        [a, b, c, e, rest @ ..] if *e == end && is_leading(*a) && is_digit(*b) && is_digit(*c) => {
+            Some((
+                100 * u64::from(*a - b'0') + 10 * u64::from(*b - b'0') + u64::from(*c - b'0'),
+                rest,
+            ))
+        }
+        _ => None,
+    }
+}
+
 /// A numeral in a list's last place, and what is behind the list.
 fn last_numeral(bytes: &[u8]) -> Option<(usize, &[u8])>
     ensures text { IfSome result (λ r. bytes.entry.now ≡ numeral_text r.0 ++ 41 ∷ r.1.now) }
     ensures small { IfSome result (λ r. r.0 < 10 ^ 18) }
 {
+    if let Some((value, rest)) = short_numeral(bytes, b')') {
+        return Some((value as usize, rest));
+    }
     let (value, rest) = numeral(bytes)?;
     let rest = behind_byte(rest, b')')?;
     Some((value as usize, rest))
@@ -95,6 +134,9 @@ fn last_numeral(bytes: &[u8]) -> Option<(usize, &[u8])>
 fn point(bytes: &[u8]) -> Option<(u32, &[u8])>
     ensures { IfSome result (λ r. bytes.entry.now ≡ numeral_text r.0 ++ 32 ∷ r.1.now) }
 {
+    if let Some((value, rest)) = short_numeral(bytes, b' ') {
+        return Some((value as u32, rest));
+    }
     let (value, rest) = numeral(bytes)?;
     if value >= 1 << 32 {
         return None;

@@ -16,7 +16,7 @@ use Rattle.cert_text.specs.declared.entry.Entry.{Entry}
 use Rattle.cert_text.specs.declared.entry.Entry.TheVariants.{Sat, Unsat, Best, Unbounded}
 use Rattle.cert_text.specs.declared.entry.FileEntry.{FileEntry}
 use Rattle.cert_text.specs.declared.entry.FileEntry.TheVariants as file
-use Rattle.cert_text.specs.Form.{numeral, number_of_value, lemma_sexpr, item_sexpr, value_sexpr, values_sexpr, entry_sexpr, file_entry_sexpr, file_entry_of, line_of}
+use Rattle.cert_text.specs.Form.{numeral, number_of_value, lemma_sexpr, item_sexpr, value_sexpr, values_sexpr, entry_sexpr, file_entry_sexpr, file_entry_of}
 use Rattle.cert_text.specs.Limits.{EntryWithin, FileEntryWithin, ItemWithin}
 use Rattle.cert_text.specs.Laws.{EntryIsWritable, FileEntryIsWritable, LineReadsBack, EntryReadsBack, FileEntryReadsBack, OneEntry, OneLine, OneFileEntry, OneFileLine, OwnText}
 use Rattle.cert_text.proofs.Writable.{each_writable, numeral_writable, number_writable, item_writable, value_writable, line_back}

@@ -4,7 +4,7 @@ use Rattle.std.proofs.lemmas.Bool.{ne_eqb}
 use Rattle.std.proofs.lemmas.Int.Digits.{number_digits_of}
 use Rattle.std.specs.Int.Digits.{digits_of, number_from_digits_after}
 use Rattle.smt_lex.specs.Numbers.{value_from, value_of}
-use Rattle.smt_sexpr.specs.Laws.{OneValue, SexprReadsBack}
+use Rattle.smt_sexpr.specs.Laws.{OneValue}
 use Rattle.smt_sexpr.specs.Tree.{Sexpr, Items, leaf, list, none, more}
 use Rattle.smt_sexpr.specs.Reading.{Spells}
 use Rattle.smt_sexpr.specs.Printing.{text_of}
@@ -18,7 +18,7 @@ use Rattle.kept_lemmas.specs.declared.item.Kept.{Kept}
 use Rattle.kept_lemmas.specs.declared.item.Item.{Item}
 use Rattle.kept_lemmas.specs.declared.item.Item.TheVariants.{Own, Keep}
 use Rattle.cert_text.specs.declared.entry.Version.TheVariants.{One, Two}
-use Rattle.cert_text.specs.Form.{numeral_text, numeral, bound_sexprs, number_of_value, literal_sexpr, step_sexpr, lemma_sexpr, kept_sexpr, item_sexpr, value_sexpr, header_sexpr, line_of}
+use Rattle.cert_text.specs.Form.{numeral_text, numeral, bound_sexprs, number_of_value, literal_sexpr, step_sexpr, lemma_sexpr, kept_sexpr, item_sexpr, value_sexpr, line_of}
 use Rattle.smt_sexpr.specs.Shapes.{items_of}
 use Rattle.cert_text.specs.Laws.{LineReadsBack, OneHeader}
 

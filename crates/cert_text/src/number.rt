@@ -77,6 +77,7 @@ fn write_any_next(n: Value, out: &mut Vec<u8>) -> Result<(), AllocError>
 }
 
 /// Puts a byte into the text before what stands from a place on. Where it begins.
+#[inline(always)]
 pub(crate) fn byte_before(byte: u8, text: &mut [u8], end: usize) -> usize
     requires { (0 < end) × (end ≤ length text.old) }
     ensures start { result + 1 ≡ end }
@@ -86,16 +87,37 @@ pub(crate) fn byte_before(byte: u8, text: &mut [u8], end: usize) -> usize
     end - 1
 }
 
-/// Puts a numeral before it, of twenty digits at most.
+/// Puts a numeral before it, of twenty digits at most; one or two of them without a call.
+#[inline(always)]
 pub(crate) fn numeral_before(n: u64, text: &mut [u8], end: usize) -> usize
     requires { (20 ≤ end) × (end ≤ length text.old) }
     ensures start { (result ≤ end) × (end ≤ result + 20) }
     ensures written { drop result text.new ≡ numeral_text n ++ drop end text.old }
 {
+    if n < 10 {
+        return byte_before(b'0' + n as u8, text, end);
+    }
+    if n < 100 {
+        let at = byte_before(b'0' + (n % 10) as u8, text, end);
+        return byte_before(b'0' + (n / 10) as u8, text, at);
+    }
     write_digits(n, text, end)
 }
 
+/// Puts a word before it.
+#[inline(always)]
+pub(crate) fn word_before(word: &[u8], text: &mut [u8], end: usize) -> usize
+    requires { (length word.now ≤ end) × (end ≤ length text.old) }
+    ensures start { result + length word.now ≡ end }
+    ensures written { drop result text.new ≡ word.now ++ drop end text.old }
+{
+    let at = end - word.len();
+    text[at..end].copy_from_slice(word);
+    at
+}
+
 /// Puts a number before it, of 24 bytes at most.
+#[inline(always)]
 pub(crate) fn number_before(n: i64, text: &mut [u8], end: usize) -> usize
     requires { (24 ≤ end) × (end ≤ length text.old) }
     ensures start { (result ≤ end) × (end ≤ result + 24) }

@@ -1,18 +1,20 @@
 //! The parts of an entry. When memory ends, a part of the text may have been appended.
 #![tactic(auto, unfolding(smt_lex::specs::Bytes::is_symbol_byte))]
 
-ghost use Rattle.std.specs.Prelude.{◌≡◌, ◌<◌, ◌≤◌, ◌++◌, ◌∷◌, [], length, map, take, drop, OnOk};
+ghost use Rattle.std.specs.Prelude.{◌≡◌, ◌≤◌, ◌+◌, ◌++◌, ◌∷◌, [], length, map, take, drop, OnOk};
 ghost use Rattle.std.specs.Vec.{vec_len};
 ghost use Rattle.smt_sexpr.specs.Tree.{Sexpr};
 ghost use Rattle.smt_sexpr.specs.Printing.{text_of, text_behind};
-ghost use Rattle.cert_text.specs.Form.{numeral, number_of_value, clause_sexpr, literal_sexpr, step_sexpr, kept_sexpr, value_sexpr};
+ghost use Rattle.cert_text.specs.Form.{numeral_text, numeral, number_of_value, clause_sexpr, literal_sexpr, step_sexpr, kept_sexpr, value_sexpr};
 ghost use Rattle.stn_core.specs.declared.named.NamedValue.TheVariants.{Truth};
 ghost use Rattle.refute_tree.specs.declared.step.Step.TheVariants.{Cycle as CycleStep};
+ghost use Rattle.refute_tree.specs.Pairs.{pair_of};
 ghost use Rattle.refute_tree.specs.code.Views.{literals_of, step_seen};
 ghost use Rattle.smt_sexpr.specs.Shapes.{items_of};
 
 use crate::number::{
-    byte_before, number_before, numeral_before, write_number, write_number_next, write_numeral,
+    byte_before, number_before, numeral_before, word_before, write_number, write_number_next,
+    write_numeral,
 };
 use bstr::ByteVec;
 use kept_lemmas::{Item, Kept};
@@ -22,6 +24,9 @@ use stn_core::{Literal, NamedValue, Value, negate};
 
 /// Room for a literal: three numbers of twenty digits at most, a sign, and what stands between them.
 const ROOM: usize = 72;
+
+/// Room for the leaf of a literal and its negation: two literals, and what stands around them.
+const PAIR_ROOM: usize = 160;
 
 /// What is written as an s-expression.
 pub trait Part {
@@ -51,14 +56,16 @@ fn write_behind<T: Part>(items: &[T], out: &mut Vec<u8>) -> Result<(), AllocErro
     out.push_str(b")")
 }
 
-/// The points and the bound of a literal, and the closing parenthesis, at the end of the text. Where they begin.
-fn bound_before(literal: Literal, text: &mut [u8]) -> usize
-    requires { length text.old ≡ ROOM }
-    ensures start { (1 < result) × (result ≤ ROOM) }
-    ensures written { drop result text.new ≡ text_of (numeral literal.x)
-        ++ text_behind (items_of (numeral literal.y ∷ number_of_value literal.c ∷ [])) }
+/// Puts the points and the bound of a literal, and the closing parenthesis, into the text before what stands from a
+/// place on, in 67 bytes at most. Where they begin.
+#[inline(always)]
+fn bound_before(literal: Literal, text: &mut [u8], end: usize) -> usize
+    requires { (67 ≤ end) × (end ≤ length text.old) }
+    ensures start { (result ≤ end) × (end ≤ result + 67) }
+    ensures written { drop result text.new ≡ (text_of (numeral literal.x)
+        ++ text_behind (items_of (numeral literal.y ∷ number_of_value literal.c ∷ []))) ++ drop end text.old }
 {
-    let at = byte_before(b')', text, ROOM);
+    let at = byte_before(b')', text, end);
     let at = number_before(literal.c, text, at);
     let at = byte_before(b' ', text, at);
     let at = numeral_before(u64::from(literal.y), text, at);
@@ -66,13 +73,14 @@ fn bound_before(literal: Literal, text: &mut [u8]) -> usize
     numeral_before(u64::from(literal.x), text, at)
 }
 
-/// A literal at the end of the text. Where it begins.
-fn literal_before(literal: Literal, text: &mut [u8]) -> usize
-    requires { length text.old ≡ ROOM }
-    ensures start { (0 < result) × (result ≤ ROOM) }
-    ensures written { drop result text.new ≡ text_of (literal_sexpr literal) }
+/// Puts a literal before it, of 68 bytes at most.
+#[inline(always)]
+fn literal_before(literal: Literal, text: &mut [u8], end: usize) -> usize
+    requires { (68 ≤ end) × (end ≤ length text.old) }
+    ensures start { (result ≤ end) × (end ≤ result + 68) }
+    ensures written { drop result text.new ≡ text_of (literal_sexpr literal) ++ drop end text.old }
 {
-    let at = bound_before(literal, text);
+    let at = bound_before(literal, text, end);
     byte_before(b'(', text, at)
 }
 
@@ -83,7 +91,7 @@ fn write_bound(literal: Literal, out: &mut Vec<u8>) -> Result<(), AllocError>
     ensures front { take (vec_len out.old) out.new.items ≡ out.old.items }
 {
     let mut text = [0u8; ROOM];
-    let at = bound_before(literal, &mut text);
+    let at = bound_before(literal, &mut text, ROOM);
     out.push_str(&text[at..])
 }
 
@@ -94,13 +102,13 @@ impl Part for Literal {
 
     fn write(&self, out: &mut Vec<u8>) -> Result<(), AllocError> {
         let mut text = [0u8; ROOM];
-        let at = literal_before(*self, &mut text);
+        let at = literal_before(*self, &mut text, ROOM);
         out.push_str(&text[at..])
     }
 
     fn write_next(&self, out: &mut Vec<u8>) -> Result<(), AllocError> {
         let mut text = [0u8; ROOM];
-        let at = literal_before(*self, &mut text);
+        let at = literal_before(*self, &mut text, ROOM);
         let at = byte_before(b' ', &mut text, at);
         out.push_str(&text[at..])
     }
@@ -121,45 +129,58 @@ fn write_clause(literals: &[Literal], out: &mut Vec<u8>) -> Result<(), AllocErro
     }
 }
 
-/// Appends a step.
+/// Appends a space and a step.
 fn write_step(step: StepView<'_>, out: &mut Vec<u8>) -> Result<(), AllocError>
-    ensures ok { OnOk result (out.new.items ≡ out.old.items ++ text_of (step_sexpr (step_seen step.entry))) }
+    ensures ok { OnOk result (out.new.items ≡ out.old.items ++ 32 ∷ text_of (step_sexpr (step_seen step.entry))) }
     ensures front { take (vec_len out.old) out.new.items ≡ out.old.items }
 {
     match step {
         StepView::Cycle(cycle) => write_cycle(cycle, out),
-        StepView::Pair(literal) => {
-            let pair = [literal, negate(literal)];
-            write_cycle(Cycle::Literals(pair.as_slice()), out)
-        }
-        StepView::Input(i) => {
-            out.push_str(b"(input ")?;
-            write_numeral(i as u128, out)?;
-            out.push_str(b")")
-        }
-        StepView::Lemma(j) => {
-            out.push_str(b"(lemma ")?;
-            write_numeral(j as u128, out)?;
-            out.push_str(b")")
-        }
-        StepView::Clash(i) => {
-            out.push_str(b"(clash ")?;
-            write_numeral(i as u128, out)?;
-            out.push_str(b")")
-        }
+        StepView::Pair(literal) => write_pair(literal, out),
+        StepView::Input(i) => write_numbered(b" (input ", i, out),
+        StepView::Lemma(j) => write_numbered(b" (lemma ", j, out),
+        StepView::Clash(i) => write_numbered(b" (clash ", i, out),
         StepView::Either(literal) => {
-            out.push_str(b"(either ")?;
+            out.push_str(b" (either ")?;
             write_bound(literal, out)
         }
     }
 }
 
-/// Appends a leaf.
-fn write_cycle(cycle: Cycle<'_>, out: &mut Vec<u8>) -> Result<(), AllocError>
-    ensures ok { OnOk result (out.new.items ≡ out.old.items ++ text_of (step_sexpr (CycleStep (literals_of cycle.entry)))) }
+/// Appends what a list begins with, up to a number in its last place, and the rest of the list.
+#[inline(always)]
+fn write_numbered(head: &[u8], number: usize, out: &mut Vec<u8>) -> Result<(), AllocError>
+    requires { length head.now ≡ 8 }
+    ensures ok { OnOk result (out.new.items ≡ out.old.items ++ (head.now ++ (numeral_text number ++ 41 ∷ []))) }
     ensures front { take (vec_len out.old) out.new.items ≡ out.old.items }
 {
-    out.push_str(b"(cycle")?;
+    let mut text = [0u8; 32];
+    let at = byte_before(b')', &mut text, 32);
+    let at = numeral_before(number as u64, &mut text, at);
+    let at = word_before(head, &mut text, at);
+    out.push_str(&text[at..])
+}
+
+/// Appends a space and the leaf of a literal and its negation, in one piece.
+fn write_pair(literal: Literal, out: &mut Vec<u8>) -> Result<(), AllocError>
+    ensures ok { OnOk result (out.new.items ≡ out.old.items ++ 32 ∷ text_of (step_sexpr (CycleStep (pair_of literal)))) }
+    ensures front { take (vec_len out.old) out.new.items ≡ out.old.items }
+{
+    let mut text = [0u8; PAIR_ROOM];
+    let at = byte_before(b')', &mut text, PAIR_ROOM);
+    let at = literal_before(negate(literal), &mut text, at);
+    let at = byte_before(b' ', &mut text, at);
+    let at = literal_before(literal, &mut text, at);
+    let at = word_before(b" (cycle ", &mut text, at);
+    out.push_str(&text[at..])
+}
+
+/// Appends a space and a leaf.
+fn write_cycle(cycle: Cycle<'_>, out: &mut Vec<u8>) -> Result<(), AllocError>
+    ensures ok { OnOk result (out.new.items ≡ out.old.items ++ 32 ∷ text_of (step_sexpr (CycleStep (literals_of cycle.entry)))) }
+    ensures front { take (vec_len out.old) out.new.items ≡ out.old.items }
+{
+    out.push_str(b" (cycle")?;
     write_each_behind(cycle, out)
 }
 
@@ -182,7 +203,6 @@ fn write_steps(mut reader: Reader<'_>, out: &mut Vec<u8>) -> Result<(), AllocErr
     ensures front { take (vec_len out.old) out.new.items ≡ out.old.items }
 {
     while let Some(step) = reader.next() {
-        out.push_str(b" ")?;
         write_step(step, out)?;
     }
     out.push_str(b")")

@@ -1,4 +1,4 @@
-use Rattle.std.proofs.Common.{◌≡◌, ◌+◌, ◌∷◌, [], map, length}
+use Rattle.std.proofs.Common.{◌≡◌, ℕ, ◌+◌, ◌≤◌, ◌∷◌, [], map, length}
 use Rattle.stn_core.specs.Literal.{negation_of}
 use Rattle.cert_check.specs.Flaws.{steps_flaw}
 use Rattle.cert_check.specs.code.Walks.{cases_open, IsWalk}
@@ -7,9 +7,10 @@ use Rattle.cert_check.proofs.check.check_steps.Given as goal
 abbrev pub invariant-steps : goal.invariant-steps
 invariant-steps g l = record {
   stack : IsWalk l.walk;
-  counted : l.at + length l.reader ≡ l.count;
+  within : length l.reader ≤ l.count;
   same :
-      steps_flaw l.problem.points l.problem.clauses (g.E.Earlier.clauses l.earlier) (cases_open l.open l.walk) l.at l.reader
+      (at : ℕ) → at + length l.reader ≡ l.count
+      → steps_flaw l.problem.points l.problem.clauses (g.E.Earlier.clauses l.earlier) (cases_open l.open l.walk) at l.reader
       ≡ steps_flaw l.problem.points l.problem.clauses (g.E.Earlier.clauses l.earlier) (map negation_of l.lemma.clause ∷ []) 0 l.lemma.steps;
 }
 

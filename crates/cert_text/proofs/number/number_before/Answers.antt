@@ -1,4 +1,4 @@
-use Rattle.std.proofs.Common.{◌≡◌, false, pos, int_le, arith, to_z-of_z}
+use Rattle.std.proofs.Common.{◌≡◌, false, pos, int_le, to_z-of_z}
 use Rattle.cert_text.proofs.Numerals.{minus_before}
 use Rattle.cert_text.proofs.number.number_before.Goals as goal
 
